@@ -57,13 +57,12 @@ module _ (source : Program) where
   pub inside_by : (closing : Option ℕ) (pages calls : ℕ) (k : List Entry) (e : Environment) (w : World) (c : Configuration) → SharedBy source closing pages calls k e w c → Inside pages calls w c
   inside_by None pages calls k e w c s =
       (s.same_output, s.few_pages, s.fits, omega (arith, s.few_pages, ap (λ l. demand_of l c.store.classes) (sym (counted-same s.related.regions)) ∙ ap (demand_of (counted w.regions)) s.related.classes))
-  inside_by (Some mark) pages calls k e w c s =
-      (
-        s.same_output,
-        omega (arith, s.counters.1.1.demand, s.same_pages),
-        s.fits,
-        omega (arith, s.few_pages, ap (λ l. demand_of l c.store.classes) (sym (counted-same s.related.regions)) ∙ ap (demand_of (counted w.regions)) s.related.classes),
-      )
+  inside_by (Some mark) pages calls k e w c s = (
+    s.same_output,
+    omega (arith, s.counters.1.1.demand, s.same_pages),
+    s.fits,
+    omega (arith, s.few_pages, ap (λ l. demand_of l c.store.classes) (sym (counted-same s.related.regions)) ∙ ap (demand_of (counted w.regions)) s.related.classes),
+  )
 
   pub inside_of : (pages calls : ℕ) (focus : Focus) (k : List Entry) (e : Environment) (w : World) (c : Configuration) → Related source pages calls focus k e w c → Inside pages calls w c
   inside_of pages calls (Throwing tag value) k e w c r = inside_by (scopes_of source) pages calls k e w c r.0

@@ -2,6 +2,7 @@
 use Rattle.std.proofs.Common.{◌≡◌, ℕ, suc, ◌+◌, ◌<◌, ◌≤◌, ◌%◌, Bool, true, false, List, [], ◌∷◌, ◌++◌, length, map, reverse, Option, Some, None, refl, sym, ap, subst, ◌∙◌, arith}
 use Rattle.std.specs.Prelude.{if◌then◌else◌, ◌==◌}
 use Rattle.std.proofs.lemmas.Bool.{eq-eqb}
+use mathlib.Core.List.{reverse_aux}
 use Rattle.cyc_types.specs.declared.typed.Kind.TheVariants as kinds
 use Rattle.cyc_types.specs.declared.typed.Callee.{Callee}
 use Rattle.cyc_types.specs.declared.typed.Callee.TheVariants as callees
@@ -28,19 +29,20 @@ use Rattle.cyc_meaning.specs.Nesting.{ends_of, IsNested}
 use Rattle.cyc_meaning.specs.Step.{called, values_of, prints, reads, step_calling, step_entering, step_binding}
 use Rattle.cyc_soundness.specs.Lives.{Life, OfRegion, OfObject, Never, Kept, RunTy, RunValue, Value, Lives, at, value_at, lives_of, Reading, AsHeap, ByScope}
 use Rattle.cyc_soundness.specs.Lives as lives
-use Rattle.cyc_soundness.specs.Worlds.{Holder, Hand, In, Claims, giving, given, lent_now, IsOpenIn, Stays, Typing, IsKnownLife, HasType, AreOperands, IsTyped, Grows}
+use Rattle.cyc_soundness.specs.Worlds.{Hand, IsHere, lent_now, IsOpenIn, Stays, Typing, IsKnownLife, HasType, AreOperands, IsTyped, Grows}
 use Rattle.cyc_soundness.specs.Frames.{InScope, Variable, Names, Instance, Home, lives_in, read, IsScope, AreBelow, IsBound, AreVariables, IsLasting, LiveIn, Within, itself, older, AreSet, Holds, Implies, Exits, HasResult, loop_of, around, AreBreaks, Stand, IsHome, IsContext, KnowsProgram, frees_in}
 use Rattle.cyc_soundness.specs.Classes.{IsDeclarable, InItems, InClauses, Source}
 use Rattle.cyc_soundness.specs.Stacks.{regions_at_call, IsInstance, Continues, Catches, IsAccepted, Val, Go, turned, operands_in, AreClaimed, AreGiven, IsCalled, IsBlocked, AreFull, AreOwn, IsBody, IsStack, IsWell}
 use Rattle.cyc_soundness.proofs.TypeLemmas.{is_kind_same, kind_meant}
 use Rattle.cyc_soundness.proofs.FlowLemmas.{implies_self, implies_after, meet_second, each_full_implies}
 use Rattle.cyc_soundness.proofs.RuleLemmas.{breaks_clauses, clauses_implied}
-use Rattle.cyc_soundness.proofs.WorldLemmas.{type_grown, operands_grown, variables_grown, holds_grown, claims_stay, claims_other, giving_grows, given_now, given_typed, given_globals, variables_other, moment_grows, moment_typed, moment_globals, opened_typed}
-use Rattle.cyc_soundness.proofs.StackLemmas.{AreAccepted, hand_same, in_no_hand, stack_other, stack_grown, below_more}
+use Rattle.cyc_soundness.proofs.WorldLemmas.{type_grown, operands_grown, opened_typed}
+use Rattle.cyc_soundness.proofs.Hands.{Changed, hand_same, at_no_hand, claims_kept, here_kept, variables_grown, holds_grown, moment_grows, moment_typed, moment_globals}
+use Rattle.cyc_soundness.proofs.StackLemmas.{AreAccepted, stack_changed, stack_grown, below_more}
 use Rattle.cyc_soundness.proofs.RegionLemmas.{region_known, there_open, opened_known, live_more, there_lasting, opened_life, opened_lasting, stand_opened, new_home, context_inside, other_same, named_function, known_body}
 use Rattle.cyc_soundness.proofs.Cells.{running}
 use Rattle.cyc_soundness.proofs.Objects.{operands_reversed}
-use Rattle.cyc_soundness.proofs.Supply.{new_life, declares}
+use Rattle.cyc_soundness.proofs.Supply.{new_life, made_typing, declares}
 use Rattle.cyc_soundness.proofs.Execution.{block_scope, block_live, block_stack, context_behind, breaks_before}
 
 -- ---- lists of operands
@@ -53,30 +55,28 @@ turned_length (a ∷ as') bs =
     r
 
 -- what operands on the stack claim, they claim as arguments in order
-given_turned : (own : ℕ → Holder) (i : ℕ) (ts us : List RunTy) → AreClaimed own i ts → AreGiven own (i + length ts) us → AreGiven own i (turned ts us)
-given_turned own i [] us are more = let e : i + 0 ≡ i = omega arith in subst (λ j. AreGiven own j us) e more
-given_turned own i (t ∷ ts) us (is, are) more =
+given_turned : (g : Typing) (i : ℕ) (ts us : List RunTy) (vs ws : List Operand) → AreOperands g ts vs → AreClaimed g.own i ts vs → AreGiven g.own (i + length ts) us ws → AreGiven g.own i (turned ts us) (reverse_aux vs ws)
+given_turned g i [] us [] ws operands are more = let e : i + 0 ≡ i = omega arith in subst (λ j. AreGiven g.own j us ws) e more
+given_turned g i [] us (v ∷ vs) ws operands are more = absurd operands
+given_turned g i (t ∷ ts) us [] ws operands are more = absurd operands
+given_turned g i (t ∷ ts) us (v ∷ vs) ws operands (is, are) more =
     let e : i + suc (length ts) ≡ suc (i + length ts) = omega arith in
-    given_turned own i ts (t ∷ us) are (is, subst (λ j. AreGiven own j us) e more)
+    given_turned g i ts (t ∷ us) vs (v ∷ ws) operands.1 are (is, subst (λ j. AreGiven g.own j us ws) e more)
 
 -- the arguments behind one that becomes a parameter
-given_later : (g : Typing) (t : RunTy) (new : Holder) (i j : ℕ) (ts : List RunTy) → Claims g.own (Hand i) t → i < j → AreGiven g.own j ts → AreGiven (given t new g.own) j ts
-given_later g t new i j [] has less are = tt
-given_later g t new i j (u ∷ ts) has less (is, are) = (
-  claims_other g t (Hand i) new (Hand j) u has (λ e. (let same : j ≡ i = hand_same j i e in absurd (omega (arith, less, same)))) is,
-  given_later g t new i (suc j) ts has (let more : i < suc j = omega (arith, less) in more) are,
+given_later : (g h : Typing) (i j : ℕ) (ts : List RunTy) (vs : List Operand) → Changed (Hand i) g h → i < j → AreGiven g.own j ts vs → AreGiven h.own j ts vs
+given_later g h i j [] vs changed less are = tt
+given_later g h i j (t ∷ ts) [] changed less are = tt
+given_later g h i j (t ∷ ts) (v ∷ vs) changed less (is, are) = (
+  claims_kept (Hand i) g h changed (Hand j) t v.value (λ e. (let same : j ≡ i = hand_same j i e in absurd (omega (arith, less, same)))) is,
+  given_later g h i (suc j) ts vs changed (let more : i < suc j = omega (arith, less) in more) are,
 )
 
 -- and the parameters before it
-own_other : (g : Typing) (t : RunTy) (new : Holder) (i : ℕ) (bs : List InScope) → Claims g.own (Hand i) t → AreOwn g bs → AreOwn (giving g t new) bs
-own_other g t new i [] has are = tt
-own_other g t new i (Variable b ∷ bs) has (is, are) = (claims_other g t (Hand i) new (In g.depth b.number) b.of_type has (in_no_hand g.depth b.number i) is, own_other g t new i bs has are)
-own_other g t new i (b ∷ bs) has (is, are) = (tt, own_other g t new i bs has are)
-
-own_grown : (g h : Typing) → Stays g h → (bs : List InScope) → AreOwn g bs → AreOwn h bs
-own_grown g h same [] are = tt
-own_grown g h same (Variable b ∷ bs) (is, are) = (subst (λ d. Claims h.own (In d b.number) b.of_type) (sym same.depth) (claims_stay g h same (In g.depth b.number) b.of_type is), own_grown g h same bs are)
-own_grown g h same (b ∷ bs) (is, are) = (tt, own_grown g h same bs are)
+own_kept : (g h : Typing) (i : ℕ) (bs : List InScope) → Changed (Hand i) g h → AreOwn g bs → AreOwn h bs
+own_kept g h i [] changed are = tt
+own_kept g h i (Variable b ∷ bs) changed (is, are) = (subst (λ d. IsHere h d b.number b.object) (sym changed.depth) (here_kept (Hand i) g h changed g.depth b.number b.object (at_no_hand b.object i) is), own_kept g h i bs changed are)
+own_kept g h i (b ∷ bs) changed (is, are) = (tt, own_kept g h i bs changed are)
 
 -- what is open is so in a call, too
 open_inside : (g : Typing) (d : ℕ) (l : Life) → IsOpenIn g l → IsOpenIn (record g { depth = d }) l
@@ -98,6 +98,7 @@ same_around : (g : Typing) → Stays g (record g { depth = g.depth })
 same_around g = record {
   grows = record { objects = λ n u is. is; filled = λ n count is. is; fields = λ n ls ts is. is; kept = λ n is. is };
   own = refl;
+  here = refl;
   depth = refl;
   loans = refl;
 }
@@ -152,13 +153,13 @@ module _ (p : Source) (accepted : AreAccepted p) where
       where
         go : (value : values.Value) → HasType g lives.Int value → IsWell p (prints (value ∷ []) k e w)
         go (values.Int word) has = running p g x bs e (record w { output = w.output ++ word % 256 ∷ [] }) typed globals bound variables
-            (Given (record { kind = kinds.Int; value = values.Int (word % 256) })) k live (Value lives.Int, f, holds, (refl, tt), tt, stack)
+            (Given (record { kind = kinds.Int; value = values.Int (word % 256) })) k live (Value lives.Int, f, holds, (refl, tt), (tt, tt), stack)
         go value has = absurd has
 
     read_on : (ts : List RunTy) (vs : List Operand) (k : List Entry) (f : flow.State) → LiveIn k bs → Holds g f bs → turned ts [] ≡ [] → AreOperands g ts vs
         → IsStack p g x bs (Val (Value lives.Int) f) k → IsWell p (reads (values_of vs) k e w)
     read_on [] [] k f live holds same are stack =
-        running p g x bs e _ typed globals bound variables (Given _) k live (Value lives.Int, f, holds, (refl, tt), tt, stack)
+        running p g x bs e _ typed globals bound variables (Given _) k live (Value lives.Int, f, holds, (refl, tt), (tt, tt), stack)
     read_on [] (v ∷ vs) k f live holds same are stack = absurd are
     read_on (t ∷ ts) vs k f live holds same are stack =
         let e1 : length (turned ts (t ∷ [])) ≡ length ts + 1 = turned_length ts (t ∷ []) in let e2 : length (turned ts (t ∷ [])) ≡ 0 = ap length same in absurd (omega (arith, e1, e2))
@@ -175,7 +176,7 @@ module _ (p : Source) (accepted : AreAccepted p) where
     instance_open : (h : Function) (these : ℕ → Life) (alive : ℕ → Bool) → IsInstance p bs h these alive → (n : ℕ) → alive n ≡ true → IsOpenIn g (these n)
     instance_open h these alive instance n is = let (r, plain, there, same) = instance.lasting n is in subst (λ l. IsOpenIn g l) same (there_open g bs r variables there)
 
-    pub call : (callee : Callee) (vs : List Operand) (k : List Entry) (ts : List RunTy) (r : RunValue) (f : flow.State) → LiveIn k bs → Holds g f bs → IsCalled p bs callee (turned ts []) r → AreOperands g ts vs → AreClaimed g.own (operands_in k) ts
+    pub call : (callee : Callee) (vs : List Operand) (k : List Entry) (ts : List RunTy) (r : RunValue) (f : flow.State) → LiveIn k bs → Holds g f bs → IsCalled p bs callee (turned ts []) r → AreOperands g ts vs → AreClaimed g.own (operands_in k) ts vs
         → IsStack p g x bs (Val r f) k → IsWell p (step_calling p.program callee vs k e w)
     call callees.Putchar vs k ts r f live holds (types_is, result_is) are claims stack = printed_on ts vs k f live holds types_is are (subst (λ z. IsStack p g x bs (Val z f) k) result_is stack)
     call callees.Getchar vs k ts r f live holds (types_is, result_is) are claims stack = read_on ts vs k f live holds types_is are (subst (λ z. IsStack p g x bs (Val z f) k) result_is stack)
@@ -188,7 +189,7 @@ module _ (p : Source) (accepted : AreAccepted p) where
         let d = suc g.depth in
         let i = record g { depth = d } in
         let grows : Grows g i = moment_grows g d g.loans in
-        let claimed : AreGiven g.own (operands_in k) (map (at (lives_of (frees_in bs) these)) h.parameters) = subst (λ us. AreGiven g.own (operands_in k) us) types_is (given_turned g.own (operands_in k) ts [] claims tt) in
+        let claimed : AreGiven g.own (operands_in k) (map (at (lives_of (frees_in bs) these)) h.parameters) (reverse vs) = subst (λ us. AreGiven g.own (operands_in k) us (reverse vs)) types_is (given_turned g (operands_in k) ts [] vs [] are claims tt) in
         let same = same_around g in
         let back = record i { depth = g.depth } in
         subst (λ o. IsWell p (called o (reverse vs) (Caller e ∷ k) w)) (sym there)
@@ -223,7 +224,7 @@ module _ (p : Source) (accepted : AreAccepted p) where
         )))
 
     pub enter : (h : Function) (vs : List Operand) (k : List Entry) (end : flow.State) (these : ℕ → Life) (alive : ℕ → Bool) → LiveIn k bs → IsAccepted p h end → IsBody x bs h → (frees : Bool) × (bs ≡ Instance frees these alive ∷ [])
-        → Stand p.reading (regions_at_call h) bs → AreOperands g (map (read bs) h.parameters) vs → AreGiven g.own (operands_in k) (map (read bs) h.parameters) → IsStack p g x bs (Go end) k → IsWell p (step_entering h vs k e w)
+        → Stand p.reading (regions_at_call h) bs → AreOperands g (map (read bs) h.parameters) vs → AreGiven g.own (operands_in k) (map (read bs) h.parameters) vs → IsStack p g x bs (Go end) k → IsWell p (step_entering h vs k e w)
     enter h vs k end these alive live ok body (freed, these_are) stand are claims stack =
         let count : 0 + length h.parameters ≡ length h.parameters = omega arith in
         let region = length w.regions in
@@ -253,7 +254,7 @@ module _ (p : Source) (accepted : AreAccepted p) where
           (tt, (tt, full)),
           stand_opened g p.reading scopes.Block 0 region (ends_of k) (regions_at_call h) bs variables refl live.0 named.live named.pairs stand,
           new_home p.reading 0 region (ends_of k) (lent_now g) bs,
-          (operands_in k, (let le : operands_in k ≤ operands_in k = omega arith in le), subst (λ us. AreGiven g.own (operands_in k) us) (named.parameters (lives_in bs) (lives_in cs) same) claims),
+          (operands_in k, (let le : operands_in k ≤ operands_in k = omega arith in le), subst (λ us. AreGiven g.own (operands_in k) us vs) (named.parameters (lives_in bs) (lives_in cs) same) claims),
           (tt, (tt, own)),
           (bs, 0, l, true, end, refl, implies_self end, live, stack),
         )
@@ -296,7 +297,7 @@ module _ (p : Source) (accepted : AreAccepted p) where
     pub bind : (number : ℕ) (ts : List Ty) (arguments : List Operand) (js : Items) (k : List Entry) (h : Function) (end : flow.State) (vs : List LocalInScope) (cs : List InScope) → IsNested k e w → LiveIn k bs
         → Within cs bs → IsAccepted p h end → IsBody x bs h → js ≡ h.body → parameters_in_scope ts number vs ≡ parameters_in_scope h.parameters 0 [] → number + length ts ≡ length h.parameters
         → AreOperands g (map (read bs) ts) arguments → IsScope p.reading (lives_in bs) vs bs → AreBelow number bs → AreFull g bs → Stand p.reading (body_context p.program h).regions bs → IsHome p.reading 0 bs
-        → (i : ℕ) × (operands_in k ≤ i) × AreGiven g.own i (map (read bs) ts) → AreOwn g bs → IsStack p g x cs (Go end) k → IsWell p (step_binding number ts arguments js k e w)
+        → (i : ℕ) × (operands_in k ≤ i) × AreGiven g.own i (map (read bs) ts) arguments → AreOwn g bs → IsStack p g x cs (Go end) k → IsWell p (step_binding number ts arguments js k e w)
     bind number [] [] js k h end vs cs nests live within ok body body_is scope_is count are scope below full stand at_home claims own stack =
         begin h number js k end vs cs live within ok body body_is scope_is count scope below full stand at_home own stack
     bind number [] (v ∷ arguments) js k h end vs cs nests live within ok body body_is scope_is count are scope below full stand at_home claims own stack = absurd are
@@ -304,17 +305,14 @@ module _ (p : Source) (accepted : AreAccepted p) where
     bind number (t ∷ ts) (v ∷ arguments) js k h end vs cs nests live within ok body body_is scope_is count (is, are) scope below full stand at_home (i, least, (has, claims)) own stack =
         let more : suc number + length ts ≡ length h.parameters = omega (arith, count) in
         let l = new_life p.reading bs 0 e.home k live at_home nests.2 in
-        let u = read bs t in
-        let its = In g.depth number in
-        let o = giving g u its in
-        let grows_so = giving_grows g u its in
-        let scope_now : AreVariables o bs = variables_other g u (Hand i) its bs has refl variables in
+        let hand = Hand i in
+        let h' = made_typing p g x bs e w typed globals bound variables number t l.life 1 (Some v.value) in
         subst (λ (b : Bool). IsWell p (if b then declared (region_at w e.home) (Binding (suc number) ts arguments js) number (values.kind_of t) (Some v.value) k e w else wrong w))
         (sym (is_kind_same v.kind (values.kind_of t) (is.0 ∙ kind_meant (lives_in bs) t)))
-        (declares p o x bs e w (given_typed g u (Hand i) its w.regions w.objects has tt typed) (given_globals p g u its globals) bound scope_now number (values.kind_of t) t (Some v.value) 1 l.life (Binding (suc number) ts arguments js) k nests live below
-        l.number l.lasting (l.known o scope_now)
-        (λ grows. ((sym (kind_meant (lives_in bs) t), type_grown o _ grows u v.value (type_grown g o grows_so u v.value is.1)), tt))
-        (λ grows filled. (
+        (declares p g x bs e w typed globals bound variables number (values.kind_of t) t (Some v.value) 1 i l.life (Binding (suc number) ts arguments js) k nests live below
+        l.number l.lasting (l.known g variables) has
+        (λ grows. ((sym (kind_meant (lives_in bs) t), type_grown g h' grows (read bs t) v.value is.1), tt))
+        (λ changed filled here. (
           h,
           end,
           record { number = number; of_type = t; region = 0; is_place = true } ∷ vs,
@@ -325,15 +323,15 @@ module _ (p : Source) (accepted : AreAccepted p) where
           body_is,
           scope_is,
           more,
-          operands_grown o _ grows.grows (map (read bs) ts) arguments (operands_grown g o grows_so (map (read bs) ts) arguments are),
+          operands_grown g h' changed.grows (map (read bs) ts) arguments are,
           (vs, (_, refl, refl, refl, refl, l.homed), scope),
           ((let less : number < suc number = omega arith in less), below_more number (suc number) bs (let le : number ≤ suc number = omega arith in le) below),
-          (filled, full_grown o _ grows.grows bs (full_grown g o grows_so bs full)),
+          (filled, full_grown g h' changed.grows bs full),
           stand,
           at_home,
-          (suc i, (let le : operands_in k ≤ suc i = omega (arith, least) in le), given_later g u its i (suc i) (map (read bs) ts) has (let less : i < suc i = omega arith in less) claims),
-          (given_now g u its, own_grown o _ grows bs (own_other g u its i bs has own)),
-          stack_grown p o _ grows x cs (Go end) k (stack_other u (Hand i) its p g x cs (Go end) k has least stack),
+          (suc i, (let le : operands_in k ≤ suc i = omega (arith, least) in le), given_later g h' i (suc i) (map (read bs) ts) arguments changed (let less : i < suc i = omega arith in less) claims),
+          (here, own_kept g h' i bs changed own),
+          stack_changed p hand g h' x cs (Go end) k changed least stack,
         )))
 
     -- ---- clauses
@@ -400,7 +398,7 @@ module _ (p : Source) (accepted : AreAccepted p) where
           (new_int p.reading (suc c.next_region), block_region c),
           number,
           (refl, tt),
-          tt,
+          (tt, tt),
           rest,
           block_stack p g x bs e w typed globals bound variables c k h h live (implies_self h) stack,
         )

@@ -1,25 +1,27 @@
 -- CELLS that a step reads and writes: those of variables, and those that a pointer leads to.
-use Rattle.std.proofs.Common.{◌≡◌, ℕ, zero, suc, ◌≤◌, ◌<◌, Bool, true, false, List, [], ◌∷◌, Some, None, slice_get, refl, sym, ap, subst, ◌∙◌, arith}
+use Rattle.std.proofs.Common.{◌≡◌, ◌≢◌, set, Option, ℕ, zero, suc, ◌≤◌, ◌<◌, Bool, true, false, List, [], ◌∷◌, Some, None, slice_get, refl, sym, ap, subst, ◌∙◌, arith}
 use Rattle.std.specs.Prelude.{if◌then◌else◌}
+use Rattle.cyc_syntax.specs.declared.tree.PointerKind.{PointerKind}
 use Rattle.cyc_types.specs.declared.typed.Kind.{Kind}
 use Rattle.cyc_types.specs.Types.{Ty}
 use Rattle.cyc_types.specs.Types as types
 use Rattle.cyc_types.specs.typing.Tests.{is_struct}
 use Rattle.cyc_types.specs.flow.States as flow
-use Rattle.cyc_meaning.specs.Values.{Operand}
+use Rattle.cyc_meaning.specs.Values.{Operand, Cell}
 use Rattle.cyc_meaning.specs.Values as values
-use Rattle.cyc_meaning.specs.State.{World, Object, Found, Closed, cell_at, written, Environment, Entry, Focus, Given, Running}
+use Rattle.cyc_meaning.specs.State.{Region, World, Object, Found, Closed, cell_at, written, Environment, Entry, Focus, Given, Running}
 use Rattle.cyc_meaning.specs.Objects.{found_object, object_at}
 use Rattle.cyc_meaning.specs.Parts.{wrong, read, loaded, stored}
 use Rattle.cyc_meaning.specs.Nesting.{ends_of, AreOpen}
 use Rattle.cyc_soundness.specs.Lives.{Life, OfRegion, OfObject, Never, Owned, Kept, RunTy, RunValue, Int, Pointer, Handle, Key, Struct, Value, Lives, at, kind_at}
 use Rattle.cyc_soundness.specs.Lives.{at as at'}
-use Rattle.cyc_soundness.specs.Worlds.{Holder, Hand, Claims, IsKeyless, AreKeyless, Stays, ObjectType, Typing, IsOpenIn, Outlasts, alike, heap as for_ever, globals as with_globals, IsFilled, IsPart, IsTarget, HasType, IsResult, IsTyped, IsOpenLife}
+use Rattle.cyc_soundness.specs.Worlds.{Thing, Holder, Nobody, Hand, At, IsHeld, pointer_at, Owns, Claims, ClaimsPart, ClaimsBy, IsHad, AreOwned, IsOpenObject, IsKeyless, AreKeyless, Stays, ObjectType, Typing, IsOpenIn, Outlasts, alike, heap as for_ever, globals as with_globals, stays, encloses, IsFilled, IsPart, IsTarget, HasType, IsResult, IsTyped, IsOpenLife}
 use Rattle.cyc_soundness.specs.Frames.{InScope, IsBound, AreVariables, LiveIn, Holds, Exits, KnowsProgram, IsLasting}
-use Rattle.cyc_soundness.specs.Stacks.{Val, operands_in, Comes, IsStack, IsFocus, IsWell}
+use Rattle.cyc_soundness.specs.Stacks.{IsCommonLife, IsByType, Val, operands_in, IsStack, IsFocus, IsWell}
 use Rattle.cyc_soundness.proofs.Numbers.{slice_get-set_same, some_same}
 use Rattle.cyc_soundness.proofs.TypeLemmas.{is_kind_same}
-use Rattle.cyc_soundness.proofs.WorldLemmas.{cell_there, live_owner, risen, risen_past, with_filled, written_stays, cell_written, globals_grown, variables_grown}
+use Rattle.cyc_soundness.proofs.WorldLemmas.{typed_cell, cell_there, live_object, risen, risen_past, with_filled, written_grows, cell_written, cells_own, globals_grown}
+use Rattle.cyc_soundness.proofs.Hands.{Raises, raises_changed, variables_kept}
 use Rattle.cyc_soundness.proofs.StackLemmas.{open_of, globals_among, kept_open, object_known, open_outlasting, IsPresent, outlasting_open}
 use Rattle.cyc_soundness.specs.Classes.{Source}
 
@@ -31,45 +33,90 @@ running p g x bs e w typed globals bound variables focus k live stands =
 
 -- ---- what a pointer leads to
 
+-- what another one may have has its own end
+pub outlasts_common : (l m : Life) → Outlasts l m → IsCommonLife m → IsCommonLife l
+outlasts_common l m (alike _) common = common
+outlasts_common l m (for_ever _) common = tt
+outlasts_common l m (with_globals _) common = tt
+outlasts_common l m (stays region n ns us has) common = tt
+outlasts_common l m (encloses a b as' bs us vs end more) common = tt
+
+pub lasting_common : (ns : List ℕ) (l : Life) → IsLasting ns l → IsCommonLife l
+lasting_common ns (OfRegion number around lent) is = tt
+lasting_common ns (OfObject object) is = absurd is
+lasting_common ns Never is = absurd is
+lasting_common ns (Kept region) is = tt
+lasting_common ns Owned is = absurd is
+
+pub open_object : (g : Typing) (regions : List Region) (object : ℕ) (l : Life) → IsCommonLife l → IsOpenLife regions l → IsOpenObject g regions object l
+open_object g regions object (OfRegion number around lent) common opens = opens
+open_object g regions object (OfObject o) common opens = opens
+open_object g regions object Never common opens = opens
+open_object g regions object (Kept region) common opens = opens
+open_object g regions object Owned common opens = absurd common
+
+-- what is looked at, or in hand, somebody has
+pub part_had : (g : Typing) (i : ℕ) (peek : Option ℕ) (o : Option Thing) → ClaimsPart g i peek o → IsHad g o
+part_had g i None None is = tt
+part_had g i (Some n) None is = tt
+part_had g i None (Some a) is = subst (λ h. IsHeld h) (sym is) tt
+part_had g i (Some n) (Some a) (object, here, is) = subst (λ h. IsHeld h) (sym is) tt
+
+pub owned_had : (g : Typing) (i : ℕ) (o : Option Thing) → Owns g.own (Hand i) o → IsHad g o
+owned_had g i o is = part_had g i None o is
+
+-- others have a life that nobody has
+pub common_had : (g : Typing) (l : Life) (object : ℕ) → IsCommonLife l → IsHad g (pointer_at l object)
+common_had g (OfRegion number around lent) object common = tt
+common_had g (OfObject o) object common = tt
+common_had g Never object common = tt
+common_had g (Kept region) object common = tt
+common_had g Owned object common = absurd common
+
 module _ (g : Typing) (w : World) (typed : IsTyped g w.regions w.objects) where
   -- no struct is in a cell
-  never_struct : (number : ℕ) (x : ObjectType) (n : ℕ) (ls : List Life) (offset : ℕ) → slice_get g.objects number ≡ Some x → slice_get x.cells offset ≡ Some (Struct n ls) → IsOpenLife w.regions x.life
-      → IsFilled g number (suc offset) → ⊥
-  never_struct number x n ls offset there at opens (m, flag, enough) =
-      let c = cell_there g w number offset (Struct n ls) x typed there at opens in
-      let same : m ≡ c.filled = some_same m c.filled (sym flag ∙ c.flag) in
-      let (v, content, has) = c.of.content (let less : offset < c.filled = omega (arith, same, enough) in less) in
+  never_struct : (number : ℕ) (x : ObjectType) (n : ℕ) (ls : List Life) (offset : ℕ) → slice_get g.objects number ≡ Some x → slice_get x.cells offset ≡ Some (Struct n ls) → IsFilled g number (suc offset) → ⊥
+  never_struct number x n ls offset there at (m, flag, enough) =
+      let (y, k, stands, filled, is) = typed.each number x there in
+      let c = typed_cell g x.cells y.cells k offset (Struct n ls) is.cells at in
+      let same : m ≡ k = some_same m k (sym flag ∙ filled) in
+      let (v, content, has) = c.content (let less : offset < k = omega (arith, same, enough) in less) in
       has
 
-  pub part_at : (number : ℕ) (x : ObjectType) (t : RunTy) (offset : ℕ) → slice_get g.objects number ≡ Some x → slice_get x.cells offset ≡ Some t → IsOpenLife w.regions x.life
-      → IsFilled g number (suc offset) → IsPart g number x t offset
-  part_at number x Int offset there at opens filled = (at, filled)
-  part_at number x (Pointer k t l) offset there at opens filled = (at, filled)
-  part_at number x (Handle l) offset there at opens filled = (at, filled)
-  part_at number x (Key l) offset there at opens filled = (at, filled)
-  part_at number x (Struct n ls) offset there at opens filled = absurd (never_struct number x n ls offset there at opens filled)
+  pub part_at : (number : ℕ) (x : ObjectType) (t : RunTy) (offset : ℕ) → slice_get g.objects number ≡ Some x → slice_get x.cells offset ≡ Some t → IsFilled g number (suc offset) → IsPart g number x t offset
+  part_at number x Int offset there at filled = (at, filled)
+  part_at number x (Pointer k t l) offset there at filled = (at, filled)
+  part_at number x (Handle l) offset there at filled = (at, filled)
+  part_at number x (Key l) offset there at filled = (at, filled)
+  part_at number x (Struct n ls) offset there at filled = absurd (never_struct number x n ls offset there at filled)
 
-  life_by : (k : List Entry) (object : ℕ) (y : ObjectType) (m : Life) → slice_get g.objects object ≡ Some y → AreOpen w.regions (ends_of k) → Outlasts y.life m → IsLasting (ends_of k) m × IsOpenIn g m → IsOpenLife w.regions y.life
+  life_by : (k : List Entry) (object : ℕ) (y : ObjectType) (m : Life) → slice_get g.objects object ≡ Some y → AreOpen w.regions (ends_of k) → Outlasts y.life m → IsLasting (ends_of k) m × IsOpenIn g m → IsOpenObject g w.regions object y.life
   life_by k object y m there opens outlasts lasting =
-      outlasting_open w.regions (ends_of k) y.life m opens typed.heap (open_of w.regions (globals_among k) opens)
-      (kept_open g w.regions w.objects y.life typed (object_known g w.regions w.objects object y typed there) (open_outlasting g y.life m outlasts lasting.1)) outlasts lasting.0
+      open_object g w.regions object y.life (outlasts_common y.life m outlasts (lasting_common (ends_of k) m lasting.0))
+      (outlasting_open w.regions (ends_of k) y.life m opens typed.heap (open_of w.regions (globals_among k) opens)
+      (kept_open g w.regions w.objects y.life typed (object_known g w.regions w.objects object y typed there) (open_outlasting g y.life m outlasts lasting.1)) outlasts lasting.0)
+
+  owned_by : (k : List Entry) (object : ℕ) (l m : Life) → m ≡ Owned → AreOpen w.regions (ends_of k) → Outlasts l m → IsHad g (pointer_at m object) → IsOpenObject g w.regions object l
+  owned_by k object l m same opens (alike _) had = subst (λ z. IsOpenObject g w.regions object z) (sym same) (subst (λ z. IsHad g (pointer_at z object)) same had)
+  owned_by k object l m same opens (for_ever _) had = typed.heap
+  owned_by k object l m same opens (with_globals _) had = open_of w.regions (globals_among k) opens
+  owned_by k object l m same opens (stays region n ns us has) had = let z : OfRegion n ns us ≡ Owned = same in absurd (cc)
+  owned_by k object l m same opens (encloses a b as' bs us vs end more) had = let z : OfRegion b bs vs ≡ Owned = same in absurd (cc)
 
   -- what a pointer leads to is there
-  pub life_of : (k : List Entry) (object : ℕ) (y : ObjectType) (m : Life) → slice_get g.objects object ≡ Some y → AreOpen w.regions (ends_of k) → Outlasts y.life m → IsPresent g (ends_of k) m → IsOpenLife w.regions y.life
-  life_of k object y Owned there opens (alike _) lasting = tt
-  life_of k object y Owned there opens (for_ever _) lasting = typed.heap
-  life_of k object y Owned there opens (with_globals _) lasting = open_of w.regions (globals_among k) opens
-  life_of k object y (OfRegion number around lent) there opens outlasts lasting = life_by k object y (OfRegion number around lent) there opens outlasts lasting
-  life_of k object y (OfObject o) there opens outlasts lasting = life_by k object y (OfObject o) there opens outlasts lasting
-  life_of k object y Never there opens outlasts lasting = life_by k object y Never there opens outlasts lasting
-  life_of k object y (Kept region) there opens outlasts lasting = life_by k object y (Kept region) there opens outlasts lasting
+  pub life_of : (k : List Entry) (object : ℕ) (y : ObjectType) (m : Life) → slice_get g.objects object ≡ Some y → AreOpen w.regions (ends_of k) → Outlasts y.life m → IsPresent g (ends_of k) m → IsHad g (pointer_at m object) → IsOpenObject g w.regions object y.life
+  life_of k object y Owned there opens outlasts lasting had = owned_by k object y.life Owned refl opens outlasts had
+  life_of k object y (OfRegion number around lent) there opens outlasts lasting had = life_by k object y (OfRegion number around lent) there opens outlasts lasting
+  life_of k object y (OfObject o) there opens outlasts lasting had = life_by k object y (OfObject o) there opens outlasts lasting
+  life_of k object y Never there opens outlasts lasting had = life_by k object y Never there opens outlasts lasting
+  life_of k object y (Kept region) there opens outlasts lasting had = life_by k object y (Kept region) there opens outlasts lasting
 
   -- of an object that a pointer leads to
-  pub target_live : (k : List Entry) (t : RunTy) (l : Life) (object offset : ℕ) → AreOpen w.regions (ends_of k) → IsPresent g (ends_of k) l → IsTarget g t l object offset → (x : Object) × (object_at w object ≡ Found x)
-  target_live k t l object offset opens lasting (x, there, shown, outlasts, part) =
+  pub target_live : (k : List Entry) (t : RunTy) (l : Life) (object offset : ℕ) → AreOpen w.regions (ends_of k) → IsPresent g (ends_of k) l → IsHad g (pointer_at l object) → IsTarget g t l object offset → (x : Object) × (object_at w object ≡ Found x)
+  target_live k t l object offset opens lasting had (x, there, shown, outlasts, part) =
       let (y, m, stands, flag, is) = typed.each object x there in
-      let open' = life_of k object x l there opens outlasts lasting in
-      (y, ap (λ o. found_object w o) stands ∙ ap (λ (b : Bool). if b then Found y else Closed) (live_owner w x.life y.owner is.owner open'))
+      let open' = life_of k object x l there opens outlasts lasting had in
+      (y, ap (λ o. found_object w o) stands ∙ ap (λ (b : Bool). if b then Found y else Closed) (live_object g w object x y typed there stands is.owner open'))
 
 -- a place that holds a value, and no struct
 pub value_part : (n : Lives) (g : Typing) (object : ℕ) (x : ObjectType) (t : Ty) (offset : ℕ) → is_struct t ≡ false → IsPart g object x (at n t) offset → (slice_get x.cells offset ≡ Some (at n t)) × IsFilled g object (suc offset)
@@ -88,76 +135,172 @@ stored_part g object x (Struct n ls) offset v has is = absurd has
 
 -- ---- keys
 
-keyless_at : (ts : List RunTy) (i : ℕ) (t : RunTy) → AreKeyless ts → slice_get ts i ≡ Some t → IsKeyless t
+pub keyless_at : (ts : List RunTy) (i : ℕ) (t : RunTy) → AreKeyless ts → slice_get ts i ≡ Some t → IsKeyless t
 keyless_at [] i t are found = absurd (let k : None ≡ Some t = found in cc)
 keyless_at (u ∷ ts) zero t (is, are) found = subst (λ z. IsKeyless z) (some_same u t found) is
 keyless_at (u ∷ ts) (suc i) t (is, are) found = keyless_at ts i t are found
 
--- what is no key claims none
-pub keyless_claims : (own : ℕ → Holder) (h : Holder) (t : RunTy) → IsKeyless t → Claims own h t
-keyless_claims own h Int is = tt
-keyless_claims own h (Pointer k t l) is = tt
-keyless_claims own h (Handle l) is = tt
-keyless_claims own h (Struct n ls) is = tt
-keyless_claims own h (Key (Kept region)) is = absurd is
-keyless_claims own h (Key (OfRegion number ns us)) is = tt
-keyless_claims own h (Key (OfObject object)) is = tt
-keyless_claims own h (Key Never) is = tt
-keyless_claims own h (Key Owned) is = tt
+-- what is neither a key nor unique claims nothing
+pub keyless_claims : (own : Thing → Holder) (h : Holder) (t : RunTy) (v : values.Value) → IsKeyless t → Claims own h t v
+keyless_claims own h Int v is = (tt, tt)
+keyless_claims own h (Handle l) v is = (tt, tt)
+keyless_claims own h (Struct n ls) v is = (tt, tt)
+keyless_claims own h (Key (Kept region)) v is = absurd is
+keyless_claims own h (Key (OfRegion number ns us)) v is = (tt, tt)
+keyless_claims own h (Key (OfObject object)) v is = (tt, tt)
+keyless_claims own h (Key Never) v is = (tt, tt)
+keyless_claims own h (Key Owned) v is = (tt, tt)
+keyless_claims own h (Pointer k t l) v is = pointer_claims l v is
+  where
+    pointer_claims : (l : Life) (v : values.Value) → IsKeyless (Pointer k t l) → Claims own h (Pointer k t l) v
+    pointer_claims Owned v is = absurd is
+    pointer_claims (OfRegion number ns us) values.Null is = (tt, tt)
+    pointer_claims (OfRegion number ns us) (values.Int n) is = (tt, tt)
+    pointer_claims (OfRegion number ns us) (values.Thin o i) is = (tt, tt)
+    pointer_claims (OfRegion number ns us) (values.Fat o s c i) is = (tt, tt)
+    pointer_claims (OfRegion number ns us) (values.Handle n) is = (tt, tt)
+    pointer_claims (OfRegion number ns us) (values.Key n) is = (tt, tt)
+    pointer_claims (OfObject object) values.Null is = (tt, tt)
+    pointer_claims (OfObject object) (values.Int n) is = (tt, tt)
+    pointer_claims (OfObject object) (values.Thin o i) is = (tt, tt)
+    pointer_claims (OfObject object) (values.Fat o s c i) is = (tt, tt)
+    pointer_claims (OfObject object) (values.Handle n) is = (tt, tt)
+    pointer_claims (OfObject object) (values.Key n) is = (tt, tt)
+    pointer_claims Never values.Null is = (tt, tt)
+    pointer_claims Never (values.Int n) is = (tt, tt)
+    pointer_claims Never (values.Thin o i) is = (tt, tt)
+    pointer_claims Never (values.Fat o s c i) is = (tt, tt)
+    pointer_claims Never (values.Handle n) is = (tt, tt)
+    pointer_claims Never (values.Key n) is = (tt, tt)
+    pointer_claims (Kept region) values.Null is = (tt, tt)
+    pointer_claims (Kept region) (values.Int n) is = (tt, tt)
+    pointer_claims (Kept region) (values.Thin o i) is = (tt, tt)
+    pointer_claims (Kept region) (values.Fat o s c i) is = (tt, tt)
+    pointer_claims (Kept region) (values.Handle n) is = (tt, tt)
+    pointer_claims (Kept region) (values.Key n) is = (tt, tt)
+
+pub pointer_keyless : (k : PointerKind) (t : RunTy) (l : Life) → IsCommonLife l → IsKeyless (Pointer k t l)
+pointer_keyless k t (OfRegion number ns us) common = tt
+pointer_keyless k t (OfObject object) common = tt
+pointer_keyless k t Never common = tt
+pointer_keyless k t (Kept region) common = tt
+pointer_keyless k t Owned common = absurd common
+
+-- what their type tells, all values of a type claim
+pub by_type_claims : (own : Thing → Holder) (h : Holder) (t : RunTy) (u v : values.Value) → IsByType t → Claims own h t u → Claims own h t v
+by_type_claims own h Int u v by is = (tt, tt)
+by_type_claims own h (Handle l) u v by is = (tt, tt)
+by_type_claims own h (Struct n ls) u v by is = (tt, tt)
+by_type_claims own h (Key l) u v by is = (is.0, tt)
+by_type_claims own h (Pointer k t l) u v by is = keyless_claims own h (Pointer k t l) v (pointer_keyless k t l by)
+
+-- nor does what others may reach
+pub shared_claims : (g : Typing) (w : World) (number offset : ℕ) (y : ObjectType) (t : RunTy) → IsTyped g w.regions w.objects → slice_get g.objects number ≡ Some y → y.is_hidden ≡ false → slice_get y.cells offset ≡ Some t → (h : Holder) (v : values.Value) → Claims g.own h t v
+shared_claims g w number offset y t typed there shown at h v = let (x, m, stands, flag, is) = typed.each number y there in keyless_claims g.own h t v (keyless_at y.cells offset t (is.keyless shown) at)
 
 -- ---- reads and writes
 
 module _ (p : Source) (g : Typing) (x : Exits) (bs : List InScope) (e : Environment) (w : World) (typed : IsTyped g w.regions w.objects) (globals : KnowsProgram g p) (bound : IsBound e.locals e.counters bs) (variables : AreVariables g bs) where
-  -- a cell is read
-  pub reads : (k : List Entry) (kind : Kind) (number offset : ℕ) (t : RunTy) (y : ObjectType) (f : flow.State) → LiveIn k bs → Holds g f bs
-      → slice_get g.objects number ≡ Some y → slice_get y.cells offset ≡ Some t → IsOpenLife w.regions y.life → IsFilled g number (suc offset) → kind_at t ≡ kind
-      → (r : RunValue) → ((v : values.Value) → HasType g t v → IsResult g r (record { kind = kind; value = v })) → Comes g r k → IsStack p g x bs (Val r f) k → IsWell p (loaded kind (cell_at w number offset) k e w)
-  reads k kind number offset t y f live holds at cells opens (m, flag, enough) same r fits comes stack =
+  -- what a cell holds that is read
+  pub record Content (kind : Kind) (number offset : ℕ) (t : RunTy) : Type 0 where
+    pub value : values.Value
+    pub has : HasType g t value
+    pub object : Object
+    pub cell : Cell
+    pub there : slice_get w.objects number ≡ Some object
+    pub at : slice_get object.cells offset ≡ Some cell
+    pub content : cell.content ≡ Some value
+    pub loads : (k : List Entry) (e : Environment) → loaded kind (cell_at w number offset) k e w ≡ Running (Given (record { kind = kind; value = value })) k e w
+
+  pub content_of : (kind : Kind) (number offset : ℕ) (t : RunTy) (y : ObjectType) → slice_get g.objects number ≡ Some y → slice_get y.cells offset ≡ Some t → IsOpenObject g w.regions number y.life → IsFilled g number (suc offset) → kind_at t ≡ kind
+      → Content kind number offset t
+  content_of kind number offset t y at cells opens (m, flag, enough) same =
       let c = cell_there g w number offset t y typed at cells opens in
       let count : m ≡ c.filled = some_same m c.filled (sym flag ∙ c.flag) in
       let (v, content, has) = c.of.content (let less : offset < c.filled = omega (arith, count, enough) in less) in
-      subst (λ a. IsWell p (loaded kind a k e w)) (sym c.found)
-      (subst (λ (b : Bool). IsWell p (if b then read kind c.of.cell.content k e w else wrong w)) (sym (is_kind_same c.of.cell.kind kind (c.of.kind ∙ same)))
-      (subst (λ o. IsWell p (read kind o k e w)) (sym content)
-      (running p g x bs e w typed globals bound variables (Given (record { kind = kind; value = v })) k live (r, f, holds, fits v has, comes, stack))))
+      record {
+        value = v;
+        has = has;
+        object = c.object;
+        cell = c.of.cell;
+        there = c.there;
+        at = c.of.at;
+        content = content;
+        loads = λ k e. ap (λ a. loaded kind a k e w) c.found
+            ∙ ap (λ (b : Bool). if b then read kind c.of.cell.content k e w else wrong w) (is_kind_same c.of.cell.kind kind (c.of.kind ∙ same))
+            ∙ ap (λ o. read kind o k e w) content;
+      }
+
+  -- a cell is read
+  pub reads : (k : List Entry) (kind : Kind) (number offset : ℕ) (t : RunTy) (y : ObjectType) (f : flow.State) → LiveIn k bs → Holds g f bs
+      → slice_get g.objects number ≡ Some y → slice_get y.cells offset ≡ Some t → IsOpenObject g w.regions number y.life → IsFilled g number (suc offset) → kind_at t ≡ kind
+      → (r : RunValue) → ((v : values.Value) → HasType g t v → IsResult g r (record { kind = kind; value = v })) → ((c : Content kind number offset t) → ClaimsBy g (operands_in k) r c.value) → IsStack p g x bs (Val r f) k
+      → IsWell p (loaded kind (cell_at w number offset) k e w)
+  reads k kind number offset t y f live holds at cells opens filled same r fits comes stack =
+      let c = content_of kind number offset t y at cells opens filled same in
+      subst (λ s. IsWell p s) (sym (c.loads k e)) (running p g x bs e w typed globals bound variables (Given (record { kind = kind; value = c.value })) k live (r, f, holds, fits c.value c.has, comes c, stack))
 
   -- a cell is written whose place is given, and then it is gone on, where more is known
+  module _ (v : Operand) (focus : Focus) (k : List Entry) (number offset m : ℕ) (t : RunTy) (y : ObjectType) (here : ℕ → Bool) where
+    abbrev pub written_typing : Typing
+    written_typing = record (with_filled g number (risen offset m)) { here = here }
+
+    pub writes_marking : LiveIn k bs → slice_get g.objects number ≡ Some y → slice_get y.cells offset ≡ Some t → IsOpenObject g w.regions number y.life → slice_get g.filled number ≡ Some m → offset ≤ m
+        → IsResult g (Value t) v → ((object : ℕ) → object ≢ number → here object ≡ true → g.here object ≡ true) → ((object : ℕ) → g.here object ≡ true → here object ≡ true)
+        → (here number ≡ true → (z : Object) (d : Cell) → slice_get w.objects number ≡ Some z → slice_get z.cells offset ≡ Some d → AreOwned g.own number y.cells (set z.cells offset (record d { content = Some v.value })))
+        → (Raises g written_typing → IsFilled written_typing number (suc offset) → IsFocus p written_typing x bs focus k)
+        → IsWell p (stored (cell_at w number offset) number offset v focus k e w)
+    writes_marking live at cells opens flag few is before raises own goes =
+        let c = cell_there g w number offset t y typed at cells opens in
+        let count : m ≡ c.filled = some_same m c.filled (sym flag ∙ c.flag) in
+        let few_too : offset ≤ c.filled = omega (arith, count, few) in
+        let h : Typing = record (with_filled g number (risen offset c.filled)) { here = here } in
+        let grows = written_grows g w number offset y t v.value typed at cells c few_too is.1 in
+        let changed : Raises g h = record {
+          grows = record { objects = grows.objects; filled = grows.filled; fields = grows.fields; kept = grows.kept };
+          own = refl;
+          here = raises;
+          depth = refl;
+          loans = refl;
+        } in
+        let past : suc offset ≤ risen offset c.filled = risen_past offset c.filled few_too in
+        let now : IsFilled h number (suc offset) = (risen offset c.filled, slice_get-set_same g.filled number c.filled (risen offset c.filled) c.flag, past) in
+        let goes_on = subst (λ n. Raises g (record (with_filled g number (risen offset n)) { here = here }) → IsFilled (record (with_filled g number (risen offset n)) { here = here }) number (suc offset)
+        → IsFocus p (record (with_filled g number (risen offset n)) { here = here }) x bs focus k) count goes in
+        subst (λ a. IsWell p (stored a number offset v focus k e w)) (sym c.found)
+        (subst (λ (b : Bool). IsWell p (if b then Running focus k e (written w number offset (record { object = c.object; cell = c.of.cell }) v.value) else wrong w))
+        (sym (is_kind_same c.of.cell.kind v.kind (c.of.kind ∙ sym is.0)))
+        (running p h x bs e (written w number offset (record { object = c.object; cell = c.of.cell }) v.value)
+        (cell_written g w number offset y t v.value typed at cells c few_too is.1 here before (λ now. own now c.object c.of.cell c.there c.of.at))
+        (globals_grown g h changed.grows p (λ n ls. refl) globals.keys globals) bound (variables_kept Nobody g h (raises_changed g h changed) bs refl variables) focus k live (goes_on changed now)))
+
+  -- of which nobody learns more than that
   pub writes : (v : Operand) (focus : Focus) (k : List Entry) (number offset m : ℕ) (t : RunTy) (y : ObjectType) → LiveIn k bs
-      → slice_get g.objects number ≡ Some y → slice_get y.cells offset ≡ Some t → IsOpenLife w.regions y.life → slice_get g.filled number ≡ Some m → offset ≤ m
-      → IsResult g (Value t) v → (Stays g (with_filled g number (risen offset m)) → IsFilled (with_filled g number (risen offset m)) number (suc offset) → IsFocus p (with_filled g number (risen offset m)) x bs focus k)
+      → slice_get g.objects number ≡ Some y → slice_get y.cells offset ≡ Some t → IsOpenObject g w.regions number y.life → slice_get g.filled number ≡ Some m → offset ≤ m
+      → IsResult g (Value t) v → (g.here number ≡ true → Claims g.own (At number) t v.value)
+      → (Stays g (with_filled g number (risen offset m)) → IsFilled (with_filled g number (risen offset m)) number (suc offset) → IsFocus p (with_filled g number (risen offset m)) x bs focus k)
       → IsWell p (stored (cell_at w number offset) number offset v focus k e w)
-  writes v focus k number offset m t y live at cells opens flag few is goes =
-      let c = cell_there g w number offset t y typed at cells opens in
-      let count : m ≡ c.filled = some_same m c.filled (sym flag ∙ c.flag) in
-      let few_too : offset ≤ c.filled = omega (arith, count, few) in
-      let h = with_filled g number (risen offset c.filled) in
-      let grows : Stays g h = written_stays g w number offset y t v.value typed at cells c few_too is.1 in
-      let past : suc offset ≤ risen offset c.filled = risen_past offset c.filled few_too in
-      let now : IsFilled h number (suc offset) = (risen offset c.filled, slice_get-set_same g.filled number c.filled (risen offset c.filled) c.flag, past) in
-      let goes_on = subst (λ n. Stays g (with_filled g number (risen offset n)) → IsFilled (with_filled g number (risen offset n)) number (suc offset) → IsFocus p (with_filled g number (risen offset n)) x bs focus k) count goes in
-      subst (λ a. IsWell p (stored a number offset v focus k e w)) (sym c.found)
-      (subst (λ (b : Bool). IsWell p (if b then Running focus k e (written w number offset (record { object = c.object; cell = c.of.cell }) v.value) else wrong w))
-      (sym (is_kind_same c.of.cell.kind v.kind (c.of.kind ∙ sym is.0)))
-      (running p h x bs e (written w number offset (record { object = c.object; cell = c.of.cell }) v.value)
-      (cell_written g w number offset y t v.value typed at cells c few_too is.1) (globals_grown g h grows.grows p (λ n ls. refl) globals.keys globals) bound (variables_grown g h grows bs variables) focus k live (goes_on grows now)))
+  writes v focus k number offset m t y live at cells opens flag few is claims goes =
+      writes_marking v focus k number offset m t y g.here live at cells opens flag few is (λ object apart now. now) (λ object now. now)
+      (λ here z d there at'. cells_own g.own number y.cells z.cells offset t d v.value cells at' (claims here) (λ j apart u c content found at'' is'. typed.owned number y z here at there j u c content found at'' is'))
+      (λ changed now. goes (record { grows = changed.grows; own = refl; here = refl; depth = refl; loans = refl }) now)
 
   -- a place that a pointer leads to is read
-  pub reads_target : (k : List Entry) (kind : Kind) (object offset : ℕ) (n : Lives) (t : Ty) (l : Life) (f : flow.State) → AreOpen w.regions (ends_of k) → LiveIn k bs → IsPresent g (ends_of k) l → Holds g f bs
+  pub reads_target : (k : List Entry) (kind : Kind) (object offset : ℕ) (n : Lives) (t : Ty) (l : Life) (f : flow.State) → AreOpen w.regions (ends_of k) → LiveIn k bs → IsPresent g (ends_of k) l → IsHad g (pointer_at l object) → Holds g f bs
       → IsTarget g (at n t) l object offset → is_struct t ≡ false → kind_at (at n t) ≡ kind → IsStack p g x bs (Val (Value (at n t)) f) k
       → IsWell p (loaded kind (cell_at w object offset) k e w)
-  reads_target k kind object offset n t l f opens live lasting holds (y, there, shown, outlasts, part) plain same stack =
-      let open' = life_of g w typed k object y l there opens outlasts lasting in
+  reads_target k kind object offset n t l f opens live lasting had holds (y, there, shown, outlasts, part) plain same stack =
+      let open' = life_of g w typed k object y l there opens outlasts lasting had in
       let (cells, filled) = value_part n g object y t offset plain part in
-      let (z, m, at, flag, is) = typed.each object y there in
-      let comes : Comes g (Value (at' n t)) k = keyless_claims g.own (Hand (operands_in k)) (at' n t) (keyless_at y.cells offset (at' n t) (is.keyless shown) cells) in
-      reads k kind object offset (at' n t) y f live holds there cells open' filled same (Value (at' n t)) (λ v has. (sym same, has)) comes stack
+      reads k kind object offset (at' n t) y f live holds there cells open' filled same (Value (at' n t)) (λ v has. (sym same, has))
+      (λ c. shared_claims g w object offset y (at' n t) typed there shown cells (Hand (operands_in k)) c.value) stack
 
   -- and is written
-  pub writes_target : (v : Operand) (k : List Entry) (object offset : ℕ) (t : RunTy) (l : Life) (focus : Focus) → AreOpen w.regions (ends_of k) → LiveIn k bs → IsPresent g (ends_of k) l
+  pub writes_target : (v : Operand) (k : List Entry) (object offset : ℕ) (t : RunTy) (l : Life) (focus : Focus) → AreOpen w.regions (ends_of k) → LiveIn k bs → IsPresent g (ends_of k) l → IsHad g (pointer_at l object)
       → IsTarget g t l object offset → IsResult g (Value t) v → ((h : Typing) → Stays g h → IsFocus p h x bs focus k)
       → IsWell p (stored (cell_at w object offset) object offset v focus k e w)
-  writes_target v k object offset t l focus opens live lasting (y, there, shown, outlasts, part) is goes =
-      let open' = life_of g w typed k object y l there opens outlasts lasting in
+  writes_target v k object offset t l focus opens live lasting had (y, there, shown, outlasts, part) is goes =
+      let open' = life_of g w typed k object y l there opens outlasts lasting had in
       let (cells, (m, flag, enough)) = stored_part g object y t offset v.value is.1 part in
       let few : offset ≤ m = omega (arith, enough) in
-      writes v focus k object offset m t y live there cells open' flag few is (λ grows now. goes (with_filled g object (risen offset m)) grows)
+      writes v focus k object offset m t y live there cells open' flag few is (λ here. shared_claims g w object offset y t typed there shown cells (At object) v.value) (λ grows now. goes (with_filled g object (risen offset m)) grows)

@@ -1,6 +1,6 @@
 -- Texts of which the theorem speaks: both sets of rules accept them, they stand in the class, and their runs end as is said. Each is
 -- proved by computation, so that the theorem is not about nothing.
-use Rattle.std.proofs.Common.{◌≡◌, ℕ, suc, true, false, List, [], ◌∷◌, ◌<◌, Some, None, Ok, Err, pos, refl, arith}
+use Rattle.std.proofs.Common.{◌≡◌, ℕ, suc, true, List, [], ◌∷◌, ◌<◌, Some, None, Ok, Err, pos, refl, arith}
 use Rattle.std.specs.Prelude.{codes}
 use Rattle.cyc_words.specs.Word.{slt_of}
 use Rattle.cyc_words.specs.Ending.{Returned}
@@ -21,9 +21,11 @@ use Rattle.cyc_meaning.specs.State.{Status, HasEnded, status_of}
 use Rattle.cyc_meaning.specs.Run.{run}
 use Rattle.cyc_soundness.specs.Classes.{IsOfTheHeap, IsOfScopes, FreesNoObject}
 use Rattle.cyc_soundness.specs.Frees.{frees_no_object}
+use Rattle.cyc_soundness.specs.FreesLocals.{frees_locals}
 use Rattle.cyc_soundness.specs.Sound.{IsSound}
 use Rattle.cyc_soundness.proofs.Whole.{heap_sound, lending_sound, scopes_sound}
 use Rattle.cyc_soundness.proofs.FormedLemmas.{typed_sound}
+use Rattle.cyc_soundness.proofs.FreesLemmas.{locals_freed_sound}
 
 -- ---- what is said of a text
 
@@ -102,7 +104,7 @@ fields : Ends (check_of texts (
     (MoreItems (Execute (Evaluate (Assign (field 4) (New (at 10) (Plain (Number (at 11) 3))))))
     (MoreItems (Execute (Return (at 12) (Some (plus (field 3) (Prefixed (at 13) prefixes.Dereference (field 4)))))) NoItems)))
     ∷ [])) (HasEnded (Returned (pos 7)))
-fields = (refl, ((tt, (tt, (tt, (tt, tt))), ((tt, (tt, tt)), ((tt, (tt, tt)), tt))), tt), refl)
+fields = (refl, ((tt, (tt, tt, (tt, (tt, tt))), ((tt, (tt, tt, tt)), ((tt, (tt, tt)), tt))), tt), refl)
 
 -- int main(){ int ?p = new {for i < 3 : i * i}; return p[2] + numelts(p + 1); }
 elements : Ends (check_of texts (
@@ -110,7 +112,7 @@ elements : Ends (check_of texts (
     MoreItems (Local (written Int (marks.Fat ∷ [])) (named 2 5) (Some (New (at 6) (Array (at 7) (named 5 8) (Number (at 9) 3) (Binary (Variable (named 5 10)) (ThenOperation operators.Multiply (at 11) (Variable (named 5 12)) NoOperations))))))
     (MoreItems (Execute (Return (at 13) (Some (plus (Chained (Variable (named 2 14)) (ThenIndex (Number (at 15) 2) NoPostfixes)) (NumberOfElements (at 16) (plus (Variable (named 2 17)) (Number (at 18) 1))))))) NoItems))
     ∷ [])) (HasEnded (Returned (pos 6)))
-elements = (refl, ((tt, (tt, (tt, (tt, (tt, tt)))), (((tt, tt), ((tt, (tt, tt)), tt)), tt)), tt), refl)
+elements = (refl, ((tt, (tt, tt, (tt, (tt, (tt, tt)))), (((tt, tt), ((tt, (tt, tt)), tt)), tt)), tt), refl)
 
 -- struct S { int x; int n; }; int main(){ struct S @p = new S{1, 5}; p->x :=: p->n; return p->x; }
 swapped : Ends (check_of texts (
@@ -120,7 +122,7 @@ swapped : Ends (check_of texts (
     (MoreItems (Execute (Swap (field 3) (field 4)))
     (MoreItems (Execute (Return (at 12) (Some (field 3)))) NoItems)))
     ∷ [])) (HasEnded (Returned (pos 5)))
-swapped = (refl, ((tt, (tt, (tt, (tt, tt))), ((tt, tt), (tt, tt))), tt), refl)
+swapped = (refl, ((tt, (tt, tt, (tt, (tt, tt))), ((tt, tt, tt), (tt, tt))), tt), refl)
 
 -- int main(){ int @`U p = rnew(unique_region) 5; return *p; }
 unique : Ends (check_of texts (
@@ -128,7 +130,7 @@ unique : Ends (check_of texts (
     MoreItems (Local (into 6) (named 2 5) (Some (RegionNew (at 6) (UniqueRegion (at 7)) (Plain (Number (at 8) 5)))))
     (MoreItems (Execute (Return (at 9) (Some (Prefixed (at 10) prefixes.Dereference (Variable (named 2 11)))))) NoItems))
     ∷ [])) (HasEnded (Returned (pos 5)))
-unique = (refl, ((tt, (tt, tt), (tt, tt)), tt), refl)
+unique = (refl, ((tt, (tt, tt, tt), (tt, tt)), tt), refl)
 
 -- int main(){ int *p = NULL; try return *p; catch { default: return 9; } }
 caught : Ends (check_of texts (
@@ -155,19 +157,23 @@ by_handle : Ends (check_of texts (
     (MoreItems (Execute (Return (at 9) (Some (Prefixed (at 10) prefixes.Dereference (Variable (named 2 11)))))) NoItems)) (at 12))
     ∷ main (MoreItems (Execute (Return (at 13) (Some (Call (named 7 14) (MoreExpressions (HeapRegion (at 15)) NoExpressions))))) NoItems)
     ∷ [])) (HasEnded (Returned (pos 6)))
-by_handle = (refl, ((tt, (tt, tt), (tt, tt)), (((tt, tt), tt), tt)), refl)
+by_handle = (refl, ((tt, (tt, tt, tt), (tt, tt)), (((tt, tt), tt), tt)), refl)
 
--- ---- texts in which no object is given back, and those in which one is
+-- ---- texts in which no object is given back, and those in which one is that locals have
 
 abbrev KeepsObjects : typed.Program → Type 0
 KeepsObjects p = frees_no_object p ≡ true
 
 abbrev FreesObjects : typed.Program → Type 0
-FreesObjects p = frees_no_object p ≡ false
+FreesObjects p = frees_locals p ≡ true
 
 pub never_dead_typed : (texts : List (List ℕ)) (tree : List Declaration) (s : Status) → EndsIn KeepsObjects (check_of texts tree) s
     → (p : typed.Program) × IsTypedProgram texts tree p × IsSound p × (status_of (run p [] 200) ≡ s)
 never_dead_typed texts tree s ends = never_dead_in KeepsObjects texts tree (λ p derived. typed_sound texts tree p derived) s ends
+
+pub never_dead_freeing : (texts : List (List ℕ)) (tree : List Declaration) (s : Status) → EndsIn FreesObjects (check_of texts tree) s
+    → (p : typed.Program) × IsTypedProgram texts tree p × IsSound p × (status_of (run p [] 200) ≡ s)
+never_dead_freeing texts tree s ends = never_dead_in FreesObjects texts tree (λ p derived. locals_freed_sound p (program_well texts tree p derived)) s ends
 
 -- int main(){ int @`U p = rnew(unique_region) 5; int ?n = new {for i < 3 : i * i}; *p :=: n[2]; return *p + numelts(n); }
 objects_kept : EndsIn KeepsObjects (check_of texts (
@@ -201,6 +207,41 @@ freed_in_a_clause : EndsIn FreesObjects (check_of texts (
     NoItems))
     ∷ [])) (HasEnded (Returned (pos 9)))
 freed_in_a_clause = (refl, refl, refl)
+
+-- int f(int @`U p){ int x = *p; ufree(p); return x; } int main(){ return f(rnew(unique_region) 3); }
+freed_by_a_call : EndsIn FreesObjects (check_of texts (
+    Function (Some (written Int [])) (named 7 1) (record { list = Listed (record { of_type = into 6; name = named 2 3 } ∷ []); effect = None; constraints = [] }) (Braces (at 4) (
+    MoreItems (Local (written Int []) (named 3 5) (Some (Prefixed (at 6) prefixes.Dereference (Variable (named 2 7)))))
+    (MoreItems (Execute (Evaluate (FreeUnique (at 8) (Variable (named 2 9)))))
+    (MoreItems (Execute (Return (at 10) (Some (Variable (named 3 11))))) NoItems))) (at 12))
+    ∷ main (MoreItems (Execute (Return (at 14) (Some (Call (named 7 15) (MoreExpressions (RegionNew (at 16) (UniqueRegion (at 17)) (Plain (Number (at 18) 3))) NoExpressions))))) NoItems)
+    ∷ [])) (HasEnded (Returned (pos 3)))
+freed_by_a_call = (refl, refl, refl)
+
+-- int main(){ int ?`U p = rnew(unique_region) {for i < 3 : i * i}; int x = p[2]; p[x - 3] = 1; ufree(p); return x; }
+elements_freed : EndsIn FreesObjects (check_of texts (
+    main (
+    MoreItems (Local (record { place = at 1; base = Int; marks = record { kind = marks.Fat; region = Some (named 6 3) } ∷ [] }) (named 2 5) (Some (RegionNew (at 6) (UniqueRegion (at 7))
+    (Array (at 8) (named 5 9) (Number (at 10) 3) (Binary (Variable (named 5 11)) (ThenOperation operators.Multiply (at 12) (Variable (named 5 13)) NoOperations))))))
+    (MoreItems (Local (written Int []) (named 3 14) (Some (Chained (Variable (named 2 15)) (ThenIndex (Number (at 16) 2) NoPostfixes))))
+    (MoreItems (Execute (Evaluate (Assign (Chained (Variable (named 2 17)) (ThenIndex (Binary (Variable (named 3 18)) (ThenOperation operators.Subtract (at 19) (Number (at 20) 3) NoOperations)) NoPostfixes)) (Number (at 21) 1))))
+    (MoreItems (Execute (Evaluate (FreeUnique (at 22) (Variable (named 2 23)))))
+    (MoreItems (Execute (Return (at 24) (Some (Variable (named 3 25))))) NoItems)))))
+    ∷ [])) (HasEnded (Returned (pos 4)))
+elements_freed = (refl, refl, refl)
+
+-- int main(){ int n = 0; while (n < 6) { int @`U p = rnew(unique_region) 3; n = n + *p; ufree(p); } return n; }
+freed_in_a_loop : EndsIn FreesObjects (check_of texts (
+    main (
+    MoreItems (Local (written Int []) (named 4 5) (Some (Number (at 6) 0)))
+    (MoreItems (Execute (While (at 7) (Binary (Variable (named 4 8)) (ThenOperation operators.Less (at 9) (Number (at 10) 6) NoOperations)) (Block (Braces (at 11) (
+    MoreItems (Local (into 6) (named 2 12) (Some (RegionNew (at 13) (UniqueRegion (at 14)) (Plain (Number (at 15) 3)))))
+    (MoreItems (Execute (Evaluate (Assign (Variable (named 4 16)) (plus (Variable (named 4 17)) (Prefixed (at 18) prefixes.Dereference (Variable (named 2 19)))))))
+    (MoreItems (Execute (Evaluate (FreeUnique (at 20) (Variable (named 2 21))))) NoItems))) (at 22)))))
+    (MoreItems (Execute (Return (at 23) (Some (Variable (named 4 24))))) NoItems)))
+    ∷ [])) (HasEnded (Returned (pos 6)))
+unfolding slt_of
+freed_in_a_loop = (refl, refl, refl)
 
 -- ---- texts of the class by scope
 
@@ -258,7 +299,7 @@ lexical : EndsByScope (check_of texts (
     (returned (behind 2))) (at 12))
     ∷ main (MoreItems (Region (named 8 13) (named 9 14) None) (returned (Call (named 7 15) (MoreExpressions (Variable (named 9 16)) NoExpressions))))
     ∷ [])) (HasEnded (Returned (pos 6)))
-lexical = (refl, ((((tt, less 1), (tt, tt), (tt, tt)), ((tt, ((tt, tt), tt)), tt)), tt, tt), refl)
+lexical = (refl, ((((tt, less 1), (tt, tt, tt), (tt, tt)), ((tt, ((tt, tt), tt)), tt)), tt, tt), refl)
 
 -- int main(){ int n = 0; while (n < 6) { region<`r> h; int @p = rnew(h) 3; n = n + *p; } return n; }
 opened_again : EndsByScope (check_of texts (
@@ -271,7 +312,7 @@ opened_again : EndsByScope (check_of texts (
     (returned (Variable (named 4 21)))))
     ∷ [])) (HasEnded (Returned (pos 6)))
 unfolding slt_of
-opened_again = (refl, (((tt, tt, (((tt, (tt, tt)), (tt, ((tt, less 2), (tt, tt), ((tt, (tt, tt)), tt)))), (tt, tt))), tt), tt, tt), refl)
+opened_again = (refl, (((tt, tt, (((tt, (tt, tt)), (tt, ((tt, less 2), (tt, tt, tt), ((tt, (tt, tt)), tt)))), (tt, tt))), tt), tt, tt), refl)
 
 -- int main(){ try { region<`r> h; int *p = NULL; return *p; } catch { default: return 9; } }
 left_by_exception : EndsByScope (check_of texts (
@@ -306,7 +347,7 @@ opened_twice : EndsWithLoans (check_of texts (
     (block (opened (assigned (Variable (named 2 9)) (RegionNew (at 10) (Variable (named 9 11)) (Plain (Number (at 12) 4))) NoItems))
     (block (opened (returned (behind 2))) NoItems))))
     ∷ [])) (HasEnded (Returned (pos 4)))
-opened_twice = (refl, (((refl, ((tt, less 1), tt, ((refl, tt, ((tt, tt), tt)), ((refl, tt, (tt, tt)), tt)))), tt), tt, tt), refl)
+opened_twice = (refl, (((refl, ((tt, less 1), tt, ((refl, tt, ((tt, tt, tt), tt)), ((refl, tt, (tt, tt)), tt)))), tt), tt, tt), refl)
 
 -- int main(){ int @`U p = rnew(unique_region) 5; { let alias <`r> int @`r x = p; *x = *x + 1; } return *p; }
 shared : EndsWithLoans (check_of texts (
@@ -315,7 +356,7 @@ shared : EndsWithLoans (check_of texts (
     (block (MoreItems (Alias (named 8 9) (into 8) (named 3 10) (named 2 11)) (assigned (behind 3) (plus (behind 3) (Number (at 12) 1)) NoItems))
     (returned (behind 2))))
     ∷ [])) (HasEnded (Returned (pos 6)))
-shared = (refl, ((((tt, tt), (tt, tt), (((refl, refl), tt, ((tt, (tt, (tt, tt))), tt)), (tt, tt))), tt), tt, tt), refl)
+shared = (refl, ((((tt, tt), (tt, tt, tt), (((refl, refl), tt, ((tt, (tt, (tt, tt))), tt)), (tt, tt))), tt), tt, tt), refl)
 
 -- int main(){ let NewDynamicRegion{<`r> i} = new_ukey(); while (1) { region<`r> h = open(i); break; } { region<`r> h = open(i); int @`r p = rnew(h) 3; return *p; } }
 left_by_break : EndsWithLoans (check_of texts (
@@ -324,7 +365,7 @@ left_by_break : EndsWithLoans (check_of texts (
     MoreItems (Execute (While (at 7) (Number (at 8) 1) (Block (Braces (at 9) (opened (MoreItems (Execute (Break (at 10))) NoItems)) (at 11)))))
     (block (opened (MoreItems (Local (into 8) (named 2 12) (Some (RegionNew (at 13) (Variable (named 9 14)) (Plain (Number (at 15) 3))))) (returned (behind 2)))) NoItems)))
     ∷ [])) (HasEnded (Returned (pos 3)))
-left_by_break = (refl, (((refl, ((tt, (refl, tt, (tt, tt))), ((refl, tt, ((tt, (let few : 1 < 4 = omega arith in few)), (tt, tt), (tt, tt))), tt))), tt), tt, tt), refl)
+left_by_break = (refl, (((refl, ((tt, (refl, tt, (tt, tt))), ((refl, tt, ((tt, (let few : 1 < 4 = omega arith in few)), (tt, tt, tt), (tt, tt))), tt))), tt), tt, tt), refl)
 
 -- int f(region_key_t<`r> i){ region<`r> h = open(i); int *p = NULL; return *p; } int main(){ let NewDynamicRegion{<`r> i} = new_ukey(); try return f(i); catch { default: return 8; } }
 left_by_exception_in_a_call : EndsWithLoans (check_of texts (
@@ -346,7 +387,7 @@ given_back : EndsWithLoans (check_of texts (
     block (opened (MoreItems (Local (into 8) (named 2 7) (Some (RegionNew (at 8) (Variable (named 9 9)) (Plain (Number (at 10) 4))))) NoItems))
     (freed (returned (Number (at 11) 3)))))
     ∷ [])) (HasEnded (Returned (pos 3)))
-given_back = (refl, (((refl, ((refl, tt, ((tt, (let few : 1 < 3 = omega arith in few)), (tt, tt), tt)), ((refl, tt), (tt, tt)))), tt), tt, tt), refl)
+given_back = (refl, (((refl, ((refl, tt, ((tt, (let few : 1 < 3 = omega arith in few)), (tt, tt, tt), tt)), ((refl, tt), (tt, tt)))), tt), tt, tt), refl)
 
 -- int f(region_key_t<`r> i){ free_ukey(i); return 2; } int main(){ let NewDynamicRegion{<`r> i} = new_ukey(); return f(i); }
 given_back_by_a_call : EndsWithLoans (check_of texts (
@@ -378,4 +419,4 @@ given_back_in_a_loop : EndsWithLoans (check_of texts (
     ∷ [])) (HasEnded (Returned (pos 6)))
 unfolding slt_of
 given_back_in_a_loop =
-    (refl, (((tt, tt, (((tt, (tt, tt)), (refl, ((refl, tt, ((tt, (let few : 2 < 4 = omega arith in few)), (tt, tt), ((tt, (tt, tt)), tt))), ((refl, tt), tt)))), (tt, tt))), tt), tt, tt), refl)
+    (refl, (((tt, tt, (((tt, (tt, tt)), (refl, ((refl, tt, ((tt, (let few : 2 < 4 = omega arith in few)), (tt, tt, tt), ((tt, (tt, tt)), tt))), ((refl, tt), tt)))), (tt, tt))), tt), tt, tt), refl)

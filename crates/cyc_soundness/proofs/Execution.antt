@@ -39,6 +39,7 @@ use Rattle.cyc_soundness.proofs.RuleLemmas.{breaks_statement, breaks_items, brea
 use Rattle.cyc_soundness.proofs.StackLemmas.{among_set, bound_of, within_bound, within_variables, within_live, within_holds, below_more}
 use Rattle.cyc_soundness.proofs.RegionLemmas.{opened_known, contains_more, live_more, same_name, known_behind, opened_life, opened_lasting, agrees_of, context_inside, context_lexical}
 use Rattle.cyc_soundness.proofs.WorldLemmas.{opened_typed}
+use Rattle.cyc_soundness.proofs.Sharing.{none_freed, keeps_by}
 use Rattle.cyc_soundness.proofs.Cells.{running}
 use Rattle.cyc_soundness.proofs.Evaluation.{from_bound, used_full}
 use Rattle.cyc_soundness.proofs.Loans.{type_known, keys_on, shared_loans}
@@ -127,7 +128,7 @@ module _ (p : Source) (g : Typing) (x : Exits) (bs : List InScope) (e : Environm
         stands,
         holds,
         record { waiting = []; typed = inl well; flows = flows; kept = kept },
-        ([], bs, Val (Value (read bs t)) h, stacks.converts c s t h (agrees_of p x bs c stands) conv from_is to_is (target_typed c a s (inl well)), tt, ([], bs, Go Unreached, stacks.returns t (read bs t) h Unreached (sym result) (ap (λ o. read_value bs (result_type o)) same ∙ stands.gives), tt, stack)),
+        ([], bs, Val (Value (read bs t)) h, stacks.converts c s t h (agrees_of p x bs c stands) (keeps_by g bs variables p.reading c.regions stands.regions) conv from_is to_is (target_typed c a s (inl well)), tt, ([], bs, Go Unreached, stacks.returns t (read bs t) h Unreached (sym result) (ap (λ o. read_value bs (result_type o)) same ∙ stands.gives), tt, stack)),
       )
 
   break_on : (k : List Entry) (c : Context) (f h before behind' : flow.State) (o : Option LoopExit) → x.loop ≡ o → is_loop o ≡ true → LiveIn k bs → Holds g f bs → behind' ≡ meet before (with_each Full x.locks f)
@@ -215,10 +216,10 @@ module _ (p : Source) (g : Typing) (x : Exits) (bs : List InScope) (e : Environm
         record { waiting = []; typed = inl well; flows = d; kept = kept },
         subst (λ z. IsStack p g x bs (Go z) k) (ap (λ (z : Known). z.now) known) stack,
       )
-  execute (Swap y z) k c f h before behind' live stands holds (t, ty, tz, plain) (f1, (f2, dy, (f3, dz, (demands, same))), (u, known)) are (ky, kz) stack =
+  execute (Swap y z) k c f h before behind' live stands holds (t, ty, tz, plain) (f1, (f2, dy, (f3, dz, (demands, same))), (u, known)) are (none, ky, kz) stack =
       let now : h ≡ f3 = ap (λ (z : Known). z.now) known ∙ same in
       let (first, second) = kept_both (side_demanded [] y f3) (side_demanded (and_peeked (peeked_side y) []) z f3) demands in
-      swap_on p g x bs e w typed' globals bound variables y z c t k f f2 f3 (and_peeked (peeked_side y) []) live stands holds plain ty dy first ky
+      swap_on p g x bs e w typed' globals bound variables y z c t k f f2 f3 (and_peeked (peeked_side y) []) live stands holds (none_freed p.reading c.regions bs none stands.regions) plain ty dy first ky
       (λ reached. record { waiting = and_peeked (peeked_side y) []; typed = tz; flows = dz; used = second; kept = looked_side p.reading x.relied (peeked_side y) z [] f2 f3 reached dz kz }) (subst (λ i. IsStack p g x bs (Go i) k) now stack)
   execute (If a s t) k c f h before behind' live stands holds ((v, well, tested), ws, wt) (f1, d, (l, ds, (m, dt, (u, known)))) are (ka, ks, kt) stack =
       let now : h ≡ meet l.now m.now = ap (λ (z : Known). z.now) known in
@@ -239,7 +240,7 @@ module _ (p : Source) (g : Typing) (x : Exits) (bs : List InScope) (e : Environm
           [],
           bs,
           Go h,
-          stacks.chooses c (behind c s) v f1 l.now m.now h tested stands (context_after p x bs c s stands) one two
+          stacks.chooses (stacks.seen_by a well) c (behind c s) v f1 l.now m.now h tested stands (context_after p x bs c s stands) one two
               (subst (λ z. Implies l.now z) (sym now) (meet_first l.now m.now)) (subst (λ z. Implies m.now z) (sym now) (meet_second l.now m.now)),
           tt,
           stack,
@@ -260,7 +261,7 @@ module _ (p : Source) (g : Typing) (x : Exits) (bs : List InScope) (e : Environm
         fails = subst (λ z. Implies f1 z) (sym now) (meet_first f1 l.breaks);
         left = subst (λ z. Implies l.breaks z) (sym now) (meet_second f1 l.breaks);
       } in
-      on (Evaluating a) (Needs (Test a s) ∷ k) live (c, v, f, f1, stands, holds, first, ([], bs, Go h, stacks.tests exit v f1 h loop, tt, stack))
+      on (Evaluating a) (Needs (Test a s) ∷ k) live (c, v, f, f1, stands, holds, first, ([], bs, Go h, stacks.tests (stacks.seen_by a well) exit v f1 h loop, tt, stack))
   execute (typed.Return None) k c f h before behind' live stands holds is (f1, d, (u, known)) are kept stack =
       on (Returning None) k live (h, return_none (operands_in k) x.result c (subst (λ r. IsReturned c r None) stands.result is), stack)
   execute (typed.Return (Some (Convert from to a))) k c f h before behind' live stands holds is (f1, d, (u, known)) are kept stack =
@@ -355,7 +356,7 @@ module _ (p : Source) (g : Typing) (x : Exits) (bs : List InScope) (e : Environm
           [],
           bs,
           Val (Value (read bs t)) f1,
-          stacks.converts c s t f1 (agrees_of p x bs c stands) conv from_is to_is (target_typed c a s (inl well)),
+          stacks.converts c s t f1 (agrees_of p x bs c stands) (keeps_by g bs variables p.reading c.regions stands.regions) conv from_is to_is (target_typed c a s (inl well)),
           tt,
           ([], cs, Go h, stacks.initialises cs c t f1 h within stands (named, alive) number (sym (kind_meant (lives_in bs) t) ∙ kind_read (lives_in bs) t) rest, tt, stack),
         ),
@@ -387,7 +388,7 @@ module _ (p : Source) (g : Typing) (x : Exits) (bs : List InScope) (e : Environm
         (new_handle p.reading c.next_region r region, there),
         number,
         (refl, subst (λ z. IsNumber z (length w.regions)) (sym stands_for) (handle_of p.reading (length w.regions) (ends_of k) (lent_now g) scoped)),
-        tt,
+        (tt, tt),
         rest,
         (h, implies_self h, within_live k cs bs within live, stack),
       )
@@ -399,7 +400,7 @@ module _ (p : Source) (g : Typing) (x : Exits) (bs : List InScope) (e : Environm
       let rest = lent_rest key js (with_local false (types.Handle (regions.Variable r)) (with_key_opened r c)) (with_fullness Full (with_fullness Locked f key) n) before behind' ending wjs
       (subst (λ (z : Known). Derives (rule_items (around (lending x key)) js z) (record { now = ending; breaks = behind' })) now djs) are kjs in
       from_bound p g x bs e w typed' globals bound variables (Needs (OpenBy n key js) ∷ k) key t b f (Seen (read bs t)) nests.0 live holds bound_among number_of of_type (among_set g f bound_among holds.1 (subst (λ i. IsSet f i) (sym number_of) set))
-      (λ v is. (sym (kind_meant (lives_in bs) t), subst (λ z. HasType g z v) of_type is)) tt (
+      (λ v is. (sym (kind_meant (lives_in bs) t), subst (λ z. HasType g z v) of_type is)) (λ z. tt) (
         [],
         cs,
         Go h,
@@ -415,11 +416,11 @@ module _ (p : Source) (g : Typing) (x : Exits) (bs : List InScope) (e : Environm
       (subst (λ (z : Known). Derives (rule_items (around (lending x source)) js z) (record { now = ending; breaks = behind' })) now djs) are kjs in
       subst (λ kind. IsWell p (loaded_from kind (e.locals source) (Needs (AliasOf n source js) ∷ k) e w)) (sym (ap values.kind_of of_type ∙ alias_kind (regions.Variable r) v))
       (from_bound p g x bs e w typed' globals bound variables (Needs (AliasOf n source js) ∷ k) source v b f (Seen (read bs v)) nests.0 live holds bound_among number_of of_bound (among_set g f bound_among holds.1 (subst (λ i. IsSet f i) (sym number_of) set))
-      (λ u is. (sym (kind_meant (lives_in bs) v), subst (λ z. HasType g z u) of_bound is)) tt (
+      (λ u is. (sym (kind_meant (lives_in bs) v), subst (λ z. HasType g z u) of_bound is)) (λ z. tt) (
         [],
         cs,
         Go h,
-        stacks.aliases cs c b v t f (with_each Full (locks_of js) ending) h loans within stands bound_among number_of set spared (used_full f source demands.0 demands.1.0) unique (type_known p.reading c source v home (shared_loans p.reading loans) stands.known has)
+        stacks.aliases cs c b v t f (with_each Full (locks_of js) ending) h loans within stands bound_among number_of of_bound set spared (used_full f source demands.0 demands.1.0) unique (type_known p.reading c source v home (shared_loans p.reading loans) stands.known has)
             (of_type ∙ ap (λ i. with_region_of (regions.Variable i) v) region) alive number rest (again source js ending h ends),
         tt,
         stack,

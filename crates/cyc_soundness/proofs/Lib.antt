@@ -3,8 +3,10 @@ mod Numbers
 mod TypeLemmas
 mod FlowLemmas
 mod RegionLemmas
+mod Sharing
 mod RuleLemmas
 mod WorldLemmas
+mod Hands
 mod StackLemmas
 mod ValueLemmas
 mod Cells
@@ -23,6 +25,8 @@ mod Unwinding
 pub mod Whole
 -- what comes of texts
 mod FormedLemmas
+-- what is computed of a program that gives objects back
+pub mod FreesLemmas
 -- texts, and programs that the rules accept and refuse
 mod Examples
 mod LaterRegions

@@ -1,6 +1,9 @@
 -- WHAT IS LENT to the end of a block: dynamic regions that their keys open, and what a unique pointer leads to, by an alias.
 use Rattle.std.proofs.Common.{◌≡◌, inl, inr, set, ℕ, suc, ◌≤◌, ◌<◌, Bool, true, false, List, [], ◌∷◌, length, Option, Some, None, slice_get, refl, sym, ap, subst, ◌∙◌, arith}
 use Rattle.std.specs.Prelude.{if◌then◌else◌}
+use Rattle.std.proofs.lemmas.Bool.{eq-eqb}
+use Rattle.cyc_syntax.specs.declared.tree.PointerKind.{PointerKind}
+use Rattle.cyc_syntax.specs.declared.tree.PointerKind.TheVariants as marks
 use Rattle.cyc_types.specs.declared.region.Region.{Region as Region'}
 use Rattle.cyc_types.specs.declared.region.Region.TheVariants as regions
 use Rattle.cyc_types.specs.declared.scope.ScopeKind.TheVariants as scopes
@@ -20,20 +23,23 @@ use Rattle.cyc_meaning.specs.State as state
 use Rattle.cyc_meaning.specs.State.{World, Found, Closed, found_region, region_at, opened_as, Environment, Entry, EndLoan, Focus, Proceeding, Naming, closed, State, Running}
 use Rattle.cyc_meaning.specs.Parts.{wrong}
 use Rattle.cyc_meaning.specs.Nesting.{ends_of, IsNested}
-use Rattle.cyc_meaning.specs.Regions.{is_dynamic, opened_by, opens_with, opens_dynamic, closes_dynamic, closes_with, aliased}
+use Rattle.cyc_meaning.specs.Regions.{is_dynamic, opened_by, opens_with, opens_dynamic, closes_dynamic, closes_with, aliased, frees_owned, frees_object, frees}
+use Rattle.cyc_meaning.specs.Objects.{freed}
 use Rattle.cyc_soundness.specs.Lives.{Life, OfRegion, OfObject, Never, Kept, heap_life, Value, at, Reading, AsHeap, ByScope, AllIn, IsKnown, owned_life}
 use Rattle.cyc_soundness.specs.Lives as lives
-use Rattle.cyc_soundness.specs.Worlds.{Nobody, Hand, In, Lent, giving, given, Claims, ClaimsBy, IsHeld, is_lent_by, IsOpenIn, Stays, Grows, IsFull, Typing, IsKnownLife, IsNumber, IsKeyOf, HasType, IsResult, IsTyped, IsDynamic, IsKnownOwner}
+use Rattle.cyc_soundness.specs.Worlds.{OfLocal, Thing, KeyOf, PointerTo, Nobody, Hand, At, Lent, thing_of, Owns, Claims, IsSlot, IsHere, giving, given, marked, handing, variable_type, IsHeld, is_lent_by, IsOpenIn, Stays, Grows, IsFull, IsKeyless, Typing, IsKnownLife, IsNumber, IsKeyOf, HasType, IsResult, IsTyped, IsDynamic, IsKnownOwner}
 use Rattle.cyc_soundness.specs.Classes.{IsSpared, HasLoans, IsDeclarable, Source, HasAliases}
 use Rattle.cyc_soundness.specs.Frames.{IsAmong, first, later, Bound, InScope, Variable, Names, life_named, lives_in, read, IsBound, AreVariables, IsLasting, LiveIn, Within, older, IsFullIn, Holds, Implies, Exits, lending, AreKnownLocals, AreKnown, IsContext, KnowsProgram, frees_in, Stand}
-use Rattle.cyc_soundness.specs.Stacks.{operands_in, Continues, Go, IsStack, IsWell}
+use Rattle.cyc_soundness.specs.Stacks.{IsByType, operands_in, Continues, Go, IsStack, IsWell}
 use Rattle.cyc_soundness.proofs.TypeLemmas.{all_in, read_alike}
 use Rattle.cyc_soundness.proofs.FlowLemmas.{reached_with}
 use Rattle.cyc_soundness.proofs.RegionLemmas.{contains_more, name_known, same_name, known_other, known_more, other_life, context_key, context_alias, context_again, region_owner}
-use Rattle.cyc_soundness.proofs.WorldLemmas.{with_kept, kept_grows, kept_typed, globals_grown, variables_grown, holds_grown, result_grown, given_now, given_typed, given_globals, variables_other, variables_more, moment_typed, moment_globals, holds_lent, lent_last, closed_by_key}
-use Rattle.cyc_soundness.proofs.StackLemmas.{OneLocal, emptied_other, in_no_hand, in_some, holds_other, stack_other, stack_grown, above_globals, full_here, within_full_at, within_variables, among_bound, among_variable, among_own, among_set, set_stored, statement_relied}
-use Rattle.cyc_soundness.proofs.Cells.{running}
-use Rattle.cyc_soundness.proofs.Evaluation.{full_set, unique_comes}
+use Rattle.cyc_soundness.proofs.WorldLemmas.{globals_grown, result_grown}
+use Rattle.cyc_soundness.proofs.Hands.{Changed, at_no_hand, at_some, given_now, giving_changed, handing_changed, changed_after, variables_kept, holds_kept, taken_typed, here_claims, freed_typed, hands_globals, with_kept, kept_grows, kept_typed, variables_more, moment_typed, moment_globals, holds_lent, lent_last, closed_by_key}
+use Rattle.cyc_soundness.proofs.Sharing.{life_common, by_type_read}
+use Rattle.cyc_soundness.proofs.StackLemmas.{emptied_other, stack_changed, above_globals, full_here, within_full_at, within_variables, among_bound, among_variable, among_own, among_set, set_stored, statement_relied}
+use Rattle.cyc_soundness.proofs.Cells.{pointer_keyless, keyless_claims, by_type_claims, running}
+use Rattle.cyc_soundness.proofs.Evaluation.{full_set}
 
 -- ---- lists
 
@@ -72,9 +78,17 @@ pub shared_loans : (m : Reading) → HasAliases m → HasLoans m
 shared_loans AsHeap shares = shares
 shared_loans (ByScope lends frees) shares = shares.0
 
-none_freed : (m : Reading) (c : RegionContext) (bs : List InScope) → HasAliases m → Stand m c bs → frees_in bs ≡ false
-none_freed AsHeap c bs shares stand = absurd shares
-none_freed (ByScope lends frees) c bs shares (same, stand) = same ∙ shares.1
+unfreed : (m : Reading) (c : RegionContext) (bs : List InScope) → HasAliases m → Stand m c bs → frees_in bs ≡ false
+unfreed AsHeap c bs shares stand = absurd shares
+unfreed (ByScope lends frees) c bs shares (same, stand) = same ∙ shares.1
+
+-- and unique pointers are as others
+unique_keyless : (g : Typing) (bs : List InScope) (u : Ty) → AreVariables g bs → frees_in bs ≡ false → is_unique u ≡ true → IsKeyless (read bs u)
+unique_keyless g bs (types.Pointer k t r) variables none unique = pointer_keyless k (read bs t) (lives_in bs r) (life_common g bs variables r none)
+unique_keyless g bs types.Int variables none unique = absurd (let z : false ≡ true = unique in cc)
+unique_keyless g bs (types.Handle r) variables none unique = absurd (let z : false ≡ true = unique in cc)
+unique_keyless g bs (types.Key r) variables none unique = absurd (let z : false ≡ true = unique in cc)
+unique_keyless g bs (types.Struct s rs) variables none unique = absurd (let z : false ≡ true = unique in cc)
 
 -- an alias has the type of what it shares, as a run reads it
 alias_read : (bs : List InScope) (n : ℕ) (u : Ty) → frees_in bs ≡ false → is_unique u ≡ true → AllIn (IsKnown n) u → read (Names n heap_life true ∷ bs) (with_region_of (regions.Variable n) u) ≡ read bs u
@@ -113,8 +127,14 @@ context_lending p x bs c n stands = record {
 
 module _ (p : Source) (g : Typing) (x : Exits) (bs : List InScope) (e : Environment) (w : World) (typed : IsTyped g w.regions w.objects) (globals : KnowsProgram g p) (bound : IsBound e.locals e.counters bs) (variables : AreVariables g bs) where
   -- where a local has lent what it holds
+  abbrev lent_thing : Bound → Option Thing
+  lent_thing b = thing_of b.of_type values.Null
+
+  abbrev lent_out : Bound → Typing
+  lent_out b = handing g (lent_thing b) (Lent g.loans) b.object false
+
   abbrev lending_typing : Bound → Typing
-  lending_typing b = record (giving g b.of_type (Lent g.loans)) { loans = suc g.loans }
+  lending_typing b = record (lent_out b) { loans = suc g.loans }
 
   lending_grows : (b : Bound) → Grows g (lending_typing b)
   lending_grows b = record { objects = λ n u is. is; filled = λ n count is. is; fields = λ n ls ts is. is; kept = λ n is. is }
@@ -127,42 +147,51 @@ module _ (p : Source) (g : Typing) (x : Exits) (bs : List InScope) (e : Environm
     holds : Holds (lending_typing b) (with_fullness Locked f lent) bs
     stack : IsStack p (lending_typing b) (lending x lent) cs (Go h) (EndLoan lent ∷ k)
 
-  lends : (b : Bound) (lent : ℕ) (f h i : flow.State) (cs : List InScope) (k : List Entry) → Within cs bs → IsAmong (Variable b) bs → b.number ≡ lent → IsFullIn f lent → IsSpared x.relied lent → Holds g f bs → Implies (with_fullness Full h lent) i
+  -- it has it before
+  lender_has : (b : Bound) (f : flow.State) → IsAmong (Variable b) bs → IsByType b.of_type → IsFullIn f b.number → Holds g f bs → (v : values.Value) → Claims g.own (At b.object) b.of_type v
+  lender_has b f among by full holds v =
+      let some : IsFull g b.object = among_set g f among holds.1 (full_set (flow.fullness f b.number) full) in
+      let here : IsHere g g.depth b.number b.object = among_own g f among holds.1 full in
+      let (z, is) = here_claims g w.regions w.objects b.object b.of_type b.life b.is_hidden (OfLocal g.depth b.number) typed here.0 (among_variable g among variables) some in
+      by_type_claims g.own (At b.object) b.of_type z v by is
+
+  lends : (b : Bound) (lent : ℕ) (f h i : flow.State) (cs : List InScope) (k : List Entry) → Within cs bs → IsAmong (Variable b) bs → IsByType b.of_type → b.number ≡ lent → IsFullIn f lent → IsSpared x.relied lent → Holds g f bs → Implies (with_fullness Full h lent) i
       → IsStack p g x cs (Go i) k → IsLent b lent f h cs k
-  lends b lent f h i cs k within among number full spared holds again stack =
-      let t = b.of_type in
-      let old = In g.depth lent in
+  lends b lent f h i cs k within among by number full spared holds again stack =
+      let old = At b.object in
       let new = Lent g.loans in
-      let o = giving g t new in
+      let o = lent_out b in
       let j = lending_typing b in
       let f1 = with_fullness Locked f lent in
       let full_here' : IsFullIn f b.number = subst (λ n. IsFullIn f n) (sym number) full in
-      let has : Claims g.own old t = subst (λ n. Claims g.own (In g.depth n) t) number (among_own g f among holds.1 full_here') in
+      let has : Owns g.own old (lent_thing b) = (lender_has b f among by full_here' holds values.Null).0 in
       let there : e.locals lent ≡ Some b.object = ap e.locals (sym number) ∙ among_bound e among bound in
       let some : IsFull g b.object = among_set g f among holds.1 (full_set (flow.fullness f b.number) full_here') in
-      let one : OneLocal g e bs lent b.object t = record { there = there; life = b.life; hidden = b.is_hidden; of_type = among_variable g among variables } in
-      let one_now : OneLocal j e bs lent b.object t = record { there = there; life = b.life; hidden = b.is_hidden; of_type = among_variable g among variables } in
-      let locked : Holds g f1 bs = (reached_with Locked f lent holds.0, set_stored g e Locked f lent b.object t bs bs bound variables one some holds.0 (λ s. let z : false ≡ true = s in absurd (cc)) holds.1) in
-      let lent_out : Holds o f1 bs = holds_other t old new g f1 bs has (λ m s. emptied_other g Locked f lent m refl holds.0 s) locked in
-      let scope : AreVariables o bs = variables_other g t old new bs has refl variables in
+      let type_is : slice_get g.objects b.object ≡ Some (variable_type b.of_type b.life b.is_hidden (OfLocal g.depth lent)) = subst (λ n. slice_get g.objects b.object ≡ Some (variable_type b.of_type b.life b.is_hidden (OfLocal g.depth n))) number (among_variable g among variables) in
+      let slot : IsSlot g g.depth lent b.object = (variable_type b.of_type b.life b.is_hidden (OfLocal g.depth lent), type_is, refl) in
+      let changed : Changed old g o = handing_changed g (lent_thing b) old new b.object false has (λ same. refl) in
+      let locked : Holds g f1 bs = (reached_with Locked f lent holds.0, set_stored g e Locked f lent b.object bs bound there some holds.0 (λ s. let z : false ≡ true = s in absurd (cc)) holds.1) in
+      let now : Holds o f1 bs = holds_kept old g o changed f1 bs (λ m other s its. emptied_other g Locked f lent m b.object other refl holds.0 s slot its.1) locked in
+      let scope : AreVariables o bs = variables_kept old g o changed bs refl variables in
       let scope_now : AreVariables j bs = variables_more o bs scope in
       record {
-        objects = moment_typed o g.depth (suc g.loans) w.regions w.objects (given_typed g t old new w.regions w.objects has tt typed);
-        knows = moment_globals p o g.depth (suc g.loans) (given_globals p g t new globals);
+        objects = moment_typed o g.depth (suc g.loans) w.regions w.objects (taken_typed g (lent_thing b) b.object new w.regions w.objects has typed);
+        knows = moment_globals p o g.depth (suc g.loans) (hands_globals p g (given (lent_thing b) new g.own) (marked b.object false g.here) globals);
         scope = scope_now;
-        holds = holds_lent o (suc g.loans) f1 bs lent_out;
+        holds = holds_lent o (suc g.loans) f1 bs now;
         stack = (
           x,
           i,
           g.loans,
-          t,
+          b.of_type,
+          b.object,
           refl,
           refl,
-          given_now g t new,
+          (b.life, b.is_hidden, type_is, by, given_now g.own (lent_thing b) new),
           again,
-          within_full_at j lent t cs bs within (full_here j e lent b.object t bs bs bound scope_now one_now some),
+          within_full_at j lent b.object cs bs within (full_here j e lent b.object bs bound there some),
           within_variables o cs bs within scope,
-          stack_other t old new p g x cs (Go i) k has (inl (refl, subst (λ z. IsSpared z lent) (sym (statement_relied p g x cs i k x.relied stack)) spared)) stack,
+          stack_changed p old g o x cs (Go i) k changed (g.depth, lent, slot, inl (refl, subst (λ z. IsSpared z lent) (sym (statement_relied p g x cs i k x.relied stack)) spared)) stack,
         );
       }
 
@@ -180,13 +209,13 @@ module _ (p : Source) (g : Typing) (x : Exits) (bs : List InScope) (e : Environm
       by_life (Kept n) is_kept same =
           let key : b.of_type ≡ lives.Key (Kept n) = of_type ∙ ap (λ l. lives.Key l) is_kept in
           let known : IsAmong n g.kept = subst (λ l. IsKnownLife g l) is_kept (name_known g bs r variables) in
-          let has : g.own n ≡ In g.depth lent = subst (λ t. Claims g.own (In g.depth lent) t) key
-          (subst (λ m. Claims g.own (In g.depth m) b.of_type) number_of (among_own g f among holds.1 (subst (λ m. IsFullIn f m) (sym number_of) full))) in
-          let held : IsHeld (g.own n) = subst (λ o. IsHeld o) (sym has) tt in
+          let by : IsByType b.of_type = subst (λ t. IsByType t) (sym key) tt in
+          let has : g.own (KeyOf n) ≡ At b.object = (subst (λ t. Claims g.own (At b.object) t values.Null) key (lender_has b f among by (subst (λ m. IsFullIn f m) (sym number_of) full) holds values.Null)).0 in
+          let held : IsHeld (g.own (KeyOf n)) = subst (λ o. IsHeld o) (sym has) tt in
           let (s, found, dynamic) = dynamic_found (slice_get w.regions region) (subst (λ i. IsDynamic (slice_get w.regions i)) same ((typed.kept n known).1 held)) in
-          let z = lends b lent f h i cs k within among number_of full spared holds again stack in
+          let z = lends b lent f h i cs k within among by number_of full spared holds again stack in
           let j = lending_typing b in
-          let now : j.own n ≡ Lent g.loans = subst (λ t. Claims (given b.of_type (Lent g.loans) g.own) (Lent g.loans) t) key (given_now g b.of_type (Lent g.loans)) in
+          let now : j.own (KeyOf n) ≡ Lent g.loans = subst (λ t. Owns j.own (Lent g.loans) (thing_of t values.Null)) key (given_now g.own (lent_thing b) (Lent g.loans)) in
           let opens : IsOpenIn j (life_named bs r) = subst (λ l. IsOpenIn j l) (sym is_kept) (subst (λ o. is_lent_by (suc g.loans) o ≡ true) (sym now) (lent_last g.loans)) in
           let named : life_named inner r ≡ Kept n = same_name r (life_named bs r) (life_named bs r) ∙ is_kept in
           let here = context_lending p x (Names r (life_named bs r) true ∷ bs) (with_key_opened r c) lent (context_again p x bs c stands loans alive r less) in
@@ -207,7 +236,7 @@ module _ (p : Source) (g : Typing) (x : Exits) (bs : List InScope) (e : Environm
             (named_before p.reading c.next_region r less, contains_more (regions.Variable r) (regions.Variable c.region) (live_regions c.regions.live c.regions.opened) alive),
             number_is,
             (refl, subst (λ l. IsNumber l region) (sym named) same),
-            tt,
+            (tt, tt),
             next,
             z.stack,
           )))
@@ -219,18 +248,20 @@ module _ (p : Source) (g : Typing) (x : Exits) (bs : List InScope) (e : Environm
 
   -- a unique pointer comes, which an alias shares
   pub aliases_on : (number lent : ℕ) (js : Items) (v : Operand) (k : List Entry) (cs : List InScope) (c : Context) (b : Bound) (u t : Ty) (f h i : flow.State) → LiveIn k bs → Holds g f bs → HasAliases p.reading → Within cs bs
-      → IsContext p x bs c → IsAmong (Variable b) bs → b.number ≡ lent → IsSpared x.relied lent → IsFullIn f lent → is_unique u ≡ true → AllIn (IsKnown c.next_region) u → t ≡ with_region_of (regions.Variable c.next_region) u
+      → IsContext p x bs c → IsAmong (Variable b) bs → b.number ≡ lent → b.of_type ≡ read bs u → IsSpared x.relied lent → IsFullIn f lent → is_unique u ≡ true → AllIn (IsKnown c.next_region) u → t ≡ with_region_of (regions.Variable c.next_region) u
       → IsLive c (regions.Variable c.region) → number ≡ c.next_local
       → Continues p.reading (lending x lent) (with_local true t (with_opened scopes.Alias c)) js (with_fullness Full (with_fullness Locked f lent) number) h → Implies (with_fullness Full h lent) i
       → IsResult g (Value (read bs u)) v → IsStack p g x cs (Go i) k → IsWell p (aliased number lent js v k e w)
-  aliases_on number lent js v k cs c b u t f h i live holds shares within stands among number_of spared full unique known of_type alive number_is next again is stack =
+  aliases_on number lent js v k cs c b u t f h i live holds shares within stands among number_of type_is spared full unique known of_type alive number_is next again is stack =
       let loans : HasLoans p.reading = shared_loans p.reading shares in
       let named : List InScope = Names c.next_region heap_life true ∷ bs in
-      let z = lends b lent f h i cs k within among number_of full spared holds again stack in
+      let none = unfreed p.reading c.regions bs shares stands.regions in
+      let by : IsByType b.of_type = subst (λ z. IsByType z) (sym type_is) (by_type_read g bs variables u none) in
+      let z = lends b lent f h i cs k within among by number_of full spared holds again stack in
       let j = lending_typing b in
       let here = context_lending p x named (with_opened scopes.Alias c) lent (context_alias p x bs c stands loans alive heap_life) in
       let declared : IsDeclarable p.reading (suc c.next_region) t = subst (λ y. IsDeclarable p.reading (suc c.next_region) y) (sym of_type) (alias_known p.reading c.next_region u unique known) in
-      let same : read named t ≡ read bs u = ap (read named) of_type ∙ alias_read bs c.next_region u (none_freed p.reading c.regions bs shares stands.regions) unique known in
+      let same : read named t ≡ read bs u = ap (read named) of_type ∙ alias_read bs c.next_region u none unique known in
       let is_now : IsResult j (Value (read bs u)) v = result_grown g j (lending_grows b) (Value (read bs u)) v is in
       running p j (lending x lent) named e w z.objects z.knows (tt, bound) ((tt, λ e. λ r lent. let y : false ≡ true = lent in absurd (cc)), z.scope) (Naming number v js) (EndLoan lent ∷ k)
       (((λ is. inl refl), live.0), live.1) (
@@ -246,7 +277,7 @@ module _ (p : Source) (g : Typing) (x : Exits) (bs : List InScope) (e : Environm
         (declared, contains_more (regions.Variable c.next_region) (regions.Variable c.region) (live_regions c.regions.live c.regions.opened) alive),
         number_is,
         subst (λ y. IsResult j (Value y) v) (sym same) is_now,
-        subst (λ y. ClaimsBy j.own (Hand (operands_in (EndLoan lent ∷ k))) (Value y)) (sym same) (unique_comes j (operands_in (EndLoan lent ∷ k)) (lives_in bs) u unique),
+        subst (λ y. Claims j.own (Hand (operands_in (EndLoan lent ∷ k))) y v.value) (sym same) (keyless_claims j.own (Hand (operands_in (EndLoan lent ∷ k))) (read bs u) v.value (unique_keyless g bs u variables none unique)),
         next,
         z.stack,
       )
@@ -260,17 +291,18 @@ module _ (p : Source) (g : Typing) (x : Exits) (bs : List InScope) (e : Environm
       let l : Life = Kept n in
       let hand = Hand (operands_in k) in
       let key : lives.RunTy = lives.Key l in
-      let o = giving g key hand in
+      let o = giving g (Some (KeyOf n)) hand in
       let i = with_kept g n hand in
-      let none : g.own n ≡ Nobody = typed.fresh n (let le : n ≤ n = omega arith in le) in
-      let stays : Stays o i = record { grows = record { objects = λ m t is. is; filled = λ m count is. is; fields = λ m ls ts is. is; kept = λ m is. later n g.kept is }; own = refl; depth = refl; loans = refl } in
+      let none : g.own (KeyOf n) ≡ Nobody = typed.fresh n (let le : n ≤ n = omega arith in le) in
+      let stays : Stays o i = record { grows = record { objects = λ m t is. is; filled = λ m count is. is; fields = λ m ls ts is. is; kept = λ m is. later n g.kept is }; own = refl; here = refl; depth = refl; loans = refl } in
+      let changed : Changed Nobody g i = changed_after Nobody g o i (giving_changed g (Some (KeyOf n)) Nobody hand none) stays in
       let many : 1 < n = above_globals n k nests.1 in
       let inner : List InScope = Names c.next_region l false ∷ bs in
       let named : life_named inner r ≡ l = ap (λ m. life_named inner m) region ∙ same_name c.next_region l (life_named bs c.next_region) in
       let less : r < suc c.next_region = omega (arith, region) in
-      let (reached, are) = holds_grown o i stays f bs (holds_other key Nobody hand g f bs none (λ m s. in_some g.depth m) holds) in
+      let (reached, are) = holds_kept Nobody g i changed f bs (λ m object s here. at_some object) holds in
       running p i x inner e (opened_as state.Dynamic w) (kept_typed g w.regions w.objects hand many typed) (globals_grown g i (kept_grows g n hand) p (λ m ls. refl) (λ m among. loans) globals) (tt, bound)
-      ((first g.kept, λ no. let z : false ≡ true = no in absurd (cc)), variables_grown o i stays bs (variables_other g key Nobody hand bs none refl variables))
+      ((first g.kept, λ no. let z : false ≡ true = no in absurd (cc)), variables_kept Nobody g i changed bs refl variables)
       (Naming number (record { kind = kinds.Key; value = values.Key n }) js) k (((λ is. tt), live.0), live.1) (
         with_region c,
         true,
@@ -284,31 +316,77 @@ module _ (p : Source) (g : Typing) (x : Exits) (bs : List InScope) (e : Environm
         (key_before p.reading (suc c.next_region) r less, alive),
         number_is,
         (refl, subst (λ m. IsKeyOf m n) (sym named) refl),
-        subst (λ m. Claims i.own hand (lives.Key m)) (sym named) (given_now g key hand),
+        subst (λ m. Claims i.own hand (lives.Key m) (values.Key n)) (sym named) (given_now g.own (Some (KeyOf n)) hand, tt),
         next,
-        stack_grown p o i stays x cs (Go h) k (stack_other key Nobody hand p g x cs (Go h) k none tt stack),
+        stack_changed p Nobody g i x cs (Go h) k changed tt stack,
       )
 
   -- a key comes whose region closes
-  pub closes_on : (v : values.Value) (k : List Entry) (r : Region') (f : flow.State) → LiveIn k bs → Holds g f bs → HasType g (lives.Key (lives_in bs r)) v → Claims g.own (Hand (operands_in k)) (lives.Key (lives_in bs r))
+  pub closes_on : (v : values.Value) (k : List Entry) (r : Region') (f : flow.State) → LiveIn k bs → Holds g f bs → HasType g (lives.Key (lives_in bs r)) v → Claims g.own (Hand (operands_in k)) (lives.Key (lives_in bs r)) v
       → IsStack p g x bs (Go f) k → IsWell p (closes_with v k e w)
   closes_on (values.Key region) k r f live holds is has stack = by_life (lives_in bs r) refl is has
     where
-      by_life : (l : Life) → lives_in bs r ≡ l → IsKeyOf l region → Claims g.own (Hand (operands_in k)) (lives.Key l) → IsWell p (closes_with (values.Key region) k e w)
+      by_life : (l : Life) → lives_in bs r ≡ l → IsKeyOf l region → Claims g.own (Hand (operands_in k)) (lives.Key l) (values.Key region) → IsWell p (closes_with (values.Key region) k e w)
       by_life (Kept n) is_kept same claims =
-          let t : lives.RunTy = lives.Key (Kept n) in
+          let o : Option Thing = Some (KeyOf n) in
           let hand = Hand (operands_in k) in
+          let h = giving g o Nobody in
           let known : IsAmong n g.kept = subst (λ l. IsKnownOwner g l) is_kept (region_owner g bs r variables) in
-          let held : IsHeld (g.own n) = subst (λ o. IsHeld o) (sym claims) tt in
+          let held : IsHeld (g.own (KeyOf n)) = subst (λ o. IsHeld o) (sym claims.0) tt in
+          let changed : Changed hand g h = giving_changed g o hand Nobody claims.0 in
           let (s, found, dynamic) = dynamic_found (slice_get w.regions region) (subst (λ i. IsDynamic (slice_get w.regions i)) same ((typed.kept n known).1 held)) in
           subst (λ a. IsWell p (closes_dynamic a region k e w)) (sym found)
           (subst (λ (y : Bool). IsWell p (if y then Running Proceeding k e (closed w region s) else wrong w)) (sym dynamic)
-          (running p (giving g t Nobody) x bs e (closed w region s)
-          (subst (λ m. IsTyped (giving g t Nobody) (set w.regions m (record s { is_open = false })) w.objects) same (closed_by_key g w.regions w.objects n (operands_in k) (record s { is_open = false }) known claims typed))
-          (given_globals p g t Nobody globals) bound (variables_other g t hand Nobody bs claims refl variables) Proceeding k live
-          (f, holds_other t hand Nobody g f bs claims (λ m s. in_no_hand g.depth m (operands_in k)) holds, stack_other t hand Nobody p g x bs (Go f) k claims (let le : operands_in k ≤ operands_in k = omega arith in le) stack)))
+          (running p h x bs e (closed w region s)
+          (subst (λ m. IsTyped h (set w.regions m (record s { is_open = false })) w.objects) same (closed_by_key g w.regions w.objects n (operands_in k) (record s { is_open = false }) known claims.0 typed))
+          (hands_globals p g (given o Nobody g.own) g.here globals) bound (variables_kept hand g h changed bs refl variables) Proceeding k live
+          (f, holds_kept hand g h changed f bs (λ m object s here. at_no_hand object (operands_in k)) holds, stack_changed p hand g h x bs (Go f) k changed (let le : operands_in k ≤ operands_in k = omega arith in le) stack)))
       by_life (OfRegion n ns us) is_kept same claims = absurd same
       by_life (OfObject o) is_kept same claims = absurd same
       by_life Never is_kept same claims = absurd same
       by_life lives.Owned is_kept same claims = absurd same
   closes_on v k r f live holds is has stack = absurd is
+
+  -- ---- unique objects
+
+  -- a unique pointer comes whose object is given back
+  pub frees_on : (m : PointerKind) (t : lives.RunTy) (v : values.Value) (k : List Entry) (f : flow.State) → LiveIn k bs → Holds g f bs → HasType g (lives.Pointer m t lives.Owned) v → Claims g.own (Hand (operands_in k)) (lives.Pointer m t lives.Owned) v → IsStack p g x bs (Go f) k
+      → IsWell p (frees v k e w)
+  frees_on m t v k f live holds is claims stack = go v is claims
+    where
+      freed_on : (object : ℕ) → g.own (PointerTo object) ≡ Hand (operands_in k) → IsWell p (frees_object (slice_get w.objects object) object k e w)
+      freed_on object has =
+          let o : Option Thing = Some (PointerTo object) in
+          let hand = Hand (operands_in k) in
+          let h = giving g o Nobody in
+          let changed : Changed hand g h = giving_changed g o hand Nobody has in
+          let (u, z, there, life, stands, owner) = typed.unique object (subst (λ o. IsHeld o) (sym has) tt) in
+          subst (λ o. IsWell p (frees_object o object k e w)) (sym stands)
+          (subst (λ o. IsWell p (frees_owned o object z k e w)) (sym owner)
+          (running p h x bs e (freed w object z) (freed_typed g object (operands_in k) z w.regions w.objects has stands typed) (hands_globals p g (given o Nobody g.own) g.here globals) bound (variables_kept hand g h changed bs refl variables) Proceeding k live
+          (f, holds_kept hand g h changed f bs (λ n other s here. at_no_hand other (operands_in k)) holds, stack_changed p hand g h x bs (Go f) k changed (let le : operands_in k ≤ operands_in k = omega arith in le) stack)))
+
+      go : (v : values.Value) → HasType g (lives.Pointer m t lives.Owned) v → Claims g.own (Hand (operands_in k)) (lives.Pointer m t lives.Owned) v → IsWell p (frees v k e w)
+      go values.Null is claims = running p g x bs e w typed globals bound variables Proceeding k live (f, holds, stack)
+      go (values.Thin object offset) is (has, (offset_is, unit)) =
+          subst (λ (b : Bool). IsWell p (if b then frees_object (slice_get w.objects object) object k e w else wrong w)) (sym (eq-eqb offset 0 offset_is)) (freed_on object has)
+      go (values.Fat object start count index) is (has, (start_is, index_is)) =
+          subst (λ (b : Bool). IsWell p (if b then frees_object (slice_get w.objects object) object k e w else wrong w)) (sym (eq-eqb start 0 start_is)) (freed_on object has)
+      go (values.Int n) is claims = absurd (never_int m is)
+        where
+          never_int : (m : PointerKind) → HasType g (lives.Pointer m t lives.Owned) (values.Int n) → ⊥
+          never_int marks.Nullable is = is
+          never_int marks.NonNull is = is
+          never_int marks.Fat is = is
+      go (values.Handle n) is claims = absurd (never_handle m is)
+        where
+          never_handle : (m : PointerKind) → HasType g (lives.Pointer m t lives.Owned) (values.Handle n) → ⊥
+          never_handle marks.Nullable is = is
+          never_handle marks.NonNull is = is
+          never_handle marks.Fat is = is
+      go (values.Key n) is claims = absurd (never_key m is)
+        where
+          never_key : (m : PointerKind) → HasType g (lives.Pointer m t lives.Owned) (values.Key n) → ⊥
+          never_key marks.Nullable is = is
+          never_key marks.NonNull is = is
+          never_key marks.Fat is = is

@@ -11,7 +11,7 @@ use Rattle.cyc_types.specs.declared.typed.Kind.{Kind}
 use Rattle.cyc_types.specs.declared.typed.Kind.TheVariants as kinds
 use Rattle.cyc_types.specs.Types.{Ty, substituted_ty}
 use Rattle.cyc_types.specs.Types as types
-use Rattle.cyc_types.specs.TypedTrees.{Expression, Initial, Plain, Fields, Array, Convert, Arguments, NoArguments, MoreArguments}
+use Rattle.cyc_types.specs.TypedTrees.{StructType, Expression, Initial, Plain, Fields, Array, Convert, Arguments, NoArguments, MoreArguments}
 use Rattle.cyc_types.specs.Rules.{Derives}
 use Rattle.cyc_types.specs.typing.Tests as tests
 use Rattle.cyc_types.specs.typing.Tests.{is_key}
@@ -29,19 +29,21 @@ use Rattle.cyc_meaning.specs.Operators.{array_size}
 use Rattle.cyc_meaning.specs.Allocation.{writes_from, blanks_of, filled, makes_of, makes_plain, makes_fields, most_words, blanks, begun, makes_array, step_beginning, step_repeating, fills_element, makes}
 use Rattle.cyc_meaning.specs.Nesting.{ends_of, AreOpen}
 use Rattle.cyc_meaning.proofs.ListLemmas.{slice_get-end, slice_get-set_other}
-use Rattle.cyc_soundness.specs.Lives.{Reading, AsHeap, ByScope, Lives, at, Life, OfRegion, OfObject, Never, Kept, RunTy, Int, Pointer, Handle, Key, Struct, Value, kind_at, Owned, owned_life}
-use Rattle.cyc_soundness.specs.Worlds.{IsAmong, IsHeld, IsKeyless, AreKeyless, Stays, IsDynamic, ObjectType, Typing, Outlasts, alike, IsFilled, IsPart, IsTarget, HasType, IsResult, AreOperands, AreCells, IsOwner, IsObject, IsTyped, IsOpenLife, Grows, IsKnownOwner}
-use Rattle.cyc_soundness.specs.Frames.{first, later, InScope, Level, HasMeaning, IsBound, AreVariables, LiveIn, Holds, Implies, Exits, IsContext, KnowsProgram, lives_among, lives_in, read, IsThere, frees_in, life_named}
-use Rattle.cyc_soundness.specs.Classes.{HasLoans, InInitial, InArguments, Source, frees_of}
+use Rattle.cyc_soundness.specs.Lives.{Reading, AsHeap, ByScope, at, Life, OfRegion, OfObject, Never, Kept, RunTy, Int, Pointer, Handle, Key, Struct, Value, looked, kind_at, Owned, owned_life}
+use Rattle.cyc_soundness.specs.Worlds.{NoLocal, Thing, KeyOf, PointerTo, Holder, Nobody, Hand, At, Lent, pointer_at, Owns, given, giving, AreOwned, IsUniqueObject, IsOpenObject, IsNewOwner, IsAmong, IsHeld, IsKeyless, AreKeyless, IsDynamic, ObjectType, Typing, Outlasts, alike, IsFilled, IsPart, IsTarget, HasType, IsResult, AreOperands, AreCells, IsOwner, IsObject, IsTyped, IsOpenLife, Grows, IsKnownOwner}
+use Rattle.cyc_soundness.specs.Frames.{first, later, InScope, Level, HasMeaning, IsBound, AreVariables, LiveIn, Holds, Implies, Exits, IsContext, KnowsProgram, lives_in, read, IsThere, frees_in, life_named}
+use Rattle.cyc_soundness.specs.Classes.{HasLoans, IsShared, InInitial, InArguments, Source}
 use Rattle.cyc_soundness.specs.Stacks.{Val, turned, AreClaimed, operands_in, AreFields, Repeats, AreNext, IsWhole, IsMaking, IsArray, IsStack, IsFocus, IsWell, relied_at}
 use Rattle.cyc_soundness.specs.Stacks as stacks
 use Rattle.cyc_soundness.proofs.Numbers.{same_or_other, less_or_same, slice_get-set_same}
 use Rattle.cyc_soundness.proofs.FlowLemmas.{at_least_implies, holds_implied}
 use Rattle.cyc_soundness.proofs.TypeLemmas.{target_typed, is_kind_same, kind_read}
-use Rattle.cyc_soundness.proofs.WorldLemmas.{owner_grown, operands_grown, variables_grown, holds_grown, globals_grown, with_object, object_stays, object_typed, typed_beside, open_region, risen, with_filled}
-use Rattle.cyc_soundness.proofs.StackLemmas.{keeps_fields, stack_grown, kept_open, lasting_open}
+use Rattle.cyc_soundness.proofs.WorldLemmas.{beyond, owner_grown, operands_grown, globals_grown, with_object, object_grows, object_stays, object_typed, typed_beside, open_region, risen, with_filled}
+use Rattle.cyc_soundness.proofs.Hands.{Changed, given_now, at_some, changed_after, giving_changed, variables_kept, holds_kept, holds_grown, pointed_typed}
+use Rattle.cyc_soundness.proofs.Sharing.{at_start, keeps_by, read_shared, no_key, shared_field, key_field}
+use Rattle.cyc_soundness.proofs.StackLemmas.{keeps_fields, stack_changed, stack_grown, kept_open, lasting_open}
 use Rattle.cyc_soundness.proofs.RegionLemmas.{region_owner, there_open, agrees_of, there_lasting, mapped_count, fields_mean}
-use Rattle.cyc_soundness.proofs.Cells.{running, part_at, writes}
+use Rattle.cyc_soundness.proofs.Cells.{running, part_at, keyless_at, keyless_claims, shared_claims, writes}
 
 -- ---- lists of operands
 
@@ -90,7 +92,7 @@ whole_grown g h grows y (Key l) is = is
 whole_grown g h grows y (Struct n ls) is = grows.fields n ls y.cells is
 
 abbrev pub new_type : List RunTy → Life → ObjectType
-new_type ts l = record { cells = ts; life = l; is_hidden = false }
+new_type ts l = record { cells = ts; life = l; is_hidden = false; slot = NoLocal }
 
 -- of one value
 pub whole_of : (g : Typing) (l : Life) (t : RunTy) (v : values.Value) → HasType g t v → IsWhole g (new_type (t ∷ []) l) t
@@ -115,43 +117,72 @@ whole_part g object y (Handle l) is full = one_part g object y (Handle l) is ful
 whole_part g object y (Key l) is full = one_part g object y (Key l) is full
 whole_part g object y (Struct n ls) is full = (refl, is, full)
 
--- ---- keys
-
--- what is no key is read as none
-pub plain_keyless : (n : Lives) (t : Ty) → is_key t ≡ false → IsKeyless (at n t)
-plain_keyless n types.Int plain = tt
-plain_keyless n (types.Pointer k t r) plain = tt
-plain_keyless n (types.Handle r) plain = tt
-plain_keyless n (types.Key r) plain = absurd (let k : true ≡ false = plain in cc)
-plain_keyless n (types.Struct s rs) plain = tt
-
-plain_each : (n : Lives) (ts : List Ty) → ((field : ℕ) (t : Ty) → slice_get ts field ≡ Some t → is_key t ≡ false) → AreKeyless (map (at n) ts)
-plain_each n [] plain = tt
-plain_each n (t ∷ ts) plain = (plain_keyless n t (plain 0 t refl), plain_each n ts (λ i u there. plain (suc i) u there))
+-- ---- what only one may have
 
 -- without dynamic regions there are no keys
-no_key : (g : Typing) (l : Life) → ((n : ℕ) → IsAmong n g.kept → ⊥) → IsKnownOwner g l → IsKeyless (Key l)
-no_key g (Kept region) none known = none region known
-no_key g (OfRegion number ns us) none known = tt
-no_key g (OfObject object) none known = tt
-no_key g Never none known = tt
-no_key g Owned none known = tt
-
-unkept : (g : Typing) (n : Lives) (t : Ty) → ((m : ℕ) → IsAmong m g.kept → ⊥) → ((r : Region') → IsKnownOwner g (n r)) → IsKeyless (at n t)
-unkept g n types.Int none known = tt
-unkept g n (types.Pointer k t r) none known = tt
-unkept g n (types.Handle r) none known = tt
-unkept g n (types.Key r) none known = no_key g (n r) none (known r)
-unkept g n (types.Struct s rs) none known = tt
-
-all_unkept : (g : Typing) (n : Lives) (ts : List Ty) → ((m : ℕ) → IsAmong m g.kept → ⊥) → ((r : Region') → IsKnownOwner g (n r)) → AreKeyless (map (at n) ts)
-all_unkept g n [] none known = tt
-all_unkept g n (t ∷ ts) none known = (unkept g n t none known, all_unkept g n ts none known)
+unkept : (g : Typing) (l : Life) → ((n : ℕ) → IsAmong n g.kept → ⊥) → IsKnownOwner g l → IsKeyless (Key l)
+unkept g (Kept region) none known = none region known
+unkept g (OfRegion number ns us) none known = tt
+unkept g (OfObject object) none known = tt
+unkept g Never none known = tt
+unkept g Owned none known = tt
 
 lends_or_not : (m : Reading) → HasLoans m ⊎ (HasLoans m → ⊥)
 lends_or_not AsHeap = inr (λ h. h)
 lends_or_not (ByScope true frees) = inl refl
 lends_or_not (ByScope false frees) = inr (λ h. let z : false ≡ true = h in absurd (cc))
+
+-- no new object has what only one may have
+new_owned : (own : Thing → Holder) (n : ℕ) (ts : List RunTy) (cs : List Cell) → AreKeyless ts → AreOwned own n ts cs
+new_owned own n ts cs keyless i u c v found at content = keyless_claims own (At n) u v (keyless_at ts i u keyless found)
+
+-- an object that is being made is there: the pointer to it is in hand
+pub made_open : (g : Typing) (regions : List Region) (object i : ℕ) (l : Life) → IsOpenLife regions l → Owns g.own (Hand i) (pointer_at l object) → IsOpenObject g regions object l
+made_open g regions object i (OfRegion number ns us) opens has = opens
+made_open g regions object i (OfObject o) opens has = absurd opens
+made_open g regions object i Never opens has = absurd opens
+made_open g regions object i (Kept region) opens has = opens
+made_open g regions object i Owned opens has = subst (λ h. IsHeld h) (sym has) tt
+
+new_is_owner : (l : Life) (owner : Owner) → IsNewOwner l owner → IsOwner l owner
+new_is_owner l (InRegion n) is = is
+new_is_owner l (Unique true) is = is
+new_is_owner l (Unique false) is = absurd is
+
+-- nobody has the pointer to what is not there yet
+unheld_new : (g : Typing) (regions : List Region) (objects : List Object) → IsTyped g regions objects → g.own (PointerTo (length objects)) ≡ Nobody
+unheld_new g regions objects typed = go (g.own (PointerTo (length objects))) refl
+  where
+    gone : IsUniqueObject g objects (length objects) → ⊥
+    gone (t, x, there, life, stands, live) = beyond objects (length objects) x stands refl
+
+    go : (h : Holder) → g.own (PointerTo (length objects)) ≡ h → g.own (PointerTo (length objects)) ≡ Nobody
+    go Nobody same = same
+    go (Hand i) same = absurd (gone (typed.unique (length objects) (subst (λ h. IsHeld h) (sym same) tt)))
+    go (At object) same = absurd (gone (typed.unique (length objects) (subst (λ h. IsHeld h) (sym same) tt)))
+    go (Lent j) same = absurd (gone (typed.unique (length objects) (subst (λ h. IsHeld h) (sym same) tt)))
+
+unheld_at : (g : Typing) (l : Life) (object : ℕ) → g.own (PointerTo object) ≡ Nobody → Owns g.own Nobody (pointer_at l object)
+unheld_at g (OfRegion number ns us) object none = tt
+unheld_at g (OfObject o) object none = tt
+unheld_at g Never object none = tt
+unheld_at g (Kept region) object none = tt
+unheld_at g Owned object none = none
+
+-- the pointer to a new object is in hand
+claimed_new : (g : Typing) (l : Life) (object : ℕ) (new : Holder) (t : ObjectType) (x : Object) (regions : List Region) (objects : List Object) → IsNewOwner l x.owner → t.life ≡ l → g.own (PointerTo object) ≡ Nobody → slice_get g.objects object ≡ Some t
+    → slice_get objects object ≡ Some x → IsTyped g regions objects → IsTyped (giving g (pointer_at l object) new) regions objects
+claimed_new g (OfRegion number ns us) object new t x regions objects owned life none there stands typed = typed
+claimed_new g (OfObject o) object new t x regions objects owned life none there stands typed = typed
+claimed_new g Never object new t x regions objects owned life none there stands typed = typed
+claimed_new g (Kept region) object new t x regions objects owned life none there stands typed = typed
+claimed_new g Owned object new t x regions objects owned life none there stands typed =
+    pointed_typed g object new regions objects none (t, x, there, life, stands, live x.owner refl owned) typed
+  where
+    live : (o : Owner) → x.owner ≡ o → IsNewOwner Owned o → x.owner ≡ Unique true
+    live (Unique true) same is = same
+    live (Unique false) same is = absurd is
+    live (InRegion n) same is = absurd is
 
 -- ---- arrays
 
@@ -250,7 +281,7 @@ module _ (p : Source) (g : Typing) (x : Exits) (bs : List InScope) (e : Environm
 
   -- the heap and dynamic regions are open there
   abbrev AreStill : List Region → Type 0
-  AreStill regions = (is_open (slice_get regions heap_number) ≡ true) × ((number : ℕ) → IsAmong number g.kept → IsHeld (g.own number) → IsDynamic (slice_get regions number)) × (length w.regions ≤ length regions)
+  AreStill regions = (is_open (slice_get regions heap_number) ≡ true) × ((number : ℕ) → IsAmong number g.kept → IsHeld (g.own (KeyOf number)) → IsDynamic (slice_get regions number)) × (length w.regions ≤ length regions)
 
   made_there : (n : ℕ) (cells : List Cell) → is_open (slice_get w.regions n) ≡ true
       → (new : World) × (created_in w n (region_at w n) cells ≡ Found new) × (new.objects ≡ w.objects ++ record { owner = InRegion n; cells = cells } ∷ []) × AreStill new.regions
@@ -262,49 +293,69 @@ module _ (p : Source) (g : Typing) (x : Exits) (bs : List InScope) (e : Environm
       (new, ap (λ a. created_in w n a cells) found, refl, still)
 
   -- the world with an object more, whose cells hold nothing yet
-  created_there : (owner : Owner) (cells : List Cell) (l : Life) → IsOwner l owner → IsOpenLife w.regions l
+  created_there : (owner : Owner) (cells : List Cell) (l : Life) → IsNewOwner l owner → IsOpenLife w.regions l
       → (new : World) × (created w owner cells ≡ Found new) × (new.objects ≡ w.objects ++ record { owner = owner; cells = cells } ∷ []) × AreStill new.regions
   created_there (InRegion n) cells (OfRegion region ns us) owned opens' = made_there n cells (subst (λ i. is_open (slice_get w.regions i) ≡ true) owned opens')
   created_there (InRegion n) cells (Kept region) owned opens' = made_there n cells (subst (λ i. is_open (slice_get w.regions i) ≡ true) owned opens')
   created_there (Unique true) cells l owned opens = (made_unique w cells, refl, refl, (typed.heap, (λ n among. (typed.kept n among).1), (let few : length w.regions ≤ length w.regions = omega arith in few)))
-  created_there (Unique false) cells (OfRegion region ns us) owned opens = absurd (let z : false ≡ true = owned.1 in cc)
-  created_there owner cells (OfObject o) owned opens = absurd opens
-  created_there owner cells Never owned opens = absurd opens
-  created_there (Unique false) cells (Kept region) owned opens = absurd owned
-  created_there (Unique false) cells Owned owned opens = absurd (let z : false ≡ true = owned in cc)
+  created_there (Unique false) cells l owned opens = absurd owned
+  created_there (InRegion n) cells (OfObject o) owned opens = absurd opens
+  created_there (InRegion n) cells Never owned opens = absurd opens
   created_there (InRegion n) cells Owned owned opens = absurd owned
 
-  made_on : (owner : Owner) (l : Life) (new : World) (ts : List RunTy) (cells : List Cell) (focus : Focus) (k : List Entry) → LiveIn k bs → IsOwner l owner → IsKnownOwner g l → AreKeyless ts → ((h : Typing) → AreCells h ts cells 0)
+  -- the typing of the world with one more, to which the pointer is in hand
+  abbrev new_world : List RunTy → Life → (hand : ℕ) → Typing
+  new_world ts l i = giving (with_object g (new_type ts l) 0) (pointer_at l (length w.objects)) (Hand i)
+
+  made_on : (owner : Owner) (l : Life) (new : World) (ts : List RunTy) (cells : List Cell) (focus : Focus) (k : List Entry) (i : ℕ) → LiveIn k bs → IsNewOwner l owner → IsKnownOwner g l → AreKeyless ts → ((h : Typing) → AreCells h ts cells 0)
       → new.objects ≡ w.objects ++ record { owner = owner; cells = cells } ∷ [] → AreStill new.regions
-      → (Stays g (with_object g (new_type ts l) 0) → slice_get (with_object g (new_type ts l) 0).objects (length w.objects) ≡ Some (new_type ts l) → IsFilled (with_object g (new_type ts l) 0) (length w.objects) 0
-      → IsFocus p (with_object g (new_type ts l) 0) x bs focus k)
+      → (Changed Nobody g (new_world ts l i) → slice_get (new_world ts l i).objects (length w.objects) ≡ Some (new_type ts l) → IsFilled (new_world ts l i) (length w.objects) 0 → Owns (new_world ts l i).own (Hand i) (pointer_at l (length w.objects))
+      → IsFocus p (new_world ts l i) x bs focus k)
       → IsWell p (Running focus k e new)
-  made_on owner l new ts cells focus k live owned known keyless blanks_are objects_are still goes =
-      let h = with_object g (new_type ts l) 0 in
-      let grows : Stays g h = object_stays g (new_type ts l) 0 in
+  made_on owner l new ts cells focus k i live owned known keyless blanks_are objects_are still goes =
+      let t = new_type ts l in
+      let n = length w.objects in
+      let one = with_object g t 0 in
+      let h = new_world ts l i in
+      let none = unheld_new g w.regions w.objects typed in
+      let changed : Changed Nobody g h = changed_after Nobody g (giving g (pointer_at l n) (Hand i)) h (giving_changed g (pointer_at l n) Nobody (Hand i) (unheld_at g l n none)) (object_stays (giving g (pointer_at l n) (Hand i)) t 0) in
+      let grows = object_grows g t 0 in
       let made : Object = record { owner = owner; cells = cells } in
-      let is : IsObject h 0 (new_type ts l) made = record { owner = owned; known = owner_grown g h grows.grows l known; keyless = λ shown. keyless; cells = blanks_are h } in
-      let beside : IsTyped h w.regions new.objects = subst (λ os. IsTyped h w.regions os) (sym objects_are) (object_typed g w.regions w.objects (new_type ts l) 0 made typed is) in
-      let there = subst (λ n. slice_get h.objects n ≡ Some (new_type ts l)) (sym typed.count) (slice_get-end g.objects (new_type ts l)) in
+      let is : IsObject one 0 t made = record { owner = new_is_owner l owner owned; known = owner_grown g one grows l known; keyless = λ shown. keyless; cells = blanks_are one } in
+      let first' : IsTyped one w.regions (w.objects ++ made ∷ []) = object_typed g w.regions w.objects t 0 made g.here typed is (λ object apart here. here) (new_owned g.own n ts cells keyless) in
+      let there = subst (λ n. slice_get h.objects n ≡ Some t) (sym typed.count) (slice_get-end g.objects t) in
       let flag = subst (λ n. slice_get h.filled n ≡ Some 0) (sym typed.counts) (slice_get-end g.filled 0) in
-      running p h x bs e new (typed_beside h w.regions new.regions new.objects beside still.0 still.1 still.2) (globals_grown g h grows.grows p (λ n ls. refl) globals.keys globals) bound (variables_grown g h grows bs variables) focus k live
-      (goes grows there (0, flag, (let few : 0 ≤ 0 = omega arith in few)))
+      let second : IsTyped h w.regions (w.objects ++ made ∷ []) = claimed_new one l n (Hand i) t made w.regions (w.objects ++ made ∷ []) owned refl none there (slice_get-end w.objects made) first' in
+      let beside : IsTyped h w.regions new.objects = subst (λ os. IsTyped h w.regions os) (sym objects_are) second in
+      running p h x bs e new (typed_beside h w.regions new.regions new.objects beside still.0 (λ m among held. still.1 m among (kept_before l n (Hand i) m held)) still.2) (globals_grown g h changed.grows p (λ n ls. refl) globals.keys globals) bound (variables_kept Nobody g h changed bs refl variables) focus k live
+      (goes changed there (0, flag, (let few : 0 ≤ 0 = omega arith in few)) (given_now one.own (pointer_at l n) (Hand i)))
+    where
+      kept_before : (l : Life) (n : ℕ) (new : Holder) (m : ℕ) → IsHeld (given (pointer_at l n) new g.own (KeyOf m)) → IsHeld (g.own (KeyOf m))
+      kept_before (OfRegion number ns us) n new m held = held
+      kept_before (OfObject o) n new m held = held
+      kept_before Never n new m held = held
+      kept_before (Kept region) n new m held = held
+      kept_before Owned n new m held = held
+
+  -- what is known of a world with an object more
+  holds_made : (h : Typing) (f : flow.State) → Changed Nobody g h → Holds g f bs → Holds h f bs
+  holds_made h f changed holds = holds_kept Nobody g h changed f bs (λ n object full here. at_some object) holds
 
   pub makes_these : (owner : Owner) (ts : List RunTy) (vs : List Operand) (t : RunTy) (r : Region') (k : List Entry) (f : flow.State) → AreOpen w.regions (ends_of k) → LiveIn k bs → Holds g f bs → IsThere bs r
-      → IsOwner (lives_in bs r) owner → AreKeyless ts → AreOperands g ts vs → IsWhole g (new_type ts (lives_in bs r)) t → IsStack p g x bs (Val (Value (Pointer marks.NonNull t (lives_in bs r))) f) k
+      → IsNewOwner (lives_in bs r) owner → AreKeyless ts → AreOperands g ts vs → IsWhole g (new_type ts (lives_in bs r)) t → IsStack p g x bs (Val (Value (Pointer marks.NonNull t (lives_in bs r))) f) k
       → IsWell p (makes_of owner vs k e w)
   makes_these owner ts vs t r k f all_open live holds alive owned keyless are whole stack =
       let l = lives_in bs r in
       let (new, found, objects_are, opens) = created_there owner (blanks_of vs) l owned (open_life r k all_open live alive) in
-      let h = with_object g (new_type ts l) 0 in
+      let h = new_world ts l (operands_in k) in
       let handed : Operand = record { kind = kinds.NonNull; value = values.Thin (length w.objects) 0 } in
       subst (λ a. IsWell p (filled a (length w.objects) vs k e w)) (sym found)
-      (made_on owner l new ts (blanks_of vs) (Writing (writes_from (length w.objects) 0 vs) (Some handed)) k live owned (region_owner g bs r variables) keyless (λ h. blank_cells g h ts vs are) objects_are opens
-      (λ grows there none. (
+      (made_on owner l new ts (blanks_of vs) (Writing (writes_from (length w.objects) 0 vs) (Some handed)) k (operands_in k) live owned (region_owner g bs r variables) keyless (λ h. blank_cells g h ts vs are) objects_are opens
+      (λ changed there none has. (
         t,
         r,
         f,
-        holds_grown g h grows f bs holds,
+        holds_made h f changed holds,
         alive,
         record {
           object = length w.objects;
@@ -317,53 +368,55 @@ module _ (p : Source) (g : Typing) (x : Exits) (bs : List InScope) (e : Environm
           shown = refl;
           life = refl;
           filled = none;
-          rest = operands_grown g h grows.grows ts vs are;
-          whole = whole_grown g h grows.grows (new_type ts l) t whole;
+          rest = operands_grown g h changed.grows ts vs are;
+          whole = whole_grown g h changed.grows (new_type ts l) t whole;
+          owned = has;
         },
-        stack_grown p g h grows x bs (Val (Value (Pointer marks.NonNull t l)) f) k stack,
+        stack_changed p Nobody g h x bs (Val (Value (Pointer marks.NonNull t l)) f) k changed tt stack,
       )))
 
   -- ---- an array is made, and its elements are evaluated one by one
 
   pub begin_array : (owner : Owner) (count level : ℕ) (kind : Kind) (element : Expression) (k : List Entry) (c : Context) (t : Ty) (r : Region') (f : flow.State) → AreOpen w.regions (ends_of k) → LiveIn k bs
-      → IsContext p x bs c → Holds g f bs → IsThere bs r → IsOwner (lives_in bs r) owner
+      → IsContext p x bs c → Holds g f bs → IsThere bs r → IsNewOwner (lives_in bs r) owner
       → Repeats p.reading (relied_at x.relied k) c level kind element t f → IsStack p g x bs (Val (Value (Pointer marks.Fat (read bs t) (lives_in bs r))) f) k → IsWell p (step_beginning owner count level kind element k e w)
   begin_array owner count level kind element k c t r f all_open live stands holds alive owned repeats stack =
       let l = lives_in bs r in
       let (new, found, objects_are, opens) = created_there owner (blanks count kind) l owned (open_life r k all_open live alive) in
       let ts = repeated count (read bs t) in
-      let h = with_object g (new_type ts l) 0 in
+      let h = new_world ts l (operands_in k) in
       subst (λ a. IsWell p (begun a (length w.objects) count level kind element k e w)) (sym found)
-      (made_on owner l new ts (blanks count kind) (Repeating (length w.objects) count 0 level kind element) k live owned (region_owner g bs r variables) (keyless_repeated count (read bs t) (plain_keyless (lives_in bs) t repeats.plain))
+      (made_on owner l new ts (blanks count kind) (Repeating (length w.objects) count 0 level kind element) k (operands_in k) live owned (region_owner g bs r variables) (keyless_repeated count (read bs t) (read_shared g bs variables p.reading c.regions t stands.regions repeats.shared (λ r same. no_key r t (IsKeyless (Key (lives_in bs r))) repeats.plain same)))
       (λ h. blanks_typed h count kind (read bs t) (repeats.kind_is ∙ sym (kind_read (lives_in bs) t))) objects_are opens
-      (λ grows there none. (
+      (λ changed there none has. (
         c,
         t,
         r,
         f,
         stands,
-        holds_grown g h grows f bs holds,
+        holds_made h f changed holds,
         alive,
         repeats,
         (new_type ts l, there, refl, refl, repeated_at count (read bs t), none, (let few : 0 ≤ count = omega arith in few)),
-        stack_grown p g h grows x bs (Val (Value (Pointer marks.Fat (read bs t) (lives_in bs r))) f) k stack,
+        has,
+        stack_changed p Nobody g h x bs (Val (Value (Pointer marks.Fat (read bs t) (lives_in bs r))) f) k changed tt stack,
       )))
 
   last : (t : RunTy) (l : Life) (object count index : ℕ) → IsArray g t l object count index → index ≤ count
   last t l object count index (y, there, shown, life, cells, some, few) = few
 
   -- an array whose elements all hold something
-  array_whole : (t : RunTy) (l : Life) (object count : ℕ) → IsOpenLife w.regions l → IsArray g t l object count count → HasType g (Pointer marks.Fat t l) (values.Fat object 0 count 0)
-  array_whole t l object count opens (y, there, shown, life, cells, all, few) i less =
+  array_whole : (t : RunTy) (l : Life) (object count : ℕ) → IsArray g t l object count count → HasType g (Pointer marks.Fat t l) (values.Fat object 0 count 0)
+  array_whole t l object count (y, there, shown, life, cells, all, few) i less =
       let same : i ≡ 0 + i = omega arith in
       let some : IsFilled g object (suc i) = filled_up g object (suc i) count (let le : suc i ≤ count = omega (arith, less) in le) all in
       subst (λ n. IsTarget g t l object n) same
-      (y, there, shown, subst (λ m. Outlasts m l) (sym life) (alike l), part_at g w typed object y t i there (cells i less) (subst (λ m. IsOpenLife w.regions m) (sym life) opens) some)
+      (y, there, shown, subst (λ m. Outlasts m l) (sym life) (alike l), part_at g w typed object y t i there (cells i less) some)
 
   pub repeat_on : (object count index level : ℕ) (kind : Kind) (element : Expression) (k : List Entry) (c : Context) (t : Ty) (r : Region') (f : flow.State) → AreOpen w.regions (ends_of k) → LiveIn k bs → IsContext p x bs c
-      → Holds g f bs → IsThere bs r → Repeats p.reading (relied_at x.relied k) c level kind element t f → IsArray g (read bs t) (lives_in bs r) object count index → IsStack p g x bs (Val (Value (Pointer marks.Fat (read bs t) (lives_in bs r))) f) k
-      → IsWell p (step_repeating object count index level kind element k e w)
-  repeat_on object count index level kind element k c t r f all_open live stands holds alive repeats array stack = go (index == count) refl
+      → Holds g f bs → IsThere bs r → Repeats p.reading (relied_at x.relied k) c level kind element t f → IsArray g (read bs t) (lives_in bs r) object count index → Owns g.own (Hand (operands_in k)) (pointer_at (lives_in bs r) object)
+      → IsStack p g x bs (Val (Value (Pointer marks.Fat (read bs t) (lives_in bs r))) f) k → IsWell p (step_repeating object count index level kind element k e w)
+  repeat_on object count index level kind element k c t r f all_open live stands holds alive repeats array has stack = go (index == count) refl
     where
       go : (b : Bool) → (index == count) ≡ b
           → IsWell p (if b then Running (Given (record { kind = kinds.Fat; value = values.Fat object 0 count 0 })) k e w
@@ -373,8 +426,8 @@ module _ (p : Source) (g : Typing) (x : Exits) (bs : List InScope) (e : Environm
             Value (Pointer marks.Fat (read bs t) (lives_in bs r)),
             f,
             holds,
-            (refl, array_whole (read bs t) (lives_in bs r) object count (open_life r k all_open live alive) (subst (λ n. IsArray g (read bs t) (lives_in bs r) object count n) (eqb-true index count same) array)),
-            tt,
+            (refl, array_whole (read bs t) (lives_in bs r) object count (subst (λ n. IsArray g (read bs t) (lives_in bs r) object count n) (eqb-true index count same) array)),
+            (has, at_start (lives_in bs r)),
             stack,
           )
       go false other =
@@ -387,18 +440,18 @@ module _ (p : Source) (g : Typing) (x : Exits) (bs : List InScope) (e : Environm
             subst (λ l. IsContext p x (Level l ∷ bs) (counting.with_counter c)) (sym repeats.level_is) (context_counted p x bs c stands),
             (holds.0, (tt, holds.1)),
             repeats.each,
-            (
+            subst (λ o. IsStack p g x (Level level ∷ bs) (Val (looked o (Value (read bs t))) repeats.now) (Needs (FillElement object count index level kind element) ∷ k)) (sym repeats.taken) (
               Pointer marks.Fat (read bs t) (lives_in bs r) ∷ [],
               bs,
               Val (Value (Pointer marks.Fat (read bs t) (lives_in bs r))) f,
               stacks.fills bs c t r f repeats.now refl alive stands repeats repeats.back,
-              (unfinished index count (last (read bs t) (lives_in bs r) object count index array) other, array),
+              (unfinished index count (last (read bs t) (lives_in bs r) object count index array) other, array, has),
               stack,
             ),
           )
 
   pub array_on : (owner : Owner) (level : ℕ) (kind : Kind) (element : Expression) (v : values.Value) (k : List Entry) (c : Context) (t : Ty) (r : Region') (f : flow.State) → LiveIn k bs → IsContext p x bs c → Holds g f bs → IsThere bs r
-      → IsOwner (lives_in bs r) owner → Repeats p.reading (relied_at x.relied k) c level kind element t f → HasType g Int v → IsStack p g x bs (Val (Value (Pointer marks.Fat (read bs t) (lives_in bs r))) f) k → IsWell p (makes_array owner level kind element v k e w)
+      → IsNewOwner (lives_in bs r) owner → Repeats p.reading (relied_at x.relied k) c level kind element t f → HasType g Int v → IsStack p g x bs (Val (Value (Pointer marks.Fat (read bs t) (lives_in bs r))) f) k → IsWell p (makes_array owner level kind element v k e w)
   array_on owner level kind element (values.Int count) k c t r f live stands holds alive owned repeats is stack = go (nat_le (count * values.words_of_kind kind) most_words)
     where
       go : (b : Bool) → IsWell p (if b then Running (Beginning owner count level kind element) k e w else Running (Throwing array_size 0) k e w)
@@ -408,16 +461,16 @@ module _ (p : Source) (g : Typing) (x : Exits) (bs : List InScope) (e : Environm
 
   -- the next element gets its value, and the counter is out of scope
   pub fill_on : (object count index level : ℕ) (kind : Kind) (element : Expression) (v : Operand) (k : List Entry) (c : Context) (t : Ty) (r : Region') (f h : flow.State) → AreOpen w.regions (ends_of k) → LiveIn k bs → IsThere bs r
-      → IsContext p x bs c → Holds g h bs → Repeats p.reading (relied_at x.relied k) c level kind element t f → Implies h f → index < count → IsArray g (read bs t) (lives_in bs r) object count index → IsResult g (Value (read bs t)) v
+      → IsContext p x bs c → Holds g h bs → Repeats p.reading (relied_at x.relied k) c level kind element t f → Implies h f → index < count → IsArray g (read bs t) (lives_in bs r) object count index → Owns g.own (Hand (operands_in k)) (pointer_at (lives_in bs r) object) → IsResult g (Value (read bs t)) v
       → IsStack p g x bs (Val (Value (Pointer marks.Fat (read bs t) (lives_in bs r))) f) k
       → IsWell p (fills_element object count index level kind element v k e w)
-  fill_on object count index level kind element v k c t r f h all_open live alive stands holds repeats back less (y, there, shown, life, cells, (m, flag, enough), few) is stack =
+  fill_on object count index level kind element v k c t r f h all_open live alive stands holds repeats back less (y, there, shown, life, cells, (m, flag, enough), few) has is stack =
       let u = with_filled g object (risen index m) in
-      let opens : IsOpenLife w.regions y.life = subst (λ l. IsOpenLife w.regions l) (sym life) (open_life r k all_open live alive) in
+      let opens : IsOpenObject g w.regions object y.life = subst (λ l. IsOpenObject g w.regions object l) (sym life) (made_open g w.regions object (operands_in k) (lives_in bs r) (open_life r k all_open live alive) has) in
       subst (λ (b : Bool). IsWell p (if b then stored (cell_at w object index) object index v (Repeating object count (suc index) level kind element) k e w else wrong w))
       (sym (is_kind_same v.kind kind (is.0 ∙ kind_read (lives_in bs) t ∙ sym repeats.kind_is)))
       (writes p g x bs e w typed globals bound variables v (Repeating object count (suc index) level kind element) k object index m (read bs t) y
-      live there (cells index less) opens flag enough is
+      live there (cells index less) opens flag enough is (λ here. shared_claims g w object index y (read bs t) typed there shown (cells index less) (At object) v.value)
       (λ grows now. (
         c,
         t,
@@ -428,29 +481,31 @@ module _ (p : Source) (g : Typing) (x : Exits) (bs : List InScope) (e : Environm
         alive,
         repeats,
         (y, there, shown, life, cells, now, (let e : suc index ≤ count = omega (arith, less) in e)),
+        has,
         stack_grown p g u grows x bs (Val (Value (Pointer marks.Fat (read bs t) (lives_in bs r))) f) k stack,
       )))
 
   -- ---- its cells are written
 
   write_from : (object offset : ℕ) (vs : List Operand) (y : ObjectType) (t : RunTy) (r : Region') (k : List Entry) (f : flow.State) → AreOpen w.regions (ends_of k) → LiveIn k bs → Holds g f bs → IsThere bs r
-      → slice_get g.objects object ≡ Some y → y.is_hidden ≡ false → y.life ≡ lives_in bs r → IsFilled g object offset → AreNext g offset y.cells vs → IsWhole g y t → IsStack p g x bs (Val (Value (Pointer marks.NonNull t (lives_in bs r))) f) k
+      → slice_get g.objects object ≡ Some y → y.is_hidden ≡ false → y.life ≡ lives_in bs r → IsFilled g object offset → AreNext g offset y.cells vs → IsWhole g y t → Owns g.own (Hand (operands_in k)) (pointer_at (lives_in bs r) object) → IsStack p g x bs (Val (Value (Pointer marks.NonNull t (lives_in bs r))) f) k
       → IsWell p (step_writing (writes_from object offset vs) (Some (record { kind = kinds.NonNull; value = values.Thin object 0 })) k e w)
-  write_from object offset [] y t r k f all_open live holds alive there shown life full rest whole stack =
+  write_from object offset [] y t r k f all_open live holds alive there shown life full rest whole has stack =
       let all : IsFilled g object (length y.cells) = filled_up g object (length y.cells) offset (none_next g offset y.cells rest) full in
       running p g x bs e w typed globals bound variables (Given (record { kind = kinds.NonNull; value = values.Thin object 0 })) k live (
         Value (Pointer marks.NonNull t (lives_in bs r)),
         f,
         holds,
         (refl, (y, there, shown, subst (λ m. Outlasts m (lives_in bs r)) (sym life) (alike (lives_in bs r)), whole_part g object y t whole all)),
-        tt,
+        (has, at_start (lives_in bs r)),
         stack,
       )
-  write_from object offset (v ∷ vs) y t r k f all_open live holds alive there shown life (m, flag, enough) rest whole stack =
+  write_from object offset (v ∷ vs) y t r k f all_open live holds alive there shown life (m, flag, enough) rest whole has stack =
       let (u, at, is, behind) = next_one g offset y.cells v vs rest in
       let h = with_filled g object (risen offset m) in
       let handed : Operand = record { kind = kinds.NonNull; value = values.Thin object 0 } in
-      writes p g x bs e w typed globals bound variables v (Writing (writes_from object (suc offset) vs) (Some handed)) k object offset m u y live there at (subst (λ m. IsOpenLife w.regions m) (sym life) (open_life r k all_open live alive)) flag enough is
+      writes p g x bs e w typed globals bound variables v (Writing (writes_from object (suc offset) vs) (Some handed)) k object offset m u y live there at
+      (subst (λ m. IsOpenObject g w.regions object m) (sym life) (made_open g w.regions object (operands_in k) (lives_in bs r) (open_life r k all_open live alive) has)) flag enough is (λ here. shared_claims g w object offset y u typed there shown at (At object) v.value)
       (λ grows now. (
         t,
         r,
@@ -470,28 +525,29 @@ module _ (p : Source) (g : Typing) (x : Exits) (bs : List InScope) (e : Environm
           filled = now;
           rest = next_grown g h grows.grows (suc offset) y.cells vs behind;
           whole = whole_grown g h grows.grows y t whole;
+          owned = has;
         },
         stack_grown p g h grows x bs (Val (Value (Pointer marks.NonNull t (lives_in bs r))) f) k stack,
       ))
 
-  pub write_on : (these : List Write) (v : Operand) (t : RunTy) (r : Region') (k : List Entry) (f : flow.State) → AreOpen w.regions (ends_of k) → LiveIn k bs → Holds g f bs → IsThere bs r → IsMaking g these v t (lives_in bs r) → IsStack p g x bs (Val (Value (Pointer marks.NonNull t (lives_in bs r))) f) k
+  pub write_on : (these : List Write) (v : Operand) (t : RunTy) (r : Region') (k : List Entry) (f : flow.State) → AreOpen w.regions (ends_of k) → LiveIn k bs → Holds g f bs → IsThere bs r → IsMaking g (operands_in k) these v t (lives_in bs r) → IsStack p g x bs (Val (Value (Pointer marks.NonNull t (lives_in bs r))) f) k
       → IsWell p (step_writing these (Some v) k e w)
   write_on these v t r k f all_open live holds alive m stack =
       subst (λ ws. IsWell p (step_writing ws (Some v) k e w)) (sym m.these)
       (subst (λ z. IsWell p (step_writing (writes_from m.object m.offset m.operands) (Some z) k e w)) (sym m.handed)
-      (write_from m.object m.offset m.operands m.of_type t r k f all_open live holds alive m.there m.shown m.life m.filled m.rest m.whole stack))
+      (write_from m.object m.offset m.operands m.of_type t r k f all_open live holds alive m.there m.shown m.life m.filled m.rest m.whole m.owned stack))
 
   -- ---- all forms
 
-  pub plain_on : (owner : Owner) (kind : Kind) (v : Operand) (t : Ty) (r : Region') (k : List Entry) (f : flow.State) → is_key t ≡ false → AreOpen w.regions (ends_of k) → LiveIn k bs → Holds g f bs → IsThere bs r → IsOwner (lives_in bs r) owner → kind ≡ tests.kind_of t
+  pub plain_on : (owner : Owner) (kind : Kind) (v : Operand) (t : Ty) (r : Region') (k : List Entry) (f : flow.State) → IsKeyless (read bs t) → AreOpen w.regions (ends_of k) → LiveIn k bs → Holds g f bs → IsThere bs r → IsNewOwner (lives_in bs r) owner → kind ≡ tests.kind_of t
       → IsResult g (Value (read bs t)) v → IsStack p g x bs (Val (Value (Pointer marks.NonNull (read bs t) (lives_in bs r))) f) k → IsWell p (makes_plain owner kind v k e w)
   plain_on owner kind v t r k f plain all_open live holds alive owned kind_is is stack =
       subst (λ (b : Bool). IsWell p (if b then makes_of owner (v ∷ []) k e w else wrong w)) (sym (is_kind_same v.kind kind (is.0 ∙ kind_read (lives_in bs) t ∙ sym kind_is)))
-      (makes_these owner (read bs t ∷ []) (v ∷ []) (read bs t) r k f all_open live holds alive owned (plain_keyless (lives_in bs) t plain, tt) (is, tt) (whole_of g (lives_in bs r) (read bs t) v.value is.1) stack)
+      (makes_these owner (read bs t ∷ []) (v ∷ []) (read bs t) r k f all_open live holds alive owned (plain, tt) (is, tt) (whole_of g (lives_in bs r) (read bs t) v.value is.1) stack)
 
   pub fields_on : (k : List Entry) (owner : Owner) (before : List Operand) (done : List RunTy) (as' : Arguments) (ts : List Ty) (c : Context) (n : ℕ) (ls : List Life) (r : Region') (f h : flow.State) (q : List ℕ)
-      → AreOpen w.regions (ends_of k) → LiveIn k bs → IsContext p x bs c → Holds g f bs → IsThere bs r → IsOwner (lives_in bs r) owner → ArePassed c ts as' → Derives (rule_arguments q as' f) h → InArguments p.reading (relied_at x.relied k) as' → AreOperands g done before
-      → AreClaimed g.own (operands_in k) done → AreFields p n ls (turned done (map (read bs) ts)) → IsStack p g x bs (Val (Value (Pointer marks.NonNull (Struct n ls) (lives_in bs r))) h) k → IsWell p (makes_fields owner before as' k e w)
+      → AreOpen w.regions (ends_of k) → LiveIn k bs → IsContext p x bs c → Holds g f bs → IsThere bs r → IsNewOwner (lives_in bs r) owner → ArePassed c ts as' → Derives (rule_arguments q as' f) h → InArguments p.reading (relied_at x.relied k) as' → AreOperands g done before
+      → AreClaimed g.own (operands_in k) done before → AreFields p n ls (turned done (map (read bs) ts)) → IsStack p g x bs (Val (Value (Pointer marks.NonNull (Struct n ls) (lives_in bs r))) h) k → IsWell p (makes_fields owner before as' k e w)
   fields_on k owner before done NoArguments [] c n ls r f h q all_open live stands holds alive owned passed (u, same) kept operands claims (s, at, count, fields, keyless) stack =
       makes_these owner (turned done []) (reverse before) (Struct n ls) r k h all_open live (subst (λ z. Holds g z bs) (sym same) holds) alive owned keyless (operands_reversed g done before operands)
       (globals.structs n s ls at count ∙ ap (λ us. Some us) (sym fields)) stack
@@ -510,7 +566,7 @@ module _ (p : Source) (g : Typing) (x : Exits) (bs : List InScope) (e : Environm
           [],
           bs,
           Val (Value (read bs t)) f1,
-          stacks.converts c v t f1 (agrees_of p x bs c stands) conv from_is to_is (target_typed c a v (inl well)),
+          stacks.converts c v t f1 (agrees_of p x bs c stands) (keeps_by g bs variables p.reading c.regions stands.regions) conv from_is to_is (target_typed c a v (inl well)),
           tt,
           (
             done,
@@ -523,9 +579,24 @@ module _ (p : Source) (g : Typing) (x : Exits) (bs : List InScope) (e : Environm
         ),
       )
 
+  -- no field of a struct is a key, or unique where things are given back
+  fields_keyless : (c : Context) (n : ℕ) (rs : List Region') (s : StructType) → IsContext p x bs c → IsShared p.reading (types.Struct n rs) → (ts : List Ty) → ((field : ℕ) (t : Ty) → slice_get ts field ≡ Some t → IsShared p.reading t)
+      → (HasLoans p.reading → (field : ℕ) (t : Ty) → slice_get ts field ≡ Some t → is_key t ≡ false) → AreKeyless (map (read bs) (map (substituted_ty rs) ts))
+  fields_keyless c n rs s stands shared [] common plain = tt
+  fields_keyless c n rs s stands shared (t ∷ ts) common plain = (
+    read_shared g bs variables p.reading c.regions (substituted_ty rs t) stands.regions (shared_field p.reading n rs t shared (common 0 t refl)) keys,
+    fields_keyless c n rs s stands shared ts (λ i u there. common (suc i) u there) (λ lends i u there. plain lends (suc i) u there),
+  )
+    where
+      keys : (r : Region') → substituted_ty rs t ≡ types.Key r → IsKeyless (Key (lives_in bs r))
+      keys r same = elim (lends_or_not p.reading) [
+        | inl lends ↦ no_key r (substituted_ty rs t) (IsKeyless (Key (lives_in bs r))) (key_field rs t (plain lends 0 t refl)) same
+        | inr never ↦ unkept g (lives_in bs r) (λ m among. never (globals.keys m among)) (region_owner g bs r variables)
+      ]
+
   pub makes_on : (i : Initial) (owner : Owner) (k : List Entry) (c : Context) (m : PointerKind) (t : Ty) (r : Region') (f h : flow.State) (q : List ℕ) → AreOpen w.regions (ends_of k) → LiveIn k bs → IsContext p x bs c → Holds g f bs → IsThere bs r
-      → IsOwner (lives_in bs r) owner → IsMade c i m t → Derives (rule_initial q i f) h → InInitial p.reading (relied_at x.relied k) i → IsStack p g x bs (Val (Value (Pointer m (read bs t) (lives_in bs r))) h) k → IsWell p (makes owner i k e w)
-  makes_on (Plain kind a) owner k c m t r f h q all_open live stands holds alive owned (well, keyless, kind_is, mark) flows kept stack =
+      → IsNewOwner (lives_in bs r) owner → IsMade c i m t → Derives (rule_initial q i f) h → InInitial p.reading (relied_at x.relied k) i → IsShared p.reading t → IsStack p g x bs (Val (Value (Pointer m (read bs t) (lives_in bs r))) h) k → IsWell p (makes owner i k e w)
+  makes_on (Plain kind a) owner k c m t r f h q all_open live stands holds alive owned (well, keyless, kind_is, mark) flows kept shared stack =
       running p g x bs e w typed globals bound variables (Evaluating a) (Needs (MakePlain owner kind) ∷ k) live (
         c,
         types.Value t,
@@ -538,31 +609,30 @@ module _ (p : Source) (g : Typing) (x : Exits) (bs : List InScope) (e : Environm
           [],
           bs,
           Val (Value (Pointer marks.NonNull (read bs t) (lives_in bs r))) h,
-          stacks.makes_plain t r h keyless alive owned kind_is,
+          stacks.makes_plain t r h (read_shared g bs variables p.reading c.regions t stands.regions shared (λ r same. no_key r t (IsKeyless (Key (lives_in bs r))) keyless same)) alive owned kind_is,
           tt,
           subst (λ z. IsStack p g x bs (Val (Value (Pointer z (read bs t) (lives_in bs r))) h) k) mark stack,
         ),
       )
-  makes_on (Fields as') owner k c m t r f h q all_open live stands holds alive owned (n, rs, s, at, count, passed, t_is, mark) flows kept stack =
+  makes_on (Fields as') owner k c m t r f h q all_open live stands holds alive owned (n, rs, s, at, count, passed, t_is, mark) flows kept shared stack =
       let there : slice_get p.program.structs n ≡ Some s = ap (λ ss. slice_get ss n) (sym stands.structs) ∙ at in
       let ls = map (lives_in bs) rs in
       let enough : length ls ≡ s.parameters = mapped_count (lives_in bs) rs ∙ count in
       let means = fields_mean p x bs c stands rs s count (λ field u found. globals.fields n s there field u found) in
-      let keyless : AreKeyless (map (read bs) (map (substituted_ty rs) s.fields)) = elim (lends_or_not p.reading) [
-        | inl lends ↦ subst (λ us. AreKeyless us) (sym means) (plain_each (lives_among (frees_of p.reading) ls) s.fields (globals.plain lends n s there))
-        | inr never ↦ all_unkept g (lives_in bs) (map (substituted_ty rs) s.fields) (λ m among. never (globals.keys m among)) (λ r. region_owner g bs r variables)
-      ] in
+      let keyless = fields_keyless c n rs s stands (subst (λ z. IsShared p.reading z) t_is shared) s.fields (globals.shared n s there) (λ lends. globals.plain lends n s there) in
       fields_on k owner [] [] as' (map (substituted_ty rs) s.fields) c n ls r f h q all_open live stands holds alive owned passed flows kept tt tt
       (s, there, enough, means, keyless)
       (subst (λ z. IsStack p g x bs (Val (Value (Pointer z (Struct n ls) (lives_in bs r))) h) k) mark (subst (λ z. IsStack p g x bs (Val (Value (Pointer m (read bs z) (lives_in bs r))) h) k) t_is stack))
-  makes_on (Array place level count kind element) owner k c m t r f h q all_open live stands holds alive owned (level_is, well, each, keyless, kind_is, mark) (f1, d, (f2, de, (demands, known))) (kn, ke) stack =
+  makes_on (Array place level count kind element) owner k c m t r f h q all_open live stands holds alive owned (level_is, well, each, keyless, kind_is, mark) (f1, d, (f2, de, (demands, known))) (kn, ke) shared stack =
       let repeats : Repeats p.reading (relied_at x.relied k) c level kind element t f1 = record {
         now = f2;
         level_is = level_is;
         kind_is = kind_is;
         each = record { waiting = q; typed = inl each; flows = de; kept = ke };
+        taken = refl;
         back = at_least_implies f2 f1 demands.0;
         plain = keyless;
+        shared = shared;
       } in
       running p g x bs e w typed globals bound variables (Evaluating count) (Needs (MakeArray owner level kind element) ∷ k) live (
         c,

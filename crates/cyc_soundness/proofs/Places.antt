@@ -1,5 +1,5 @@
 -- PLACES that a pointer leads to, and what waits for them; operators of pointers.
-use Rattle.std.proofs.Common.{◌≡◌, inl, ℕ, zero, suc, ◌+◌, ◌<◌, ◌≤◌, Bool, true, false, List, [], ◌∷◌, length, map, Option, Some, None, slice_get, refl, sym, ap, subst, ◌∙◌, arith}
+use Rattle.std.proofs.Common.{◌≡◌, ◌⊎◌, inl, inr, ℕ, zero, suc, ◌+◌, ◌<◌, ◌≤◌, Bool, true, false, List, [], ◌∷◌, length, map, Option, Some, None, slice_get, refl, sym, ap, subst, ◌∙◌, arith}
 use Rattle.std.specs.Prelude.{if◌then◌else◌, nat_lt, ◌==◌, ◌&&◌}
 use Rattle.std.proofs.lemmas.Bool.{eq-eqb, ltb-true}
 use Rattle.cyc_syntax.specs.declared.tree.PointerKind.{PointerKind}
@@ -12,16 +12,15 @@ use Rattle.cyc_types.specs.declared.typed.PointerOperator.{PointerOperator}
 use Rattle.cyc_types.specs.declared.typed.PointerOperator.TheVariants as operators
 use Rattle.cyc_types.specs.Types.{Ty, ValueType, substituted_ty}
 use Rattle.cyc_types.specs.Types as types
-use Rattle.cyc_types.specs.declared.region.Region.TheVariants as regions
-use Rattle.cyc_types.specs.TypedTrees.{Expression, Dereference, Target, Member, Element, peeked, StructType}
+use Rattle.cyc_types.specs.TypedTrees.{Expression, Peek, Dereference, Target, Member, Element, peeked, StructType}
 use Rattle.cyc_types.specs.Rules.{Derives}
 use Rattle.cyc_types.specs.typing.Tests.{is_struct, is_thin_mark}
 use Rattle.cyc_types.specs.typing.Tests as tests
 use Rattle.cyc_types.specs.typing.Expressions.{assigned_type}
-use Rattle.cyc_types.specs.typing.WellTyped.{Context, IsLive, IsCell, Converts, PointerOperation, adds, subtracts, equals, differs, thin_null, thin_there, fat_null, fat_there, null_is, null_is_not}
+use Rattle.cyc_types.specs.typing.WellTyped.{Context, WellTyped, IsPeek, IsLive, IsCell, Converts, PointerOperation, adds, subtracts, equals, differs, thin_null, thin_there, fat_null, fat_there, null_is, null_is_not}
 use Rattle.cyc_types.specs.flow.States as flow
 use Rattle.cyc_types.specs.flow.States.{is_reached}
-use Rattle.cyc_types.specs.flow.Expressions.{and_peeked, peek_of, rule_place}
+use Rattle.cyc_types.specs.flow.Expressions.{and_peeked, peek_of, peek_behind, rule_place}
 use Rattle.cyc_meaning.specs.Values.{Operand, Cell, is_kind, are_kinds, is_thin, kinds_of}
 use Rattle.cyc_meaning.specs.Values as values
 use Rattle.cyc_meaning.specs.Operators.{Result, Gives, Raises, Misfits, null_exception, array_bounds, truth}
@@ -32,22 +31,24 @@ use Rattle.cyc_meaning.specs.Parts.{target_of, target_of_value, target_by, is_ta
 use Rattle.cyc_meaning.specs.Places.{arrives, follows, field_of, member_of, follows_member, indexes, advances, locates_member, step_locating, placed}
 use Rattle.cyc_meaning.specs.Nesting.{ends_of, AreOpen}
 use Rattle.cyc_meaning.specs.Step.{tells, applies_pointer}
-use Rattle.cyc_soundness.specs.Lives.{Life, RunTy, RunValue, Value, Lives, at, value_at, kind_at}
+use Rattle.cyc_soundness.specs.Lives.{Life, RunTy, RunValue, Value, looked, Lives, at, value_at, kind_at}
 use Rattle.cyc_soundness.specs.Lives as lives
 use Rattle.cyc_soundness.specs.Worlds.{ObjectType, Typing, IsFilled, IsPart, IsTarget, HasType, IsResult, Fits, AreCells, IsObject, IsTyped}
 use Rattle.cyc_soundness.specs.Frames.{InScope, IsBound, AreVariables, LiveIn, lives_among, Holds, Exits, IsContext, KnowsProgram, lives_in, read, read_value, IsThere}
 use Rattle.cyc_soundness.specs.Classes.{and_looked, InExpression, InPlace, Source, frees_of}
-use Rattle.cyc_soundness.specs.Stacks.{Evaluates, relied_at, Val, PlaceOf, null, WaitsPlace, of_cell, KeepsPlace, IsStack, IsFocus, IsWell}
+use Rattle.cyc_soundness.specs.Stacks.{IsThrough, seen_by, EvaluatesWhole, relied_at, Val, PlaceOf, null, WaitsPlace, of_cell, KeepsPlace, IsStack, IsFocus, IsWell}
 use Rattle.cyc_soundness.specs.Stacks as stacks
 use Rattle.cyc_soundness.proofs.Numbers.{some_same, inside, mapped, both}
 use Rattle.cyc_soundness.proofs.TypeLemmas.{target_typed, is_kind_same, mark_kinds, kind_meant}
-use Rattle.cyc_soundness.proofs.WorldLemmas.{holds_grown, result_grown, typed_cell}
+use Rattle.cyc_soundness.proofs.WorldLemmas.{result_grown, typed_cell}
+use Rattle.cyc_soundness.proofs.Hands.{holds_grown, variables_grown}
+use Rattle.cyc_soundness.proofs.Sharing.{region_common, life_common, plain_read, by_type_read, keeps_by}
 use Rattle.cyc_soundness.proofs.StackLemmas.{stack_grown, IsPresent, there_present}
 use Rattle.cyc_soundness.proofs.RegionLemmas.{agrees_of, there_of, mapped_count, field_means}
 use Rattle.cyc_soundness.proofs.Looking.{looked_expression, peeked_so}
 use Rattle.cyc_soundness.proofs.Swapping.{finds_right_on, both_on}
-use Rattle.cyc_soundness.specs.Worlds.{Hand, ClaimsBy, IsKeyless}
-use Rattle.cyc_soundness.proofs.Cells.{keyless_claims, running, part_at, life_of, target_live, reads_target, writes_target}
+use Rattle.cyc_soundness.specs.Worlds.{Hand, pointer_at, thing_of, Claims, ClaimsPart, ClaimsBy, IsHad, IsKeyless}
+use Rattle.cyc_soundness.proofs.Cells.{keyless_claims, pointer_keyless, part_had, running, part_at, target_live, reads_target, writes_target}
 
 -- ---- pointers
 
@@ -62,6 +63,9 @@ thin_value g marks.Nullable t l (values.Thin object offset) thin has = leads obj
 thin_value g marks.NonNull t l (values.Thin object offset) thin has = leads object offset has
 thin_value g marks.Fat t l v thin has = absurd (let e : false ≡ true = thin in cc)
 thin_value g m t l v thin has = absurd has
+
+pub gives_same : (u v : values.Value) → Gives u ≡ Gives v → u ≡ v
+gives_same u v e = let k : Gives u ≡ Gives v = e in cc
 
 moved_fat : (g : Typing) (t : RunTy) (l : Life) (change : ℕ → ℕ) (v : values.Value) → HasType g (lives.Pointer marks.Fat t l) v → Fits g (lives.Pointer marks.Fat t l) (moved change v)
 moved_fat g t l change values.Null has = tt
@@ -112,15 +116,63 @@ takes n g left (fat_there k t r fat) is = is_kind_same left.kind kinds.Fat (is.0
 takes n g left (null_is k t r) is = ap is_thin is.0
 takes n g left (null_is_not k t r) is = ap is_thin is.0
 
--- an assignment hands on no key
-pub moved_comes : (g : Typing) (i : ℕ) (bs : List InScope) (t : Ty) → ClaimsBy g.own (Hand i) (read_value bs (assigned_type t))
-moved_comes g i bs types.Int = tt
-moved_comes g i bs (types.Pointer k t regions.Heap) = tt
-moved_comes g i bs (types.Pointer k t regions.Unique) = tt
-moved_comes g i bs (types.Pointer k t (regions.Variable n)) = tt
-moved_comes g i bs (types.Handle r) = tt
-moved_comes g i bs (types.Key r) = tt
-moved_comes g i bs (types.Struct n rs) = tt
+-- ---- peeks
+
+not_peek : (c : Context) (a : Expression) (t : ValueType) → WellTyped c a t → peek_of a ≡ None
+not_peek c (Peek p n u) t well = absurd well
+not_peek c a t well = refl
+
+seen_so : (c : Context) (a : Expression) (t : ValueType) (well : WellTyped c a t ⊎ IsPeek c a t) → seen_by a well ≡ peek_of a
+seen_so c a t (inl well) = sym (not_peek c a t well)
+seen_so c a t (inr peek) = refl
+
+pub looked_result : (g : Typing) (peek : Option ℕ) (r : RunValue) (v : Operand) → IsResult g (looked peek r) v → IsResult g r v
+looked_result g None r v is = is
+looked_result g (Some n) (Value t) v is = is
+looked_result g (Some n) lives.Void v is = is
+looked_result g (Some n) lives.Null v is = is
+looked_result g (Some n) (lives.Seen t) v is = is
+looked_result g (Some n) (lives.Into peek t) v is = is
+
+pub looked_part : (g : Typing) (i : ℕ) (peek : Option ℕ) (t : RunTy) (v : values.Value) → ClaimsBy g i (looked peek (Value t)) v → ClaimsPart g i peek (thing_of t v)
+looked_part g i None t v is = is.0
+looked_part g i (Some n) t v is = is
+
+looked_had : (g : Typing) (i : ℕ) (peek : Option ℕ) (t : RunTy) (v : values.Value) → ClaimsBy g i (looked peek (Value t)) v → IsHad g (thing_of t v)
+looked_had g i peek t v is = part_had g i peek (thing_of t v) (looked_part g i peek t v is)
+
+through_result : (g : Typing) (peek : Option ℕ) (t : RunTy) (r : RunValue) (v : Operand) → IsThrough peek t r → IsResult g r v → IsResult g (Value t) v
+through_result g peek t r v (inl same) is = looked_result g peek (Value t) v (subst (λ z. IsResult g z v) same is)
+through_result g peek t r v (inr same) is = subst (λ z. IsResult g z v) same is
+
+through_part : (g : Typing) (i : ℕ) (peek : Option ℕ) (t : RunTy) (r : RunValue) (v : values.Value) → IsThrough peek t r → ClaimsBy g i r v → ClaimsPart g i peek (thing_of t v)
+through_part g i peek t r v (inl same) is = looked_part g i peek t v (subst (λ z. ClaimsBy g i z v) same is)
+through_part g i peek t r v (inr same) is = subst (λ z. ClaimsBy g i z v) same is
+
+-- an assignment hands on nothing that only one may have
+pub moved_comes : (g : Typing) (i : ℕ) (bs : List InScope) (t : Ty) (v : values.Value) → AreVariables g bs → ClaimsBy g i (read_value bs (assigned_type t)) v
+moved_comes g i bs t v variables = go (tests.is_moved t) refl
+  where
+    go : (b : Bool) → tests.is_moved t ≡ b → ClaimsBy g i (read_value bs (if b then types.Void else types.Value t)) v
+    go true e = tt
+    go false e = keyless_claims g.own (Hand i) (read bs t) v (plain_read g bs variables t e)
+
+-- a pointer that is moved leads into the same
+moved_thing : (t : RunTy) (l : Life) (change : ℕ → ℕ) (v z : values.Value) → moved change v ≡ Gives z → thing_of (lives.Pointer marks.Fat t l) z ≡ thing_of (lives.Pointer marks.Fat t l) v
+moved_thing t l change values.Null z same = ap (λ k. thing_of (lives.Pointer marks.Fat t l) k) (sym (gives_same values.Null z same))
+moved_thing t l change (values.Fat object start count index) z same = ap (λ k. thing_of (lives.Pointer marks.Fat t l) k) (sym (gives_same (values.Fat object start count (change index)) z same))
+moved_thing t l change (values.Int n) z same = absurd (let k : Misfits ≡ Gives z = same in cc)
+moved_thing t l change (values.Thin object offset) z same = absurd (let k : Misfits ≡ Gives z = same in cc)
+moved_thing t l change (values.Handle n) z same = absurd (let k : Misfits ≡ Gives z = same in cc)
+moved_thing t l change (values.Key n) z same = absurd (let k : Misfits ≡ Gives z = same in cc)
+
+added_thing : (t : RunTy) (l : Life) (left right z : values.Value) → pointer_result operators.AddFat left right ≡ Gives z → thing_of (lives.Pointer marks.Fat t l) z ≡ thing_of (lives.Pointer marks.Fat t l) left
+added_thing t l left (values.Int n) z same = moved_thing t l (λ index. add_of index n) left z same
+added_thing t l left values.Null z same = absurd (let k : Misfits ≡ Gives z = same in cc)
+added_thing t l left (values.Thin object offset) z same = absurd (let k : Misfits ≡ Gives z = same in cc)
+added_thing t l left (values.Fat object start count index) z same = absurd (let k : Misfits ≡ Gives z = same in cc)
+added_thing t l left (values.Handle n) z same = absurd (let k : Misfits ≡ Gives z = same in cc)
+added_thing t l left (values.Key n) z same = absurd (let k : Misfits ≡ Gives z = same in cc)
 
 -- ---- structs
 
@@ -197,21 +249,28 @@ module _ (p : Source) (g : Typing) (x : Exits) (bs : List InScope) (e : Environm
   on focus k live stands = running p g x bs e w typed globals bound variables focus k live stands
 
   -- what was computed
-  pub gives_by : (k : List Entry) (kind : Kind) (t : RunTy) (f : flow.State) (r : Result) → LiveIn k bs → Holds g f bs → kind ≡ kind_at t → Fits g t r → stacks.Comes g (Value t) k → IsStack p g x bs (Val (Value t) f) k
-      → IsWell p (computed kind r k e w)
-  gives_by k kind t f (Gives v) live holds same fits comes stack = on (Given (record { kind = kind; value = v })) k live (Value t, f, holds, (same, fits), comes, stack)
+  pub gives_by : (k : List Entry) (kind : Kind) (t : RunTy) (f : flow.State) (r : Result) → LiveIn k bs → Holds g f bs → kind ≡ kind_at t → Fits g t r → ((v : values.Value) → r ≡ Gives v → Claims g.own (Hand (stacks.operands_in k)) t v)
+      → IsStack p g x bs (Val (Value t) f) k → IsWell p (computed kind r k e w)
+  gives_by k kind t f (Gives v) live holds same fits comes stack = on (Given (record { kind = kind; value = v })) k live (Value t, f, holds, (same, fits), comes v refl, stack)
   gives_by k kind t f (Raises tag) live holds same fits comes stack = on (Throwing tag 0) k live (Val (Value t) f, stack)
   gives_by k kind t f Misfits live holds same fits comes stack = absurd fits
 
-  -- where it is no key
+  -- a pointer into what is looked at, or in hand
+  gives_into : (k : List Entry) (peek : Option ℕ) (kind : Kind) (t : RunTy) (f : flow.State) (r : Result) → LiveIn k bs → Holds g f bs → kind ≡ kind_at t → Fits g t r → ((v : values.Value) → r ≡ Gives v → ClaimsPart g (stacks.operands_in k) peek (thing_of t v))
+      → IsStack p g x bs (Val (lives.Into peek t) f) k → IsWell p (computed kind r k e w)
+  gives_into k peek kind t f (Gives v) live holds same fits comes stack = on (Given (record { kind = kind; value = v })) k live (lives.Into peek t, f, holds, (same, fits), comes v refl, stack)
+  gives_into k peek kind t f (Raises tag) live holds same fits comes stack = on (Throwing tag 0) k live (Val (lives.Into peek t) f, stack)
+  gives_into k peek kind t f Misfits live holds same fits comes stack = absurd fits
+
+  -- where it is nothing that only one may have
   pub gives : (k : List Entry) (kind : Kind) (t : RunTy) (f : flow.State) (r : Result) → LiveIn k bs → Holds g f bs → IsKeyless t → kind ≡ kind_at t → Fits g t r → IsStack p g x bs (Val (Value t) f) k
       → IsWell p (computed kind r k e w)
-  gives k kind t f r live holds plain same fits stack = gives_by k kind t f r live holds same fits (keyless_claims g.own (Hand (stacks.operands_in k)) t plain) stack
+  gives k kind t f r live holds plain same fits stack = gives_by k kind t f r live holds same fits (λ v given. keyless_claims g.own (Hand (stacks.operands_in k)) t v plain) stack
 
   -- ---- a place is found
 
   pub locate : (d : Dereference) (k : List Entry) (c : Context) (t : Ty) (f h : flow.State) (q : List ℕ) (r : Named) → LiveIn k bs → IsContext p x bs c → Holds g f bs → IsCell c d t r → Derives (rule_place q d f) h → InPlace p.reading (relied_at x.relied k) d
-      → IsStack p g x bs (PlaceOf (read bs t) (lives_in bs r) h) k → IsWell p (step_locating p.program d k e w)
+      → IsStack p g x bs (PlaceOf (peek_behind d) (read bs t) (lives_in bs r) h) k → IsWell p (step_locating p.program d k e w)
   locate (Target pk a u) k c t f h q r live stands holds (m, well, alive, kind, same) flows kept stack =
       on (Evaluating a) (Needs (Follow pk (target_of u)) ∷ k) live (
         c,
@@ -224,10 +283,11 @@ module _ (p : Source) (g : Typing) (x : Exits) (bs : List InScope) (e : Environm
         (
           [],
           bs,
-          PlaceOf (read bs u) (lives_in bs r) h,
-          stacks.follows m u r h kind refl (there_of p x bs c stands r alive),
+          PlaceOf (peek_of a) (read bs u) (lives_in bs r) h,
+          stacks.follows (peek_of a) (looked (seen_by a well) (Value (lives.Pointer m (read bs u) (lives_in bs r)))) m u r h
+              (inl (ap (λ o. looked o (Value (lives.Pointer m (read bs u) (lives_in bs r)))) (seen_so c a (types.Value (types.Pointer m u r)) well))) kind refl (there_of p x bs c stands r alive),
           tt,
-          subst (λ z. IsStack p g x bs (PlaceOf (read bs z) (lives_in bs r) h) k) same stack,
+          subst (λ z. IsStack p g x bs (PlaceOf (peek_of a) (read bs z) (lives_in bs r) h) k) same stack,
         ),
       )
   locate (Member pk a n field u) k c t f h q r live stands holds (m, rs, s, v, well, thin, alive, kind, found, there, of, same) flows kept stack =
@@ -243,13 +303,13 @@ module _ (p : Source) (g : Typing) (x : Exits) (bs : List InScope) (e : Environm
         stands,
         holds,
         record { waiting = q; typed = well; flows = flows; kept = kept },
-        (
+        subst (λ o. IsStack p g x bs (Val (looked o (Value (lives.Pointer m (lives.Struct n ls) (lives_in bs r)))) h) (Needs (FollowMember pk (map values.kind_of s.fields) field) ∷ k)) (sym (seen_so c a (types.Value (types.Pointer m (types.Struct n rs) r)) well)) (
           [],
           bs,
-          PlaceOf (read bs (substituted_ty rs v)) (lives_in bs r) h,
-          stacks.follows_member m n ls s v (read bs (substituted_ty rs v)) r h kind struct refl there means (there_of p x bs c stands r alive),
+          PlaceOf (peek_of a) (read bs (substituted_ty rs v)) (lives_in bs r) h,
+          stacks.follows_member (peek_of a) m n ls s v (read bs (substituted_ty rs v)) r h kind struct refl there means (there_of p x bs c stands r alive),
           tt,
-          subst (λ z. IsStack p g x bs (PlaceOf (read bs z) (lives_in bs r) h) k) (same ∙ of) stack,
+          subst (λ z. IsStack p g x bs (PlaceOf (peek_of a) (read bs z) (lives_in bs r) h) k) (same ∙ of) stack,
         ),
       ))
   locate (Element a i u) k c t f h q r live stands holds (well, index, alive, same) (f1, d, di) (ka, ki) stack =
@@ -261,49 +321,55 @@ module _ (p : Source) (g : Typing) (x : Exits) (bs : List InScope) (e : Environm
         stands,
         holds,
         record { waiting = q; typed = well; flows = d; kept = ka },
-        (
-          [],
-          bs,
-          PlaceOf (read bs u) (lives_in bs r) h,
-          stacks.indexes c u r f1 h stands (λ reached. record {
-            waiting = and_peeked (peek_of a) q;
-            typed = inl index;
-            flows = di;
-            kept = subst (λ o. InExpression p.reading (and_looked o (relied_at x.relied k)) i) (sym (peeked_so (Element a i u))) (looked_expression p.reading (relied_at x.relied k) (peek_of a) i q f1 h reached di ki);
-          }) refl (there_of p x bs c stands r alive),
-          tt,
-          subst (λ z. IsStack p g x bs (PlaceOf (read bs z) (lives_in bs r) h) k) same stack,
-        ),
+        subst (λ o. IsStack p g x bs (Val (looked o (Value (lives.Pointer marks.Fat (read bs u) (lives_in bs r)))) f1) (Needs (Index (peeked (Element a i u)) (target_of u) i) ∷ k))
+            (peeked_so (Element a i u) ∙ sym (seen_so c a (types.Value (types.Pointer marks.Fat u r)) well)) (
+              [],
+              bs,
+              PlaceOf (peeked (Element a i u)) (read bs u) (lives_in bs r) h,
+              stacks.indexes c u r f1 h stands (λ reached. (
+                record {
+                  waiting = and_peeked (peek_of a) q;
+                  typed = inl index;
+                  flows = di;
+                  kept = subst (λ o. InExpression p.reading (and_looked o (relied_at x.relied k)) i) (sym (peeked_so (Element a i u))) (looked_expression p.reading (relied_at x.relied k) (peek_of a) i q f1 h reached di ki);
+                },
+                refl,
+              )) refl (there_of p x bs c stands r alive),
+              tt,
+              subst (λ o. IsStack p g x bs (PlaceOf o (read bs u) (lives_in bs r) h) k) (sym (peeked_so (Element a i u))) (subst (λ z. IsStack p g x bs (PlaceOf (peek_of a) (read bs z) (lives_in bs r) h) k) same stack),
+            ),
       )
 
-  arrived : (m : PointerKind) (t : RunTy) (l : Life) (v : values.Value) (k : List Entry) (f : flow.State) → LiveIn k bs → Holds g f bs → HasType g (lives.Pointer m t l) v → IsStack p g x bs (PlaceOf t l f) k
-      → IsWell p (arrives (followed v) k e w)
-  arrived marks.Nullable t l values.Null k f live holds has stack = on (Throwing null_exception 0) k live (PlaceOf t l f, stack)
-  arrived marks.Nullable t l (values.Thin object offset) k f live holds has stack = on (GivenPlace (values.Thin object offset)) k live (t, l, f, holds, has, stack)
-  arrived marks.NonNull t l (values.Thin object offset) k f live holds has stack = on (GivenPlace (values.Thin object offset)) k live (t, l, f, holds, has, stack)
-  arrived marks.Fat t l values.Null k f live holds has stack = on (Throwing null_exception 0) k live (PlaceOf t l f, stack)
-  arrived marks.Fat t l (values.Fat object start count index) k f live holds has stack = go (nat_lt index count) refl
+  arrived : (peek : Option ℕ) (m : PointerKind) (t : RunTy) (l : Life) (v : values.Value) (k : List Entry) (f : flow.State) → LiveIn k bs → Holds g f bs → HasType g (lives.Pointer m t l) v → ClaimsPart g (stacks.operands_in k) peek (thing_of (lives.Pointer m t l) v)
+      → IsStack p g x bs (PlaceOf peek t l f) k → IsWell p (arrives (followed v) k e w)
+  arrived peek marks.Nullable t l values.Null k f live holds has part stack = on (Throwing null_exception 0) k live (PlaceOf peek t l f, stack)
+  arrived peek marks.Nullable t l (values.Thin object offset) k f live holds has part stack = on (GivenPlace (values.Thin object offset)) k live (peek, t, l, f, holds, has, part, stack)
+  arrived peek marks.NonNull t l (values.Thin object offset) k f live holds has part stack = on (GivenPlace (values.Thin object offset)) k live (peek, t, l, f, holds, has, part, stack)
+  arrived peek marks.Fat t l values.Null k f live holds has part stack = on (Throwing null_exception 0) k live (PlaceOf peek t l f, stack)
+  arrived peek marks.Fat t l (values.Fat object start count index) k f live holds has part stack = go (nat_lt index count) refl
     where
       go : (b : Bool) → nat_lt index count ≡ b → IsWell p (arrives (if b then At object (start + index) else Stops array_bounds) k e w)
-      go true less = on (GivenPlace (values.Thin object (start + index))) k live (t, l, f, holds, has index (ltb-true index count less), stack)
-      go false less = on (Throwing array_bounds 0) k live (PlaceOf t l f, stack)
-  arrived m t l v k f live holds has stack = absurd has
+      go true less = on (GivenPlace (values.Thin object (start + index))) k live (peek, t, l, f, holds, has index (ltb-true index count less), part, stack)
+      go false less = on (Throwing array_bounds 0) k live (PlaceOf peek t l f, stack)
+  arrived peek m t l v k f live holds has part stack = absurd has
 
-  pub follow_on : (m : PointerKind) (pk : Kind) (target : Option Kind) (t : Ty) (l : Life) (v : Operand) (k : List Entry) (f : flow.State) → LiveIn k bs → Holds g f bs → pk ≡ tests.kind_of_mark m → target ≡ target_of t
-      → IsResult g (Value (lives.Pointer m (read bs t) l)) v → IsStack p g x bs (PlaceOf (read bs t) l f) k → IsWell p (follows pk target v k e w)
-  follow_on m pk target t l v k f live holds kind same is stack =
+  pub follow_on : (peek : Option ℕ) (r : RunValue) (m : PointerKind) (pk : Kind) (target : Option Kind) (t : Ty) (l : Life) (v : Operand) (k : List Entry) (f : flow.State) → LiveIn k bs → Holds g f bs → IsThrough peek (lives.Pointer m (read bs t) l) r → pk ≡ tests.kind_of_mark m → target ≡ target_of t
+      → IsResult g r v → ClaimsBy g (stacks.operands_in k) r v.value → IsStack p g x bs (PlaceOf peek (read bs t) l f) k → IsWell p (follows pk target v k e w)
+  follow_on peek r m pk target t l v k f live holds through kind same is' comes stack =
+      let is = through_result g peek (lives.Pointer m (read bs t) l) r v through is' in
+      let part = through_part g (stacks.operands_in k) peek (lives.Pointer m (read bs t) l) r v.value through comes in
       let leads_so : leads_to w target (followed v.value) ≡ true = ap (λ z. leads_to w z (followed v.value)) same ∙ leads_there g w typed (lives_in bs) m t l v.value is.1 in
       subst (λ (b : Bool). IsWell p (if b then arrives (followed v.value) k e w else wrong w))
       (sym (both (is_kind v.kind pk) (leads_to w target (followed v.value)) (is_kind_same v.kind pk (is.0 ∙ mark_kinds m ∙ sym kind)) leads_so))
-      (arrived m (read bs t) l v.value k f live holds is.1 stack)
+      (arrived peek m (read bs t) l v.value k f live holds is.1 part stack)
 
   -- ---- fields
 
   -- the field of an object that is a struct
-  field_found : (n : ℕ) (ls : List Life) (s : StructType) (t : Ty) (u : RunTy) (l : Life) (field object offset : ℕ) (k : List Entry) (f : flow.State) → AreOpen w.regions (ends_of k) → LiveIn k bs → IsPresent g (ends_of k) l → Holds g f bs
+  field_found : (n : ℕ) (ls : List Life) (s : StructType) (t : Ty) (u : RunTy) (l : Life) (field object offset : ℕ) (peek : Option ℕ) (k : List Entry) (f : flow.State) → LiveIn k bs → Holds g f bs
       → slice_get p.program.structs n ≡ Some s → slice_get s.fields field ≡ Some t → (length ls ≡ s.parameters → at (lives_among (frees_of p.reading) ls) t ≡ u) → IsTarget g (lives.Struct n ls) l object offset
-      → IsStack p g x bs (PlaceOf u l f) k → IsWell p (arrives (member_of w (At object offset) (map values.kind_of s.fields) field) k e w)
-  field_found n ls s t u l field object offset k f opens live lasting holds struct there means (y, at', shown, outlasts, (first, fields, (m, flag, full))) stack =
+      → ClaimsPart g (stacks.operands_in k) peek (pointer_at l object) → IsStack p g x bs (PlaceOf peek u l f) k → IsWell p (arrives (member_of w (At object offset) (map values.kind_of s.fields) field) k e w)
+  field_found n ls s t u l field object offset peek k f live holds struct there means (y, at', shown, outlasts, (first, fields, (m, flag, full))) claims stack =
       let (z, count, stands, filled, is) = typed.each object y at' in
       let enough : length ls ≡ s.parameters = globals.counts n s ls y.cells struct fields in
       let ts : List RunTy = map (at (lives_among (frees_of p.reading) ls)) s.fields in
@@ -312,63 +378,83 @@ module _ (p : Source) (g : Typing) (x : Exits) (bs : List InScope) (e : Environm
       let found : slice_get y.cells field ≡ Some u = ap (λ us. slice_get us field) cells ∙ mapped (at (lives_among (frees_of p.reading) ls)) s.fields field t there ∙ ap (λ z. Some z) (means enough) in
       let within : field < length y.cells = inside y.cells field u found in
       let some : IsFilled g object (suc field) = (m, flag, (let le : suc field ≤ m = omega (arith, within, full) in le)) in
-      let open' = life_of g w typed k object y l at' opens outlasts lasting in
       let test : ((offset == 0) && are_kinds (kinds_of z.cells) (map values.kind_of s.fields)) ≡ true = both (offset == 0) (are_kinds (kinds_of z.cells) (map values.kind_of s.fields)) (eq-eqb offset 0 first) alike in
       subst (λ o. IsWell p (arrives (field_of o object offset (map values.kind_of s.fields) field) k e w)) (sym stands)
       (subst (λ (b : Bool). IsWell p (arrives (if b then At object field else Nowhere) k e w)) (sym test)
-      (on (GivenPlace (values.Thin object field)) k live (u, l, f, holds, (y, at', shown, outlasts, part_at g w typed object y u field at' found open' some), stack)))
+      (on (GivenPlace (values.Thin object field)) k live (peek, u, l, f, holds, (y, at', shown, outlasts, part_at g w typed object y u field at' found some), claims, stack)))
 
-  members : (m : PointerKind) (n : ℕ) (ls : List Life) (s : StructType) (t : Ty) (u : RunTy) (l : Life) (field : ℕ) (v : values.Value) (k : List Entry) (f : flow.State) → AreOpen w.regions (ends_of k) → LiveIn k bs
-      → IsPresent g (ends_of k) l → Holds g f bs → slice_get p.program.structs n ≡ Some s → slice_get s.fields field ≡ Some t → (length ls ≡ s.parameters → at (lives_among (frees_of p.reading) ls) t ≡ u)
-      → HasType g (lives.Pointer m (lives.Struct n ls) l) v → IsStack p g x bs (PlaceOf u l f) k → IsWell p (arrives (member_of w (followed v) (map values.kind_of s.fields) field) k e w)
-  members marks.Nullable n ls s t u l field values.Null k f opens live lasting holds struct there means has stack = on (Throwing null_exception 0) k live (PlaceOf u l f, stack)
-  members marks.Nullable n ls s t u l field (values.Thin object offset) k f opens live lasting holds struct there means has stack =
-      field_found n ls s t u l field object offset k f opens live lasting holds struct there means has stack
-  members marks.NonNull n ls s t u l field (values.Thin object offset) k f opens live lasting holds struct there means has stack =
-      field_found n ls s t u l field object offset k f opens live lasting holds struct there means has stack
-  members marks.Fat n ls s t u l field values.Null k f opens live lasting holds struct there means has stack = on (Throwing null_exception 0) k live (PlaceOf u l f, stack)
-  members marks.Fat n ls s t u l field (values.Fat object start count index) k f opens live lasting holds struct there means has stack = go (nat_lt index count) refl
+  members : (peek : Option ℕ) (m : PointerKind) (n : ℕ) (ls : List Life) (s : StructType) (t : Ty) (u : RunTy) (l : Life) (field : ℕ) (v : values.Value) (k : List Entry) (f : flow.State) → LiveIn k bs
+      → Holds g f bs → slice_get p.program.structs n ≡ Some s → slice_get s.fields field ≡ Some t → (length ls ≡ s.parameters → at (lives_among (frees_of p.reading) ls) t ≡ u)
+      → HasType g (lives.Pointer m (lives.Struct n ls) l) v → ClaimsPart g (stacks.operands_in k) peek (thing_of (lives.Pointer m (lives.Struct n ls) l) v) → IsStack p g x bs (PlaceOf peek u l f) k → IsWell p (arrives (member_of w (followed v) (map values.kind_of s.fields) field) k e w)
+  members peek marks.Nullable n ls s t u l field values.Null k f live holds struct there means has part stack = on (Throwing null_exception 0) k live (PlaceOf peek u l f, stack)
+  members peek marks.Nullable n ls s t u l field (values.Thin object offset) k f live holds struct there means has part stack =
+      field_found n ls s t u l field object offset peek k f live holds struct there means has part stack
+  members peek marks.NonNull n ls s t u l field (values.Thin object offset) k f live holds struct there means has part stack =
+      field_found n ls s t u l field object offset peek k f live holds struct there means has part stack
+  members peek marks.Fat n ls s t u l field values.Null k f live holds struct there means has part stack = on (Throwing null_exception 0) k live (PlaceOf peek u l f, stack)
+  members peek marks.Fat n ls s t u l field (values.Fat object start count index) k f live holds struct there means has part stack = go (nat_lt index count) refl
     where
       go : (b : Bool) → nat_lt index count ≡ b → IsWell p (arrives (member_of w (if b then At object (start + index) else Stops array_bounds) (map values.kind_of s.fields) field) k e w)
-      go true less = field_found n ls s t u l field object (start + index) k f opens live lasting holds struct there means (has index (ltb-true index count less)) stack
-      go false less = on (Throwing array_bounds 0) k live (PlaceOf u l f, stack)
-  members m n ls s t u l field v k f opens live lasting holds struct there means has stack = absurd has
+      go true less = field_found n ls s t u l field object (start + index) peek k f live holds struct there means (has index (ltb-true index count less)) part stack
+      go false less = on (Throwing array_bounds 0) k live (PlaceOf peek u l f, stack)
+  members peek m n ls s t u l field v k f live holds struct there means has part stack = absurd has
 
-  pub member_on : (m : PointerKind) (pk : Kind) (fields : List Kind) (n : ℕ) (ls : List Life) (s : StructType) (t : Ty) (u : RunTy) (l : Life) (field : ℕ) (v : Operand) (k : List Entry) (f : flow.State) → AreOpen w.regions (ends_of k)
-      → LiveIn k bs → IsPresent g (ends_of k) l → Holds g f bs → pk ≡ tests.kind_of_mark m → fields ≡ map values.kind_of s.fields → slice_get p.program.structs n ≡ Some s → slice_get s.fields field ≡ Some t
-      → (length ls ≡ s.parameters → at (lives_among (frees_of p.reading) ls) t ≡ u) → IsResult g (Value (lives.Pointer m (lives.Struct n ls) l)) v → IsStack p g x bs (PlaceOf u l f) k → IsWell p (follows_member pk fields field v k e w)
-  member_on m pk fields n ls s t u l field v k f opens live lasting holds kind fields_are struct there means is stack =
+  pub member_on : (peek : Option ℕ) (m : PointerKind) (pk : Kind) (fields : List Kind) (n : ℕ) (ls : List Life) (s : StructType) (t : Ty) (u : RunTy) (l : Life) (field : ℕ) (v : Operand) (k : List Entry) (f : flow.State)
+      → LiveIn k bs → Holds g f bs → pk ≡ tests.kind_of_mark m → fields ≡ map values.kind_of s.fields → slice_get p.program.structs n ≡ Some s → slice_get s.fields field ≡ Some t
+      → (length ls ≡ s.parameters → at (lives_among (frees_of p.reading) ls) t ≡ u) → IsResult g (looked peek (Value (lives.Pointer m (lives.Struct n ls) l))) v → ClaimsBy g (stacks.operands_in k) (looked peek (Value (lives.Pointer m (lives.Struct n ls) l))) v.value
+      → IsStack p g x bs (PlaceOf peek u l f) k → IsWell p (follows_member pk fields field v k e w)
+  member_on peek m pk fields n ls s t u l field v k f live holds kind fields_are struct there means is' comes stack =
+      let is = looked_result g peek (Value (lives.Pointer m (lives.Struct n ls) l)) v is' in
       subst (λ ks. IsWell p (follows_member pk ks field v k e w)) (sym fields_are)
       (subst (λ (b : Bool). IsWell p (if b then arrives (member_of w (followed v.value) (map values.kind_of s.fields) field) k e w else wrong w)) (sym (is_kind_same v.kind pk (is.0 ∙ mark_kinds m ∙ sym kind)))
-      (members m n ls s t u l field v.value k f opens live lasting holds struct there means is.1 stack))
+      (members peek m n ls s t u l field v.value k f live holds struct there means is.1 (looked_part g (stacks.operands_in k) peek (lives.Pointer m (lives.Struct n ls) l) v.value comes) stack))
 
   -- ---- elements
 
-  pub index_on : (peek : Option ℕ) (target : Option Kind) (index : Expression) (c : Context) (t : Ty) (r : Named) (base : Operand) (k : List Entry) (f h : flow.State) → LiveIn k bs → Holds g f bs → IsContext p x bs c → (is_reached f ≡ true → Evaluates p.reading (and_looked peek (relied_at x.relied k)) c index f (types.Value types.Int) h)
-      → target ≡ target_of t → IsThere bs r → IsResult g (Value (lives.Pointer marks.Fat (read bs t) (lives_in bs r))) base → IsStack p g x bs (PlaceOf (read bs t) (lives_in bs r) h) k → IsWell p (indexes peek target index base k e w)
-  index_on peek target index c t r base k f h live holds stands evaluates same alive is stack =
+  pub index_on : (peek : Option ℕ) (target : Option Kind) (index : Expression) (c : Context) (t : Ty) (r : Named) (base : Operand) (k : List Entry) (f h : flow.State) → LiveIn k bs → Holds g f bs → IsContext p x bs c
+      → (is_reached f ≡ true → EvaluatesWhole p.reading (and_looked peek (relied_at x.relied k)) c index f (types.Value types.Int) h) → target ≡ target_of t → IsThere bs r → IsResult g (looked peek (Value (lives.Pointer marks.Fat (read bs t) (lives_in bs r)))) base
+      → ClaimsBy g (stacks.operands_in k) (looked peek (Value (lives.Pointer marks.Fat (read bs t) (lives_in bs r)))) base.value → IsStack p g x bs (PlaceOf peek (read bs t) (lives_in bs r) h) k → IsWell p (indexes peek target index base k e w)
+  index_on peek target index c t r base k f h live holds stands evaluates same alive is' comes stack =
+      let u = lives.Pointer marks.Fat (read bs t) (lives_in bs r) in
+      let is = looked_result g peek (Value u) base is' in
+      let (now, whole) = evaluates holds.0 in
       subst (λ (b : Bool). IsWell p (if b then Running (Evaluating index) (Needs (Advance peek target base) ∷ k) e w else wrong w)) (sym (is_kind_same base.kind kinds.Fat is.0))
-      (on (Evaluating index) (Needs (Advance peek target base) ∷ k) live
-      (c, types.Value types.Int, f, h, stands, holds, evaluates holds.0, (lives.Pointer marks.Fat (read bs t) (lives_in bs r) ∷ [], bs, PlaceOf (read bs t) (lives_in bs r) h, stacks.advances t r h same alive, ((is, tt), (tt, tt)), stack)))
+      (on (Evaluating index) (Needs (Advance peek target base) ∷ k) live (
+        c,
+        types.Value types.Int,
+        f,
+        h,
+        stands,
+        holds,
+        now,
+        subst (λ o. IsStack p g x bs (Val (looked o (Value lives.Int)) h) (Needs (Advance peek target base) ∷ k)) (sym whole)
+            (u ∷ [], bs, PlaceOf peek (read bs t) (lives_in bs r) h, stacks.advances t r h same alive, ((is, tt), looked_part g (stacks.operands_in k) peek u base.value comes), stack),
+      ))
 
-  pub advance_on : (t : Ty) (r : Named) (target : Option Kind) (base index : Operand) (k : List Entry) (f : flow.State) → LiveIn k bs → Holds g f bs → target ≡ target_of t → IsThere bs r → IsResult g (Value (lives.Pointer marks.Fat (read bs t) (lives_in bs r))) base → IsResult g (Value lives.Int) index
-      → IsStack p g x bs (PlaceOf (read bs t) (lives_in bs r) f) k → IsWell p (advances target base index k e w)
-  advance_on t r target base index k f live holds same alive is int stack =
-      gives (Needs (Follow kinds.Fat target) ∷ k) kinds.Fat (lives.Pointer marks.Fat (read bs t) (lives_in bs r)) f (pointer_result operators.AddFat base.value index.value) live holds tt refl (added g (read bs t) (lives_in bs r) base.value index.value is.1 int.1)
-      ([], bs, PlaceOf (read bs t) (lives_in bs r) f, stacks.follows marks.Fat t r f refl same alive, tt, stack)
+  pub advance_on : (peek : Option ℕ) (t : Ty) (r : Named) (target : Option Kind) (base index : Operand) (k : List Entry) (f : flow.State) → LiveIn k bs → Holds g f bs → target ≡ target_of t → IsThere bs r → IsResult g (Value (lives.Pointer marks.Fat (read bs t) (lives_in bs r))) base
+      → ClaimsPart g (stacks.operands_in k) peek (thing_of (lives.Pointer marks.Fat (read bs t) (lives_in bs r)) base.value) → IsResult g (Value lives.Int) index → IsStack p g x bs (PlaceOf peek (read bs t) (lives_in bs r) f) k → IsWell p (advances target base index k e w)
+  advance_on peek t r target base index k f live holds same alive is part int stack =
+      let u = lives.Pointer marks.Fat (read bs t) (lives_in bs r) in
+      let under : stacks.operands_in k ≡ 0 + stacks.operands_in k = omega arith in
+      gives_into (Needs (Follow kinds.Fat target) ∷ k) peek kinds.Fat u f (pointer_result operators.AddFat base.value index.value) live holds refl (added g (read bs t) (lives_in bs r) base.value index.value is.1 int.1)
+      (λ v given. subst (λ o. ClaimsPart g (0 + stacks.operands_in k) peek o) (sym (added_thing (read bs t) (lives_in bs r) base.value index.value v given)) (subst (λ i. ClaimsPart g i peek (thing_of u base.value)) under part))
+      ([], bs, PlaceOf peek (read bs t) (lives_in bs r) f, stacks.follows peek (lives.Into peek u) marks.Fat t r f (inr refl) refl same alive, tt, stack)
 
-  pub count_on : (t : RunTy) (l : Life) (v : Operand) (k : List Entry) (f : flow.State) → LiveIn k bs → Holds g f bs → IsResult g (Value (lives.Pointer marks.Fat t l)) v → IsStack p g x bs (Val (Value lives.Int) f) k
+  pub count_on : (peek : Option ℕ) (t : RunTy) (l : Life) (v : Operand) (k : List Entry) (f : flow.State) → LiveIn k bs → Holds g f bs → IsResult g (looked peek (Value (lives.Pointer marks.Fat t l))) v → IsStack p g x bs (Val (Value lives.Int) f) k
       → IsWell p (computed kinds.Int (element_count v.value) k e w)
-  count_on t l v k f live holds is stack = gives k kinds.Int lives.Int f (element_count v.value) live holds tt refl (counted g t l v.value is.1) stack
+  count_on peek t l v k f live holds is stack = gives k kinds.Int lives.Int f (element_count v.value) live holds tt refl (counted g t l v.value (looked_result g peek (Value (lives.Pointer marks.Fat t l)) v is).1) stack
 
   -- ---- what waits for a place
 
-  pub place_given : {a : AwaitingPlace} {t : RunTy} {l : Life} {f : flow.State} {next : stacks.Want} (place : values.Value) (k : List Entry) → AreOpen w.regions (ends_of k) → LiveIn k bs → Holds g f bs → HasType g (lives.Pointer marks.NonNull t l) place
-      → WaitsPlace p x (relied_at x.relied k) bs a t l f next → KeepsPlace p g bs a t f → IsStack p g x bs next k → IsWell p (placed a place k e w)
-  place_given (values.Thin object offset) k opens live holds has (stacks.loads_from {kind} t r f alive plain same) keeps stack = reads_target p g x bs e w typed globals bound variables k kind object offset (lives_in bs) t (lives_in bs r) f opens live (there_present g (ends_of k) bs r live.0 variables alive) holds has plain (kind_meant (lives_in bs) t ∙ sym same) stack
-  place_given place k opens live holds has (stacks.takes_address t l f) keeps stack = on (Given (record { kind = kinds.NonNull; value = place })) k live (Value (lives.Pointer marks.NonNull t l), f, holds, (refl, has), tt, stack)
-  place_given place k opens live holds has (stacks.stores_to {peek} {from} {to} {a} c v t r f h alive stands later conv from_is to_is) keeps stack =
-      let evaluates = later holds.0 in
+  pub place_given : {a : AwaitingPlace} {o : Option ℕ} {t : RunTy} {l : Life} {f : flow.State} {next : stacks.Want} (place : values.Value) (k : List Entry) → AreOpen w.regions (ends_of k) → LiveIn k bs → Holds g f bs → HasType g (lives.Pointer marks.NonNull t l) place
+      → ClaimsPart g (stacks.operands_in k) o (thing_of (lives.Pointer marks.NonNull t l) place) → WaitsPlace p x (relied_at x.relied k) bs a o t l f next → KeepsPlace p g bs a t f → IsStack p g x bs next k → IsWell p (placed a place k e w)
+  place_given (values.Thin object offset) k opens live holds has part (stacks.loads_from {kind} seen t r f alive plain same) keeps stack =
+      reads_target p g x bs e w typed globals bound variables k kind object offset (lives_in bs) t (lives_in bs r) f opens live (there_present g (ends_of k) bs r live.0 variables alive)
+      (part_had g (stacks.operands_in k) seen (pointer_at (lives_in bs r) object) part) holds has plain (kind_meant (lives_in bs) t ∙ sym same) stack
+  place_given place k opens live holds has part (stacks.takes_address seen t l f common) keeps stack =
+      on (Given (record { kind = kinds.NonNull; value = place })) k live (Value (lives.Pointer marks.NonNull t l), f, holds, (refl, has), keyless_claims g.own (Hand (stacks.operands_in k)) (lives.Pointer marks.NonNull t l) place (pointer_keyless marks.NonNull t l common), stack)
+  place_given place k opens live holds has part (stacks.stores_to {peek} {from} {to} {a} c v t r f h alive stands later conv from_is to_is) keeps stack =
+      let (evaluates, whole) = later holds.0 in
       on (Evaluating a) (Needs (ConvertTo from to (target_by a)) ∷ Needs (StoreCell peek place) ∷ k) live (
         c,
         v,
@@ -377,55 +463,56 @@ module _ (p : Source) (g : Typing) (x : Exits) (bs : List InScope) (e : Environm
         stands,
         holds,
         evaluates,
-        (
+        subst (λ o. IsStack p g x bs (Val (looked o (read_value bs v)) h) (Needs (ConvertTo from to (target_by a)) ∷ Needs (StoreCell peek place) ∷ k)) (sym whole) (
           [],
           bs,
           Val (Value (read bs t)) h,
-          stacks.converts c v t h (agrees_of p x bs c stands) conv from_is to_is (target_typed c a v evaluates.typed),
+          stacks.converts c v t h (agrees_of p x bs c stands) (keeps_by g bs variables p.reading c.regions stands.regions) conv from_is to_is (target_typed c a v evaluates.typed),
           tt,
-          (lives.Pointer marks.NonNull (read bs t) (lives_in bs r) ∷ [], bs, Val (read_value bs (assigned_type t)) h, stacks.stores_cell t r h alive, (((refl, has), tt), (tt, tt)), stack),
+          (lives.Pointer marks.NonNull (read bs t) (lives_in bs r) ∷ [], bs, Val (read_value bs (assigned_type t)) h, stacks.stores_cell t r h alive, (((refl, has), tt), part), stack),
         ),
       )
-  place_given place k opens live holds has (stacks.swaps_left {kind} {peek} {right} c t r f h alive stands kind_is plain later) keeps stack =
+  place_given place k opens live holds has part (stacks.swaps_left {kind} {peek} {right} through c t r f h alive none stands kind_is plain later) keeps stack =
       let finds = later holds.0 in
-      finds_right_on p g x bs e w typed globals bound variables kind peek true place right c t k f h finds.waiting live stands holds kind_is plain (λ i. of_cell place r alive has) finds.typed finds.flows finds.used finds.kept stack
-  place_given place k opens live holds has (stacks.swaps_right {kind} {peek} {is_cell} {left} t r f alive kind_is) (u, same, plain, spot) stack =
-      both_on p g x bs e w typed globals bound variables kind left place u k f live holds (kind_is ∙ sym (kind_meant (lives_in bs) t) ∙ ap kind_at same ∙ kind_meant (lives_in bs) u) plain spot
-      (of_cell place r alive (subst (λ z. HasType g (lives.Pointer marks.NonNull z (lives_in bs r)) place) same has)) stack
-  place_given place k opens live holds has waits keeps stack = absurd has
+      finds_right_on p g x bs e w typed globals bound variables kind peek true place right c t k f h finds.waiting live stands holds none kind_is plain (λ i. of_cell place r alive (life_common g bs variables r none) has) finds.typed finds.flows finds.used finds.kept stack
+  place_given place k opens live holds has part (stacks.swaps_right {kind} {peek} {is_cell} {left} through t r f alive none kind_is) (u, same, plain, spot) stack =
+      both_on p g x bs e w typed globals bound variables kind left place u k f live holds (kind_is ∙ sym (kind_meant (lives_in bs) t) ∙ ap kind_at same ∙ kind_meant (lives_in bs) u) plain (by_type_read g bs variables u none) spot
+      (of_cell place r alive (life_common g bs variables r none) (subst (λ z. HasType g (lives.Pointer marks.NonNull z (lives_in bs r)) place) same has)) stack
+  place_given place k opens live holds has part waits keeps stack = absurd has
 
-  pub cell_stored : (place : values.Value) (v : Operand) (t : Ty) (l : Life) (k : List Entry) (f : flow.State) → AreOpen w.regions (ends_of k) → LiveIn k bs → IsPresent g (ends_of k) l → Holds g f bs → HasType g (lives.Pointer marks.NonNull (read bs t) l) place → IsResult g (Value (read bs t)) v
+  pub cell_stored : (place : values.Value) (v : Operand) (t : Ty) (l : Life) (k : List Entry) (f : flow.State) → AreOpen w.regions (ends_of k) → LiveIn k bs → IsPresent g (ends_of k) l → IsHad g (thing_of (lives.Pointer marks.NonNull (read bs t) l) place) → Holds g f bs
+      → HasType g (lives.Pointer marks.NonNull (read bs t) l) place → IsResult g (Value (read bs t)) v
       → IsStack p g x bs (Val (read_value bs (assigned_type t)) f) k → IsWell p (stored_at place v (Given v) k e w)
-  cell_stored (values.Thin object offset) v t l k f opens live lasting holds has is stack =
-      writes_target p g x bs e w typed globals bound variables v k object offset (read bs t) l (Given v) opens live lasting has is
+  cell_stored (values.Thin object offset) v t l k f opens live lasting had holds has is stack =
+      writes_target p g x bs e w typed globals bound variables v k object offset (read bs t) l (Given v) opens live lasting had has is
       (λ h grows. (
         read_value bs (assigned_type t),
         f,
         holds_grown g h grows f bs holds,
         handed h (tests.is_moved t) (result_grown g h grows.grows (Value (read bs t)) v is),
-        moved_comes h (stacks.operands_in k) bs t,
+        moved_comes h (stacks.operands_in k) bs t v.value (variables_grown g h grows bs variables),
         stack_grown p g h grows x bs (Val (read_value bs (assigned_type t)) f) k stack,
       ))
     where
       handed : (h : Typing) (b : Bool) → IsResult h (Value (read bs t)) v → IsResult h (read_value bs (if b then types.Void else types.Value t)) v
       handed h true has = tt
       handed h false has = has
-  cell_stored place v t l k f opens live lasting holds has is stack = absurd has
+  cell_stored place v t l k f opens live lasting had holds has is stack = absurd has
 
   -- ---- operators
 
   told : (negated equal : Bool) (k : List Entry) (f : flow.State) → LiveIn k bs → Holds g f bs → IsStack p g x bs (Val (Value lives.Int) f) k → IsWell p (tells negated (Found equal) k e w)
-  told false equal k f live holds stack = on (Given (record { kind = kinds.Int; value = values.Int (truth equal) })) k live (Value lives.Int, f, holds, (refl, tt), tt, stack)
-  told true equal k f live holds stack = on (Given (record { kind = kinds.Int; value = values.Int (if equal then 0 else 1) })) k live (Value lives.Int, f, holds, (refl, tt), tt, stack)
+  told false equal k f live holds stack = on (Given (record { kind = kinds.Int; value = values.Int (truth equal) })) k live (Value lives.Int, f, holds, (refl, tt), (tt, tt), stack)
+  told true equal k f live holds stack = on (Given (record { kind = kinds.Int; value = values.Int (if equal then 0 else 1) })) k live (Value lives.Int, f, holds, (refl, tt), (tt, tt), stack)
 
   compared_on : (negated : Bool) (t u : RunTy) (l m : Life) (left right : values.Value) (k : List Entry) (f : flow.State) → AreOpen w.regions (ends_of k) → LiveIn k bs → IsPresent g (ends_of k) l → IsPresent g (ends_of k) m
-      → Holds g f bs → IsThin g t l left → IsThin g u m right → IsStack p g x bs (Val (Value lives.Int) f) k → IsWell p (tells negated (compared w left right) k e w)
-  compared_on negated t u l m left right k f opens live one two holds is_null is_null stack = told negated true k f live holds stack
-  compared_on negated t u l m left right k f opens live one two holds is_null (leads object offset there) stack = told negated false k f live holds stack
-  compared_on negated t u l m left right k f opens live one two holds (leads object offset here) is_null stack = told negated false k f live holds stack
-  compared_on negated t u l m left right k f opens live one two holds (leads object offset here) (leads other place there) stack =
-      let (y, found) = target_live g w typed k t l object offset opens one here in
-      let (z, also) = target_live g w typed k u m other place opens two there in
+      → (a b : PointerKind) → IsHad g (thing_of (lives.Pointer a t l) left) → IsHad g (thing_of (lives.Pointer b u m) right) → Holds g f bs → IsThin g t l left → IsThin g u m right → IsStack p g x bs (Val (Value lives.Int) f) k → IsWell p (tells negated (compared w left right) k e w)
+  compared_on negated t u l m left right k f opens live one two a b here_had there_had holds is_null is_null stack = told negated true k f live holds stack
+  compared_on negated t u l m left right k f opens live one two a b here_had there_had holds is_null (leads object offset there) stack = told negated false k f live holds stack
+  compared_on negated t u l m left right k f opens live one two a b here_had there_had holds (leads object offset here) is_null stack = told negated false k f live holds stack
+  compared_on negated t u l m left right k f opens live one two a b here_had there_had holds (leads object offset here) (leads other place there) stack =
+      let (y, found) = target_live g w typed k t l object offset opens one here_had here in
+      let (z, also) = target_live g w typed k u m other place opens two there_had there in
       let equal : Bool = (object == other) && (offset == place) in
       subst (λ a. IsWell p (tells negated (both_found a (object_at w other) equal) k e w)) (sym found)
       (subst (λ a. IsWell p (tells negated (both_found (Found y) a equal) k e w)) (sym also) (told negated equal k f live holds stack))
@@ -433,27 +520,39 @@ module _ (p : Source) (g : Typing) (x : Exits) (bs : List InScope) (e : Environm
   lasts : (c : Context) (r : Named) (k : List Entry) → IsContext p x bs c → LiveIn k bs → IsLive c r → IsPresent g (ends_of k) (lives_in bs r)
   lasts c r k stands live alive = there_present g (ends_of k) bs r live.0 variables (there_of p x bs c stands r alive)
 
-  pub point_on : {c : Context} {o : PointerOperator} {t : Ty} {v u : ValueType} (left right : Operand) (k : List Entry) (f : flow.State) → AreOpen w.regions (ends_of k) → LiveIn k bs → Holds g f bs → IsContext p x bs c
-      → PointerOperation c o (types.Value t) v u → IsResult g (Value (read bs t)) left → IsResult g (read_value bs v) right → IsStack p g x bs (Val (read_value bs u) f) k
+  pub point_on : {c : Context} {o : PointerOperator} {t : Ty} {v u : ValueType} (also : Option ℕ) (left right : Operand) (i : ℕ) (k : List Entry) (f : flow.State) → AreOpen w.regions (ends_of k) → LiveIn k bs → Holds g f bs → IsContext p x bs c
+      → PointerOperation c o (types.Value t) v u → IsResult g (Value (read bs t)) left → IsHad g (thing_of (read bs t) left.value) → IsResult g (looked also (read_value bs v)) right → ClaimsBy g i (looked also (read_value bs v)) right.value → IsStack p g x bs (Val (read_value bs u) f) k
       → IsWell p (applies_pointer o left.value right.value k e w)
-  point_on {c} left right k f opens live holds stands (adds t r other) is too stack = gives k kinds.Fat (lives.Pointer marks.Fat (read bs t) (lives_in bs r)) f (pointer_result operators.AddFat left.value right.value) live holds tt refl (added g (read bs t) (lives_in bs r) left.value right.value is.1 too.1) stack
-  point_on {c} left right k f opens live holds stands (subtracts t r other) is too stack = gives k kinds.Fat (lives.Pointer marks.Fat (read bs t) (lives_in bs r)) f (pointer_result operators.SubtractFat left.value right.value) live holds tt refl (subtracted g (read bs t) (lives_in bs r) left.value right.value is.1 too.1) stack
-  point_on {c} left right k f opens live holds stands (equals m l t r s one two here there) is too stack =
-      compared_on false (read bs t) (read bs t) (lives_in bs r) (lives_in bs s) left.value right.value k f opens live (lasts c r k stands live here) (lasts c s k stands live there) holds
+  point_on {c} also left right i k f opens live holds stands (adds t r other) is had too' comes stack =
+      let too = looked_result g also (Value lives.Int) right too' in
+      gives k kinds.Fat (lives.Pointer marks.Fat (read bs t) (lives_in bs r)) f (pointer_result operators.AddFat left.value right.value) live holds (pointer_keyless marks.Fat (read bs t) (lives_in bs r) (region_common g bs variables r other)) refl (added g (read bs t) (lives_in bs r) left.value right.value is.1 too.1) stack
+  point_on {c} also left right i k f opens live holds stands (subtracts t r other) is had too' comes stack =
+      let too = looked_result g also (Value lives.Int) right too' in
+      gives k kinds.Fat (lives.Pointer marks.Fat (read bs t) (lives_in bs r)) f (pointer_result operators.SubtractFat left.value right.value) live holds (pointer_keyless marks.Fat (read bs t) (lives_in bs r) (region_common g bs variables r other)) refl (subtracted g (read bs t) (lives_in bs r) left.value right.value is.1 too.1) stack
+  point_on {c} also left right i k f opens live holds stands (equals m l t r s one two here there) is had too' comes stack =
+      let too = looked_result g also (Value (lives.Pointer l (read bs t) (lives_in bs s))) right too' in
+      compared_on false (read bs t) (read bs t) (lives_in bs r) (lives_in bs s) left.value right.value k f opens live (lasts c r k stands live here) (lasts c s k stands live there) m l had (looked_had g i also (lives.Pointer l (read bs t) (lives_in bs s)) right.value comes) holds
       (thin_value g m (read bs t) (lives_in bs r) left.value one is.1) (thin_value g l (read bs t) (lives_in bs s) right.value two too.1) stack
-  point_on {c} left right k f opens live holds stands (differs m l t r s one two here there) is too stack =
-      compared_on true (read bs t) (read bs t) (lives_in bs r) (lives_in bs s) left.value right.value k f opens live (lasts c r k stands live here) (lasts c s k stands live there) holds
+  point_on {c} also left right i k f opens live holds stands (differs m l t r s one two here there) is had too' comes stack =
+      let too = looked_result g also (Value (lives.Pointer l (read bs t) (lives_in bs s))) right too' in
+      compared_on true (read bs t) (read bs t) (lives_in bs r) (lives_in bs s) left.value right.value k f opens live (lasts c r k stands live here) (lasts c s k stands live there) m l had (looked_had g i also (lives.Pointer l (read bs t) (lives_in bs s)) right.value comes) holds
       (thin_value g m (read bs t) (lives_in bs r) left.value one is.1) (thin_value g l (read bs t) (lives_in bs s) right.value two too.1) stack
-  point_on {c} left right k f opens live holds stands (thin_null m t r thin) is too stack =
+  point_on {c} also left right i k f opens live holds stands (thin_null m t r thin) is had too' comes stack =
+      let too = looked_result g also lives.Null right too' in
       subst (λ z. IsWell p (applies_pointer operators.ThinIsNull left.value z k e w)) (sym too.1) (gives k kinds.Int lives.Int f (null_test false left.value) live holds tt refl (null_tested g false m (read bs t) (lives_in bs r) left.value is.1) stack)
-  point_on {c} left right k f opens live holds stands (thin_there m t r thin) is too stack =
+  point_on {c} also left right i k f opens live holds stands (thin_there m t r thin) is had too' comes stack =
+      let too = looked_result g also lives.Null right too' in
       subst (λ z. IsWell p (applies_pointer operators.ThinIsNotNull left.value z k e w)) (sym too.1) (gives k kinds.Int lives.Int f (null_test true left.value) live holds tt refl (null_tested g true m (read bs t) (lives_in bs r) left.value is.1) stack)
-  point_on {c} left right k f opens live holds stands (fat_null m t r fat) is too stack =
+  point_on {c} also left right i k f opens live holds stands (fat_null m t r fat) is had too' comes stack =
+      let too = looked_result g also lives.Null right too' in
       subst (λ z. IsWell p (applies_pointer operators.FatIsNull left.value z k e w)) (sym too.1) (gives k kinds.Int lives.Int f (null_test false left.value) live holds tt refl (null_tested g false m (read bs t) (lives_in bs r) left.value is.1) stack)
-  point_on {c} left right k f opens live holds stands (fat_there m t r fat) is too stack =
+  point_on {c} also left right i k f opens live holds stands (fat_there m t r fat) is had too' comes stack =
+      let too = looked_result g also lives.Null right too' in
       subst (λ z. IsWell p (applies_pointer operators.FatIsNotNull left.value z k e w)) (sym too.1) (gives k kinds.Int lives.Int f (null_test true left.value) live holds tt refl (null_tested g true m (read bs t) (lives_in bs r) left.value is.1) stack)
 
-  pub null_point_on : {c : Context} {o : PointerOperator} {v u : ValueType} (right : Operand) (k : List Entry) (f : flow.State) → LiveIn k bs → Holds g f bs
-      → PointerOperation c o types.Null v u → IsResult g (read_value bs v) right → IsStack p g x bs (Val (read_value bs u) f) k → IsWell p (applies_pointer o values.Null right.value k e w)
-  null_point_on right k f live holds (null_is m t r) too stack = gives k kinds.Int lives.Int f (null_test false right.value) live holds tt refl (null_tested g false m (read bs t) (lives_in bs r) right.value too.1) stack
-  null_point_on right k f live holds (null_is_not m t r) too stack = gives k kinds.Int lives.Int f (null_test true right.value) live holds tt refl (null_tested g true m (read bs t) (lives_in bs r) right.value too.1) stack
+  pub null_point_on : {c : Context} {o : PointerOperator} {v u : ValueType} (also : Option ℕ) (right : Operand) (k : List Entry) (f : flow.State) → LiveIn k bs → Holds g f bs
+      → PointerOperation c o types.Null v u → IsResult g (looked also (read_value bs v)) right → IsStack p g x bs (Val (read_value bs u) f) k → IsWell p (applies_pointer o values.Null right.value k e w)
+  null_point_on also right k f live holds (null_is m t r) too' stack =
+      let too = looked_result g also (Value (lives.Pointer m (read bs t) (lives_in bs r))) right too' in gives k kinds.Int lives.Int f (null_test false right.value) live holds tt refl (null_tested g false m (read bs t) (lives_in bs r) right.value too.1) stack
+  null_point_on also right k f live holds (null_is_not m t r) too' stack =
+      let too = looked_result g also (Value (lives.Pointer m (read bs t) (lives_in bs r))) right too' in gives k kinds.Int lives.Int f (null_test true right.value) live holds tt refl (null_tested g true m (read bs t) (lives_in bs r) right.value too.1) stack

@@ -275,7 +275,7 @@ again_there number l bs (regions.Variable n) there = go (n == number)
 
 -- ---- the heap
 
-heap_lives : (frees : Bool) (these : ℕ → Life) (live : ℕ → Bool) → (frees ≡ false) × ((n : ℕ) → (these n ≡ heap_life) × (live n ≡ true)) → (r : Region) → lives_of frees these r ≡ heap_life
+pub heap_lives : (frees : Bool) (these : ℕ → Life) (live : ℕ → Bool) → (frees ≡ false) × ((n : ℕ) → (these n ≡ heap_life) × (live n ≡ true)) → (r : Region) → lives_of frees these r ≡ heap_life
 heap_lives frees these live (none, are) regions.Heap = refl
 heap_lives frees these live (none, are) regions.Unique = ap owned_life none
 heap_lives frees these live (none, are) (regions.Variable n) = (are n).0

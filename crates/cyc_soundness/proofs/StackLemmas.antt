@@ -1,6 +1,6 @@
 -- The typing of stacks: it stays when the typing of the world grows, and what is found of the locals in scope.
 use Rattle.std.proofs.Common.{◌≡◌, ◌≢◌, inl, inr, ℕ, ◌≤◌, ◌<◌, ◌+◌, Bool, true, false, List, [], ◌∷◌, Option, Some, None, slice_get, eqb, refl, sym, ap, subst, ◌∙◌, arith}
-use Rattle.std.specs.Prelude.{if◌then◌else◌, nat_lt, ◌⊎◌, suc, length}
+use Rattle.std.specs.Prelude.{if◌then◌else◌, nat_lt, ◌⊎◌, zero, suc, length, get_or}
 use Rattle.std.proofs.lemmas.Bool.{ltb-true}
 use Rattle.std.proofs.lemmas.Bool.{eqb-true, eq-eqb, false_from_ne_true}
 use Rattle.cyc_syntax.specs.declared.tree.PointerKind.TheVariants as marks
@@ -14,24 +14,25 @@ use Rattle.cyc_types.specs.TypedTrees.{Operations, NoOperations, ThenCompute, Th
 use Rattle.cyc_types.specs.typing.Tests.{is_tested, is_moved}
 use Rattle.cyc_types.specs.typing.WellTyped.{LocalInScope, Context, HasLocal, HasPlace, Converts, PointerOperation, adds, subtracts, equals, differs, thin_null, thin_there, fat_null, fat_there, null_is, null_is_not, IsChain}
 use Rattle.cyc_types.specs.flow.States as flow
-use Rattle.cyc_types.specs.flow.States.{Unreached, Reached, Full, fullness, is_reached, with_fullness}
+use Rattle.cyc_types.specs.flow.States.{Vacant, Unreached, Reached, Full, fullness, is_reached, with_fullness}
 use Rattle.cyc_meaning.specs.Values.{Operand}
 use Rattle.cyc_meaning.specs.Values as values
-use Rattle.cyc_meaning.specs.State.{Object, Owner, Pass, MakeFields, Region, Access, Found, Closed, Missing, found_region, is_open, heap_number, globals_number, World, FillElement, AwaitingPlace, SwapRight, Write, Environment, with_local, Awaiting, Entry, Needs, NeedsPlace, Discard, Rest, Join, Loop, CloseRegion, CloseLexical, EndLoan, Handler, Caller, Main}
+use Rattle.cyc_meaning.specs.State.{Object, Owner, Pass, MakeFields, Region, Access, Found, Closed, Missing, found_region, is_open, heap_number, globals_number, World, FillElement, AwaitingPlace, SwapRight, Write, Environment, with_local, Awaiting, ApplyPointer, StoreCell, Advance, Entry, Needs, NeedsPlace, Discard, Rest, Join, Loop, CloseRegion, CloseLexical, EndLoan, Handler, Caller, Main}
 use Rattle.cyc_meaning.specs.Nesting.{ends_of, IsFound, AreOpen, IsHome, IsNested}
 use Rattle.cyc_meaning.specs.Nesting as nesting
-use Rattle.cyc_soundness.specs.Lives.{Life, OfRegion, OfObject, Never, Owned, Kept, heap_life, RunTy, RunValue, Void, Null, Value, Seen, Lives, at, value_at, Reading}
+use Rattle.cyc_soundness.specs.Lives.{Life, OfRegion, OfObject, Never, Owned, Kept, heap_life, RunTy, RunValue, Void, Null, Value, Seen, Into, looked, Lives, at, value_at, Reading}
 use Rattle.cyc_soundness.specs.Lives as lives
-use Rattle.cyc_soundness.specs.Worlds.{IsHeld, Holder, Nobody, Hand, In, Lent, Claims, ClaimsBy, giving, given, is_lent_by, Stays, IsOpenIn, AreOperands, ObjectType, Typing, IsTyped, IsFull, variable_type, IsEndOf, whole, behind, Outlasts, alike, heap as for_ever, globals as with_globals, stays, encloses, IsOpenLife, Grows, IsKnownOwner}
-use Rattle.cyc_soundness.specs.Frames.{IsAmong, first, later, Bound, InScope, Variable, Level, Home, lives_in, read, IsThere, home_of, IsHomed, IsScope, AreBelow, IsBound, AreVariables, IsLasting, AreLiveIn, home_in, LiveIn, IsInner, Within, itself, older, IsSet, AreSet, IsFullIn, HoldsIts, Holds, IsFullAt, AreFullAt, Exits, relying, frees_in, life_named}
-use Rattle.cyc_soundness.specs.Classes.{is_full, Relied, and_looked, IsSparedBy, IsSpared, InOperations, Source}
-use Rattle.cyc_soundness.specs.Stacks.{IsAccepted, Part, Whole, PartOf, part, part_of_place, relied_by, relied_at, WaitsPlace, Want, Nothing, Val, PlaceOf, Go, held, Waits, IsArrayOf, AreClaimed, operands_in, Comes, Keeps, IsSpot, of_local, of_global, of_cell, KeepsPlace, AreSwapped, IsStack}
+use Rattle.cyc_soundness.specs.Worlds.{OfLocal, KeyOf, IsHeld, Holder, Nobody, Hand, At, Lent, pointer_at, thing_of, Claims, ClaimsBy, IsSlot, IsHere, is_lent_by, Stays, IsOpenIn, AreOperands, ObjectType, Typing, IsTyped, IsFull, variable_type, IsEndOf, whole, behind, Outlasts, alike, heap as for_ever, globals as with_globals, stays, encloses, IsOpenLife, Grows, IsKnownOwner}
+use Rattle.cyc_soundness.specs.Frames.{IsAmong, first, later, Bound, InScope, Variable, Level, Home, lives_in, read, IsThere, home_of, IsHomed, IsScope, AreBelow, IsBound, AreVariables, IsLasting, AreLiveIn, home_in, LiveIn, IsInner, Within, itself, older, IsSet, AreSet, IsFullIn, Holds, IsFullAt, AreFullAt, Exits, relying, frees_in, life_named, read_value, local_type}
+use Rattle.cyc_soundness.specs.Classes.{is_full, Relied, only, and_looked, IsSparedBy, IsSpared, InOperations, Source}
+use Rattle.cyc_soundness.specs.Stacks.{IsAccepted, Part, Whole, PartOf, part, part_of_place, relied_by, relied_at, WaitsPlace, Want, Nothing, Val, PlaceOf, Go, held, Waits, place_operand, count_held, IsThrough, IsArray, IsArrayOf, AreClaimed, IsHeldPart, operands_in, Keeps, IsSpot, of_local, of_global, of_cell, KeepsPlace, AreSwapped, IsStack}
 use Rattle.cyc_soundness.specs.Stacks as stacks
 use Rattle.cyc_soundness.proofs.Numbers.{same_or_other, some_same}
 use Rattle.cyc_soundness.proofs.FlowLemmas.{other_set, other_full, full_put, reached_with}
 use Rattle.cyc_soundness.proofs.ValueLemmas.{ends_through}
 use Rattle.cyc_soundness.proofs.RegionLemmas.{lasting_more, there_lasting, there_open}
-use Rattle.cyc_soundness.proofs.WorldLemmas.{dynamic_open, giving_grows, claims_stay, claims_other, given_now, variables_other, type_grown, result_grown, operands_grown, variables_grown, holds_grown}
+use Rattle.cyc_soundness.proofs.WorldLemmas.{dynamic_open, type_grown, result_grown, operands_grown}
+use Rattle.cyc_soundness.proofs.Hands.{Changed, hand_same, at_same, at_no_hand, at_not_lent, at_some, stays_changed, owns_kept, claims_kept, part_kept, here_kept, variables_kept, holds_kept}
 
 -- the functions of a program, each of which the rules accept
 abbrev pub AreAccepted : Source → Type 0
@@ -40,14 +41,13 @@ AreAccepted p = (number : ℕ) (h : Function) → slice_get p.program.functions 
 -- ---- growth
 
 module _ (p : Source) (g h : Typing) (grows : Grows g h) where
-  array_grown : (ts : List RunTy) (object count index : ℕ) → IsArrayOf g ts object count index → IsArrayOf h ts object count index
-  array_grown (lives.Pointer m t l ∷ []) object count index (less, (y, there, shown, life, cells, filled, few)) = (less, (y, grows.objects object y there, shown, life, cells, grows.filled object index filled, few))
-  array_grown ts object count index is = absurd is
+  pub array_grown : (t : RunTy) (l : Life) (object count index : ℕ) → IsArray g t l object count index → IsArray h t l object count index
+  array_grown t l object count index (y, there, shown, life, cells, filled, few) = (y, grows.objects object y there, shown, life, cells, grows.filled object index filled, few)
 
   pub spot_grown : (bs : List InScope) (t : Ty) (f : flow.State) (v : values.Value) → IsSpot p g bs t f v → IsSpot p h bs t f v
   spot_grown bs t f v (of_local b among of_type is) = of_local b among of_type is
   spot_grown bs t f v (of_global number there same) = of_global number there same
-  spot_grown bs t f v (of_cell place r alive has) = of_cell place r alive (type_grown g h grows (lives.Pointer marks.NonNull (read bs t) (lives_in bs r)) place has)
+  spot_grown bs t f v (of_cell place r alive common has) = of_cell place r alive common (type_grown g h grows (lives.Pointer marks.NonNull (read bs t) (lives_in bs r)) place has)
 
   keeps_place_grown : (bs : List InScope) (a : AwaitingPlace) (r : RunTy) (f : flow.State) → KeepsPlace p g bs a r f → KeepsPlace p h bs a r f
   keeps_place_grown bs (SwapRight kind peek is_cell left) r f (t, same, plain, spot) = (t, same, plain, spot_grown bs t f left spot)
@@ -55,123 +55,66 @@ module _ (p : Source) (g h : Typing) (grows : Grows g h) where
 
   pub swapped_grown : (bs : List InScope) (f : flow.State) (ws : List Write) → AreSwapped p g bs f ws → AreSwapped p h bs f ws
   swapped_grown bs f [] are = tt
-  swapped_grown bs f (w ∷ ws) ((t, plain, spot, is), are) = ((t, plain, spot_grown bs t f w.place spot, result_grown g h grows (Value (read bs t)) w.operand is), swapped_grown bs f ws are)
+  swapped_grown bs f (w ∷ ws) ((t, plain, by_type, spot, is), are) = ((t, plain, by_type, spot_grown bs t f w.place spot, result_grown g h grows (Value (read bs t)) w.operand is), swapped_grown bs f ws are)
 
-  one_at_grown : (n : ℕ) (t : RunTy) (b : InScope) → IsFullAt g n t b → IsFullAt h n t b
-  one_at_grown n t (Variable b) is = λ same. (grows.filled b.object 1 (is same).0, (is same).1)
-  one_at_grown n t b is = tt
+  one_at_grown : (n object : ℕ) (b : InScope) → IsFullAt g n object b → IsFullAt h n object b
+  one_at_grown n object (Variable b) is = λ same. (grows.filled b.object 1 (is same).0, (is same).1)
+  one_at_grown n object b is = tt
 
-  pub full_at_grown : (n : ℕ) (t : RunTy) (bs : List InScope) → AreFullAt g n t bs → AreFullAt h n t bs
-  full_at_grown n t [] are = tt
-  full_at_grown n t (b ∷ bs) (is, are) = (one_at_grown n t b is, full_at_grown n t bs are)
+  pub full_at_grown : (n object : ℕ) (bs : List InScope) → AreFullAt g n object bs → AreFullAt h n object bs
+  full_at_grown n object [] are = tt
+  full_at_grown n object (b ∷ bs) (is, are) = (one_at_grown n object b is, full_at_grown n object bs are)
 
-  -- what waits keeps its types, and whoever claims its keys
-  keeps_grown : (below : ℕ) (a : Awaiting) (ts : List RunTy) → (AreOperands g ts (held a) → AreClaimed g.own below ts → AreClaimed h.own below ts) → Keeps g below a ts → Keeps h below a ts
-  keeps_grown below (FillElement object count index level kind element) ts claimed are = array_grown ts object count index are
-  keeps_grown below a [] claimed are = operands_grown g h grows [] (held a) are
-  keeps_grown below a (t ∷ ts) claimed (are, claims) = (operands_grown g h grows (t ∷ ts) (held a) are, claimed are claims)
+-- ---- a thing changes hands
 
-claimed_stays : (g h : Typing) → Stays g h → (i : ℕ) (ts : List RunTy) → AreClaimed g.own i ts → AreClaimed h.own i ts
-claimed_stays g h same' i [] are = tt
-claimed_stays g h same' i (t ∷ ts) (is, are) = (claims_stay g h same' (Hand (i + length ts)) t is, claimed_stays g h same' i ts are)
-
--- also behind a loan, and in a call around
-stays_behind : (g h : Typing) → Stays g h → (j : ℕ) → Stays (record g { loans = j }) (record h { loans = j })
-stays_behind g h same' j = record {
-  grows = record { objects = same'.grows.objects; filled = same'.grows.filled; fields = same'.grows.fields; kept = same'.grows.kept };
-  own = same'.own;
-  depth = same'.depth;
-  loans = refl;
-}
-
-stays_outside : (g h : Typing) → Stays g h → (d : ℕ) → Stays (record g { depth = d }) (record h { depth = d })
-stays_outside g h same' d = record {
-  grows = record { objects = same'.grows.objects; filled = same'.grows.filled; fields = same'.grows.fields; kept = same'.grows.kept };
-  own = same'.own;
-  depth = refl;
-  loans = same'.loans;
-}
-
-pub stack_grown : (p : Source) (g h : Typing) → Stays g h → (x : Exits) (bs : List InScope) (w : Want) (k : List Entry) → IsStack p g x bs w k → IsStack p h x bs w k
-stack_grown p g h same' x bs Nothing [] is = tt
-stack_grown p g h same' x bs (Val r f) (Needs a ∷ k) (ts, cs, next, waits, are, rest) =
-    (ts, cs, next, waits, keeps_grown p g h same'.grows (operands_in k) a ts (λ operands claims. claimed_stays g h same' (operands_in k) ts claims) are, stack_grown p g h same' x cs next k rest)
-stack_grown p g h same' x bs (PlaceOf t l f) (NeedsPlace a ∷ k) (next, waits, keeps, rest) = (next, waits, keeps_place_grown p g h same'.grows bs a t f keeps, stack_grown p g h same' x bs next k rest)
-stack_grown p g h same' x bs (Val r f) (Discard ∷ k) is = stack_grown p g h same' x bs (Go f) k is
-stack_grown p g h same' x bs (Go f) (Discard ∷ k) is = stack_grown p g h same' x bs (Go f) k is
-stack_grown p g h same' x bs (Go f) (Rest js ∷ k) (cs, c, end, within, stands, continues, rest) = (cs, c, end, within, stands, continues, stack_grown p g h same' x cs (Go end) k rest)
-stack_grown p g h same' x bs (Go f) (Join ∷ k) (end, i, rest) = (end, i, stack_grown p g h same' x bs (Go end) k rest)
-stack_grown p g h same' x bs (Go f) (Loop condition body ∷ k) (y, l, v, u, end, same, loop, i, rest) = (y, l, v, u, end, same, loop, i, stack_grown p g h same' y bs (Go end) k rest)
-stack_grown p g h same' x bs (Go f) (CloseRegion region home ∷ k) (cs, number, l, alive, end, same, i, live, rest) = (cs, number, l, alive, end, same, i, live, stack_grown p g h same' x cs (Go end) k rest)
-stack_grown p g h same' x bs (Go f) (CloseLexical region ∷ k) (end, i, live, rest) = (end, i, live, stack_grown p g h same' x bs (Go end) k rest)
-stack_grown p g h same' x bs (Go f) (EndLoan lent ∷ k) (y, end, j, t, same, loans, claims, i, full, variables, rest) = (
-  y,
-  end,
-  j,
-  t,
-  same,
-  same'.loans ∙ loans,
-  claims_stay g h same' (Lent j) t claims,
-  i,
-  full_at_grown p g h same'.grows lent t bs full,
-  variables_grown (record g { loans = j }) (record h { loans = j }) (stays_behind g h same' j) bs variables,
-  stack_grown p (record g { loans = j }) (record h { loans = j }) (stays_behind g h same' j) y bs (Go end) k rest,
-)
-stack_grown p g h same' x bs (Go f) (Handler cs ∷ k) (y, c, start, end, same, stands, holds, catches, i, rest) =
-    (y, c, start, end, same, stands, holds_grown g h same' start bs holds, catches, i, stack_grown p g h same' y bs (Go end) k rest)
-stack_grown p g h same' x bs (Go f) (Caller e ∷ k) (y, cs, end, d, depth, loop, blocked, gives, bound, variables, live, holds, rest) = (
-  y,
-  cs,
-  end,
-  d,
-  same'.depth ∙ depth,
-  loop,
-  blocked,
-  gives,
-  bound,
-  variables_grown (record g { depth = d }) (record h { depth = d }) (stays_outside g h same' d) cs variables,
-  live,
-  holds_grown (record g { depth = d }) (record h { depth = d }) (stays_outside g h same' d) end cs holds,
-  stack_grown p (record g { depth = d }) (record h { depth = d }) (stays_outside g h same' d) y cs (Val x.gives end) k rest,
-)
-stack_grown p g h same' x bs (Go f) (Main ∷ k) (loop, int, gives, blocked, rest) = (loop, int, gives, blocked, stack_grown p g h same' x bs Nothing k rest)
-stack_grown p g h same' x bs w k is = absurd is
-
--- ---- a key changes hands
-
--- nothing that waits on this stack claims a key by what had it
+-- nothing that waits on this stack claims a thing by what had it
 abbrev pub IsAbove : Exits → Typing → List Entry → Holder → Type 0
 IsAbove x g k Nobody = Unit {0}
 IsAbove x g k (Hand i) = operands_in k ≤ i
-IsAbove x g k (In d n) = ((d ≡ g.depth) × IsSpared (relied_at x.relied k) n) ⊎ (g.depth < d)
+IsAbove x g k (At object) = (d n : ℕ) × IsSlot g d n object × (((d ≡ g.depth) × IsSpared (relied_at x.relied k) n) ⊎ (g.depth < d))
 IsAbove x g k (Lent j) = g.loans ≤ j
-
-pub hand_same : (i j : ℕ) → Hand i ≡ Hand j → i ≡ j
-hand_same i j e = let k : Hand i ≡ Hand j = e in cc
-
-in_same : (c d m n : ℕ) → In c m ≡ In d n → (c ≡ d) × (m ≡ n)
-in_same c d m n e = let k : In c m ≡ In d n = e in (cc, cc)
 
 lent_same : (i j : ℕ) → Lent i ≡ Lent j → i ≡ j
 lent_same i j e = let k : Lent i ≡ Lent j = e in cc
 
+local_same : (c d m n : ℕ) → OfLocal c m ≡ OfLocal d n → (c ≡ d) × (m ≡ n)
+local_same c d m n e = let k : OfLocal c m ≡ OfLocal d n = e in (cc, cc)
+
+-- an object is the variable of one local
+pub slot_same : (g : Typing) (c d m n object : ℕ) → IsSlot g c m object → IsSlot g d n object → (c ≡ d) × (m ≡ n)
+slot_same g c d m n object (x, there, one) (y, stands, two) =
+    let same : x ≡ y = some_same x y (sym there ∙ stands) in
+    local_same c d m n (sym one ∙ ap (λ (z : ObjectType). z.slot) same ∙ two)
+
 hand_other : (x : Exits) (g : Typing) (k : List Entry) (i : ℕ) (old : Holder) → IsAbove x g k old → i < operands_in k → Hand i ≢ old
 hand_other x g k i Nobody above less = λ e. (let z : Hand i ≡ Nobody = e in absurd (cc))
 hand_other x g k i (Hand j) above less = λ e. (let same : i ≡ j = hand_same i j e in absurd (omega (arith, above, less, same)))
-hand_other x g k i (In d n) above less = λ e. (let z : Hand i ≡ In d n = e in absurd (cc))
+hand_other x g k i (At object) above less = λ e. (let z : Hand i ≡ At object = e in absurd (cc))
 hand_other x g k i (Lent j) above less = λ e. (let z : Hand i ≡ Lent j = e in absurd (cc))
 
 lent_other : (x : Exits) (g : Typing) (k : List Entry) (i : ℕ) (old : Holder) → IsAbove x g k old → i < g.loans → Lent i ≢ old
 lent_other x g k i Nobody above less = λ e. (let z : Lent i ≡ Nobody = e in absurd (cc))
 lent_other x g k i (Hand j) above less = λ e. (let z : Lent i ≡ Hand j = e in absurd (cc))
-lent_other x g k i (In d n) above less = λ e. (let z : Lent i ≡ In d n = e in absurd (cc))
+lent_other x g k i (At object) above less = λ e. (let z : Lent i ≡ At object = e in absurd (cc))
 lent_other x g k i (Lent j) above less = λ e. (let same : i ≡ j = lent_same i j e in absurd (omega (arith, above, less, same)))
+
+-- nor a local on which something relies
+variable_other : (x : Exits) (g : Typing) (k : List Entry) (n object : ℕ) (old : Holder) → IsAbove x g k old → IsSlot g g.depth n object → (IsSpared (relied_at x.relied k) n → ⊥) → At object ≢ old
+variable_other x g k n object Nobody above slot relied = at_some object
+variable_other x g k n object (Hand i) above slot relied = at_no_hand object i
+variable_other x g k n object (Lent j) above slot relied = at_not_lent object j
+variable_other x g k n object (At other) (d, m, its, inl (here, spared)) slot relied = λ e.
+    (let (depth, number) = slot_same g g.depth d n m other (subst (λ i. IsSlot g g.depth n i) (at_same object other e) slot) its in
+    relied (subst (λ i. IsSpared (relied_at x.relied k) i) (sym number) spared))
+variable_other x g k n object (At other) (d, m, its, inr deeper) slot relied = λ e.
+    (let (depth, number) = slot_same g g.depth d n m other (subst (λ i. IsSlot g g.depth n i) (at_same object other e) slot) its in
+    absurd (omega (arith, depth, deeper)))
 
 -- what is lent stays so
 pub none_lent : (x : Exits) (g : Typing) (k : List Entry) (old : Holder) → IsAbove x g k old → is_lent_by g.loans old ≡ false
 none_lent x g k Nobody above = refl
 none_lent x g k (Hand i) above = refl
-none_lent x g k (In d n) above = refl
+none_lent x g k (At object) above = refl
 none_lent x g k (Lent j) above = not_below j g.loans above
   where
     not_below : (j n : ℕ) → n ≤ j → nat_lt j n ≡ false
@@ -184,39 +127,42 @@ operands_long g (t ∷ ts) [] are = absurd are
 operands_long g (t ∷ ts) (v ∷ vs) (is, are) = ap suc (operands_long g ts vs are)
 
 -- what waits in an entry, and what it claims
-pub keeps_fields : (g : Typing) (i : ℕ) (owner : Owner) (before : List Operand) (rest : Arguments) (ts : List RunTy) → AreOperands g ts before → AreClaimed g.own i ts → Keeps g i (MakeFields owner before rest) ts
+pub keeps_fields : (g : Typing) (i : ℕ) (owner : Owner) (before : List Operand) (rest : Arguments) (ts : List RunTy) → AreOperands g ts before → AreClaimed g.own i ts before → Keeps g i (MakeFields owner before rest) ts
 keeps_fields g i owner before rest [] are claims = are
 keeps_fields g i owner before rest (t ∷ ts) are claims = (are, claims)
 
-pub fields_kept : (g : Typing) (i : ℕ) (owner : Owner) (before : List Operand) (rest : Arguments) (ts : List RunTy) → Keeps g i (MakeFields owner before rest) ts → AreOperands g ts before × AreClaimed g.own i ts
+pub fields_kept : (g : Typing) (i : ℕ) (owner : Owner) (before : List Operand) (rest : Arguments) (ts : List RunTy) → Keeps g i (MakeFields owner before rest) ts → AreOperands g ts before × AreClaimed g.own i ts before
 fields_kept g i owner before rest [] are = (are, tt)
 fields_kept g i owner before rest (t ∷ ts) (are, claims) = (are, claims)
 
-pub keeps_passed : (g : Typing) (i : ℕ) (callee : Callee) (before : List Operand) (rest : Arguments) (ts : List RunTy) → AreOperands g ts before → AreClaimed g.own i ts → Keeps g i (Pass callee before rest) ts
+pub keeps_passed : (g : Typing) (i : ℕ) (callee : Callee) (before : List Operand) (rest : Arguments) (ts : List RunTy) → AreOperands g ts before → AreClaimed g.own i ts before → Keeps g i (Pass callee before rest) ts
 keeps_passed g i callee before rest [] are claims = are
 keeps_passed g i callee before rest (t ∷ ts) are claims = (are, claims)
 
-pub passed_kept : (g : Typing) (i : ℕ) (callee : Callee) (before : List Operand) (rest : Arguments) (ts : List RunTy) → Keeps g i (Pass callee before rest) ts → AreOperands g ts before × AreClaimed g.own i ts
+pub passed_kept : (g : Typing) (i : ℕ) (callee : Callee) (before : List Operand) (rest : Arguments) (ts : List RunTy) → Keeps g i (Pass callee before rest) ts → AreOperands g ts before × AreClaimed g.own i ts before
 passed_kept g i callee before rest [] are = (are, tt)
 passed_kept g i callee before rest (t ∷ ts) (are, claims) = (are, claims)
 
 -- a value for an entry in which no operand waits
-pub comes_alone : (g : Typing) (k : List Entry) (r : RunValue) → ClaimsBy g.own (Hand (0 + operands_in k)) r → Comes g r k
-comes_alone g k r is = let same : 0 + operands_in k ≡ operands_in k = omega arith in subst (λ i. ClaimsBy g.own (Hand i) r) same is
+pub comes_alone : (g : Typing) (k : List Entry) (r : RunValue) (v : values.Value) → ClaimsBy g (0 + operands_in k) r v → ClaimsBy g (operands_in k) r v
+comes_alone g k r v is = let same : 0 + operands_in k ≡ operands_in k = omega arith in subst (λ i. ClaimsBy g i r v) same is
+
+pub comes_under : (g : Typing) (k : List Entry) (r : RunValue) (v : values.Value) → ClaimsBy g (operands_in k) r v → ClaimsBy g (0 + operands_in k) r v
+comes_under g k r v is = let same : operands_in k ≡ 0 + operands_in k = omega arith in subst (λ i. ClaimsBy g i r v) same is
 
 -- one more, above these
-pub claimed_next : (g : Typing) (i : ℕ) (t : RunTy) (ts : List RunTy) (vs : List Operand) → AreOperands g ts vs → Claims g.own (Hand (length vs + i)) t → Claims g.own (Hand (i + length ts)) t
-claimed_next g i t ts vs are is =
+pub claimed_next : (g : Typing) (i : ℕ) (t : RunTy) (v : values.Value) (ts : List RunTy) (vs : List Operand) → AreOperands g ts vs → Claims g.own (Hand (length vs + i)) t v → Claims g.own (Hand (i + length ts)) t v
+claimed_next g i t v ts vs are is =
     let long : length ts ≡ length vs = operands_long g ts vs are in
     let same : length vs + i ≡ i + length ts = omega (arith, long) in
-    subst (λ j. Claims g.own (Hand j) t) same is
+    subst (λ j. Claims g.own (Hand j) t v) same is
 
 above_to : (x y : Exits) (g : Typing) (b : Entry) (k : List Entry) (old : Holder) → operands_in k ≤ operands_in (b ∷ k) → ((n : ℕ) → IsSpared (relied_at x.relied (b ∷ k)) n → IsSpared (relied_at y.relied k) n)
     → IsAbove x g (b ∷ k) old → IsAbove y g k old
 above_to x y g b k Nobody fewer less above = tt
 above_to x y g b k (Hand i) fewer less above = let few : operands_in k ≤ i = omega (arith, above, fewer) in few
-above_to x y g b k (In d n) fewer less (inl (same, spared)) = inl (same, less n spared)
-above_to x y g b k (In d n) fewer less (inr deeper) = inr deeper
+above_to x y g b k (At object) fewer less (d, n, slot, inl (same, spared)) = (d, n, slot, inl (same, less n spared))
+above_to x y g b k (At object) fewer less (d, n, slot, inr deeper) = (d, n, slot, inr deeper)
 above_to x y g b k (Lent j) fewer less above = above
 
 -- where a statement ends, no expression is under way
@@ -259,45 +205,46 @@ part_whole o peek e = let k : PartOf o ≡ Whole peek = e in absurd (cc)
 
 -- a statement goes on behind what is no part of an expression
 waits_whole : {p : Source} {x : Exits} {q : Relied} {bs cs : List InScope} {a : Awaiting} {ts : List RunTy} {r : RunValue} {f : flow.State} {next : Want} → Waits p x q bs a ts r f cs next → (peek : Option ℕ) → part a ≡ Whole peek → (h : flow.State) × (next ≡ Go h)
-waits_whole (stacks.converts c v t f agrees conv from to target) peek e = part_whole None peek e
+waits_whole (stacks.converts c v t f agrees keeps conv from to target) peek e = part_whole None peek e
 waits_whole (stacks.negates f) peek e = part_whole None peek e
 waits_whole (stacks.complements f) peek e = part_whole None peek e
-waits_whole (stacks.denies v f tested) peek e = part_whole None peek e
-waits_whole (stacks.chains c v t f h stands computes) peek e = part_whole None peek e
+waits_whole (stacks.denies seen v f tested) peek e = part_whole None peek e
+waits_whole (stacks.chains seen c v t f h stands computes chained) peek e = part_whole None peek e
 waits_whole (stacks.applies f) peek e = part_whole None peek e
-waits_whole (stacks.decides v f h tested i) peek e = part_whole None peek e
+waits_whole (stacks.decides seen v f h tested i) peek e = part_whole None peek e
 waits_whole (stacks.stores_local b t f among same) peek e = part_whole None peek e
 waits_whole (stacks.stores_global number t f there same) peek e = part_whole None peek e
-waits_whole (stacks.points {peek = o} c t v w f stands op) peek e = part_whole o peek e
-waits_whole (stacks.null_points {peek = o} c v w f op) peek e = part_whole o peek e
+waits_whole (stacks.points {peek = o} also c t v w f stands op) peek e = part_whole o peek e
+waits_whole (stacks.null_points {peek = o} also c v w f op) peek e = part_whole o peek e
 waits_whole (stacks.stores_cell {peek = o} t r f alive) peek e = part_whole o peek e
-waits_whole (stacks.follows m t r f kind target alive) peek e = part_whole None peek e
-waits_whole (stacks.follows_member m n ls s t u r f kind struct fields field is alive) peek e = part_whole None peek e
+waits_whole (stacks.follows seen v m t r f through kind target alive) peek e = part_whole None peek e
+waits_whole (stacks.follows_member seen m n ls s t u r f kind struct fields field is alive) peek e = part_whole None peek e
 waits_whole (stacks.indexes c t r f h stands evaluates target alive) peek e = part_whole None peek e
 waits_whole (stacks.advances {peek = o} t r f target alive) peek e = part_whole o peek e
-waits_whole (stacks.counts_elements t l f) peek e = part_whole None peek e
+waits_whole (stacks.counts_elements seen t l f) peek e = part_whole None peek e
 waits_whole (stacks.places_by c m t r f h stands makes alive) peek e = part_whole None peek e
 waits_whole (stacks.beside_handle t f) peek e = part_whole None peek e
-waits_whole (stacks.makes_plain t r f plain alive owner kind) peek e = part_whole None peek e
+waits_whole (stacks.makes_plain t r f keyless alive owner kind) peek e = part_whole None peek e
 waits_whole (stacks.makes_fields c done t ts n ls r f h alive owner stands passes fields) peek e = part_whole None peek e
 waits_whole (stacks.makes_array c t r f alive owner stands repeats) peek e = part_whole None peek e
 waits_whole (stacks.fills cs c t r f h same alive stands repeats i) peek e = part_whole None peek e
 waits_whole (stacks.passes c done t ts r f h stands passes called) peek e = part_whole None peek e
 waits_whole (stacks.initialises cs c t f h within stands new number kind continues) peek e = (h, refl)
-waits_whole (stacks.chooses c d v f g h i tested first_stands second_stands one two j k) peek e = (i, refl)
-waits_whole (stacks.tests l v f h loop) peek e = (h, refl)
+waits_whole (stacks.chooses seen c d v f g h i tested first_stands second_stands one two j k) peek e = (i, refl)
+waits_whole (stacks.tests seen l v f h loop) peek e = (h, refl)
 waits_whole (stacks.returns t u f h result gives) peek e = (h, refl)
+waits_whole (stacks.frees_object k t f) peek e = part_whole None peek e
 waits_whole (stacks.closes_by_key r f) peek e = part_whole None peek e
 waits_whole (stacks.throws f h) peek e = (h, refl)
 waits_whole (stacks.opens_by cs c b r f h i loans within stands among number of_type set spared full less alive next continues again) peek e = (i, refl)
-waits_whole (stacks.aliases cs c b u t f h i loans within stands among number set spared full unique known of_type alive next continues again) peek e = (i, refl)
+waits_whole (stacks.aliases cs c b u t f h i loans within stands among number same set spared full unique known of_type alive next continues again) peek e = (i, refl)
 
-place_whole : {p : Source} {x : Exits} {q : Relied} {bs : List InScope} {a : AwaitingPlace} {t : RunTy} {l : Life} {f : flow.State} {next : Want} → WaitsPlace p x q bs a t l f next → (peek : Option ℕ) → part_of_place a ≡ Whole peek → (h : flow.State) × (next ≡ Go h)
-place_whole (stacks.loads_from t r f alive plain kind) peek e = part_whole None peek e
-place_whole (stacks.takes_address t l f) peek e = part_whole None peek e
+place_whole : {p : Source} {x : Exits} {q : Relied} {bs : List InScope} {a : AwaitingPlace} {o : Option ℕ} {t : RunTy} {l : Life} {f : flow.State} {next : Want} → WaitsPlace p x q bs a o t l f next → (peek : Option ℕ) → part_of_place a ≡ Whole peek → (h : flow.State) × (next ≡ Go h)
+place_whole (stacks.loads_from seen t r f alive plain kind) peek e = part_whole None peek e
+place_whole (stacks.takes_address seen t l f common) peek e = part_whole None peek e
 place_whole (stacks.stores_to c v t r f h alive stands evaluates conv from to) peek e = part_whole None peek e
-place_whole (stacks.swaps_left c t r f h alive stands kind plain finds) peek e = (h, refl)
-place_whole (stacks.swaps_right t r f alive kind) peek e = (f, refl)
+place_whole (stacks.swaps_left through c t r f h alive none stands kind plain finds) peek e = (h, refl)
+place_whole (stacks.swaps_right through t r f alive none kind) peek e = (f, refl)
 
 goes_relied : (p : Source) (g : Typing) (x : Exits) (bs : List InScope) (next : Want) (k : List Entry) (q : Relied) → (h : flow.State) × (next ≡ Go h) → IsStack p g x bs next k → relied_at q k ≡ q
 goes_relied p g x bs next k q (h, same) is = statement_relied p g x bs h k q (subst (λ z. IsStack p g x bs z k) same is)
@@ -305,143 +252,210 @@ goes_relied p g x bs next k q (h, same) is = statement_relied p g x bs h k q (su
 above_behind : (x : Exits) (g : Typing) (k : List Entry) (j : ℕ) (old : Holder) → g.loans ≡ suc j → IsAbove x g k old → IsAbove x (record g { loans = j }) k old
 above_behind x g k j Nobody same above = tt
 above_behind x g k j (Hand i) same above = above
-above_behind x g k j (In d n) same above = above
+above_behind x g k j (At object) same above = above
 above_behind x g k j (Lent i) same above = let few : j ≤ i = omega (arith, above, same) in few
 
 above_outside : (x y : Exits) (g : Typing) (e : Environment) (k : List Entry) (d : ℕ) (old : Holder) → g.depth ≡ suc d → IsAbove x g (Caller e ∷ k) old → IsAbove y (record g { depth = d }) k old
 above_outside x y g caller k d Nobody same above = tt
 above_outside x y g caller k d (Hand i) same above = above
-above_outside x y g caller k d (In e n) same (inl (here, spared)) = inr (let less : d < e = omega (arith, here, same) in less)
-above_outside x y g caller k d (In e n) same (inr deeper) = inr (let less : d < e = omega (arith, deeper, same) in less)
+above_outside x y g caller k d (At object) same (e, n, slot, inl (here, spared)) = (e, n, slot, inr (let less : d < e = omega (arith, here, same) in less))
+above_outside x y g caller k d (At object) same (e, n, slot, inr deeper) = (e, n, slot, inr (let less : d < e = omega (arith, deeper, same) in less))
 above_outside x y g caller k d (Lent j) same above = above
 
--- a variable that clauses rely on is another one
-relied_other : (x y : Exits) (g : Typing) (cs : Clauses) (k : List Entry) (f : flow.State) (old : Holder) (m : ℕ) → x ≡ relying y f → is_reached f ≡ true → IsAbove x g (Handler cs ∷ k) old → IsFullIn f m → In g.depth m ≢ old
-relied_other x y g cs k f Nobody m same reached above full = λ e. (let z : In g.depth m ≡ Nobody = e in absurd (cc))
-relied_other x y g cs k f (Hand i) m same reached above full = λ e. (let z : In g.depth m ≡ Hand i = e in absurd (cc))
-relied_other x y g cs k f (Lent j) m same reached above full = λ e. (let z : In g.depth m ≡ Lent j = e in absurd (cc))
-relied_other x y g cs k f (In d n) m same reached (inr deeper) full = λ e. (let (here, number) = in_same g.depth d m n e in absurd (omega (arith, here, deeper)))
-relied_other x y g cs k f (In d n) m same reached (inl (here, spared)) full = λ e. (let (depth, number) = in_same g.depth d m n e in
-    let one : IsSparedBy f n = (subst (λ (z : Exits). IsSpared z.relied n) same spared).0 in
-    let z : true ≡ false = sym (subst (λ i. IsFullIn f i) number full) ∙ not_full f n reached one in absurd (cc))
-  where
-    not_full : (f : flow.State) (n : ℕ) → is_reached f ≡ true → IsSparedBy f n → is_full (fullness f n) ≡ false
-    not_full Unreached n reached one = absurd (let k : false ≡ true = reached in cc)
-    not_full (Reached as') n reached one = one
+not_full : (f : flow.State) (n : ℕ) → is_reached f ≡ true → IsSparedBy f n → is_full (fullness f n) ≡ false
+not_full Unreached n reached one = absurd (let k : false ≡ true = reached in cc)
+not_full (Reached as') n reached one = one
 
-outer_other : (x : Exits) (g : Typing) (caller : Environment) (k : List Entry) (d : ℕ) (old : Holder) (m : ℕ) → g.depth ≡ suc d → IsAbove x g (Caller caller ∷ k) old → In d m ≢ old
-outer_other x g caller k d Nobody m same above = λ e. (let z : In d m ≡ Nobody = e in absurd (cc))
-outer_other x g caller k d (Hand i) m same above = λ e. (let z : In d m ≡ Hand i = e in absurd (cc))
-outer_other x g caller k d (Lent j) m same above = λ e. (let z : In d m ≡ Lent j = e in absurd (cc))
-outer_other x g caller k d (In e n) m same (inl (here, spared)) = λ q. (let (one, two) = in_same d e m n q in absurd (omega (arith, one, here, same)))
-outer_other x g caller k d (In e n) m same (inr deeper) = λ q. (let (one, two) = in_same d e m n q in absurd (omega (arith, one, deeper, same)))
+-- a variable that clauses rely on is another one
+relied_other : (x y : Exits) (g : Typing) (cs : Clauses) (k : List Entry) (f : flow.State) (old : Holder) (m object : ℕ) → x ≡ relying y f → is_reached f ≡ true → IsAbove x g (Handler cs ∷ k) old → IsFullIn f m → IsSlot g g.depth m object → At object ≢ old
+relied_other x y g cs k f old m object same reached above full slot = variable_other x g (Handler cs ∷ k) m object old above slot
+    (λ spared. (let one : IsSparedBy f m = (subst (λ (z : Exits). IsSpared z.relied m) same spared).0 in let z : true ≡ false = sym full ∙ not_full f m reached one in absurd (cc)))
+
+outer_other : (x : Exits) (g : Typing) (caller : Environment) (k : List Entry) (d : ℕ) (old : Holder) (m object : ℕ) → g.depth ≡ suc d → IsAbove x g (Caller caller ∷ k) old → IsSlot g d m object → At object ≢ old
+outer_other x g caller k d Nobody m object same above slot = at_some object
+outer_other x g caller k d (Hand i) m object same above slot = at_no_hand object i
+outer_other x g caller k d (Lent j) m object same above slot = at_not_lent object j
+outer_other x g caller k d (At other) m object same (e, n, its, inl (here, spared)) slot = λ q.
+    (let (depth, number) = slot_same g d e m n other (subst (λ i. IsSlot g d m i) (at_same object other q) slot) its in absurd (omega (arith, depth, here, same)))
+outer_other x g caller k d (At other) m object same (e, n, its, inr deeper) slot = λ q.
+    (let (depth, number) = slot_same g d e m n other (subst (λ i. IsSlot g d m i) (at_same object other q) slot) its in absurd (omega (arith, depth, deeper, same)))
 
 -- a local that is not full is another one than those that are
-pub emptied_other : (g : Typing) (a : flow.Fullness) (f : flow.State) (n m : ℕ) → is_full a ≡ false → is_reached f ≡ true → IsFullIn (with_fullness a f n) m → In g.depth m ≢ In g.depth n
-emptied_other g a f n m empty reached full e =
-    let (depth, same) = in_same g.depth g.depth m n e in
+pub emptied_other : (g : Typing) (a : flow.Fullness) (f : flow.State) (n m object other : ℕ) → is_full a ≡ false → is_reached f ≡ true → IsFullIn (with_fullness a f n) m → IsSlot g g.depth n object → IsSlot g g.depth m other → At other ≢ At object
+emptied_other g a f n m object other empty reached full slot its e =
+    let (depth, same) = slot_same g g.depth g.depth m n object (subst (λ i. IsSlot g g.depth m i) (at_same other object e) its) slot in
     let k : false ≡ true = sym empty ∙ full_put a f n reached (subst (λ i. IsFullIn (with_fullness a f n) i) same full) in
     absurd (cc)
 
-pub in_no_hand : (d m i : ℕ) → In d m ≢ Hand i
-in_no_hand d m i e = let k : In d m ≡ Hand i = e in absurd (cc)
+-- ---- what waits keeps its types, and whoever claims things claims them
 
-pub in_not_lent : (d m j : ℕ) → In d m ≢ Lent j
-in_not_lent d m j e = let k : In d m ≡ Lent j = e in absurd (cc)
+-- the local into which an operand that waits leads
+abbrev held_peek : Awaiting → Option ℕ
+held_peek (ApplyPointer peek operator left) = peek
+held_peek (StoreCell peek place) = peek
+held_peek (Advance peek target base) = peek
+held_peek a = None
 
-pub in_some : (d m : ℕ) → In d m ≢ Nobody
-in_some d m e = let k : In d m ≡ Nobody = e in absurd (cc)
+only_full : (n : ℕ) → get_or (only n) n Vacant ≡ Full
+only_full zero = refl
+only_full (suc n) = only_full n
 
-module _ (t : RunTy) (old new : Holder) where
-  one_holds_other : (g : Typing) (f : flow.State) (b : InScope) → Claims g.own old t → ((m : ℕ) → IsFullIn f m → In g.depth m ≢ old) → HoldsIts g f b → HoldsIts (giving g t new) f b
-  one_holds_other g f (Variable b) has other (set, full) = (set, λ s. claims_other g t old new (In g.depth b.number) b.of_type has (other b.number s) (full s))
-  one_holds_other g f b has other is = tt
+looked_unspared : (peek : Option ℕ) (q : Relied) (n : ℕ) → peek ≡ Some n → IsSpared (and_looked peek q) n → ⊥
+looked_unspared None q n e spared = let k : None ≡ Some n = e in absurd (cc)
+looked_unspared (Some m) q n e spared =
+    let same : m ≡ n = some_same m n e in
+    let one : is_full (get_or (only m) n Vacant) ≡ false = spared.0 in
+    let z : true ≡ false = sym (ap is_full (ap (λ i. get_or (only i) n Vacant) same ∙ only_full n)) ∙ one in absurd (cc)
 
-  set_other : (g : Typing) (f : flow.State) (bs : List InScope) → Claims g.own old t → ((m : ℕ) → IsFullIn f m → In g.depth m ≢ old) → AreSet g f bs → AreSet (giving g t new) f bs
-  set_other g f [] has other are = tt
-  set_other g f (b ∷ bs) has other (is, are) = (one_holds_other g f b has other is, set_other g f bs has other are)
+-- it is relied on
+unspared : (a : Awaiting) (q r : Relied) (n : ℕ) → held_peek a ≡ Some n → IsSpared (relied_by (part a) q r) n → ⊥
+unspared (ApplyPointer peek operator left) q r n e spared = looked_unspared peek r n e spared
+unspared (StoreCell peek place) q r n e spared = looked_unspared peek r n e spared
+unspared (Advance peek target base) q r n e spared = looked_unspared peek r n e spared
+unspared a q r n e spared = let k : None ≡ Some n = e in absurd (cc)
 
-  -- what is known of locals stays so, where none of them had the key
-  pub holds_other : (g : Typing) (f : flow.State) (bs : List InScope) → Claims g.own old t → ((m : ℕ) → IsFullIn f m → In g.depth m ≢ old) → Holds g f bs → Holds (giving g t new) f bs
-  holds_other g f bs has other (reached, are) = (reached, set_other g f bs has other are)
+counted : (a : Awaiting) → length (held a) ≤ count_held a
+counted (FillElement object count index level kind element) = omega arith
+counted a = let few : length (held a) ≤ length (held a) = omega arith in few
 
-  claimed_other : (g : Typing) (i : ℕ) (ts : List RunTy) → Claims g.own old t → ((j : ℕ) → j < i + length ts → Hand j ≢ old) → AreClaimed g.own i ts → AreClaimed (given t new g.own) i ts
-  claimed_other g i [] has other are = tt
-  claimed_other g i (u ∷ ts) has other (is, are) = (
-    claims_other g t old new (Hand (i + length ts)) u has (other (i + length ts) (let less : i + length ts < i + suc (length ts) = omega arith in less)) is,
-    claimed_other g i ts has (λ j less. other j (let more : j < i + suc (length ts) = omega (arith, less) in more)) are,
+module _ (p : Source) (old : Holder) (g h : Typing) (changed : Changed old g h) where
+  claimed_kept : (i : ℕ) (ts : List RunTy) (vs : List Operand) → ((j : ℕ) → j < i + length ts → Hand j ≢ old) → AreClaimed g.own i ts vs → AreClaimed h.own i ts vs
+  claimed_kept i [] vs other are = tt
+  claimed_kept i (t ∷ ts) [] other are = tt
+  claimed_kept i (t ∷ ts) (v ∷ vs) other (is, are) = (
+    claims_kept old g h changed (Hand (i + length ts)) t v.value (other (i + length ts) (let less : i + length ts < i + suc (length ts) = omega arith in less)) is,
+    claimed_kept i ts vs (λ j less. other j (let more : j < i + suc (length ts) = omega (arith, less) in more)) are,
   )
 
-  -- A stack stays typed while a key changes hands that nothing on it claims.
-  pub stack_other : (p : Source) (g : Typing) (x : Exits) (bs : List InScope) (w : Want) (k : List Entry) → Claims g.own old t → IsAbove x g k old → IsStack p g x bs w k → IsStack p (giving g t new) x bs w k
-  stack_other p g x bs Nothing [] has above is = tt
-  stack_other p g x bs (Val r f) (Needs a ∷ k) has above (ts, cs, next, waits, are, rest) = (
-    ts,
-    cs,
-    next,
-    waits,
-    keeps_grown p g (giving g t new) (giving_grows g t new) (operands_in k) a ts (λ operands claims. claimed_other g (operands_in k) ts has
-        (λ j less. hand_other x g (Needs a ∷ k) j old above (let long : length ts ≡ length (held a) = operands_long g ts (held a) operands in let few : j < length (held a) + operands_in k = omega (arith, less, long) in few)) claims) are,
-    stack_other p g x cs next k has (above_to x x g (Needs a) k old (let fewer : operands_in k ≤ length (held a) + operands_in k = omega arith in fewer) (λ n spared. part_spared (part a) x.relied (relied_at x.relied k) n (λ o same. goes_relied p g x cs next k x.relied (waits_whole waits o same) rest) spared) above) rest,
+  held_kept : (i : ℕ) (peek : Option ℕ) (ts : List RunTy) (v : Operand) → Hand i ≢ old → ((n object : ℕ) → peek ≡ Some n → IsHere g g.depth n object → At object ≢ old) → IsHeldPart g i peek ts v → IsHeldPart h i peek ts v
+  held_kept i peek [] v apart other is = tt
+  held_kept i peek (t ∷ ts) v apart other is = part_kept old g h changed i peek (thing_of t v.value) apart other is
+
+  array_kept : (i : ℕ) (ts : List RunTy) (object count index : ℕ) → Hand i ≢ old → IsArrayOf g i ts object count index → IsArrayOf h i ts object count index
+  array_kept i (lives.Pointer m t l ∷ []) object count index apart (less, array, is) = (less, array_grown p g h changed.grows t l object count index array, owns_kept old g h changed (Hand i) (pointer_at l object) apart is)
+  array_kept i ts object count index apart is = absurd is
+
+  keeps_kept : (i : ℕ) (a : Awaiting) (ts : List RunTy) → ((j : ℕ) → j < count_held a + i → Hand j ≢ old) → ((n object : ℕ) → held_peek a ≡ Some n → IsHere g g.depth n object → At object ≢ old) → Keeps g i a ts → Keeps h i a ts
+  keeps_kept i (FillElement object count index level kind element) ts hands other are = array_kept i ts object count index (hands i (let less : i < 1 + i = omega arith in less)) are
+  keeps_kept i (ApplyPointer peek operator left) ts hands other (are, is) = (operands_grown g h changed.grows ts (left ∷ []) are, held_kept i peek ts left (hands i (let less : i < 1 + i = omega arith in less)) other is)
+  keeps_kept i (StoreCell peek place) ts hands other (are, is) = (operands_grown g h changed.grows ts (place_operand place ∷ []) are, held_kept i peek ts (place_operand place) (hands i (let less : i < 1 + i = omega arith in less)) other is)
+  keeps_kept i (Advance peek target base) ts hands other (are, is) = (operands_grown g h changed.grows ts (base ∷ []) are, held_kept i peek ts base (hands i (let less : i < 1 + i = omega arith in less)) other is)
+  keeps_kept i a [] hands other are = operands_grown g h changed.grows [] (held a) are
+  keeps_kept i a (t ∷ ts) hands other (are, claims) = (
+    operands_grown g h changed.grows (t ∷ ts) (held a) are,
+    claimed_kept i (t ∷ ts) (held a) (λ j less. hands j (let long : suc (length ts) ≡ length (held a) = operands_long g (t ∷ ts) (held a) are in let most = counted a in let few : j < count_held a + i = omega (arith, less, long, most) in few)) claims,
   )
-  stack_other p g x bs (PlaceOf u l f) (NeedsPlace a ∷ k) has above (next, waits, keeps, rest) = (next, waits, keeps_place_grown p g (giving g t new) (giving_grows g t new) bs a u f keeps, stack_other p g x bs next k has (above_to x x g (NeedsPlace a) k old (fewer k) (λ n spared. part_spared (part_of_place a) x.relied (relied_at x.relied k) n (λ o same. goes_relied p g x bs next k x.relied (place_whole waits o same) rest) spared) above) rest)
-  stack_other p g x bs (Val r f) (Discard ∷ k) has above is = stack_other p g x bs (Go f) k has (above_to x x g Discard k old (fewer k) (λ n spared. statement_spared p g x bs f k x.relied n is spared) above) is
-  stack_other p g x bs (Go f) (Discard ∷ k) has above is = stack_other p g x bs (Go f) k has (above_to x x g Discard k old (fewer k) (λ n spared. statement_spared p g x bs f k x.relied n is spared) above) is
-  stack_other p g x bs (Go f) (Rest js ∷ k) has above (cs, c, end, within, stands, continues, rest) =
-      (cs, c, end, within, stands, continues, stack_other p g x cs (Go end) k has (above_to x x g (Rest js) k old (fewer k) (λ n spared. statement_spared p g x cs end k x.relied n rest spared) above) rest)
-  stack_other p g x bs (Go f) (Join ∷ k) has above (end, i, rest) = (end, i, stack_other p g x bs (Go end) k has (above_to x x g Join k old (fewer k) (λ n spared. statement_spared p g x bs end k x.relied n rest spared) above) rest)
-  stack_other p g x bs (Go f) (Loop condition body ∷ k) has above (y, l, v, u, end, same, loop, i, rest) =
-      let inner = above_to x y g (Loop condition body) k old (fewer k) (λ n spared. statement_spared p g y bs end k y.relied n rest (subst (λ (z : Exits). IsSpared z.relied n) same spared)) above in
-      (y, l, v, u, end, same, loop, i, stack_other p g y bs (Go end) k has inner rest)
-  stack_other p g x bs (Go f) (CloseRegion region home ∷ k) has above (cs, number, l, alive, end, same, i, live, rest) =
-      (cs, number, l, alive, end, same, i, live, stack_other p g x cs (Go end) k has (above_to x x g (CloseRegion region home) k old (fewer k) (λ n spared. statement_spared p g x cs end k x.relied n rest spared) above) rest)
-  stack_other p g x bs (Go f) (CloseLexical region ∷ k) has above (end, i, live, rest) = (end, i, live, stack_other p g x bs (Go end) k has (above_to x x g (CloseLexical region) k old (fewer k) (λ n spared. statement_spared p g x bs end k x.relied n rest spared) above) rest)
-  stack_other p g x bs (Go f) (EndLoan lent ∷ k) has above (y, end, j, u, same, loans, claims, i, full, variables, rest) =
-      let inner = above_to x y g (EndLoan lent) k old (fewer k) (λ n spared. statement_spared p (record g { loans = j }) y bs end k y.relied n rest (subst (λ (z : Exits). IsSpared z.relied n) same spared)) above in
-      let behind' = above_behind y g k j old loans inner in (
-        y,
-        end,
-        j,
-        u,
-        same,
-        loans,
-        claims_other g t old new (Lent j) u has (lent_other x g (EndLoan lent ∷ k) j old above (let less : j < g.loans = omega (arith, loans) in less)) claims,
-        i,
-        full_at_grown p g (giving g t new) (giving_grows g t new) lent u bs full,
-        variables_other (record g { loans = j }) t old new bs has (none_lent y (record g { loans = j }) k old behind') variables,
-        stack_other p (record g { loans = j }) y bs (Go end) k has behind' rest,
-      )
-  stack_other p g x bs (Go f) (Handler cs ∷ k) has above (y, c, start, end, same, stands, holds, catches, i, rest) =
-      let inner = above_to x y g (Handler cs) k old (fewer k) (λ n spared. statement_spared p g y bs end k y.relied n rest ((subst (λ (z : Exits). IsSpared z.relied n) same spared).1)) above in (
-        y,
-        c,
-        start,
-        end,
-        same,
-        stands,
-        holds_other g start bs has (λ m full. relied_other x y g cs k start old m same holds.0 above full) holds,
-        catches,
-        i,
-        stack_other p g y bs (Go end) k has inner rest,
-      )
-  stack_other p g x bs (Go f) (Caller e ∷ k) has above (y, cs, end, d, depth, loop, blocked, gives, bound, variables, live, holds, rest) =
-      let outer = above_outside x y g e k d old depth above in (
-        y,
-        cs,
-        end,
-        d,
-        depth,
-        loop,
-        blocked,
-        gives,
-        bound,
-        variables_other (record g { depth = d }) t old new cs has (none_lent y (record g { depth = d }) k old outer) variables,
-        live,
-        holds_other (record g { depth = d }) end cs has (λ m full. outer_other x g e k d old m depth above) holds,
-        stack_other p (record g { depth = d }) y cs (Val x.gives end) k has outer rest,
-      )
-  stack_other p g x bs (Go f) (Main ∷ k) has above (loop, int, gives, blocked, rest) = (loop, int, gives, blocked, stack_other p g x bs Nothing k has (above_to x x g Main k old (fewer k) (λ n spared. ends_relied p g x bs k x.relied n rest spared) above) rest)
-  stack_other p g x bs w k has above is = absurd is
+
+changed_behind : (old : Holder) (g h : Typing) (j : ℕ) → Changed old g h → Changed old (record g { loans = j }) (record h { loans = j })
+changed_behind old g h j changed = record {
+  grows = record { objects = changed.grows.objects; filled = changed.grows.filled; fields = changed.grows.fields; kept = changed.grows.kept };
+  own = changed.own;
+  here = changed.here;
+  depth = changed.depth;
+  loans = refl;
+}
+
+changed_outside : (old : Holder) (g h : Typing) (d : ℕ) → Changed old g h → Changed old (record g { depth = d }) (record h { depth = d })
+changed_outside old g h d changed = record {
+  grows = record { objects = changed.grows.objects; filled = changed.grows.filled; fields = changed.grows.fields; kept = changed.grows.kept };
+  own = changed.own;
+  here = changed.here;
+  depth = refl;
+  loans = changed.loans;
+}
+
+-- A stack stays typed while a thing changes hands that nothing on it claims.
+pub stack_changed : (p : Source) (old : Holder) (g h : Typing) (x : Exits) (bs : List InScope) (w : Want) (k : List Entry) → Changed old g h → IsAbove x g k old → IsStack p g x bs w k → IsStack p h x bs w k
+stack_changed p old g h x bs Nothing [] changed above is = tt
+stack_changed p old g h x bs (Val r f) (Needs a ∷ k) changed above (ts, cs, next, waits, are, rest) = (
+  ts,
+  cs,
+  next,
+  waits,
+  keeps_kept p old g h changed (operands_in k) a ts (λ j less. hand_other x g (Needs a ∷ k) j old above less) (λ n object same here. variable_other x g (Needs a ∷ k) n object old above here.1 (λ spared. unspared a x.relied (relied_at x.relied k) n same spared)) are,
+  stack_changed p old g h x cs next k changed (above_to x x g (Needs a) k old (let fewer : operands_in k ≤ count_held a + operands_in k = omega arith in fewer)
+      (λ n spared. part_spared (part a) x.relied (relied_at x.relied k) n (λ o same. goes_relied p g x cs next k x.relied (waits_whole waits o same) rest) spared) above) rest,
+)
+stack_changed p old g h x bs (PlaceOf peek u l f) (NeedsPlace a ∷ k) changed above (next, waits, keeps, rest) = (
+  next,
+  waits,
+  keeps_place_grown p g h changed.grows bs a u f keeps,
+  stack_changed p old g h x bs next k changed
+      (above_to x x g (NeedsPlace a) k old (fewer k) (λ n spared. part_spared (part_of_place a) x.relied (relied_at x.relied k) n (λ o same. goes_relied p g x bs next k x.relied (place_whole waits o same) rest) spared) above) rest,
+)
+stack_changed p old g h x bs (Val r f) (Discard ∷ k) changed above is = stack_changed p old g h x bs (Go f) k changed (above_to x x g Discard k old (fewer k) (λ n spared. statement_spared p g x bs f k x.relied n is spared) above) is
+stack_changed p old g h x bs (Go f) (Discard ∷ k) changed above is = stack_changed p old g h x bs (Go f) k changed (above_to x x g Discard k old (fewer k) (λ n spared. statement_spared p g x bs f k x.relied n is spared) above) is
+stack_changed p old g h x bs (Go f) (Rest js ∷ k) changed above (cs, c, end, within, stands, continues, rest) =
+    (cs, c, end, within, stands, continues, stack_changed p old g h x cs (Go end) k changed (above_to x x g (Rest js) k old (fewer k) (λ n spared. statement_spared p g x cs end k x.relied n rest spared) above) rest)
+stack_changed p old g h x bs (Go f) (Join ∷ k) changed above (end, i, rest) = (end, i, stack_changed p old g h x bs (Go end) k changed (above_to x x g Join k old (fewer k) (λ n spared. statement_spared p g x bs end k x.relied n rest spared) above) rest)
+stack_changed p old g h x bs (Go f) (Loop condition body ∷ k) changed above (y, l, v, u, end, same, loop, i, rest) =
+    let inner = above_to x y g (Loop condition body) k old (fewer k) (λ n spared. statement_spared p g y bs end k y.relied n rest (subst (λ (z : Exits). IsSpared z.relied n) same spared)) above in
+    (y, l, v, u, end, same, loop, i, stack_changed p old g h y bs (Go end) k changed inner rest)
+stack_changed p old g h x bs (Go f) (CloseRegion region home ∷ k) changed above (cs, number, l, alive, end, same, i, live, rest) =
+    (cs, number, l, alive, end, same, i, live, stack_changed p old g h x cs (Go end) k changed (above_to x x g (CloseRegion region home) k old (fewer k) (λ n spared. statement_spared p g x cs end k x.relied n rest spared) above) rest)
+stack_changed p old g h x bs (Go f) (CloseLexical region ∷ k) changed above (end, i, live, rest) =
+    (end, i, live, stack_changed p old g h x bs (Go end) k changed (above_to x x g (CloseLexical region) k old (fewer k) (λ n spared. statement_spared p g x bs end k x.relied n rest spared) above) rest)
+stack_changed p old g h x bs (Go f) (EndLoan lent ∷ k) changed above (y, end, j, t, object, same, loans, (l, hidden, there, by_type, owns), i, full, variables, rest) =
+    let inner = above_to x y g (EndLoan lent) k old (fewer k) (λ n spared. statement_spared p (record g { loans = j }) y bs end k y.relied n rest (subst (λ (z : Exits). IsSpared z.relied n) same spared)) above in
+    let behind' = above_behind y g k j old loans inner in
+    let less : j < g.loans = omega (arith, loans) in
+    let changed' = changed_behind old g h j changed in (
+      y,
+      end,
+      j,
+      t,
+      object,
+      same,
+      changed.loans ∙ loans,
+      (
+        l,
+        hidden,
+        subst (λ d. slice_get h.objects object ≡ Some (variable_type t l hidden (OfLocal d lent))) (sym changed.depth) (changed.grows.objects object (variable_type t l hidden (OfLocal g.depth lent)) there),
+        by_type,
+        owns_kept old g h changed (Lent j) (thing_of t values.Null) (lent_other x g (EndLoan lent ∷ k) j old above less) owns,
+      ),
+      i,
+      full_at_grown p g h changed.grows lent object bs full,
+      variables_kept old (record g { loans = j }) (record h { loans = j }) changed' bs (none_lent y (record g { loans = j }) k old behind') variables,
+      stack_changed p old (record g { loans = j }) (record h { loans = j }) y bs (Go end) k changed' behind' rest,
+    )
+stack_changed p old g h x bs (Go f) (Handler cs ∷ k) changed above (y, c, start, end, same, stands, holds, catches, i, rest) =
+    let inner = above_to x y g (Handler cs) k old (fewer k) (λ n spared. statement_spared p g y bs end k y.relied n rest ((subst (λ (z : Exits). IsSpared z.relied n) same spared).1)) above in (
+      y,
+      c,
+      start,
+      end,
+      same,
+      stands,
+      holds_kept old g h changed start bs (λ m object full here. relied_other x y g cs k start old m object same holds.0 above full here.1) holds,
+      catches,
+      i,
+      stack_changed p old g h y bs (Go end) k changed inner rest,
+    )
+stack_changed p old g h x bs (Go f) (Caller e ∷ k) changed above (y, cs, end, d, depth, loop, blocked, gives, bound, variables, live, holds, rest) =
+    let outer = above_outside x y g e k d old depth above in
+    let changed' = changed_outside old g h d changed in (
+      y,
+      cs,
+      end,
+      d,
+      changed.depth ∙ depth,
+      loop,
+      blocked,
+      gives,
+      bound,
+      variables_kept old (record g { depth = d }) (record h { depth = d }) changed' cs (none_lent y (record g { depth = d }) k old outer) variables,
+      live,
+      holds_kept old (record g { depth = d }) (record h { depth = d }) changed' end cs (λ m object full here. outer_other x g e k d old m object depth above here.1) holds,
+      stack_changed p old (record g { depth = d }) (record h { depth = d }) y cs (Val x.gives end) k changed' outer rest,
+    )
+stack_changed p old g h x bs (Go f) (Main ∷ k) changed above (loop, int, gives, blocked, rest) =
+    (loop, int, gives, blocked, stack_changed p old g h x bs Nothing k changed (above_to x x g Main k old (fewer k) (λ n spared. ends_relied p g x bs k x.relied n rest spared) above) rest)
+stack_changed p old g h x bs w k changed above is = absurd is
+
+-- nor where nothing does
+pub stack_grown : (p : Source) (g h : Typing) → Stays g h → (x : Exits) (bs : List InScope) (w : Want) (k : List Entry) → IsStack p g x bs w k → IsStack p h x bs w k
+stack_grown p g h same x bs w k is = stack_changed p Nobody g h x bs w k (stays_changed Nobody g h same) tt is
 
 -- ---- what has no value is only dropped
 
@@ -501,39 +515,52 @@ void_chain m q c (ThenPointerPeek n o a os) t (v, w, well, op, chain) kept = poi
 void_tested : (n : Lives) (v : ValueType) → value_at n v ≡ Void → is_tested v ≡ true → ⊥
 void_tested n v e tested = let k : false ≡ true = subst (λ z. is_tested z ≡ true) (void_read n v e) tested in absurd (cc)
 
+looked_void : (peek : Option ℕ) (r : RunValue) → looked peek r ≡ Void → r ≡ Void
+looked_void None r e = e
+looked_void (Some n) Void e = refl
+looked_void (Some n) Null e = absurd (let k : Null ≡ Void = e in cc)
+looked_void (Some n) (Value t) e = absurd (let k : Into (Some n) t ≡ Void = e in cc)
+looked_void (Some n) (Seen t) e = absurd (let k : Seen t ≡ Void = e in cc)
+looked_void (Some n) (Into peek t) e = absurd (let k : Into peek t ≡ Void = e in cc)
+
+through_void : (peek : Option ℕ) (t : RunTy) (r : RunValue) → IsThrough peek t r → r ≡ Void → ⊥
+through_void peek t r (inl is) e = value_void (looked_void peek (Value t) (sym is ∙ e))
+through_void peek t r (inr is) e = let k : Into peek t ≡ Void = sym is ∙ e in absurd (cc)
+
 void_waits : {p : Source} {x : Exits} {q : Relied} {bs cs : List InScope} {a : Awaiting} {ts : List RunTy} {r : RunValue} {f : flow.State} {next : Want} → Waits p x q bs a ts r f cs next → r ≡ Void → ⊥
-void_waits {bs = bs} (stacks.converts c v t f agrees conv from to target) e = void_converts c t (subst (λ z. Converts c z t) (void_read (lives_in bs) v e) conv)
+void_waits {bs = bs} (stacks.converts c v t f agrees keeps conv from to target) e = void_converts c t (subst (λ z. Converts c z t) (void_read (lives_in bs) v e) conv)
 void_waits (stacks.negates f) e = value_void e
 void_waits (stacks.complements f) e = value_void e
-void_waits {bs = bs} (stacks.denies v f tested) e = void_tested (lives_in bs) v e tested
-void_waits {p} {q = q} {bs = bs} (stacks.chains {os} c v t f h stands computes) e = void_chain p.reading q c os t (subst (λ z. IsChain c z os t) (void_read (lives_in bs) v e) computes.typed) computes.kept
+void_waits {bs = bs} (stacks.denies seen v f tested) e = void_tested (lives_in bs) v (looked_void seen (read_value bs v) e) tested
+void_waits {p} {q = q} {bs = bs} (stacks.chains {os} seen c v t f h stands computes chained) e = void_chain p.reading q c os t (subst (λ z. IsChain c z os t) (void_read (lives_in bs) v (looked_void seen (read_value bs v) e)) computes.typed) computes.kept
 void_waits (stacks.applies f) e = value_void e
-void_waits {bs = bs} (stacks.decides v f h tested i) e = void_tested (lives_in bs) v e tested
+void_waits {bs = bs} (stacks.decides seen v f h tested i) e = void_tested (lives_in bs) v (looked_void seen (read_value bs v) e) tested
 void_waits (stacks.stores_local b t f among same) e = value_void e
 void_waits (stacks.stores_global number t f there same) e = value_void e
-void_waits {bs = bs} (stacks.points c t v w f stands op) e = pointer_right (lives_in bs) op e
-void_waits {bs = bs} (stacks.null_points c v w f op) e = pointer_right (lives_in bs) op e
+void_waits {bs = bs} (stacks.points also c t v w f stands op) e = pointer_right (lives_in bs) op (looked_void also (read_value bs v) e)
+void_waits {bs = bs} (stacks.null_points also c v w f op) e = pointer_right (lives_in bs) op (looked_void also (read_value bs v) e)
 void_waits (stacks.stores_cell t r f alive) e = value_void e
-void_waits (stacks.follows m t r f kind target alive) e = value_void e
-void_waits (stacks.follows_member m n ls s t u r f kind struct fields field is alive) e = value_void e
-void_waits (stacks.indexes c t r f h stands evaluates target alive) e = value_void e
+void_waits {bs = bs} (stacks.follows seen v m t r f through kind target alive) e = through_void seen (lives.Pointer m (read bs t) (lives_in bs r)) v through e
+void_waits {bs = bs} (stacks.follows_member seen m n ls s t u r f kind struct fields field is alive) e = value_void (looked_void seen (Value (lives.Pointer m (lives.Struct n ls) (lives_in bs r))) e)
+void_waits {bs = bs} (stacks.indexes {peek} c t r f h stands evaluates target alive) e = value_void (looked_void peek (Value (lives.Pointer marks.Fat (read bs t) (lives_in bs r))) e)
 void_waits (stacks.advances t r f target alive) e = value_void e
-void_waits (stacks.counts_elements t l f) e = value_void e
+void_waits (stacks.counts_elements seen t l f) e = value_void (looked_void seen (Value (lives.Pointer marks.Fat t l)) e)
 void_waits (stacks.places_by c m t r f h stands makes alive) e = value_void e
 void_waits (stacks.beside_handle t f) e = value_void e
-void_waits (stacks.makes_plain t r f plain alive owner kind) e = value_void e
+void_waits (stacks.makes_plain t r f keyless alive owner kind) e = value_void e
 void_waits (stacks.makes_fields c done t ts n ls r f h alive owner stands passes fields) e = value_void e
 void_waits (stacks.makes_array c t r f alive owner stands repeats) e = value_void e
 void_waits (stacks.fills cs c t r f h same alive stands repeats i) e = value_void e
 void_waits (stacks.passes c done t ts r f h stands passes called) e = value_void e
 void_waits (stacks.initialises cs c t f h within stands new number kind continues) e = value_void e
-void_waits {bs = bs} (stacks.chooses c d v f g h i tested first_stands second_stands one two j k) e = void_tested (lives_in bs) v e tested
-void_waits {bs = bs} (stacks.tests l v f h loop) e = void_tested (lives_in bs) v e loop.tested
+void_waits {bs = bs} (stacks.chooses seen c d v f g h i tested first_stands second_stands one two j k) e = void_tested (lives_in bs) v (looked_void seen (read_value bs v) e) tested
+void_waits {bs = bs} (stacks.tests seen l v f h loop) e = void_tested (lives_in bs) v (looked_void seen (read_value bs v) e) loop.tested
 void_waits (stacks.returns t u f h result gives) e = value_void e
+void_waits (stacks.frees_object k t f) e = value_void e
 void_waits (stacks.closes_by_key r f) e = value_void e
 void_waits (stacks.throws f h) e = value_void e
 void_waits (stacks.opens_by cs c b r f h i loans within stands among number of_type set spared full less alive next continues again) e = seen_void e
-void_waits (stacks.aliases cs c b u t f h i loans within stands among number set spared full unique known of_type alive next continues again) e = seen_void e
+void_waits (stacks.aliases cs c b u t f h i loans within stands among number same set spared full unique known of_type alive next continues again) e = seen_void e
 
 pub void_goes : (p : Source) (g : Typing) (x : Exits) (bs : List InScope) (f : flow.State) (r : RunValue) (k : List Entry) → r ≡ Void → IsStack p g x bs (Val r f) k → IsStack p g x bs (Go f) k
 void_goes p g x bs f r (Needs a ∷ k) e (ts, cs, next, waits, are, rest) = absurd (void_waits waits e)
@@ -582,7 +609,7 @@ pub among_bound : {b : Bound} {bs : List InScope} (e : Environment) → IsAmong 
 among_bound e (first cs) (is, are) = is
 among_bound e (later c cs among) (is, are) = among_bound e among are
 
-pub among_variable : {b : Bound} {bs : List InScope} (g : Typing) → IsAmong (Variable b) bs → AreVariables g bs → slice_get g.objects b.object ≡ Some (variable_type b.of_type b.life b.is_hidden)
+pub among_variable : {b : Bound} {bs : List InScope} (g : Typing) → IsAmong (Variable b) bs → AreVariables g bs → slice_get g.objects b.object ≡ Some (local_type g.depth b)
 among_variable g (first cs) (is, are) = is.0
 among_variable g (later c cs among) (is, are) = among_variable g among are
 
@@ -599,7 +626,7 @@ among_set g f (first cs) (is, are) s = is.0 s
 among_set g f (later c cs among) (is, are) s = among_set g f among are s
 
 -- it has what it holds
-pub among_own : {b : Bound} {bs : List InScope} (g : Typing) (f : flow.State) → IsAmong (Variable b) bs → AreSet g f bs → IsFullIn f b.number → Claims g.own (In g.depth b.number) b.of_type
+pub among_own : {b : Bound} {bs : List InScope} (g : Typing) (f : flow.State) → IsAmong (Variable b) bs → AreSet g f bs → IsFullIn f b.number → IsHere g g.depth b.number b.object
 among_own g f (first cs) (is, are) s = is.1 s
 among_own g f (later c cs among) (is, are) s = among_own g f among are s
 
@@ -665,40 +692,32 @@ set_more g a f number (Variable b ∷ bs) (less, below) ((set, full), are) =
     ((λ s. set (other_set a f number b.number apart s), λ s. full (other_full a f number b.number apart s)), set_more g a f number bs below are)
 set_more g a f number (b ∷ bs) (less, below) (is, are) = (tt, set_more g a f number bs below are)
 
--- the locals of one number have one object, and one type
-pub record OneLocal (g : Typing) (e : Environment) (bs : List InScope) (number object : ℕ) (t : RunTy) : Type 0 where
-  pub there : e.locals number ≡ Some object
-  pub life : Life
-  pub hidden : Bool
-  pub of_type : slice_get g.objects object ≡ Some (variable_type t life hidden)
+-- the locals of one number have one object
+one_object : (e : Environment) (number object : ℕ) (b : Bound) → e.locals number ≡ Some object → e.locals b.number ≡ Some b.object → b.number ≡ number → b.object ≡ object
+one_object e number object b there here same =
+    let k : Some object ≡ Some b.object = sym there ∙ ap e.locals (sym same) ∙ here in
+    sym (some_same object b.object k)
 
-one_type : (g : Typing) (e : Environment) (bs : List InScope) (number object : ℕ) (t : RunTy) (b : Bound) → OneLocal g e bs number object t → e.locals b.number ≡ Some b.object
-    → slice_get g.objects b.object ≡ Some (variable_type b.of_type b.life b.is_hidden) → b.number ≡ number → (object ≡ b.object) × (b.of_type ≡ t)
-one_type g e bs number object t b one here of same =
-    let k : Some object ≡ Some b.object = sym one.there ∙ ap e.locals (sym same) ∙ here in
-    let object_is : object ≡ b.object = cc in
-    let types : Some (variable_type t one.life one.hidden) ≡ Some (variable_type b.of_type b.life b.is_hidden) = sym one.of_type ∙ ap (λ i. slice_get g.objects i) object_is ∙ of in
-    let cells : t ∷ [] ≡ b.of_type ∷ [] = ap (λ (z : ObjectType). z.cells) (some_same (variable_type t one.life one.hidden) (variable_type b.of_type b.life b.is_hidden) types) in
-    (object_is, (let z : t ≡ b.of_type = cc in sym z))
+moved_here : (g : Typing) (number object : ℕ) (b : Bound) → b.number ≡ number → b.object ≡ object → IsHere g g.depth number object → IsHere g g.depth b.number b.object
+moved_here g number object b same one is = subst (λ i. IsHere g g.depth i b.object) (sym same) (subst (λ i. IsHere g g.depth number i) (sym one) is)
 
-pub set_stored : (g : Typing) (e : Environment) (a : flow.Fullness) (f : flow.State) (number object : ℕ) (t : RunTy) (bs cs : List InScope) → IsBound e.locals e.counters bs → AreVariables g bs → OneLocal g e cs number object t
-    → IsFull g object → is_reached f ≡ true → (is_full a ≡ true → Claims g.own (In g.depth number) t) → AreSet g f bs → AreSet g (with_fullness a f number) bs
-set_stored g e a f number object t [] cs bound variables one full reached own are = tt
-set_stored g e a f number object t (Variable b ∷ bs) cs (here, bound) ((of, opens), variables) one full reached own ((set, has), are) = ((go, goes), set_stored g e a f number object t bs cs bound variables one full reached own are)
+pub set_stored : (g : Typing) (e : Environment) (a : flow.Fullness) (f : flow.State) (number object : ℕ) (bs : List InScope) → IsBound e.locals e.counters bs → e.locals number ≡ Some object → IsFull g object → is_reached f ≡ true
+    → (is_full a ≡ true → IsHere g g.depth number object) → AreSet g f bs → AreSet g (with_fullness a f number) bs
+set_stored g e a f number object [] bound one full reached own are = tt
+set_stored g e a f number object (Variable b ∷ bs) (here, bound) one full reached own ((set, has), are) = ((go, goes), set_stored g e a f number object bs bound one full reached own are)
   where
     go : IsSet (with_fullness a f number) b.number → IsFull g b.object
     go s = elim (same_or_other b.number number) [
-      | inl same ↦ subst (λ i. IsFull g i) (one_type g e cs number object t b one here of same).0 full
+      | inl same ↦ subst (λ i. IsFull g i) (sym (one_object e number object b one here same)) full
       | inr apart ↦ set (other_set a f number b.number apart s)
     ]
 
-    goes : IsFullIn (with_fullness a f number) b.number → Claims g.own (In g.depth b.number) b.of_type
+    goes : IsFullIn (with_fullness a f number) b.number → IsHere g g.depth b.number b.object
     goes s = elim (same_or_other b.number number) [
-      | inl same ↦ subst (λ i. Claims g.own (In g.depth i) b.of_type) (sym same) (subst (λ u. Claims g.own (In g.depth number) u) (sym (one_type g e cs number object t b one here of same).1)
-          (own (full_put a f number reached (subst (λ i. IsFullIn (with_fullness a f number) i) same s))))
+      | inl same ↦ moved_here g number object b same (one_object e number object b one here same) (own (full_put a f number reached (subst (λ i. IsFullIn (with_fullness a f number) i) same s)))
       | inr apart ↦ has (other_full a f number b.number apart s)
     ]
-set_stored g e a f number object t (b ∷ bs) cs (here, bound) (of, variables) one full reached own (is, are) = (tt, set_stored g e a f number object t bs cs bound variables one full reached own are)
+set_stored g e a f number object (b ∷ bs) (here, bound) one full reached own (is, are) = (tt, set_stored g e a f number object bs bound one full reached own are)
 
 -- ---- what is lent
 
@@ -706,35 +725,34 @@ pub none_among : {A B : Type 0} {a : A} → IsAmong a [] → B
 none_among among = elim among [ ]
 
 -- what this local has is in one object
-pub full_here : (g : Typing) (e : Environment) (n object : ℕ) (t : RunTy) (bs cs : List InScope) → IsBound e.locals e.counters bs → AreVariables g bs → OneLocal g e cs n object t → IsFull g object → AreFullAt g n t bs
-full_here g e n object t [] cs bound variables one full = tt
-full_here g e n object t (Variable b ∷ bs) cs (here, bound) ((of, opens), variables) one full =
-    ((λ same. (subst (λ i. IsFull g i) (one_type g e cs n object t b one here of same).0 full, (one_type g e cs n object t b one here of same).1)), full_here g e n object t bs cs bound variables one full)
-full_here g e n object t (b ∷ bs) cs (here, bound) (of, variables) one full = (tt, full_here g e n object t bs cs bound variables one full)
+pub full_here : (g : Typing) (e : Environment) (n object : ℕ) (bs : List InScope) → IsBound e.locals e.counters bs → e.locals n ≡ Some object → IsFull g object → AreFullAt g n object bs
+full_here g e n object [] bound one full = tt
+full_here g e n object (Variable b ∷ bs) (here, bound) one full =
+    ((λ same. (subst (λ i. IsFull g i) (sym (one_object e n object b one here same)) full, one_object e n object b one here same)), full_here g e n object bs bound one full)
+full_here g e n object (b ∷ bs) (here, bound) one full = (tt, full_here g e n object bs bound one full)
 
-pub within_full_at : (g : Typing) (n : ℕ) (t : RunTy) (cs bs : List InScope) → Within cs bs → AreFullAt g n t bs → AreFullAt g n t cs
-within_full_at g n t cs bs (itself _) are = are
-within_full_at g n t cs bs (older b _ ds inner within) (is, are) = within_full_at g n t cs ds within are
+pub within_full_at : (g : Typing) (n object : ℕ) (cs bs : List InScope) → Within cs bs → AreFullAt g n object bs → AreFullAt g n object cs
+within_full_at g n object cs bs (itself _) are = are
+within_full_at g n object cs bs (older b _ ds inner within) (is, are) = within_full_at g n object cs ds within are
 
-refilled_set : (g : Typing) (f : flow.State) (n : ℕ) (t : RunTy) (old : Holder) (bs : List InScope) → Claims g.own old t → ((m : ℕ) → In g.depth m ≢ old) → AreFullAt g n t bs → AreSet g f bs
-    → AreSet (giving g t (In g.depth n)) (with_fullness Full f n) bs
-refilled_set g f n t old [] has other at are = tt
-refilled_set g f n t old (Variable b ∷ bs) has other (here, at) ((set, full), are) = ((go, goes), refilled_set g f n t old bs has other at are)
-  where
-    go : IsSet (with_fullness Full f n) b.number → IsFull g b.object
-    go s = elim (same_or_other b.number n) [ inl same ↦ (here same).0 | inr apart ↦ set (other_set Full f n b.number apart s) ]
+module _ (old : Holder) (g h : Typing) (changed : Changed old g h) (n object : ℕ) (none : (m : ℕ) → At m ≢ old) (now : IsHere h h.depth n object) where
+  refilled_set : (f : flow.State) (bs : List InScope) → AreFullAt g n object bs → AreSet g f bs → AreSet h (with_fullness Full f n) bs
+  refilled_set f [] at are = tt
+  refilled_set f (Variable b ∷ bs) (here, at) ((set, full), are) = ((go, goes), refilled_set f bs at are)
+    where
+      go : IsSet (with_fullness Full f n) b.number → IsFull h b.object
+      go s = changed.grows.filled b.object 1 (elim (same_or_other b.number n) [ inl same ↦ (here same).0 | inr apart ↦ set (other_set Full f n b.number apart s) ])
 
-    goes : IsFullIn (with_fullness Full f n) b.number → Claims (given t (In g.depth n) g.own) (In g.depth b.number) b.of_type
-    goes s = elim (same_or_other b.number n) [
-      | inl same ↦ subst (λ i. Claims (given t (In g.depth n) g.own) (In g.depth i) b.of_type) (sym same) (subst (λ u. Claims (given t (In g.depth n) g.own) (In g.depth n) u) (sym (here same).1) (given_now g t (In g.depth n)))
-      | inr apart ↦ claims_other g t old (In g.depth n) (In g.depth b.number) b.of_type has (other b.number) (full (other_full Full f n b.number apart s))
-    ]
-refilled_set g f n t old (b ∷ bs) has other (here, at) (is, are) = (tt, refilled_set g f n t old bs has other at are)
+      goes : IsFullIn (with_fullness Full f n) b.number → IsHere h h.depth b.number b.object
+      goes s = elim (same_or_other b.number n) [
+        | inl same ↦ moved_here h n object b same (here same).1 now
+        | inr apart ↦ subst (λ d. IsHere h d b.number b.object) (sym changed.depth) (here_kept old g h changed g.depth b.number b.object (none b.object) (full (other_full Full f n b.number apart s)))
+      ]
+  refilled_set f (b ∷ bs) (here, at) (is, are) = (tt, refilled_set f bs at are)
 
--- what was lent is full where it is given back
-pub given_back : (g : Typing) (f : flow.State) (n : ℕ) (t : RunTy) (old : Holder) (bs : List InScope) → Claims g.own old t → ((m : ℕ) → In g.depth m ≢ old) → AreFullAt g n t bs → Holds g f bs
-    → Holds (giving g t (In g.depth n)) (with_fullness Full f n) bs
-given_back g f n t old bs has other at (reached, are) = (reached_with Full f n reached, refilled_set g f n t old bs has other at are)
+  -- what was lent is full where it is given back
+  pub given_back : (f : flow.State) (bs : List InScope) → AreFullAt g n object bs → Holds g f bs → Holds h (with_fullness Full f n) bs
+  given_back f bs at (reached, are) = (reached_with Full f n reached, refilled_set f bs at are)
 
 -- ---- regions that will end
 
@@ -801,12 +819,12 @@ IsKeptOpen regions (Kept number) = is_open (slice_get regions number) ≡ true
 IsKeptOpen regions l = Unit {0}
 
 pub kept_open : (g : Typing) (regions : List Region) (objects : List Object) (l : Life) → IsTyped g regions objects → IsKnownOwner g l → IsOpenIn g l → IsKeptOpen regions l
-kept_open g regions objects (Kept number) typed known opens = dynamic_open (slice_get regions number) ((typed.kept number known).1 (lent_held g.loans (g.own number) opens))
+kept_open g regions objects (Kept number) typed known opens = dynamic_open (slice_get regions number) ((typed.kept number known).1 (lent_held g.loans (g.own (KeyOf number)) opens))
   where
     lent_held : (count : ℕ) (h : Holder) → is_lent_by count h ≡ true → IsHeld h
     lent_held count Nobody e = absurd (let k : false ≡ true = e in cc)
     lent_held count (Hand i) e = tt
-    lent_held count (In d n) e = tt
+    lent_held count (At m) e = tt
     lent_held count (Lent j) e = tt
 kept_open g regions objects (OfRegion number ns us) typed known opens = tt
 kept_open g regions objects (OfObject object) typed known opens = tt
@@ -877,35 +895,36 @@ found_is Closed h = absurd h
 found_is Missing h = absurd h
 
 pub waits_within : {p : Source} {x : Exits} {q : Relied} {bs cs : List InScope} {a : Awaiting} {ts : List RunTy} {r : RunValue} {f : flow.State} {next : Want} → Waits p x q bs a ts r f cs next → Within cs bs
-waits_within {bs = bs} (stacks.converts c v t f agrees conv from to target) = itself bs
+waits_within {bs = bs} (stacks.converts c v t f agrees keeps conv from to target) = itself bs
 waits_within {bs = bs} (stacks.negates f) = itself bs
 waits_within {bs = bs} (stacks.complements f) = itself bs
-waits_within {bs = bs} (stacks.denies v f tested) = itself bs
-waits_within {bs = bs} (stacks.chains c v t f h stands computes) = itself bs
+waits_within {bs = bs} (stacks.denies seen v f tested) = itself bs
+waits_within {bs = bs} (stacks.chains seen c v t f h stands computes chained) = itself bs
 waits_within {bs = bs} (stacks.applies f) = itself bs
-waits_within {bs = bs} (stacks.decides v f h tested i) = itself bs
+waits_within {bs = bs} (stacks.decides seen v f h tested i) = itself bs
 waits_within {bs = bs} (stacks.stores_local b t f among same) = itself bs
 waits_within {bs = bs} (stacks.stores_global number t f there same) = itself bs
-waits_within {bs = bs} (stacks.points c t v w f stands op) = itself bs
-waits_within {bs = bs} (stacks.null_points c v w f op) = itself bs
+waits_within {bs = bs} (stacks.points also c t v w f stands op) = itself bs
+waits_within {bs = bs} (stacks.null_points also c v w f op) = itself bs
 waits_within {bs = bs} (stacks.stores_cell t r f alive) = itself bs
-waits_within {bs = bs} (stacks.follows m t r f kind target alive) = itself bs
-waits_within {bs = bs} (stacks.follows_member m n ls s t u r f kind struct fields field is alive) = itself bs
+waits_within {bs = bs} (stacks.follows seen v m t r f through kind target alive) = itself bs
+waits_within {bs = bs} (stacks.follows_member seen m n ls s t u r f kind struct fields field is alive) = itself bs
 waits_within {bs = bs} (stacks.indexes c t r f h stands evaluates target alive) = itself bs
 waits_within {bs = bs} (stacks.advances t r f target alive) = itself bs
-waits_within {bs = bs} (stacks.counts_elements t l f) = itself bs
+waits_within {bs = bs} (stacks.counts_elements seen t l f) = itself bs
 waits_within {bs = bs} (stacks.places_by c m t r f h stands makes alive) = itself bs
 waits_within {bs = bs} (stacks.beside_handle t f) = itself bs
-waits_within {bs = bs} (stacks.makes_plain t r f plain alive owner kind) = itself bs
+waits_within {bs = bs} (stacks.makes_plain t r f keyless alive owner kind) = itself bs
 waits_within {bs = bs} (stacks.makes_fields c done t ts n ls r f h alive owner stands passes fields) = itself bs
 waits_within {bs = bs} (stacks.makes_array c t r f alive owner stands repeats) = itself bs
 waits_within (stacks.fills {level = level} cs c t r f h same alive stands repeats i) = subst (λ z. Within cs z) (sym same) (older (Level level) cs cs tt (itself cs))
 waits_within {bs = bs} (stacks.passes c done t ts r f h stands passes called) = itself bs
 waits_within (stacks.initialises cs c t f h within stands new number kind continues) = within
-waits_within {bs = bs} (stacks.chooses c d v f g h i tested first_stands second_stands one two j k) = itself bs
-waits_within {bs = bs} (stacks.tests l v f h loop) = itself bs
+waits_within {bs = bs} (stacks.chooses seen c d v f g h i tested first_stands second_stands one two j k) = itself bs
+waits_within {bs = bs} (stacks.tests seen l v f h loop) = itself bs
 waits_within {bs = bs} (stacks.returns t u f h result gives) = itself bs
+waits_within {bs = bs} (stacks.frees_object k t f) = itself bs
 waits_within {bs = bs} (stacks.closes_by_key r f) = itself bs
 waits_within {bs = bs} (stacks.throws f h) = itself bs
 waits_within (stacks.opens_by cs c b r f h i loans within stands among number of_type set spared full less alive next continues again) = within
-waits_within (stacks.aliases cs c b u t f h i loans within stands among number set spared full unique known of_type alive next continues again) = within
+waits_within (stacks.aliases cs c b u t f h i loans within stands among number same set spared full unique known of_type alive next continues again) = within

@@ -1,5 +1,5 @@
 -- A VALUE COMES: what waits for it goes on, in a typed state.
-use Rattle.std.proofs.Common.{◌≡◌, ℕ, suc, ◌<◌, ◌≤◌, Bool, true, false, List, [], ◌∷◌, length, Option, Some, None, slice_get, refl, sym, subst, ◌∙◌, arith}
+use Rattle.std.proofs.Common.{◌≡◌, ap, ℕ, zero, suc, ◌<◌, ◌≤◌, Bool, true, false, List, [], ◌∷◌, length, Option, Some, None, slice_get, refl, sym, subst, ◌∙◌, arith}
 use Rattle.std.specs.Prelude.{if◌then◌else◌}
 use Rattle.cyc_types.specs.declared.region.Region.{Region}
 use Rattle.cyc_types.specs.declared.region.Region.TheVariants as regions
@@ -9,14 +9,13 @@ use Rattle.cyc_syntax.specs.declared.tree.PointerKind.TheVariants as marks
 use Rattle.cyc_types.specs.typing.Tests.{is_moved}
 use Rattle.cyc_types.specs.declared.typed.Kind.TheVariants as kinds
 use Rattle.cyc_types.specs.Types.{Ty, ValueType}
-use Rattle.cyc_types.specs.Types as types
 use Rattle.cyc_types.specs.TypedTrees.{Expression, Initial, Statement, Items}
 use Rattle.cyc_types.specs.Rules.{Derives}
 use Rattle.cyc_types.specs.typing.WellTyped.{Context, IsMade, with_local, in_body}
 use Rattle.cyc_types.specs.flow.States as flow
 use Rattle.cyc_types.specs.flow.States.{Vacant, Full, with_fullness}
 use Rattle.cyc_types.specs.flow.Expressions.{rule_initial}
-use Rattle.cyc_meaning.specs.Values.{Operand}
+use Rattle.cyc_meaning.specs.Values.{Operand, Cell}
 use Rattle.cyc_meaning.specs.Values as values
 use Rattle.cyc_meaning.specs.Operators.{unary_result, binary_result}
 use Rattle.cyc_types.specs.declared.typed.UnaryOperator.TheVariants as unary
@@ -32,21 +31,25 @@ use Rattle.cyc_meaning.proofs.ListLemmas.{slice_get-end}
 use Rattle.cyc_meaning.proofs.NestingLemmas.{home_found}
 use Rattle.cyc_soundness.specs.Lives.{Life, OfRegion, OfObject, Never, Kept, Reading, Lives, at, AsHeap, ByScope, RunTy, RunValue, Value, kind_at}
 use Rattle.cyc_soundness.specs.Lives as lives
-use Rattle.cyc_soundness.specs.Worlds.{Hand, In, ClaimsBy, giving, Stays, AreKeyless, IsOpenIn, ObjectType, IsKnownLife, IsNumber, IsOwner, Typing, IsFilled, variable_type, HasType, IsResult, AreCells, IsObject, IsTyped, Grows}
+use Rattle.cyc_soundness.specs.Worlds.{OfLocal, Thing, Holder, Hand, At, pointer_at, thing_of, Owns, Claims, ClaimsBy, ClaimsAlone, IsHere, giving, marked, AreOwned, IsOpenIn, ObjectType, IsKnownLife, IsNumber, IsOwner, Typing, IsFilled, variable_type, HasType, IsResult, AreCells, IsObject, IsTyped, Grows}
+use Rattle.cyc_soundness.specs.Worlds.{given as given_to}
 use Rattle.cyc_soundness.specs.Frames.{later, Bound, InScope, Variable, Level, life_named, lives_in, read, read_value, IsThere, IsHomed, AreBelow, IsBound, AreVariables, IsLasting, home_in, LiveIn, Within, itself, older, Holds, Implies, LoopExit, Exits, IsHome, IsContext, KnowsProgram}
 use Rattle.cyc_soundness.specs.Stacks.{Executes, Continues, IsLoop, Repeats, IsArray, IsNew, Want, Val, Go, operands_in, Comes, Keeps, inside, Waits, IsReturn, IsStack, IsFocus, IsWell, relied_at}
 use Rattle.cyc_soundness.specs.Stacks as stacks
+use Rattle.cyc_soundness.proofs.Numbers.{some_same}
 use Rattle.cyc_soundness.proofs.TypeLemmas.{is_kind_same, kind_read}
 use Rattle.cyc_soundness.proofs.FlowLemmas.{holds_implied, reached_with, full_put, vacant_now}
-use Rattle.cyc_soundness.proofs.WorldLemmas.{open_stays, type_grown, with_object, object_stays, object_typed, globals_grown, variables_grown, set_grown, giving_grows, given_now, given_typed, given_globals, variables_other, owner_grown}
-use Rattle.cyc_soundness.proofs.StackLemmas.{stack_grown, stack_other, holds_other, in_no_hand, there_present, fields_kept, passed_kept, comes_alone, claimed_next, below_more, local_new, bound_more, set_more, home_is, home_lasting, found_is, within_bound, within_variables, within_live, within_holds}
+use Rattle.cyc_soundness.proofs.WorldLemmas.{type_grown, with_variable, variable_grows, object_typed, globals_grown, owner_grown}
+use Rattle.cyc_soundness.proofs.Hands.{Changed, Raises, at_no_hand, given_now, marked_now, marked_before, marked_keeps, giving_changed, changed_raised, open_kept, variables_kept, holds_kept, given_typed}
+use Rattle.cyc_soundness.proofs.Sharing.{plain_read}
+use Rattle.cyc_soundness.proofs.StackLemmas.{stack_changed, there_present, fields_kept, passed_kept, comes_alone, claimed_next, below_more, local_new, bound_more, set_more, home_is, home_lasting, found_is, within_bound, within_variables, within_live, within_holds}
 use Rattle.cyc_soundness.proofs.RegionLemmas.{region_known, there_open, there_lasting, known_local, owner_known}
 use Rattle.cyc_soundness.proofs.ValueLemmas.{negated, complemented, combined, zero_is}
-use Rattle.cyc_soundness.specs.Classes.{InInitial, Source}
-use Rattle.cyc_soundness.proofs.Cells.{running}
-use Rattle.cyc_soundness.proofs.Loans.{opens_on, aliases_on, closes_on}
+use Rattle.cyc_soundness.specs.Classes.{IsShared, InInitial, Source}
+use Rattle.cyc_soundness.proofs.Cells.{part_had, running}
+use Rattle.cyc_soundness.proofs.Loans.{opens_on, aliases_on, closes_on, frees_on}
 use Rattle.cyc_soundness.proofs.Objects.{plain_on, fields_on, array_on, fill_on, makes_on}
-use Rattle.cyc_soundness.proofs.Places.{gives, follow_on, member_on, index_on, advance_on, count_on, cell_stored, point_on, null_point_on}
+use Rattle.cyc_soundness.proofs.Places.{looked_result, gives, follow_on, member_on, index_on, advance_on, count_on, cell_stored, point_on, null_point_on}
 use Rattle.cyc_soundness.proofs.Evaluation.{pass_on, chain_on, converted_on, denied_on, decided_on, writes_local, writes_global}
 
 -- a scope with one local more
@@ -94,45 +97,74 @@ owner_is Never region is = absurd is
 owner_is lives.Owned region is = absurd is
 owner_is (Kept number) region is = is
 
--- no pointer leads to a local that is moved, and no other is a key
-copied_keyless : (n : Lives) (t : Ty) → is_moved t ≡ false → AreKeyless (at n t ∷ [])
-copied_keyless n types.Int plain = (tt, tt)
-copied_keyless n (types.Pointer k t r) plain = (tt, tt)
-copied_keyless n (types.Handle r) plain = (tt, tt)
-copied_keyless n (types.Key r) plain = absurd (let k : true ≡ false = plain in cc)
-copied_keyless n (types.Struct s rs) plain = (tt, tt)
-
 -- ---- a local is declared
 
 -- the local, with its new object
 abbrev new_local : World → List InScope → (number : ℕ) → Ty → Life → Bound
 new_local w bs number t l = record { number = number; object = length w.objects; of_type = read bs t; life = l; is_hidden = is_moved t }
 
-abbrev new_type : List InScope → Ty → Life → ObjectType
-new_type bs t l = variable_type (read bs t) l (is_moved t)
+abbrev new_type : (depth number : ℕ) → List InScope → Ty → Life → ObjectType
+new_type d number bs t l = variable_type (read bs t) l (is_moved t) (OfLocal d number)
 
-abbrev new_typing : Typing → List InScope → Ty → Life → (filled : ℕ) → Typing
-new_typing g bs t l n = with_object g (new_type bs t l) n
+-- what is put into it, if anything is
+abbrev its_thing : RunTy → Option values.Value → Option Thing
+its_thing t None = None
+its_thing t (Some v) = thing_of t v
+
+abbrev pub ClaimsContent : (own : Thing → Holder) → Holder → RunTy → Option values.Value → Type 0
+ClaimsContent own h t None = Unit {0}
+ClaimsContent own h t (Some v) = Claims own h t v
+
+content_owns : (own : Thing → Holder) (h : Holder) (t : RunTy) (content : Option values.Value) → ClaimsContent own h t content → Owns own h (its_thing t content)
+content_owns own h t None is = tt
+content_owns own h t (Some v) is = is.0
+
+content_given : (own : Thing → Holder) (h new : Holder) (t : RunTy) (content : Option values.Value) (v : values.Value) → ClaimsContent own h t content → content ≡ Some v → Claims (given_to (its_thing t content) new own) new t v
+content_given own h new t None v is same = absurd (let k : None ≡ Some v = same in cc)
+content_given own h new t (Some u) v is same = subst (λ z. Claims (given_to (thing_of t u) new own) new t z) (some_same u v same) (given_now own (thing_of t u) new, is.1)
+
+-- the one cell of a new variable is its own
+one_owned : (own : Thing → Holder) (object : ℕ) (t : RunTy) (c : Cell) → ((v : values.Value) → c.content ≡ Some v → Claims own (At object) t v) → AreOwned own object (t ∷ []) (c ∷ [])
+one_owned own object t c has zero u d v found at content =
+    subst (λ z. Claims own (At object) z v) (some_same t u found) (has v (ap (λ (z : Cell). z.content) (some_same c d at) ∙ content))
+one_owned own object t c has (suc i) u d v found at content = absurd (let k : None ≡ Some u = found in cc)
+
+-- the typing of the world with it, where it has what is put into it
+abbrev new_typing : Typing → List InScope → (number : ℕ) → Ty → Life → (filled object : ℕ) → Option Thing → Typing
+new_typing g bs number t l n object o = with_variable (giving g o (At object)) (new_type g.depth number bs t l) n (marked object true g.here)
 
 module _ (p : Source) (g : Typing) (x : Exits) (bs : List InScope) (e : Environment) (w : World) (typed : IsTyped g w.regions w.objects) (globals : KnowsProgram g p) (bound : IsBound e.locals e.counters bs) (variables : AreVariables g bs) where
-  pub declares : (number : ℕ) (kind : Kind) (t : Ty) (content : Option values.Value) (n : ℕ) (l : Life) (focus : Focus) (stack : List Entry) → IsNested stack e w → LiveIn stack bs → AreBelow number bs
-      → IsNumber l e.home → IsLasting (ends_of stack) l → IsKnownLife g l × IsOpenIn g l → (Grows g (new_typing g bs t l n) → AreCells (new_typing g bs t l n) (read bs t ∷ []) (record { kind = kind; content = content } ∷ []) n)
-      → (Stays g (new_typing g bs t l n) → IsFilled (new_typing g bs t l n) (length w.objects) n → IsFocus p (new_typing g bs t l n) x (Variable (new_local w bs number t l) ∷ bs) focus stack)
+  abbrev pub made_typing : (number : ℕ) → Ty → Life → (filled : ℕ) → Option values.Value → Typing
+  made_typing number t l n content = new_typing g bs number t l n (length w.objects) (its_thing (read bs t) content)
+
+  pub declares : (number : ℕ) (kind : Kind) (t : Ty) (content : Option values.Value) (n i : ℕ) (l : Life) (focus : Focus) (stack : List Entry) → IsNested stack e w → LiveIn stack bs → AreBelow number bs
+      → IsNumber l e.home → IsLasting (ends_of stack) l → IsKnownLife g l × IsOpenIn g l → ClaimsContent g.own (Hand i) (read bs t) content
+      → (Grows g (made_typing number t l n content) → AreCells (made_typing number t l n content) (read bs t ∷ []) (record { kind = kind; content = content } ∷ []) n)
+      → (Changed (Hand i) g (made_typing number t l n content) → IsFilled (made_typing number t l n content) (length w.objects) n → IsHere (made_typing number t l n content) g.depth number (length w.objects)
+      → IsFocus p (made_typing number t l n content) x (Variable (new_local w bs number t l) ∷ bs) focus stack)
       → IsWell p (declared (region_at w e.home) focus number kind content stack e w)
-  declares number kind t content n l focus stack nests live below numbered lasting (known, opens) cells goes =
-      let h = new_typing g bs t l n in
-      let stays : Stays g h = object_stays g (new_type bs t l) n in
-      let is : IsObject h n (new_type bs t l) (variable e.home kind content) =
-      record { owner = owner_is l e.home numbered; known = owner_grown g h stays.grows l (owner_known g l known); keyless = copied_keyless (lives_in bs) t; cells = cells stays.grows } in
+  declares number kind t content n i l focus stack nests live below numbered lasting (known, opens) claims cells goes =
+      let m = length w.objects in
+      let o = its_thing (read bs t) content in
+      let one = giving g o (At m) in
+      let y = new_type g.depth number bs t l in
+      let h = made_typing number t l n content in
+      let has : Owns g.own (Hand i) o = content_owns g.own (Hand i) (read bs t) content claims in
+      let raises : Raises one h = record { grows = variable_grows one y n (marked m true g.here); own = refl; here = λ object is. marked_keeps m g.here object is; depth = refl; loans = refl } in
+      let changed : Changed (Hand i) g h = changed_raised (Hand i) g one h (giving_changed g o (Hand i) (At m) has) raises in
+      let first' : IsTyped one w.regions w.objects = given_typed g o (Hand i) (At m) w.regions w.objects has tt (λ object. at_no_hand object i) typed in
+      let is : IsObject h n y (variable e.home kind content) =
+      record { owner = owner_is l e.home numbered; known = owner_grown g h changed.grows l (owner_known g l known); keyless = λ plain. (plain_read g bs variables t plain, tt); cells = cells changed.grows } in
       let (r, found) = found_is (region_at w e.home) (home_found w.regions e.home stack nests.2 nests.0) in
-      let there = subst (λ i. slice_get h.objects i ≡ Some (new_type bs t l)) (sym typed.count) (slice_get-end g.objects (new_type bs t l)) in
+      let there = subst (λ i. slice_get h.objects i ≡ Some y) (sym typed.count) (slice_get-end g.objects y) in
       let flag = subst (λ i. slice_get h.filled i ≡ Some n) (sym typed.counts) (slice_get-end g.filled n) in
       subst (λ a. IsWell p (declared a focus number kind content stack e w)) (sym found)
-      (running p h x (Variable (new_local w bs number t l) ∷ bs) (state.with_local e number (length w.objects)) (made w (variable e.home kind content))
-      (object_typed g w.regions w.objects (new_type bs t l) n (variable e.home kind content) typed is) (globals_grown g h stays.grows p (λ n ls. refl) globals.keys globals)
-      (local_new e number (length w.objects), bound_more e number (length w.objects) bs below bound) ((there, open_stays g h stays l opens), variables_grown g h stays bs variables)
+      (running p h x (Variable (new_local w bs number t l) ∷ bs) (state.with_local e number m) (made w (variable e.home kind content))
+      (object_typed one w.regions w.objects y n (variable e.home kind content) (marked m true g.here) first' is (λ object apart now. marked_before m true g.here object apart now)
+      (one_owned one.own m (read bs t) (record { kind = kind; content = content }) (λ v same. content_given g.own (Hand i) (At m) (read bs t) content v claims same))) (globals_grown g h changed.grows p (λ n ls. refl) globals.keys globals)
+      (local_new e number m, bound_more e number m bs below bound) ((there, open_kept (Hand i) g h changed l refl opens), variables_kept (Hand i) g h changed bs refl variables)
       focus stack ((lasting, live.0), live.1)
-      (goes stays (n, flag, (let most : n ≤ n = omega arith in most))))
+      (goes changed (n, flag, (let most : n ≤ n = omega arith in most)) (marked_now m true g.here, (y, there, refl))))
 
 module _ (p : Source) (g : Typing) (x : Exits) (bs : List InScope) (e : Environment) (w : World) (typed : IsTyped g w.regions w.objects) (globals : KnowsProgram g p) (bound : IsBound e.locals e.counters bs) (variables : AreVariables g bs) where
   on : (focus : Focus) (k : List Entry) → LiveIn k bs → IsFocus p g x bs focus k → IsWell p (Running focus k e w)
@@ -140,23 +172,18 @@ module _ (p : Source) (g : Typing) (x : Exits) (bs : List InScope) (e : Environm
 
   -- with a value, and the rest of its block goes on
   pub declares_full : (number : ℕ) (kind : Kind) (v : values.Value) (is_place : Bool) (t : Ty) (js : Items) (cs : List InScope) (c : Context) (f h : flow.State) (k : List Entry) → IsNested k e w → LiveIn k bs
-      → Within cs bs → IsContext p x bs c → Holds g f bs → IsNew p.reading c t → number ≡ c.next_local → kind ≡ kind_at (read bs t) → HasType g (read bs t) v → Comes g (Value (read bs t)) k
+      → Within cs bs → IsContext p x bs c → Holds g f bs → IsNew p.reading c t → number ≡ c.next_local → kind ≡ kind_at (read bs t) → HasType g (read bs t) v → ClaimsBy g (operands_in k) (Value (read bs t)) v
       → Continues p.reading x (with_local is_place t c) js (with_fullness Full f number) h → IsStack p g x cs (Go h) k → IsWell p (declared (region_at w e.home) Proceeding number kind (Some v) (Rest js ∷ k) e w)
   declares_full number kind v is_place t js cs c f h k nests live within stands holds new number_is kind_is has comes continues stack =
       let below : AreBelow number bs = subst (λ n. AreBelow n bs) (sym number_is) stands.below in
       let l = new_life p.reading bs c.region e.home k live stands.home nests.2 in
-      let u = read bs t in
       let hand = Hand (operands_in k) in
-      let its = In g.depth number in
-      let o = giving g u its in
-      let scope : AreVariables o bs = variables_other g u hand its bs comes refl variables in
-      let (reached, are) = holds_other u hand its g f bs comes (λ m s. in_no_hand g.depth m (operands_in k)) holds in
-      let h1 = new_typing o bs t l.life 1 in
-      declares p o x bs e w (given_typed g u hand its w.regions w.objects comes tt typed) (given_globals p g u its globals) bound scope number kind t (Some v) 1 l.life Proceeding (Rest js ∷ k) nests live below l.number l.lasting (l.known o scope)
-      (λ grows. ((kind_is, type_grown o h1 grows u v (type_grown g o (giving_grows g u its) u v has)), tt))
-      (λ grows full. (
+      let h1 = made_typing p g x bs e w typed globals bound variables number t l.life 1 (Some v) in
+      declares p g x bs e w typed globals bound variables number kind t (Some v) 1 (operands_in k) l.life Proceeding (Rest js ∷ k) nests live below l.number l.lasting (l.known g variables) comes
+      (λ grows. ((kind_is, type_grown g h1 grows (read bs t) v has), tt))
+      (λ changed full here. (let (reached, are) = holds_kept hand g h1 changed f bs (λ n object s its. at_no_hand object (operands_in k)) holds in (
         with_fullness Full f number,
-        (reached_with Full f number reached, ((λ s. full, λ s. given_now g u its), set_more h1 Full f number bs below (set_grown o h1 grows f bs are))),
+        (reached_with Full f number reached, ((λ s. full, λ s. here), set_more h1 Full f number bs below are)),
         (
           cs,
           with_local is_place t c,
@@ -164,26 +191,27 @@ module _ (p : Source) (g : Typing) (x : Exits) (bs : List InScope) (e : Environm
           older (Variable (new_local w bs number t l.life)) cs bs tt within,
           context_more p x bs c is_place t (new_local w bs number t l.life) stands new number_is refl refl l.homed,
           continues,
-          stack_grown p o h1 grows x cs (Go h) k (stack_other u hand its p g x cs (Go h) k comes (let le : operands_in k ≤ operands_in k = omega arith in le) stack),
+          stack_changed p hand g h1 x cs (Go h) k changed (let le : operands_in k ≤ operands_in k = omega arith in le) stack,
         ),
-      ))
+      )))
 
   -- without one
   pub declares_blank : (number : ℕ) (kind : Kind) (t : Ty) (js : Items) (cs : List InScope) (c : Context) (f h : flow.State) (k : List Entry) → IsNested k e w → LiveIn k bs
       → Within cs bs → IsContext p x bs c → Holds g f bs → IsNew p.reading c t → number ≡ c.next_local → kind ≡ kind_at (read bs t) → Continues p.reading x (with_local true t c) js (with_fullness Vacant f number) h
       → IsStack p g x cs (Go h) k → IsWell p (declared (region_at w e.home) Proceeding number kind None (Rest js ∷ k) e w)
-  declares_blank number kind t js cs c f h k nests live within stands (reached, are) new number_is kind_is continues stack =
+  declares_blank number kind t js cs c f h k nests live within stands holds new number_is kind_is continues stack =
       let below : AreBelow number bs = subst (λ n. AreBelow n bs) (sym number_is) stands.below in
       let l = new_life p.reading bs c.region e.home k live stands.home nests.2 in
-      let h0 = new_typing g bs t l.life 0 in
-      declares p g x bs e w typed globals bound variables number kind t None 0 l.life Proceeding (Rest js ∷ k) nests live below l.number l.lasting (l.known g variables) (λ grows. ((kind_is, refl), tt))
-      (λ grows full. (
+      let hand = Hand (operands_in k) in
+      let h0 = made_typing p g x bs e w typed globals bound variables number t l.life 0 None in
+      declares p g x bs e w typed globals bound variables number kind t None 0 (operands_in k) l.life Proceeding (Rest js ∷ k) nests live below l.number l.lasting (l.known g variables) tt (λ grows. ((kind_is, refl), tt))
+      (λ changed full here. (let (reached, are) = holds_kept hand g h0 changed f bs (λ n object s its. at_no_hand object (operands_in k)) holds in (
         with_fullness Vacant f number,
         (
           reached_with Vacant f number reached,
           (
             (λ s. absurd (vacant_now f number reached s), λ s. let z : false ≡ true = full_put Vacant f number reached s in absurd (cc)),
-            set_more h0 Vacant f number bs below (set_grown g h0 grows f bs are),
+            set_more h0 Vacant f number bs below are,
           ),
         ),
         (
@@ -193,9 +221,9 @@ module _ (p : Source) (g : Typing) (x : Exits) (bs : List InScope) (e : Environm
           older (Variable (new_local w bs number t l.life)) cs bs tt within,
           context_more p x bs c true t (new_local w bs number t l.life) stands new number_is refl refl l.homed,
           continues,
-          stack_grown p g h0 grows x cs (Go h) k stack,
+          stack_changed p hand g h0 x cs (Go h) k changed (let le : operands_in k ≤ operands_in k = omega arith in le) stack,
         ),
-      ))
+      )))
 
   -- ---- branches and loops
 
@@ -237,83 +265,87 @@ module _ (p : Source) (g : Typing) (x : Exits) (bs : List InScope) (e : Environm
 
   -- by a handle
   placed_by : (i : Initial) (v : values.Value) (k : List Entry) (c : Context) (m : PointerKind) (t : Ty) (r : Region) (f h : flow.State) (q : List ℕ) → AreOpen w.regions (ends_of k) → LiveIn k bs → IsContext p x bs c → Holds g f bs
-      → IsThere bs r → IsMade c i m t → Derives (rule_initial q i f) h → InInitial p.reading (relied_at x.relied k) i → HasType g (lives.Handle (lives_in bs r)) v
+      → IsThere bs r → IsMade c i m t → Derives (rule_initial q i f) h → InInitial p.reading (relied_at x.relied k) i → IsShared p.reading t → HasType g (lives.Handle (lives_in bs r)) v
       → IsStack p g x bs (Val (Value (lives.Pointer m (read bs t) (lives_in bs r))) h) k → IsWell p (makes_by i v k e w)
-  placed_by i (values.Handle region) k c m t r f h q opens live stands holds alive made flows kept has stack =
-      makes_on p g x bs e w typed globals bound variables i (InRegion region) (Needs (BesideHandle region) ∷ k) c m t r f h q opens live stands holds alive (owner_is (lives_in bs r) region has) made flows kept
+  placed_by i (values.Handle region) k c m t r f h q opens live stands holds alive made flows kept shared has stack =
+      makes_on p g x bs e w typed globals bound variables i (InRegion region) (Needs (BesideHandle region) ∷ k) c m t r f h q opens live stands holds alive (owner_is (lives_in bs r) region has) made flows kept shared
       ([], bs, Val (Value (lives.Pointer m (read bs t) (lives_in bs r))) h, stacks.beside_handle (lives.Pointer m (read bs t) (lives_in bs r)) h, tt, stack)
-  placed_by i v k c m t r f h q opens live stands holds alive made flows kept has stack = absurd has
+  placed_by i v k c m t r f h q opens live stands holds alive made flows kept shared has stack = absurd has
 
   -- the next element of an array has its value, and the counter is out of scope
   filled_on : (object count index level : ℕ) (kind : Kind) (element : Expression) (v : Operand) (k : List Entry) (cs : List InScope) (c : Context) (t : Ty) (r : Region) (f h : flow.State) → bs ≡ Level level ∷ cs
       → AreOpen w.regions (ends_of k) → LiveIn k bs → IsThere cs r → IsContext p x cs c → Holds g h bs → Repeats p.reading (relied_at x.relied k) c level kind element t f → Implies h f → index < count
-      → IsArray g (read cs t) (lives_in cs r) object count index → IsResult g (Value (read cs t)) v → IsStack p g x cs (Val (Value (lives.Pointer marks.Fat (read cs t) (lives_in cs r))) f) k
+      → IsArray g (read cs t) (lives_in cs r) object count index → Owns g.own (Hand (operands_in k)) (pointer_at (lives_in cs r) object) → IsResult g (Value (read cs t)) v → IsStack p g x cs (Val (Value (lives.Pointer marks.Fat (read cs t) (lives_in cs r))) f) k
       → IsWell p (fills_element object count index level kind element v k e w)
-  filled_on object count index level kind element v k cs c t r f h same opens live alive stands holds repeats back less array is stack =
+  filled_on object count index level kind element v k cs c t r f h same opens live alive stands holds repeats back less array has is stack =
       let outer : Within cs bs = subst (λ z. Within cs z) (sym same) (older (Level level) cs cs tt (itself cs)) in
       fill_on p g x cs e w typed globals (within_bound e cs bs outer bound) (within_variables g cs bs outer variables) object count index level kind element v k c t r f h opens (within_live k cs bs outer live) alive stands
-      (within_holds g h cs bs outer holds) repeats back less array is stack
+      (within_holds g h cs bs outer holds) repeats back less array has is stack
 
   -- ---- all that waits
 
   pub given : {a : Awaiting} {ts : List RunTy} {r : RunValue} {f : flow.State} {cs : List InScope} {next : Want} (v : Operand) (k : List Entry) → IsNested k e w → LiveIn k bs → Holds g f bs → IsResult g r v
-      → Comes g r (Needs a ∷ k) → Waits p x (relied_at x.relied k) bs a ts r f cs next → Keeps g (operands_in k) a ts → IsStack p g x cs next k → IsWell p (supplied a v k e w)
-  given v k nests live holds is comes (stacks.converts {from} {to} {target} c s t f agrees conv from_is to_is same) are stack =
-      converted_on p g x bs e w typed globals bound variables from to target v k c s t f live agrees holds is (comes_alone g k (read_value bs s) comes) conv from_is to_is same stack
+      → Comes g r v (Needs a ∷ k) → Waits p x (relied_at x.relied k) bs a ts r f cs next → Keeps g (operands_in k) a ts → IsStack p g x cs next k → IsWell p (supplied a v k e w)
+  given v k nests live holds is comes (stacks.converts {from} {to} {target} c s t f agrees keeps conv from_is to_is same) are stack =
+      converted_on p g x bs e w typed globals bound variables from to target v k c s t f live agrees keeps holds is (comes_alone g k (read_value bs s) v.value comes) conv from_is to_is same stack
   given v k nests live holds is comes (stacks.negates f) are stack =
       gives p g x bs e w typed globals bound variables k kinds.Int lives.Int f (unary_result unary.Negate v.value) live holds tt refl (negated g v.value is.1) stack
   given v k nests live holds is comes (stacks.complements f) are stack =
       gives p g x bs e w typed globals bound variables k kinds.Int lives.Int f (unary_result unary.Complement v.value) live holds tt refl (complemented g v.value is.1) stack
-  given v k nests live holds is comes (stacks.denies s f tested) are stack = denied_on p g x bs e w typed globals bound variables v k s f live holds tested is stack
-  given v k nests live holds is comes (stacks.chains {os} c s t f h stands computes) are stack =
-      chain_on p g x bs e w typed globals bound variables os v k c s t f h computes.waiting live stands holds is (comes_alone g k (read_value bs s) comes) computes.typed computes.flows computes.kept stack
+  given v k nests live holds is comes (stacks.denies seen s f tested) are stack = denied_on p g x bs e w typed globals bound variables seen v k s f live holds tested is stack
+  given v k nests live holds is comes (stacks.chains {os} seen c s t f h stands computes chained') are stack =
+      chain_on p g x bs e w typed globals bound variables os seen v k c s t f h computes.waiting live stands holds is comes chained' computes.typed computes.flows computes.kept stack
   given v k nests live holds is comes (stacks.applies {o} {left} f) ((left_is, unit), claims) stack =
       gives p g x bs e w typed globals bound variables k kinds.Int lives.Int f (binary_result o left.value v.value) live holds tt refl (combined g o left.value v.value left_is.1 is.1) stack
-  given v k nests live holds is comes (stacks.decides s f h tested i) are stack = decided_on p g x bs e w typed globals bound variables v k s f h live holds tested i is stack
+  given v k nests live holds is comes (stacks.decides seen s f h tested i) are stack = decided_on p g x bs e w typed globals bound variables seen v k s f h live holds tested i is stack
   given v k nests live holds is comes (stacks.stores_local b t f among same) are stack =
-      writes_local p g x bs e w typed globals bound variables v k b t f nests.0 live among same holds is (comes_alone g k (Value (read bs t)) comes) stack
+      writes_local p g x bs e w typed globals bound variables v k b t f nests.0 live among same holds is (comes_alone g k (Value (read bs t)) v.value comes) stack
   given v k nests live holds is comes (stacks.stores_global number t f there means) are stack =
       writes_global p g x bs e w typed globals bound variables v k number t f nests.0 live there means holds is stack
-  given v k nests live holds is comes (stacks.points {peek} {o} {left} c t s u f stands op) ((left_is, unit), claims) stack =
-      point_on p g x bs e w typed globals bound variables left v k f nests.0 live holds stands op left_is is stack
-  given v k nests live holds is comes (stacks.null_points c s u f op) are stack = null_point_on p g x bs e w typed globals bound variables v k f live holds op is stack
-  given v k nests live holds is comes (stacks.stores_cell {peek} {place} t r f alive) (((kind, to), unit), claims) stack =
-      cell_stored p g x bs e w typed globals bound variables place v t (lives_in bs r) k f nests.0 live (there_present g (ends_of k) bs r live.0 variables alive) holds to is stack
-  given v k nests live holds is comes (stacks.follows {k = pk} {target} m t r f kind same alive) are stack = follow_on p g x bs e w typed globals bound variables m pk target t (lives_in bs r) v k f live holds kind same is stack
-  given v k nests live holds is comes (stacks.follows_member {k = pk} {fields} {field} m n ls s t u r f kind struct fields_are there means alive) are stack =
-      member_on p g x bs e w typed globals bound variables m pk fields n ls s t u (lives_in bs r) field v k f nests.0 live (there_present g (ends_of k) bs r live.0 variables alive) holds kind fields_are struct there means is stack
+  given v k nests live holds is comes (stacks.points {peek} {o} {left} also c t s u f stands op) ((left_is, unit), part) stack =
+      point_on p g x bs e w typed globals bound variables also left v (operands_in (Needs (state.ApplyPointer peek o left) ∷ k)) k f nests.0 live holds stands op left_is (part_had g (operands_in k) peek (thing_of (read bs t) left.value) part) is comes stack
+  given v k nests live holds is comes (stacks.null_points also c s u f op) are stack = null_point_on p g x bs e w typed globals bound variables also v k f live holds op is stack
+  given v k nests live holds is comes (stacks.stores_cell {peek} {place} t r f alive) (((kind, to), unit), part) stack =
+      cell_stored p g x bs e w typed globals bound variables place v t (lives_in bs r) k f nests.0 live (there_present g (ends_of k) bs r live.0 variables alive)
+      (part_had g (operands_in k) peek (thing_of (lives.Pointer marks.NonNull (read bs t) (lives_in bs r)) place) part) holds to is stack
+  given v k nests live holds is comes (stacks.follows {k = pk} {target} seen u m t r f through kind same alive) are stack =
+      follow_on p g x bs e w typed globals bound variables seen u m pk target t (lives_in bs r) v k f live holds through kind same is (comes_alone g k u v.value comes) stack
+  given v k nests live holds is comes (stacks.follows_member {k = pk} {fields} {field} seen m n ls s t u r f kind struct fields_are there means alive) are stack =
+      member_on p g x bs e w typed globals bound variables seen m pk fields n ls s t u (lives_in bs r) field v k f live holds kind fields_are struct there means is
+      (comes_alone g k (lives.looked seen (Value (lives.Pointer m (lives.Struct n ls) (lives_in bs r)))) v.value comes) stack
   given v k nests live holds is comes (stacks.indexes {peek} {target} {index} c t r f h stands evaluates same alive) are stack =
-      index_on p g x bs e w typed globals bound variables peek target index c t r v k f h live holds stands evaluates same alive is stack
-  given v k nests live holds is comes (stacks.advances {peek} {target} {base} t r f same alive) ((base_is, unit), claims) stack = advance_on p g x bs e w typed globals bound variables t r target base v k f live holds same alive base_is is stack
-  given v k nests live holds is comes (stacks.counts_elements t l f) are stack = count_on p g x bs e w typed globals bound variables t l v k f live holds is stack
-  given v k nests live holds is comes (stacks.places_by {i} c m t r f h stands makes alive) are stack = placed_by i v.value k c m t r f h makes.waiting nests.0 live stands holds alive makes.typed makes.flows makes.kept is.1 stack
-  given v k nests live holds is comes (stacks.beside_handle t f) are stack = on (Given v) k live (Value t, f, holds, is, comes_alone g k (Value t) comes, stack)
+      index_on p g x bs e w typed globals bound variables peek target index c t r v k f h live holds stands evaluates same alive is (comes_alone g k (lives.looked peek (Value (lives.Pointer marks.Fat (read bs t) (lives_in bs r)))) v.value comes) stack
+  given v k nests live holds is comes (stacks.advances {peek} {target} {base} t r f same alive) ((base_is, unit), part) stack = advance_on p g x bs e w typed globals bound variables peek t r target base v k f live holds same alive base_is part is stack
+  given v k nests live holds is comes (stacks.counts_elements seen t l f) are stack = count_on p g x bs e w typed globals bound variables seen t l v k f live holds is stack
+  given v k nests live holds is comes (stacks.places_by {i} c m t r f h stands makes alive) are stack = placed_by i v.value k c m t r f h makes.waiting nests.0 live stands holds alive makes.typed makes.flows makes.kept makes.shared is.1 stack
+  given v k nests live holds is comes (stacks.beside_handle t f) are stack = on (Given v) k live (Value t, f, holds, is, comes_alone g k (Value t) v.value comes, stack)
   given v k nests live holds is comes (stacks.makes_plain {owner} {kind} t r f plain alive owned kind_is) are stack = plain_on p g x bs e w typed globals bound variables owner kind v t r k f plain nests.0 live holds alive owned kind_is is stack
   given v k nests live holds is comes (stacks.makes_fields {owner} {before} {rest} c done t ts n ls r f h alive owned stands passes fields) are stack =
       let (operands, claims) = fields_kept g (operands_in k) owner before rest done are in
-      fields_on p g x bs e w typed globals bound variables k owner (v ∷ before) (read bs t ∷ done) rest ts c n ls r f h passes.waiting nests.0 live stands holds alive owned passes.typed passes.flows passes.kept (is, operands) (claimed_next g (operands_in k) (read bs t) done before operands comes, claims) fields stack
+      fields_on p g x bs e w typed globals bound variables k owner (v ∷ before) (read bs t ∷ done) rest ts c n ls r f h passes.waiting nests.0 live stands holds alive owned passes.typed passes.flows passes.kept (is, operands) (claimed_next g (operands_in k) (read bs t) v.value done before operands comes, claims) fields stack
   given v k nests live holds is comes (stacks.makes_array {owner} {level} {kind} {element} c t r f alive owned stands repeats) are stack =
       array_on p g x bs e w typed globals bound variables owner level kind element v.value k c t r f live stands holds alive owned repeats is.1 stack
-  given v k nests live holds is comes (stacks.fills {object} {count} {index} {level} {kind} {element} cs c t r f h same alive stands repeats back) (less, array) stack =
-      filled_on object count index level kind element v k cs c t r f h same nests.0 live alive stands holds repeats back less array is stack
+  given v k nests live holds is comes (stacks.fills {object} {count} {index} {level} {kind} {element} cs c t r f h same alive stands repeats back) (less, array, has) stack =
+      filled_on object count index level kind element v k cs c t r f h same nests.0 live alive stands holds repeats back less array has is stack
   given v k nests live holds is comes (stacks.passes {callee} {before} {rest} c done t ts r f h stands passes called) are stack =
       let (operands, claims) = passed_kept g (operands_in k) callee before rest done are in
-      pass_on p g x bs e w typed globals bound variables k callee (v ∷ before) (read bs t ∷ done) rest ts c r f h passes.waiting live stands holds passes.typed passes.flows passes.kept (is, operands) (claimed_next g (operands_in k) (read bs t) done before operands comes, claims) called stack
+      pass_on p g x bs e w typed globals bound variables k callee (v ∷ before) (read bs t ∷ done) rest ts c r f h passes.waiting live stands holds passes.typed passes.flows passes.kept (is, operands) (claimed_next g (operands_in k) (read bs t) v.value done before operands comes, claims) called stack
   given v k nests live holds is comes (stacks.initialises {number} {kind} {js} cs c t f h within stands new number_is kind_is continues) are stack =
       let same : v.kind ≡ kind = is.0 ∙ kind_read (lives_in bs) t ∙ sym kind_is in
       subst (λ (b : Bool). IsWell p (if b then declared (region_at w e.home) Proceeding number kind (Some v.value) (Rest js ∷ k) e w else wrong w)) (sym (is_kind_same v.kind kind same))
-      (declares_full number kind v.value true t js cs c f h k nests live within stands holds new number_is (kind_is ∙ sym (kind_read (lives_in bs) t)) is.1 (comes_alone g k (Value (read bs t)) comes) continues stack)
-  given v k nests live holds is comes (stacks.chooses {first} {second} c d s f i j l tested stands others one two m n) are stack =
-      let (b, at_zero) = zero_is g (lives_in bs) s v tested is in
+      (declares_full number kind v.value true t js cs c f h k nests live within stands holds new number_is (kind_is ∙ sym (kind_read (lives_in bs) t)) is.1 (comes_alone g k (Value (read bs t)) v.value comes) continues stack)
+  given v k nests live holds is comes (stacks.chooses {first} {second} seen c d s f i j l tested stands others one two m n) are stack =
+      let (b, at_zero) = zero_is g (lives_in bs) s v tested (looked_result g seen (read_value bs s) v is) in
       subst (λ z. IsWell p (chosen z first second k e w)) (sym at_zero) (chosen_on b first second k c d f i j l live holds stands others one two m n stack)
-  given v k nests live holds is comes (stacks.tests {condition} {body} l s f h loop) are stack =
-      let (b, at_zero) = zero_is g (lives_in bs) s v loop.tested is in
+  given v k nests live holds is comes (stacks.tests {condition} {body} seen l s f h loop) are stack =
+      let (b, at_zero) = zero_is g (lives_in bs) s v loop.tested (looked_result g seen (read_value bs s) v is) in
       subst (λ z. IsWell p (looped z condition body k e w)) (sym at_zero) (looped_on b condition body k l s f h live holds loop stack)
   given v k nests live holds is comes (stacks.returns t u f h result gives_so) are stack =
-      on (Returning (Some v)) k live (h, subst (λ z. IsReturn g (operands_in k) z x.gives (Some v)) (sym result) (subst (λ z. IsResult g z v) gives_so is, subst (λ z. ClaimsBy g.own (Hand (operands_in k)) z) gives_so (comes_alone g k (Value u) comes)), stack)
-  given v k nests live holds is comes (stacks.closes_by_key r f) are stack = closes_on p g x bs e w typed globals bound variables v.value k r f live holds is.1 (comes_alone g k (Value (lives.Key (lives_in bs r))) comes) stack
+      on (Returning (Some v)) k live (h, subst (λ z. IsReturn g (operands_in k) z x.gives (Some v)) (sym result) (subst (λ z. IsResult g z v) gives_so is, subst (λ z. ClaimsAlone g.own (operands_in k) z v.value) gives_so (comes_alone g k (Value u) v.value comes)), stack)
+  given v k nests live holds is comes (stacks.frees_object m t f) are stack = frees_on p g x bs e w typed globals bound variables m t v.value k f live holds is.1 (comes_alone g k (Value (lives.Pointer m t lives.Owned)) v.value comes) stack
+  given v k nests live holds is comes (stacks.closes_by_key r f) are stack = closes_on p g x bs e w typed globals bound variables v.value k r f live holds is.1 (comes_alone g k (Value (lives.Key (lives_in bs r))) v.value comes) stack
   given v k nests live holds is comes (stacks.throws {tag} f h) are stack = thrown_on tag v.value k h live is.1 stack
   given v k nests live holds is comes (stacks.opens_by {number} {lent} {js} cs c b r f h i loans within stands among number_of of_type set spared full less alive number_is continues again) are stack =
       opens_on p g x bs e w typed globals bound variables number lent js v.value k cs c b r f h i live holds loans within stands among number_of of_type spared full less alive number_is continues again is.1 stack
-  given v k nests live holds is comes (stacks.aliases {number} {lent} {js} cs c b u t f h i loans within stands among number_of set spared full unique known of_type alive number_is continues again) are stack =
-      aliases_on p g x bs e w typed globals bound variables number lent js v k cs c b u t f h i live holds loans within stands among number_of spared full unique known of_type alive number_is continues again is stack
+  given v k nests live holds is comes (stacks.aliases {number} {lent} {js} cs c b u t f h i loans within stands among number_of type_is set spared full unique known of_type alive number_is continues again) are stack =
+      aliases_on p g x bs e w typed globals bound variables number lent js v k cs c b u t f h i live holds loans within stands among number_of type_is spared full unique known of_type alive number_is continues again is stack

@@ -10,6 +10,7 @@ use Rattle.cyc_types.specs.typing.Tests.{is_struct}
 use Rattle.cyc_types.specs.typing.WellTyped.{Context, IsSide}
 use Rattle.cyc_types.specs.flow.States as flow
 use Rattle.cyc_types.specs.flow.States.{fullness, is_vacant, is_reached}
+use Rattle.cyc_types.specs.flow.Expressions.{peek_behind}
 use Rattle.cyc_types.specs.flow.Statements.{rule_side, side_demanded, peeked_side}
 use Rattle.cyc_meaning.specs.Values.{Operand}
 use Rattle.cyc_meaning.specs.Values as values
@@ -18,20 +19,22 @@ use Rattle.cyc_meaning.specs.Parts.{wrong, stored_at, step_writing}
 use Rattle.cyc_meaning.specs.Swaps.{both_places, finds_right_object, finds_right, finds_left_object, swaps, swap_read, swap_content, swap_loaded, swap_loaded_at, step_swapping}
 use Rattle.cyc_meaning.specs.Nesting.{ends_of, AreOpen}
 use Rattle.cyc_soundness.proofs.Looking.{peeked_so}
-use Rattle.cyc_soundness.specs.Lives.{Life, RunTy, as_heap}
+use Rattle.cyc_soundness.specs.Lives.{Life, RunTy, as_heap, kind_at}
 use Rattle.cyc_soundness.specs.Lives as lives
-use Rattle.cyc_soundness.specs.Worlds.{ObjectType, Typing, variable_type, global_type, IsFilled, HasType, IsTyped, IsOpenLife}
-use Rattle.cyc_soundness.specs.Frames.{InScope, IsBound, AreVariables, LiveIn, IsSet, Holds, Exits, IsContext, KnowsProgram, lives_in, read}
+use Rattle.cyc_soundness.specs.Worlds.{At, Claims, IsOpenObject, ObjectType, Typing, global_type, IsFilled, HasType, IsTyped}
+use Rattle.cyc_soundness.specs.Frames.{InScope, local_type, IsBound, AreVariables, LiveIn, IsSet, Holds, Exits, IsContext, KnowsProgram, frees_in, lives_in, read}
 use Rattle.cyc_soundness.specs.Classes.{InSide, Source, and_looked, frees_of}
-use Rattle.cyc_soundness.specs.Stacks.{Finds, Go, IsSpot, of_local, of_global, of_cell, IsRead, AreSwapped, IsStack, IsWell}
+use Rattle.cyc_soundness.specs.Stacks.{IsCommonLife, IsByType, Finds, Go, IsSpot, of_local, of_global, of_cell, IsRead, AreSwapped, IsStack, IsWell}
 use Rattle.cyc_soundness.specs.Stacks as stacks
 use Rattle.cyc_soundness.proofs.Numbers.{some_same}
 use Rattle.cyc_soundness.proofs.TypeLemmas.{is_kind_same, kind_meant, place_type}
 use Rattle.cyc_soundness.proofs.FlowLemmas.{not_vacant}
-use Rattle.cyc_soundness.proofs.WorldLemmas.{cell_there, holds_grown}
+use Rattle.cyc_soundness.proofs.WorldLemmas.{cell_there}
+use Rattle.cyc_soundness.proofs.Hands.{holds_grown}
+use Rattle.cyc_soundness.proofs.Sharing.{by_type_read}
 use Rattle.cyc_soundness.proofs.StackLemmas.{stack_grown, swapped_grown, bound_of, place_local, among_bound, among_variable, among_live, among_set, open_of, globals_among, lasting_open, kept_open, object_known, among_open, IsPresent, there_present}
 use Rattle.cyc_soundness.proofs.RegionLemmas.{there_of, cell_live, global_means}
-use Rattle.cyc_soundness.proofs.Cells.{running, life_of, value_part, writes}
+use Rattle.cyc_soundness.proofs.Cells.{running, life_of, lasting_common, open_object, common_had, by_type_claims, shared_claims, value_part, content_of, writes}
 
 pub kept_both : (ds es : List Demand) → AllKept (ds ++ es) → AllKept ds × AllKept es
 kept_both [] es are = (tt, are)
@@ -45,30 +48,40 @@ pub record SpotAt (g : Typing) (w : World) (t : RunTy) (v : values.Value) : Type
   pub is : v ≡ values.Thin number offset
   pub there : slice_get g.objects number ≡ Some of_type
   pub cell : slice_get of_type.cells offset ≡ Some t
-  pub opens : IsOpenLife w.regions of_type.life
+  pub opens : IsOpenObject g w.regions number of_type.life
   pub full : IsFilled g number (suc offset)
+  pub claims : (value : values.Value) → IsByType t → g.here number ≡ true → Claims g.own (At number) t value
 
 module _ (p : Source) (g : Typing) (x : Exits) (bs : List InScope) (e : Environment) (w : World) (typed : IsTyped g w.regions w.objects) (globals : KnowsProgram g p) (bound : IsBound e.locals e.counters bs) (variables : AreVariables g bs) where
-  cell_spot : (t : Ty) (l : Life) (place : values.Value) (k : List Entry) → AreOpen w.regions (ends_of k) → IsPresent g (ends_of k) l → is_struct t ≡ false → HasType g (lives.Pointer marks.NonNull (read bs t) l) place
+  cell_spot : (t : Ty) (l : Life) (place : values.Value) (k : List Entry) → AreOpen w.regions (ends_of k) → IsPresent g (ends_of k) l → IsCommonLife l → is_struct t ≡ false → HasType g (lives.Pointer marks.NonNull (read bs t) l) place
       → SpotAt g w (read bs t) place
-  cell_spot t l (values.Thin object offset) k opens lasting plain (y, there, shown, outlasts, part) =
-      let open' = life_of g w typed k object y l there opens outlasts lasting in
+  cell_spot t l (values.Thin object offset) k opens lasting common plain (y, there, shown, outlasts, part) =
+      let open' = life_of g w typed k object y l there opens outlasts lasting (common_had g l object common) in
       let (cell, full) = value_part (lives_in bs) g object y t offset plain part in
-      record { number = object; offset = offset; of_type = y; is = refl; there = there; cell = cell; opens = open'; full = full }
-  cell_spot t l place k opens lasting plain has = absurd has
+      record { number = object; offset = offset; of_type = y; is = refl; there = there; cell = cell; opens = open'; full = full; claims = λ v by here. shared_claims g w object offset y (read bs t) typed there shown cell (At object) v }
+  cell_spot t l place k opens lasting common plain has = absurd has
 
   spot_at : (t : Ty) (f : flow.State) (v : values.Value) (k : List Entry) → AreOpen w.regions (ends_of k) → LiveIn k bs → Holds g f bs → is_struct t ≡ false → IsSpot p g bs t f v → SpotAt g w (read bs t) v
-  spot_at t f v k opens live holds plain (of_local b among of_type set) = record {
-    number = b.object;
-    offset = 0;
-    of_type = variable_type b.of_type b.life b.is_hidden;
-    is = refl;
-    there = among_variable g among variables;
-    cell = ap (λ u. Some u) of_type;
-    opens = lasting_open w.regions (ends_of k) b.life opens typed.heap
-        (kept_open g w.regions w.objects b.life typed (object_known g w.regions w.objects b.object (variable_type b.of_type b.life b.is_hidden) typed (among_variable g among variables)) (among_open g among variables)) (among_live (ends_of k) among live.0);
-    full = among_set g f among holds.1 set;
-  }
+  spot_at t f v k opens live holds plain (of_local b among of_type set) =
+      let y = local_type g.depth b in
+      let there : slice_get g.objects b.object ≡ Some y = among_variable g among variables in
+      let cell : slice_get y.cells 0 ≡ Some (read bs t) = ap (λ u. Some u) of_type in
+      let lasts = among_live (ends_of k) among live.0 in
+      let opens' : IsOpenObject g w.regions b.object b.life = open_object g w.regions b.object b.life (lasting_common (ends_of k) b.life lasts)
+      (lasting_open w.regions (ends_of k) b.life opens typed.heap (kept_open g w.regions w.objects b.life typed (object_known g w.regions w.objects b.object y typed there) (among_open g among variables)) lasts) in
+      let full : IsFilled g b.object 1 = among_set g f among holds.1 set in
+      let c = content_of p g x bs e w typed globals bound variables (kind_at (read bs t)) b.object 0 (read bs t) y there cell opens' full refl in
+      record {
+        number = b.object;
+        offset = 0;
+        of_type = y;
+        is = refl;
+        there = there;
+        cell = cell;
+        opens = opens';
+        full = full;
+        claims = λ v by here. by_type_claims g.own (At b.object) (read bs t) c.value v by (typed.owned b.object y c.object here there c.there 0 (read bs t) c.cell c.value cell c.at c.content);
+      }
   spot_at t f v k opens live holds plain (of_global number there same) =
       let (at, full, closed) = globals.globals number t there in
       record {
@@ -80,15 +93,16 @@ module _ (p : Source) (g : Typing) (x : Exits) (bs : List InScope) (e : Environm
         cell = ap (λ u. Some u) (sym same);
         opens = open_of w.regions (globals_among k) opens;
         full = full;
+        claims = λ v by here. shared_claims g w number 0 (global_type (lives.at (as_heap (frees_of p.reading)) t)) (read bs t) typed at refl (ap (λ u. Some u) (sym same)) (At number) v;
       }
-  spot_at t f v k opens live holds plain (of_cell place r alive has) = cell_spot t (lives_in bs r) place k opens (there_present g (ends_of k) bs r live.0 variables alive) plain has
+  spot_at t f v k opens live holds plain (of_cell place r alive common has) = cell_spot t (lives_in bs r) place k opens (there_present g (ends_of k) bs r live.0 variables alive) common plain has
 
   -- ---- both places are found
 
-  pub both_on : (kind : Kind) (left right : values.Value) (t : Ty) (k : List Entry) (f : flow.State) → LiveIn k bs → Holds g f bs → kind ≡ values.kind_of t → is_struct t ≡ false
+  pub both_on : (kind : Kind) (left right : values.Value) (t : Ty) (k : List Entry) (f : flow.State) → LiveIn k bs → Holds g f bs → kind ≡ values.kind_of t → is_struct t ≡ false → IsByType (read bs t)
       → IsSpot p g bs t f left → IsSpot p g bs t f right → IsStack p g x bs (Go f) k → IsWell p (both_places kind left right k e w)
-  both_on kind left right t k f live holds kind_is plain here there stack =
-      running p g x bs e w typed globals bound variables (Swapping kind left right None) k live (t, f, holds, kind_is, plain, here, there, tt, stack)
+  both_on kind left right t k f live holds kind_is plain by here there stack =
+      running p g x bs e w typed globals bound variables (Swapping kind left right None) k live (t, f, holds, kind_is, plain, by, here, there, tt, stack)
 
   global_spot : (n : ℕ) (u t : Ty) (c : Context) (f : flow.State) → IsContext p x bs c → t ≡ u → slice_get c.globals n ≡ Some u → IsSpot p g bs t f (values.Thin n 0)
   global_spot n u t c f stands same there =
@@ -96,19 +110,19 @@ module _ (p : Source) (g : Typing) (x : Exits) (bs : List InScope) (e : Environm
       let (at, full, closed) = globals.globals n t found in
       of_global n found (global_means p.reading c.regions bs t stands.regions closed)
 
-  pub finds_right_on : (kind : Kind) (peek : Option ℕ) (is_cell : Bool) (left : values.Value) (right : Side) (c : Context) (t : Ty) (k : List Entry) (f h : flow.State) (q : List ℕ) → LiveIn k bs → IsContext p x bs c → Holds g f bs
+  pub finds_right_on : (kind : Kind) (peek : Option ℕ) (is_cell : Bool) (left : values.Value) (right : Side) (c : Context) (t : Ty) (k : List Entry) (f h : flow.State) (q : List ℕ) → LiveIn k bs → IsContext p x bs c → Holds g f bs → frees_in bs ≡ false
       → kind ≡ values.kind_of t → is_struct t ≡ false → (Unit {0} → IsSpot p g bs t h left) → IsSide c right t → Derives (rule_side q right f) h → AllKept (side_demanded q right h) → InSide p.reading (and_looked peek x.relied) right
       → IsStack p g x bs (Go h) k → IsWell p (finds_right kind peek is_cell left right k e w)
-  finds_right_on kind peek is_cell left (VariableSide (Local place n) u) c t k f h q live stands holds kind_is plain here (r, (m, has, region, there), same) (unit, known) used kept stack =
+  finds_right_on kind peek is_cell left (VariableSide (Local place n) u) c t k f h q live stands holds none kind_is plain here (r, (m, has, region, there), same) (unit, known) used kept stack =
       let (b, among, number, of_type) = bound_of p.reading (lives_in bs) c.locals bs n u m stands.scope (place_local c.locals n u m has) in
       let at : e.locals n ≡ Some b.object = ap e.locals (sym number) ∙ among_bound e among bound in
       let set : IsSet h b.number = subst (λ i. IsSet h i) (sym number) (not_vacant (is_vacant (fullness h n)) used.0) in
       subst (λ o. IsWell p (finds_right_object kind left o k e w)) (sym at)
-      (both_on kind left (values.Thin b.object 0) t k h live (subst (λ z. Holds g z bs) (sym known) holds) kind_is plain (here tt) (of_local b among (of_type ∙ ap (read bs) (sym same)) set) stack)
-  finds_right_on kind peek is_cell left (VariableSide (Global n) u) c t k f h q live stands holds kind_is plain here (r, (region, there), same) (unit, known) used kept stack =
-      both_on kind left (values.Thin n 0) t k h live (subst (λ z. Holds g z bs) (sym known) holds) kind_is plain (here tt)
+      (both_on kind left (values.Thin b.object 0) t k h live (subst (λ z. Holds g z bs) (sym known) holds) kind_is plain (by_type_read g bs variables t none) (here tt) (of_local b among (of_type ∙ ap (read bs) (sym same)) set) stack)
+  finds_right_on kind peek is_cell left (VariableSide (Global n) u) c t k f h q live stands holds none kind_is plain here (r, (region, there), same) (unit, known) used kept stack =
+      both_on kind left (values.Thin n 0) t k h live (subst (λ z. Holds g z bs) (sym known) holds) kind_is plain (by_type_read g bs variables t none) (here tt)
       (global_spot n u t c h stands same there) stack
-  finds_right_on kind peek is_cell left (CellSide d) c t k f h q live stands holds kind_is plain here (r, cell) flows used kept stack =
+  finds_right_on kind peek is_cell left (CellSide d) c t k f h q live stands holds none kind_is plain here (r, cell) flows used kept stack =
       running p g x bs e w typed globals bound variables (Locating d) (NeedsPlace (SwapRight kind peek is_cell left) ∷ k) live (
         c,
         t,
@@ -118,24 +132,24 @@ module _ (p : Source) (g : Typing) (x : Exits) (bs : List InScope) (e : Environm
         stands,
         holds,
         record { waiting = q; typed = cell; flows = flows; kept = kept },
-        (Go h, stacks.swaps_right t r h (there_of p x bs c stands r (cell_live c d t r cell)) kind_is, (t, refl, plain, here tt), stack),
+        (Go h, stacks.swaps_right (peek_behind d) t r h (there_of p x bs c stands r (cell_live c d t r cell)) none kind_is, (t, refl, plain, here tt), stack),
       )
 
-  pub swap_on : (y z : Side) (c : Context) (t : Ty) (k : List Entry) (f f1 h : flow.State) (q : List ℕ) → LiveIn k bs → IsContext p x bs c → Holds g f bs → is_struct t ≡ false
+  pub swap_on : (y z : Side) (c : Context) (t : Ty) (k : List Entry) (f f1 h : flow.State) (q : List ℕ) → LiveIn k bs → IsContext p x bs c → Holds g f bs → frees_in bs ≡ false → is_struct t ≡ false
       → IsSide c y t → Derives (rule_side [] y f) f1 → AllKept (side_demanded [] y h) → InSide p.reading x.relied y → (is_reached f1 ≡ true → Finds p.reading (and_looked (peeked_side y) x.relied) c z f1 t h) → IsStack p g x bs (Go h) k → IsWell p (swaps y z k e w)
-  swap_on (VariableSide (Local place n) u) z c t k f f1 h q live stands holds plain (r, (m, has, region, there), same) (unit, known) used kept later stack =
+  swap_on (VariableSide (Local place n) u) z c t k f f1 h q live stands holds none plain (r, (m, has, region, there), same) (unit, known) used kept later stack =
       let finds = later (ap is_reached known ∙ holds.0) in
       let (b, among, number, of_type) = bound_of p.reading (lives_in bs) c.locals bs n u m stands.scope (place_local c.locals n u m has) in
       let at : e.locals n ≡ Some b.object = ap e.locals (sym number) ∙ among_bound e among bound in
       let set : IsSet h b.number = subst (λ i. IsSet h i) (sym number) (not_vacant (is_vacant (fullness h n)) used.0) in
       subst (λ o. IsWell p (finds_left_object (values.kind_of u) o z k e w)) (sym at)
-      (finds_right_on (values.kind_of u) None false (values.Thin b.object 0) z c t k f1 h finds.waiting live stands (subst (λ i. Holds g i bs) (sym known) holds) (ap values.kind_of (sym same)) plain
+      (finds_right_on (values.kind_of u) None false (values.Thin b.object 0) z c t k f1 h finds.waiting live stands (subst (λ i. Holds g i bs) (sym known) holds) none (ap values.kind_of (sym same)) plain
       (λ i. of_local b among (of_type ∙ ap (read bs) (sym same)) set) finds.typed finds.flows finds.used finds.kept stack)
-  swap_on (VariableSide (Global n) u) z c t k f f1 h q live stands holds plain (r, (region, there), same) (unit, known) used kept later stack =
+  swap_on (VariableSide (Global n) u) z c t k f f1 h q live stands holds none plain (r, (region, there), same) (unit, known) used kept later stack =
       let finds = later (ap is_reached known ∙ holds.0) in
-      finds_right_on (values.kind_of u) None false (values.Thin n 0) z c t k f1 h finds.waiting live stands (subst (λ i. Holds g i bs) (sym known) holds) (ap values.kind_of (sym same)) plain
+      finds_right_on (values.kind_of u) None false (values.Thin n 0) z c t k f1 h finds.waiting live stands (subst (λ i. Holds g i bs) (sym known) holds) none (ap values.kind_of (sym same)) plain
       (λ i. global_spot n u t c h stands same there) finds.typed finds.flows finds.used finds.kept stack
-  swap_on (CellSide d) z c t k f f1 h q live stands holds plain (r, cell) flows used kept finds stack =
+  swap_on (CellSide d) z c t k f f1 h q live stands holds none plain (r, cell) flows used kept finds stack =
       running p g x bs e w typed globals bound variables (Locating d) (NeedsPlace (SwapLeft (values.kind_of (type_of_place d)) (peeked d) z) ∷ k) live (
         c,
         t,
@@ -145,56 +159,56 @@ module _ (p : Source) (g : Typing) (x : Exits) (bs : List InScope) (e : Environm
         stands,
         holds,
         record { waiting = []; typed = cell; flows = flows; kept = kept },
-        (Go h, stacks.swaps_left c t r f1 h (there_of p x bs c stands r (cell_live c d t r cell)) stands (ap values.kind_of (sym (place_type c d t r cell))) plain (λ reached. subst (λ o. Finds p.reading (and_looked o x.relied) c z f1 t h) (sym (peeked_so d)) (finds reached)), tt, stack),
+        (Go h, stacks.swaps_left (peek_behind d) c t r f1 h (there_of p x bs c stands r (cell_live c d t r cell)) none stands (ap values.kind_of (sym (place_type c d t r cell))) plain (λ reached. subst (λ o. Finds p.reading (and_looked o x.relied) c z f1 t h) (sym (peeked_so d)) (finds reached)), tt, stack),
       )
 
   -- ---- both are read
 
-  swap_read_on : (kind : Kind) (left right : values.Value) (before : Option Operand) (value : values.Value) (t : Ty) (k : List Entry) (f : flow.State) → LiveIn k bs → Holds g f bs → kind ≡ values.kind_of t → is_struct t ≡ false
+  swap_read_on : (kind : Kind) (left right : values.Value) (before : Option Operand) (value : values.Value) (t : Ty) (k : List Entry) (f : flow.State) → LiveIn k bs → Holds g f bs → kind ≡ values.kind_of t → is_struct t ≡ false → IsByType (read bs t)
       → IsSpot p g bs t f left → IsSpot p g bs t f right → IsRead g (read bs t) before → HasType g (read bs t) value → IsStack p g x bs (Go f) k → IsWell p (swap_read kind left right before value k e w)
-  swap_read_on kind left right None value t k f live holds kind_is plain here there before has stack =
+  swap_read_on kind left right None value t k f live holds kind_is plain by here there before has stack =
       running p g x bs e w typed globals bound variables (Swapping kind left right (Some (record { kind = kind; value = value }))) k live
-      (t, f, holds, kind_is, plain, here, there, (kind_is ∙ sym (kind_meant (lives_in bs) t), has), stack)
-  swap_read_on kind left right (Some v) value t k f live holds kind_is plain here there before has stack =
+      (t, f, holds, kind_is, plain, by, here, there, (kind_is ∙ sym (kind_meant (lives_in bs) t), has), stack)
+  swap_read_on kind left right (Some v) value t k f live holds kind_is plain by here there before has stack =
       running p g x bs e w typed globals bound variables (Writing (
       record { place = left; operand = record { kind = kind; value = value } }
       ∷ record { place = right; operand = v }
       ∷ []) None) k live
-      (f, holds, ((t, plain, here, (kind_is ∙ sym (kind_meant (lives_in bs) t), has)), ((t, plain, there, before), tt)), stack)
+      (f, holds, ((t, plain, by, here, (kind_is ∙ sym (kind_meant (lives_in bs) t), has)), ((t, plain, by, there, before), tt)), stack)
 
   swap_content_on : (kind : Kind) (left right : values.Value) (before : Option Operand) (t : Ty) (k : List Entry) (f : flow.State) (number offset : ℕ) (y : ObjectType) → LiveIn k bs → Holds g f bs
-      → kind ≡ values.kind_of t → is_struct t ≡ false → IsSpot p g bs t f left → IsSpot p g bs t f right → IsRead g (read bs t) before → slice_get g.objects number ≡ Some y → slice_get y.cells offset ≡ Some (read bs t)
-      → IsOpenLife w.regions y.life → IsFilled g number (suc offset) → IsStack p g x bs (Go f) k
+      → kind ≡ values.kind_of t → is_struct t ≡ false → IsByType (read bs t) → IsSpot p g bs t f left → IsSpot p g bs t f right → IsRead g (read bs t) before → slice_get g.objects number ≡ Some y → slice_get y.cells offset ≡ Some (read bs t)
+      → IsOpenObject g w.regions number y.life → IsFilled g number (suc offset) → IsStack p g x bs (Go f) k
       → IsWell p (swap_loaded kind left right before (cell_at w number offset) k e w)
-  swap_content_on kind left right before t k f number offset y live holds kind_is plain here there read_is at cells opens (m, flag, enough) stack =
+  swap_content_on kind left right before t k f number offset y live holds kind_is plain by here there read_is at cells opens (m, flag, enough) stack =
       let c = cell_there g w number offset (read bs t) y typed at cells opens in
       let count : m ≡ c.filled = some_same m c.filled (sym flag ∙ c.flag) in
       let (v, content, has) = c.of.content (let less : suc offset ≤ c.filled = omega (arith, count, enough) in less) in
       subst (λ a. IsWell p (swap_loaded kind left right before a k e w)) (sym c.found)
       (subst (λ (b : Bool). IsWell p (if b then swap_content kind left right before c.of.cell.content k e w else wrong w)) (sym (is_kind_same c.of.cell.kind kind (c.of.kind ∙ kind_meant (lives_in bs) t ∙ sym kind_is)))
       (subst (λ o. IsWell p (swap_content kind left right before o k e w)) (sym content)
-      (swap_read_on kind left right before v t k f live holds kind_is plain here there read_is has stack)))
+      (swap_read_on kind left right before v t k f live holds kind_is plain by here there read_is has stack)))
 
   pub swapping_on : (kind : Kind) (left right : values.Value) (before : Option Operand) (t : Ty) (k : List Entry) (f : flow.State) → AreOpen w.regions (ends_of k) → LiveIn k bs → Holds g f bs → kind ≡ values.kind_of t
-      → is_struct t ≡ false → IsSpot p g bs t f left → IsSpot p g bs t f right → IsRead g (read bs t) before → IsStack p g x bs (Go f) k → IsWell p (step_swapping kind left right before k e w)
-  swapping_on kind left right None t k f opens live holds kind_is plain here there read_is stack =
+      → is_struct t ≡ false → IsByType (read bs t) → IsSpot p g bs t f left → IsSpot p g bs t f right → IsRead g (read bs t) before → IsStack p g x bs (Go f) k → IsWell p (step_swapping kind left right before k e w)
+  swapping_on kind left right None t k f opens live holds kind_is plain by here there read_is stack =
       let s = spot_at t f left k opens live holds plain here in
       subst (λ v. IsWell p (swap_loaded_at kind left right None v k e w)) (sym s.is)
-      (swap_content_on kind left right None t k f s.number s.offset s.of_type live holds kind_is plain here there read_is s.there s.cell s.opens s.full stack)
-  swapping_on kind left right (Some v) t k f opens live holds kind_is plain here there read_is stack =
+      (swap_content_on kind left right None t k f s.number s.offset s.of_type live holds kind_is plain by here there read_is s.there s.cell s.opens s.full stack)
+  swapping_on kind left right (Some v) t k f opens live holds kind_is plain by here there read_is stack =
       let s = spot_at t f right k opens live holds plain there in
       subst (λ v'. IsWell p (swap_loaded_at kind left right (Some v) v' k e w)) (sym s.is)
-      (swap_content_on kind left right (Some v) t k f s.number s.offset s.of_type live holds kind_is plain here there read_is s.there s.cell s.opens s.full stack)
+      (swap_content_on kind left right (Some v) t k f s.number s.offset s.of_type live holds kind_is plain by here there read_is s.there s.cell s.opens s.full stack)
 
   -- ---- and written
 
   pub swapped_on : (ws : List Write) (k : List Entry) (f : flow.State) → AreOpen w.regions (ends_of k) → LiveIn k bs → Holds g f bs → AreSwapped p g bs f ws → IsStack p g x bs (Go f) k
       → IsWell p (step_writing ws None k e w)
   swapped_on [] k f opens live holds are stack = running p g x bs e w typed globals bound variables Proceeding k live (f, holds, stack)
-  swapped_on (one ∷ ws) k f opens live holds ((t, plain, spot, is), are) stack =
+  swapped_on (one ∷ ws) k f opens live holds ((t, plain, by, spot, is), are) stack =
       let s = spot_at t f one.place k opens live holds plain spot in
       let (m, flag, enough) = s.full in
       subst (λ v. IsWell p (stored_at v one.operand (Writing ws None) k e w)) (sym s.is)
       (writes p g x bs e w typed globals bound variables one.operand (Writing ws None) k s.number s.offset m (read bs t) s.of_type live s.there s.cell s.opens flag
-      (let few : s.offset ≤ m = omega (arith, enough) in few) is
+      (let few : s.offset ≤ m = omega (arith, enough) in few) is (λ here. s.claims one.operand.value by here)
       (λ grows now. (f, holds_grown g _ grows f bs holds, swapped_grown p g _ grows.grows bs f ws are, stack_grown p g _ grows x bs (Go f) k stack)))

@@ -1,11 +1,11 @@
 -- THE CONTROL STACK is left entry by entry: normally, by `break`, `continue` and `return`, and by an exception.
-use Rattle.std.proofs.Common.{◌≡◌, ◌≤◌, ℕ, arith, Bool, true, false, List, [], ◌∷◌, Option, Some, None, refl, sym, ap, subst, ◌∙◌}
+use Rattle.std.proofs.Common.{◌≡◌, ◌≤◌, ℕ, zero, suc, arith, Bool, true, false, List, [], ◌∷◌, Option, Some, None, refl, sym, ap, subst, ◌∙◌}
 use Rattle.cyc_types.specs.Types.{Ty, ValueType, result_type}
 use Rattle.cyc_types.specs.Types as types
 use Rattle.cyc_types.specs.TypedTrees.{Expression, Statement}
 use Rattle.cyc_types.specs.flow.States as flow
 use Rattle.cyc_types.specs.flow.States.{Full, is_reached, with_fullness, with_each}
-use Rattle.cyc_meaning.specs.Values.{Operand}
+use Rattle.cyc_meaning.specs.Values.{Operand, Cell}
 use Rattle.cyc_meaning.specs.Values as values
 use Rattle.cyc_meaning.specs.State.{World, closed, region_at, Environment, Test, Entry, Needs, NeedsPlace, Discard, Rest, Join, Loop, CloseRegion, CloseLexical, EndLoan, Handler, Caller, Main, Focus, Evaluating, Given, Proceeding, Breaking, Continuing, Returning, Throwing, Catching, Running}
 use Rattle.cyc_meaning.specs.Parts.{closing}
@@ -14,15 +14,16 @@ use Rattle.cyc_meaning.specs.Nesting.{IsNested}
 use Rattle.cyc_meaning.specs.Step.{step_proceeding, step_breaking, step_continuing, returned, main_returned, step_returning, step_throwing}
 use Rattle.cyc_soundness.specs.Lives.{Life, RunTy, RunValue, Value}
 use Rattle.cyc_soundness.specs.Lives as lives
-use Rattle.cyc_soundness.specs.Worlds.{Hand, In, Lent, Claims, giving, Typing, HasType, IsTyped}
+use Rattle.cyc_soundness.specs.Worlds.{OfLocal, Thing, Holder, Hand, At, Lent, thing_of, IsStart, Claims, giving, given, marked, handing, AreOwned, variable_type, Typing, HasType, IsTyped}
 use Rattle.cyc_soundness.specs.Frames.{InScope, Names, Home, IsBound, AreVariables, AreFullAt, LiveIn, Holds, Implies, LoopExit, Exits, HasResult, is_loop, KnowsProgram}
-use Rattle.cyc_soundness.specs.Stacks.{IsLoop, Want, Nothing, Val, PlaceOf, Go, operands_in, IsBlocked, IsReturn, IsStack, IsFocus, IsWell}
+use Rattle.cyc_soundness.specs.Stacks.{IsByType, IsLentOut, IsLoop, Want, Nothing, Val, PlaceOf, Go, operands_in, IsBlocked, IsReturn, IsStack, IsFocus, IsWell}
 use Rattle.cyc_soundness.specs.Stacks as stacks
 use Rattle.cyc_soundness.proofs.Numbers.{some_same}
 use Rattle.cyc_soundness.proofs.FlowLemmas.{holds_implied, full_added}
-use Rattle.cyc_soundness.proofs.StackLemmas.{void_goes, given_back, stack_other, none_lent, in_not_lent, full_at_grown, not_heap, lexical_not_heap, within_bound, within_variables, within_live, within_holds, found_is, waits_within}
-use Rattle.cyc_soundness.proofs.WorldLemmas.{closed_typed, result_grown, claims_by_other, given_typed, given_globals, variables_other, moment_grows, moment_typed, moment_globals, holds_lent}
-use Rattle.cyc_soundness.proofs.Cells.{running}
+use Rattle.cyc_soundness.proofs.StackLemmas.{void_goes, given_back, stack_changed, none_lent, full_at_grown, not_heap, lexical_not_heap, within_bound, within_variables, within_live, within_holds, found_is, waits_within}
+use Rattle.cyc_soundness.proofs.WorldLemmas.{closed_typed, result_grown}
+use Rattle.cyc_soundness.proofs.Hands.{Changed, at_not_lent, given_now, marked_now, handing_changed, alone_kept, alone_comes, variables_kept, given_typed, raised_typed, hands_globals, moment_grows, moment_typed, moment_globals, holds_lent}
+use Rattle.cyc_soundness.proofs.Cells.{by_type_claims, running}
 use Rattle.cyc_soundness.proofs.Execution.{continue_with}
 use Rattle.cyc_soundness.specs.Classes.{Source}
 
@@ -58,46 +59,66 @@ module _ (p : Source) (g : Typing) (e : Environment) (w : World) (typed : IsType
         → IsWell p (Running (Evaluating condition) (Needs (Test condition body) ∷ k) e w)
     tests_again condition body k y l v u h live loop holds stack =
         running p g y bs e w typed globals bound variables (Evaluating condition) (Needs (Test condition body) ∷ k) live
-        (loop.context, v, l.head, u, loop.stands, holds, loop.first, ([], bs, Go h, stacks.tests l v u h loop, tt, stack))
+        (loop.context, v, l.head, u, loop.stands, holds, loop.first, ([], bs, Go h, stacks.tests (stacks.seen_by condition loop.first.typed) l v u h loop, tt, stack))
 
     -- ---- a loan ends
 
     -- what was lent is its local's again
-    abbrev ended_typing : (lent j : ℕ) → RunTy → Typing
-    ended_typing lent j t = giving (record g { loans = j }) t (In g.depth lent)
+    abbrev ended_typing : (j : ℕ) → RunTy → (object : ℕ) → Typing
+    ended_typing j t object = handing (record g { loans = j }) (thing_of t values.Null) (At object) object true
 
-    record HasEnded (lent j : ℕ) (t : RunTy) (y : Exits) (h : flow.State) (k : List Entry) : Type 0 where
-      objects : IsTyped (ended_typing lent j t) w.regions w.objects
-      knows : KnowsProgram (ended_typing lent j t) p
-      scope : AreVariables (ended_typing lent j t) bs
-      stack : IsStack p (ended_typing lent j t) y bs (Go h) k
+    record HasEnded (j : ℕ) (t : RunTy) (object : ℕ) (y : Exits) (h : flow.State) (k : List Entry) : Type 0 where
+      objects : IsTyped (ended_typing j t object) w.regions w.objects
+      knows : KnowsProgram (ended_typing j t object) p
+      scope : AreVariables (ended_typing j t object) bs
+      stack : IsStack p (ended_typing j t object) y bs (Go h) k
 
-    ends : (lent j : ℕ) (t : RunTy) (y : Exits) (h : flow.State) (k : List Entry) → Claims g.own (Lent j) t → AreVariables (record g { loans = j }) bs → IsStack p (record g { loans = j }) y bs (Go h) k → HasEnded lent j t y h k
-    ends lent j t y h k claims scope stack =
+    null_start : (t : RunTy) → IsStart t values.Null
+    null_start lives.Int = tt
+    null_start (lives.Pointer k t l) = tt
+    null_start (lives.Handle l) = tt
+    null_start (lives.Key l) = tt
+    null_start (lives.Struct n ls) = tt
+
+    ended_changed : (lent j : ℕ) (t : RunTy) (object : ℕ) → IsLentOut g lent j t object → Changed (Lent j) (record g { loans = j }) (ended_typing j t object)
+    ended_changed lent j t object (l, hidden, there, by, owns) = handing_changed (record g { loans = j }) (thing_of t values.Null) (Lent j) (At object) object true owns (λ same. let z : true ≡ false = same in absurd (cc))
+
+    ends : (lent j : ℕ) (t : RunTy) (object : ℕ) (y : Exits) (h : flow.State) (k : List Entry) → IsLentOut g lent j t object → AreVariables (record g { loans = j }) bs → IsStack p (record g { loans = j }) y bs (Go h) k → HasEnded j t object y h k
+    ends lent j t object y h k (l, hidden, there, by, owns) scope stack =
         let m = record g { loans = j } in
-        let its = In g.depth lent in
+        let o = thing_of t values.Null in
+        let its = At object in
+        let z = ended_typing j t object in
         let le : j ≤ j = omega arith in
+        let changed = ended_changed lent j t object (l, hidden, there, by, owns) in
+        let given_back' = giving m o its in
+        let first' : IsTyped given_back' w.regions w.objects = given_typed m o (Lent j) its w.regions w.objects owns tt (λ n. at_not_lent n j) (moment_typed g g.depth j w.regions w.objects typed) in
         record {
-          objects = given_typed m t (Lent j) its w.regions w.objects claims tt (moment_typed g g.depth j w.regions w.objects typed);
-          knows = given_globals p m t its (moment_globals p g g.depth j globals);
-          scope = variables_other m t (Lent j) its bs claims (none_lent y m k (Lent j) le) scope;
-          stack = stack_other t (Lent j) its p m y bs (Go h) k claims le stack;
+          objects = raised_typed given_back' object (variable_type t l hidden (OfLocal g.depth lent)) w.regions w.objects there (λ x stands. variable_owned given_back'.own object t x.cells by (given_now g.own o its, null_start t)) first';
+          knows = hands_globals p m (given o its g.own) (marked object true g.here) (moment_globals p g g.depth j globals);
+          scope = variables_kept (Lent j) m z changed bs (none_lent y m k (Lent j) le) scope;
+          stack = stack_changed p (Lent j) m z y bs (Go h) k changed le stack;
         }
+      where
+        variable_owned : (own : Thing → Holder) (object : ℕ) (t : RunTy) (cs : List Cell) → IsByType t → Claims own (At object) t values.Null → AreOwned own object (t ∷ []) cs
+        variable_owned own object t cs by is zero u c v found at content = subst (λ e. Claims own (At object) e v) (some_same t u found) (by_type_claims own (At object) t values.Null v by is)
+        variable_owned own object t cs by is (suc i) u c v found at content = absurd (let e : None ≡ Some u = found in cc)
 
     -- and it is full
-    ended_holds : (f : flow.State) (lent j : ℕ) (t : RunTy) → Claims g.own (Lent j) t → AreFullAt g lent t bs → Holds g f bs → Holds (ended_typing lent j t) (with_fullness Full f lent) bs
-    ended_holds f lent j t claims full holds =
+    ended_holds : (f : flow.State) (lent j : ℕ) (t : RunTy) (object : ℕ) → IsLentOut g lent j t object → AreFullAt g lent object bs → Holds g f bs → Holds (ended_typing j t object) (with_fullness Full f lent) bs
+    ended_holds f lent j t object (l, hidden, there, by, owns) full holds =
         let m = record g { loans = j } in
-        given_back m f lent t (Lent j) bs claims (λ i. in_not_lent g.depth i j) (full_at_grown p g m (moment_grows g g.depth j) lent t bs full) (holds_lent g j f bs holds)
+        given_back (Lent j) m (ended_typing j t object) (ended_changed lent j t object (l, hidden, there, by, owns)) lent object (λ i. at_not_lent i j) (marked_now object true g.here, (variable_type t l hidden (OfLocal g.depth lent), there, refl)) f bs
+        (full_at_grown p g m (moment_grows g g.depth j) lent object bs full) (holds_lent g j f bs holds)
 
     -- a value that is returned is still who has it
-    return_other : (i lent j : ℕ) (t : RunTy) (o : Option Ty) (r : RunValue) (v : Option Operand) → Claims g.own (Lent j) t → IsReturn g i o r v → IsReturn (ended_typing lent j t) i o r v
-    return_other i lent j t None r None claims is = tt
-    return_other i lent j t None r (Some v) claims is = absurd is
-    return_other i lent j t (Some u) r None claims is = absurd is
-    return_other i lent j t (Some u) r (Some v) claims (is, has) = (
-      result_grown g (ended_typing lent j t) (record { objects = λ n u is. is; filled = λ n count is. is; fields = λ n ls ts is. is; kept = λ n is. is }) r v is,
-      claims_by_other g t (Lent j) (In g.depth lent) (Hand i) r claims (λ e. let z : Hand i ≡ Lent j = e in absurd (cc)) has,
+    return_other : (i lent j : ℕ) (t : RunTy) (object : ℕ) (o : Option Ty) (r : RunValue) (v : Option Operand) → IsLentOut g lent j t object → IsReturn g i o r v → IsReturn (ended_typing j t object) i o r v
+    return_other i lent j t object None r None claims is = tt
+    return_other i lent j t object None r (Some v) claims is = absurd is
+    return_other i lent j t object (Some u) r None claims is = absurd is
+    return_other i lent j t object (Some u) r (Some v) claims (is, has) = (
+      result_grown g (ended_typing j t object) (record { objects = λ n u is. is; filled = λ n count is. is; fields = λ n ls ts is. is; kept = λ n is. is }) r v is,
+      alone_kept (Lent j) (record g { loans = j }) (ended_typing j t object) (ended_changed lent j t object claims) i r v.value (λ e. let z : Hand i ≡ Lent j = e in absurd (cc)) has,
     )
 
     -- ---- to the end of a call
@@ -111,10 +132,10 @@ module _ (p : Source) (g : Typing) (e : Environment) (w : World) (typed : IsType
     proceed (CloseRegion region home ∷ k) f nests live holds (cs, number, l, alive, h, same, i, outer, stack) =
         closes Proceeding region home number l alive k cs same nests outer (h, holds_implied g f h cs i (outside_holds f region number l alive cs same holds), stack)
     proceed (CloseLexical region ∷ k) f nests live holds (h, i, outer, stack) = closes_lexical Proceeding region k nests outer (h, holds_implied g f h bs i holds, stack)
-    proceed (EndLoan lent ∷ k) f nests live holds (y, h, j, t, same, loans, claims, i, full, scope, stack) =
-        let z = ends lent j t y h k claims scope stack in
-        running p (ended_typing lent j t) y bs e w z.objects z.knows bound z.scope Proceeding k live
-        (h, holds_implied (ended_typing lent j t) (with_fullness Full f lent) h bs i (ended_holds f lent j t claims full holds), z.stack)
+    proceed (EndLoan lent ∷ k) f nests live holds (y, h, j, t, object, same, loans, claims, i, full, scope, stack) =
+        let z = ends lent j t object y h k claims scope stack in
+        running p (ended_typing j t object) y bs e w z.objects z.knows bound z.scope Proceeding k live
+        (h, holds_implied (ended_typing j t object) (with_fullness Full f lent) h bs i (ended_holds f lent j t object claims full holds), z.stack)
     proceed (Handler cs ∷ k) f nests live holds (y, c, start, h, same, stands, known, catches, i, stack) =
         running p g y bs e w typed globals bound variables Proceeding k live (h, holds_implied g f h bs i holds, stack)
     proceed (Caller outer ∷ k) f nests live holds (y, cs, h, d, depth, loop, blocked, gives, bound', variables', live', holds', stack) = go x.result refl
@@ -142,11 +163,11 @@ module _ (p : Source) (g : Typing) (e : Environment) (w : World) (typed : IsType
     breaks (CloseRegion region home ∷ k) l f h nests live same holds left (cs, number, m, alive, i, bs_are, implies, outer, stack) =
         closes Breaking region home number m alive k cs bs_are nests outer (l, f, i, same, outside_holds f region number m alive cs bs_are holds, left, stack)
     breaks (CloseLexical region ∷ k) l f h nests live same holds left (i, implies, outer, stack) = closes_lexical Breaking region k nests outer (l, f, i, same, holds, left, stack)
-    breaks (EndLoan lent ∷ k) l f h nests live same holds left (y, i, j, t, lent_is, loans, claims, implies, full, scope, stack) =
-        let z = ends lent j t y i k claims scope stack in
+    breaks (EndLoan lent ∷ k) l f h nests live same holds left (y, i, j, t, object, lent_is, loans, claims, implies, full, scope, stack) =
+        let z = ends lent j t object y i k claims scope stack in
         let locks : with_each Full x.locks f ≡ with_each Full y.locks (with_fullness Full f lent) = ap (λ (z : Exits). with_each Full z.locks f) lent_is ∙ full_added lent y.locks f in
-        running p (ended_typing lent j t) y bs e w z.objects z.knows bound z.scope Breaking k live
-        (l, with_fullness Full f lent, i, sym (ap (λ (z : Exits). z.loop) lent_is) ∙ same, ended_holds f lent j t claims full holds, subst (λ z. Implies z l.breaks) locks left, z.stack)
+        running p (ended_typing j t object) y bs e w z.objects z.knows bound z.scope Breaking k live
+        (l, with_fullness Full f lent, i, sym (ap (λ (z : Exits). z.loop) lent_is) ∙ same, ended_holds f lent j t object claims full holds, subst (λ z. Implies z l.breaks) locks left, z.stack)
     breaks (Handler cs ∷ k) l f h nests live same holds left (y, c, start, i, relies, stands, known, catches, implies, stack) =
         running p g y bs e w typed globals bound variables Breaking k live
         (l, f, i, sym (ap (λ (z : Exits). z.loop) relies) ∙ same, holds, subst (λ ns. Implies (with_each Full ns f) l.breaks) (ap (λ (z : Exits). z.locks) relies) left, stack)
@@ -168,11 +189,11 @@ module _ (p : Source) (g : Typing) (e : Environment) (w : World) (typed : IsType
     continues (CloseRegion region home ∷ k) l f h nests live same holds left (cs, number, m, alive, i, bs_are, implies, outer, stack) =
         closes Continuing region home number m alive k cs bs_are nests outer (l, f, i, same, outside_holds f region number m alive cs bs_are holds, left, stack)
     continues (CloseLexical region ∷ k) l f h nests live same holds left (i, implies, outer, stack) = closes_lexical Continuing region k nests outer (l, f, i, same, holds, left, stack)
-    continues (EndLoan lent ∷ k) l f h nests live same holds left (y, i, j, t, lent_is, loans, claims, implies, full, scope, stack) =
-        let z = ends lent j t y i k claims scope stack in
+    continues (EndLoan lent ∷ k) l f h nests live same holds left (y, i, j, t, object, lent_is, loans, claims, implies, full, scope, stack) =
+        let z = ends lent j t object y i k claims scope stack in
         let locks : with_each Full x.locks f ≡ with_each Full y.locks (with_fullness Full f lent) = ap (λ (z : Exits). with_each Full z.locks f) lent_is ∙ full_added lent y.locks f in
-        running p (ended_typing lent j t) y bs e w z.objects z.knows bound z.scope Continuing k live
-        (l, with_fullness Full f lent, i, sym (ap (λ (z : Exits). z.loop) lent_is) ∙ same, ended_holds f lent j t claims full holds, subst (λ z. Implies z l.head) locks left, z.stack)
+        running p (ended_typing j t object) y bs e w z.objects z.knows bound z.scope Continuing k live
+        (l, with_fullness Full f lent, i, sym (ap (λ (z : Exits). z.loop) lent_is) ∙ same, ended_holds f lent j t object claims full holds, subst (λ z. Implies z l.head) locks left, z.stack)
     continues (Handler cs ∷ k) l f h nests live same holds left (y, c, start, i, relies, stands, known, catches, implies, stack) =
         running p g y bs e w typed globals bound variables Continuing k live
         (l, f, i, sym (ap (λ (z : Exits). z.loop) relies) ∙ same, holds, subst (λ ns. Implies (with_each Full ns f) l.head) (ap (λ (z : Exits). z.locks) relies) left, stack)
@@ -199,10 +220,10 @@ module _ (p : Source) (g : Typing) (e : Environment) (w : World) (typed : IsType
         running p g y bs e w typed globals bound variables (Returning v) k live (h, subst (λ (z : Exits). IsReturn g (operands_in k) z.result z.gives v) around_is is, stack)
     returns_on (CloseRegion region home ∷ k) v f nests live is (cs, number, l, alive, h, same, i, outer, stack) = closes (Returning v) region home number l alive k cs same nests outer (h, is, stack)
     returns_on (CloseLexical region ∷ k) v f nests live is (h, i, outer, stack) = closes_lexical (Returning v) region k nests outer (h, is, stack)
-    returns_on (EndLoan lent ∷ k) v f nests live is (y, h, j, t, lent_is, loans, claims, i, full, scope, stack) =
-        let z = ends lent j t y h k claims scope stack in
-        running p (ended_typing lent j t) y bs e w z.objects z.knows bound z.scope (Returning v) k live
-        (h, return_other (operands_in k) lent j t y.result y.gives v claims (subst (λ (z : Exits). IsReturn g (operands_in k) z.result z.gives v) lent_is is), z.stack)
+    returns_on (EndLoan lent ∷ k) v f nests live is (y, h, j, t, object, lent_is, loans, claims, i, full, scope, stack) =
+        let z = ends lent j t object y h k claims scope stack in
+        running p (ended_typing j t object) y bs e w z.objects z.knows bound z.scope (Returning v) k live
+        (h, return_other (operands_in k) lent j t object y.result y.gives v claims (subst (λ (z : Exits). IsReturn g (operands_in k) z.result z.gives v) lent_is is), z.stack)
     returns_on (Handler cs ∷ k) v f nests live is (y, c, start, h, relies, stands, known, catches, i, stack) =
         running p g y bs e w typed globals bound variables (Returning v) k live (h, subst (λ (z : Exits). IsReturn g (operands_in k) z.result z.gives v) relies is, stack)
     returns_on (Caller outer ∷ k) v f nests live is (y, cs, h, d, depth, loop, blocked, gives, bound', variables', live', holds', stack) = go x.result v refl is
@@ -214,7 +235,7 @@ module _ (p : Source) (g : Typing) (e : Environment) (w : World) (typed : IsType
         go None None same is = back Proceeding (h, holds', void_goes p (record g { depth = d }) y cs h x.gives k (subst (λ z. HasResult z x.gives) same gives) stack)
         go None (Some v) same is = absurd is
         go (Some t) None same is = absurd is
-        go (Some t) (Some v) same (is, comes) = back (Given v) (x.gives, h, holds', result_grown g (record g { depth = d }) (moment_grows g d g.loans) x.gives v is, comes, stack)
+        go (Some t) (Some v) same (is, comes) = back (Given v) (x.gives, h, holds', result_grown g (record g { depth = d }) (moment_grows g d g.loans) x.gives v is, alone_comes (record g { depth = d }) (operands_in k) x.gives v.value comes, stack)
     returns_on (Main ∷ k) v f nests live is (loop, int, gives, blocked, stack) = main_on (operands_in k) v (subst (λ z. IsReturn g (operands_in k) (Some types.Int) z v) gives (subst (λ z. IsReturn g (operands_in k) z x.gives v) int is))
     returns_on k v f nests live is stack = absurd stack
 
@@ -225,7 +246,7 @@ module _ (p : Source) (g : Typing) (e : Environment) (w : World) (typed : IsType
     throws_on (Needs a ∷ k) tag value (Val r f) nests live (ts, cs, next, waits, are, stack) =
         let within = waits_within waits in
         running p g x cs e w typed globals (within_bound e cs bs within bound) (within_variables g cs bs within variables) (Throwing tag value) k (within_live k cs bs within live) (next, stack)
-    throws_on (NeedsPlace a ∷ k) tag value (PlaceOf t l f) nests live (next, waits, keeps, stack) = on (Throwing tag value) k live (next, stack)
+    throws_on (NeedsPlace a ∷ k) tag value (PlaceOf peek t l f) nests live (next, waits, keeps, stack) = on (Throwing tag value) k live (next, stack)
     throws_on (Discard ∷ k) tag value (Val r f) nests live stack = on (Throwing tag value) k live (Go f, stack)
     throws_on (Discard ∷ k) tag value (Go f) nests live stack = on (Throwing tag value) k live (Go f, stack)
     throws_on (Rest js ∷ k) tag value (Go f) nests live (cs, c, h, within, stands, rest, stack) =
@@ -235,9 +256,9 @@ module _ (p : Source) (g : Typing) (e : Environment) (w : World) (typed : IsType
         running p g y bs e w typed globals bound variables (Throwing tag value) k live (Go h, stack)
     throws_on (CloseRegion region home ∷ k) tag value (Go f) nests live (cs, number, l, alive, h, same, i, outer, stack) = closes (Throwing tag value) region home number l alive k cs same nests outer (Go h, stack)
     throws_on (CloseLexical region ∷ k) tag value (Go f) nests live (h, i, outer, stack) = closes_lexical (Throwing tag value) region k nests outer (Go h, stack)
-    throws_on (EndLoan lent ∷ k) tag value (Go f) nests live (y, h, j, t, lent_is, loans, claims, i, full, scope, stack) =
-        let z = ends lent j t y h k claims scope stack in
-        running p (ended_typing lent j t) y bs e w z.objects z.knows bound z.scope (Throwing tag value) k live (Go h, z.stack)
+    throws_on (EndLoan lent ∷ k) tag value (Go f) nests live (y, h, j, t, object, lent_is, loans, claims, i, full, scope, stack) =
+        let z = ends lent j t object y h k claims scope stack in
+        running p (ended_typing j t object) y bs e w z.objects z.knows bound z.scope (Throwing tag value) k live (Go h, z.stack)
     throws_on (Handler cs ∷ k) tag value (Go f) nests live (y, c, start, h, relies, stands, known, catches, i, stack) =
         running p g y bs e w typed globals bound variables (Catching tag value cs) k live (c, start, f, h, stands, known, catches, stack)
     throws_on (Caller outer ∷ k) tag value (Go f) nests live (y, cs, h, d, depth, loop, blocked, gives, bound', variables', live', holds', stack) =
@@ -245,5 +266,5 @@ module _ (p : Source) (g : Typing) (e : Environment) (w : World) (typed : IsType
     throws_on (Main ∷ k) tag value (Go f) nests live (loop, int, gives, blocked, stack) = on (Throwing tag value) k live (Nothing, stack)
     throws_on k tag value Nothing nests live stack = absurd stack
     throws_on k tag value (Val r f) nests live stack = absurd stack
-    throws_on k tag value (PlaceOf t l f) nests live stack = absurd stack
+    throws_on k tag value (PlaceOf peek t l f) nests live stack = absurd stack
     throws_on k tag value (Go f) nests live stack = absurd stack

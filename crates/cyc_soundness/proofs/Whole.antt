@@ -29,10 +29,10 @@ use Rattle.cyc_meaning.proofs.Nested.{nests_step, nests_start}
 use Rattle.cyc_soundness.proofs.RegionLemmas.{contains_none}
 use Rattle.cyc_soundness.specs.Lives.{Life, RunTy, RunValue, at, heap_life, lives_of, as_heap, Reading, AsHeap, ByScope}
 use Rattle.cyc_soundness.specs.Lives as lives
-use Rattle.cyc_soundness.specs.Worlds.{Nobody, AreKeyless, ObjectType, Typing, Outlasts, heap as for_ever, global_type, HasType, IsResult, AreOperands, IsObject, IsTyped}
+use Rattle.cyc_soundness.specs.Worlds.{Nobody, thing_of, ClaimsPart, IsKeyless, AreKeyless, ObjectType, Typing, Outlasts, heap as for_ever, global_type, HasType, IsResult, AreOperands, IsObject, IsTyped}
 use Rattle.cyc_soundness.specs.Frames.{InScope, Instance, read, read_value, IsThereBy, IsBound, AreVariables, LiveIn, Holds, Exits, StandBy, lives_among, KnowsProgram}
-use Rattle.cyc_soundness.specs.Classes.{IsDeclarable, InFunctions, InGlobals, InFields, InStructs, IsOfTheHeap, IsOfScopes, FreesNoObject, HasLoans, Source, IsInClass, frees_of}
-use Rattle.cyc_soundness.specs.Stacks.{IsAccepted, Comes, AreGiven, Val, PlaceOf, regions_at_call, IsStack, IsFocus, IsWell}
+use Rattle.cyc_soundness.specs.Classes.{IsDeclarable, InFunctions, InGlobals, InFields, InStructs, IsOfTheHeap, IsOfScopes, FreesNoObject, FreesLocals, HasLoans, IsShared, Source, IsInClass, frees_of}
+use Rattle.cyc_soundness.specs.Stacks.{IsAccepted, operands_in, Comes, AreGiven, Val, PlaceOf, regions_at_call, IsStack, IsFocus, IsWell}
 use Rattle.cyc_soundness.specs.Sound.{IsSound}
 use Rattle.cyc_soundness.proofs.Numbers.{some_same}
 use Rattle.cyc_soundness.proofs.TypeLemmas.{kind_meant}
@@ -50,15 +50,15 @@ use Rattle.cyc_soundness.proofs.Unwinding.{proceed, breaks, continues, returns_o
 -- ---- a step
 
 module _ (p : Source) (accepted : AreAccepted p) (e : Environment) (w : World) (g : Typing) (x : Exits) (bs : List InScope) (objects : IsTyped g w.regions w.objects) (globals : KnowsProgram g p) (bound : IsBound e.locals e.counters bs) (variables : AreVariables g bs) where
-  given_on : (v : values.Operand) (k : List Entry) (r : RunValue) (f : flow.State) → IsNested k e w → LiveIn k bs → Holds g f bs → IsResult g r v → Comes g r k → IsStack p g x bs (Val r f) k → IsWell p (step_given v k e w)
+  given_on : (v : values.Operand) (k : List Entry) (r : RunValue) (f : flow.State) → IsNested k e w → LiveIn k bs → Holds g f bs → IsResult g r v → Comes g r v k → IsStack p g x bs (Val r f) k → IsWell p (step_given v k e w)
   given_on v (Needs a ∷ k) r f nests live holds is comes (ts, cs, next, waits, are, stack) = given p g x bs e w objects globals bound variables v k nests live holds is comes waits are stack
   given_on v (Discard ∷ k) r f nests live holds is comes stack = running p g x bs e w objects globals bound variables Proceeding k live (f, holds, stack)
   given_on v k r f nests live holds is comes stack = absurd stack
 
-  place_on : (place : values.Value) (k : List Entry) (t : RunTy) (l : Life) (f : flow.State) → IsNested k e w → LiveIn k bs → Holds g f bs → HasType g (lives.Pointer marks.NonNull t l) place → IsStack p g x bs (PlaceOf t l f) k
-      → IsWell p (step_given_place place k e w)
-  place_on place (NeedsPlace a ∷ k) t l f nests live holds has (next, waits, keeps, stack) = place_given p g x bs e w objects globals bound variables place k nests.0 live holds has waits keeps stack
-  place_on place k t l f nests live holds has stack = absurd stack
+  place_on : (place : values.Value) (k : List Entry) (peek : Option ℕ) (t : RunTy) (l : Life) (f : flow.State) → IsNested k e w → LiveIn k bs → Holds g f bs → HasType g (lives.Pointer marks.NonNull t l) place
+      → ClaimsPart g (operands_in k) peek (thing_of (lives.Pointer marks.NonNull t l) place) → IsStack p g x bs (PlaceOf peek t l f) k → IsWell p (step_given_place place k e w)
+  place_on place (NeedsPlace a ∷ k) peek t l f nests live holds has part (next, waits, keeps, stack) = place_given p g x bs e w objects globals bound variables place k nests.0 live holds has part waits keeps stack
+  place_on place k peek t l f nests live holds has part stack = absurd stack
 
   step_well : (focus : Focus) (k : List Entry) → IsNested k e w → LiveIn k bs → IsFocus p g x bs focus k → IsWell p (stepped p.program focus k e w)
   step_well (Evaluating a) k nests live (c, t, f, h, stands, holds, evaluates, stack) =
@@ -76,15 +76,15 @@ module _ (p : Source) (accepted : AreAccepted p) (e : Environment) (w : World) (
       declares_full p g x bs e w objects globals bound variables number v.kind v.value is_place t js cs c f h k nests live within stands holds new number_is is.0 is.1 comes continues' stack
   step_well (Locating d) k nests live (c, t, r, f, h, stands, holds, locates, stack) =
       locate p g x bs e w objects globals bound variables d k c t f h locates.waiting r live stands holds locates.typed locates.flows locates.kept stack
-  step_well (GivenPlace place) k nests live (t, l, f, holds, has, stack) = place_on place k t l f nests live holds has stack
+  step_well (GivenPlace place) k nests live (peek, t, l, f, holds, has, part, stack) = place_on place k peek t l f nests live holds has part stack
   step_well (Writing these (Some v)) k nests live (t, r, f, holds, alive, making, stack) = write_on p g x bs e w objects globals bound variables these v t r k f nests.0 live holds alive making stack
   step_well (Writing these None) k nests live (f, holds, are, stack) = swapped_on p g x bs e w objects globals bound variables these k f nests.0 live holds are stack
-  step_well (Swapping kind left right before) k nests live (t, f, holds, kind_is, plain, here, there, read_is, stack) =
-      swapping_on p g x bs e w objects globals bound variables kind left right before t k f nests.0 live holds kind_is plain here there read_is stack
+  step_well (Swapping kind left right before) k nests live (t, f, holds, kind_is, plain, by, here, there, read_is, stack) =
+      swapping_on p g x bs e w objects globals bound variables kind left right before t k f nests.0 live holds kind_is plain by here there read_is stack
   step_well (Beginning owner count level kind element) k nests live (c, t, r, f, stands, holds, alive, owned, repeats, stack) =
       begin_array p g x bs e w objects globals bound variables owner count level kind element k c t r f nests.0 live stands holds alive owned repeats stack
-  step_well (Repeating object count index level kind element) k nests live (c, t, r, f, stands, holds, alive, repeats, array, stack) =
-      repeat_on p g x bs e w objects globals bound variables object count index level kind element k c t r f nests.0 live stands holds alive repeats array stack
+  step_well (Repeating object count index level kind element) k nests live (c, t, r, f, stands, holds, alive, repeats, array, has, stack) =
+      repeat_on p g x bs e w objects globals bound variables object count index level kind element k c t r f nests.0 live stands holds alive repeats array has stack
   step_well Breaking k nests live (l, f, h, same, holds, left, stack) = breaks p g e w objects globals x bs bound variables k l f h nests live same holds left stack
   step_well Continuing k nests live (l, f, h, same, holds, left, stack) = continues p g e w objects globals x bs bound variables k l f h nests live same holds left stack
   step_well (Returning v) k nests live (f, is, stack) = returns_on p g e w objects globals x bs bound variables k v f nests live is stack
@@ -140,7 +140,7 @@ found_cells frees ls None = None
 found_cells frees ls (Some s) = cells_of frees ls s
 
 abbrev globals_typed : (frees : Bool) → List StructType → List GlobalVariable → Typing
-globals_typed frees ss vs = record { objects = map (global_of frees) vs; filled = ones vs; fields = λ n ls. found_cells frees ls (slice_get ss n); kept = []; own = λ n. Nobody; depth = 0; loans = 0 }
+globals_typed frees ss vs = record { objects = map (global_of frees) vs; filled = ones vs; fields = λ n ls. found_cells frees ls (slice_get ss n); kept = []; own = λ a. Nobody; here = λ n. false; depth = 0; loans = 0 }
 
 null_typed : (frees : Bool) (g : Typing) (k : PointerKind) (t : Ty) (r : Region) → is_non_null (types.Pointer k t r) ≡ false → HasType g (at (as_heap frees) (types.Pointer k t r)) values.Null
 null_typed frees g marks.Nullable t r is = tt
@@ -154,52 +154,67 @@ value_typed frees g v (inr (k, t, r, pointer, null, is)) =
     subst (λ z. HasType g (at (as_heap frees) v.of_type) (constant_value z)) (sym is)
     (subst (λ u. HasType g (at (as_heap frees) u) values.Null) (sym pointer) (null_typed frees g k t r (subst (λ u. is_non_null u ≡ false) pointer null)))
 
--- the key of the heap is none
-global_keyless : (frees : Bool) (t : Ty) → AreKeyless (at (as_heap frees) t ∷ [])
-global_keyless frees types.Int = (tt, tt)
-global_keyless frees (types.Pointer k t r) = (tt, tt)
-global_keyless frees (types.Handle r) = (tt, tt)
-global_keyless frees (types.Key regions.Heap) = (tt, tt)
-global_keyless true (types.Key regions.Unique) = (tt, tt)
-global_keyless false (types.Key regions.Unique) = (tt, tt)
-global_keyless frees (types.Key (regions.Variable n)) = (tt, tt)
-global_keyless frees (types.Struct n rs) = (tt, tt)
+-- the key of the heap is none, and where objects are given back no global is a unique pointer
+unique_keyless : (m : Reading) (k : PointerKind) (t : Ty) (r : Region) → IsShared m (types.Pointer k t r) → IsKeyless (at (as_heap (frees_of m)) (types.Pointer k t r))
+unique_keyless m k t regions.Heap shared = tt
+unique_keyless m k t (regions.Variable n) shared = tt
+unique_keyless AsHeap k t regions.Unique shared = tt
+unique_keyless (ByScope lends false) k t regions.Unique shared = tt
+unique_keyless (ByScope lends true) k t regions.Unique shared = absurd (let z : true ≡ false = shared in cc)
 
-global_is : (frees : Bool) (g : Typing) (v : GlobalVariable) → IsWellTypedGlobal v → IsObject g 1 (global_of frees v) (global_object v)
-global_is frees g v has = record { owner = refl; known = tt; keyless = λ shown. global_keyless frees v.of_type; cells = ((sym (kind_meant (as_heap frees) v.of_type), value_typed frees g v has), tt) }
+key_keyless : (frees : Bool) (r : Region) → IsKeyless (at (as_heap frees) (types.Key r))
+key_keyless frees regions.Heap = tt
+key_keyless true regions.Unique = tt
+key_keyless false regions.Unique = tt
+key_keyless frees (regions.Variable n) = tt
+
+global_keyless : (m : Reading) (t : Ty) → IsShared m t → AreKeyless (at (as_heap (frees_of m)) t ∷ [])
+global_keyless m types.Int shared = (tt, tt)
+global_keyless m (types.Pointer k t r) shared = (unique_keyless m k t r shared, tt)
+global_keyless m (types.Handle r) shared = (tt, tt)
+global_keyless m (types.Key r) shared = (key_keyless (frees_of m) r, tt)
+global_keyless m (types.Struct n rs) shared = (tt, tt)
+
+global_is : (m : Reading) (g : Typing) (v : GlobalVariable) → IsWellTypedGlobal v → IsShared m v.of_type → IsObject g 1 (global_of (frees_of m) v) (global_object v)
+global_is m g v has shared = record { owner = refl; known = tt; keyless = λ shown. global_keyless m v.of_type shared; cells = ((sym (kind_meant (as_heap (frees_of m)) v.of_type), value_typed (frees_of m) g v has), tt) }
 
 mapped_length : {A B C : Type 0} (f : A → B) (h : A → C) (xs : List A) → length (map f xs) ≡ length (map h xs)
 mapped_length f h [] = refl
 mapped_length f h (x ∷ xs) = ap suc (mapped_length f h xs)
 
-globals_each : (frees : Bool) (g : Typing) (vs : List GlobalVariable) → AreWellTypedGlobals vs → (n : ℕ) (t : ObjectType) → slice_get (map (global_of frees) vs) n ≡ Some t
+globals_each : (m : Reading) (g : Typing) (vs : List GlobalVariable) → AreWellTypedGlobals vs → InGlobals m vs → (n : ℕ) (t : ObjectType) → slice_get (map (global_of (frees_of m)) vs) n ≡ Some t
     → (x : Object) × (filled : ℕ) × (slice_get (map global_object vs) n ≡ Some x) × (slice_get (ones vs) n ≡ Some filled) × IsObject g filled t x
-globals_each frees g [] have n t found = absurd (let z : None ≡ Some t = found in cc)
-globals_each frees g (v ∷ vs) (has, have) zero t found =
-    let t_is : global_of frees v ≡ t = some_same (global_of frees v) t found in
-    (global_object v, 1, refl, refl, subst (λ z. IsObject g 1 z (global_object v)) t_is (global_is frees g v has))
-globals_each frees g (v ∷ vs) (has, have) (suc n) t found = globals_each frees g vs have n t found
+globals_each m g [] have kept n t found = absurd (let z : None ≡ Some t = found in cc)
+globals_each m g (v ∷ vs) (has, have) (known, shared, kept) zero t found =
+    let t_is : global_of (frees_of m) v ≡ t = some_same (global_of (frees_of m) v) t found in
+    (global_object v, 1, refl, refl, subst (λ z. IsObject g 1 z (global_object v)) t_is (global_is m g v has shared))
+globals_each m g (v ∷ vs) (has, have) (known, shared, kept) (suc n) t found = globals_each m g vs have kept n t found
 
 all_globals : (m : Reading) (vs : List GlobalVariable) → InGlobals m vs → (n : ℕ) (t : Ty) → slice_get (map (λ (v : GlobalVariable). v.of_type) vs) n ≡ Some t
     → (slice_get (map (global_of (frees_of m)) vs) n ≡ Some (global_type (at (as_heap (frees_of m)) t))) × (slice_get (ones vs) n ≡ Some 1) × IsDeclarable m 0 t
 all_globals m [] kept n t found = absurd (let z : None ≡ Some t = found in cc)
-all_globals m (v ∷ vs) (one, kept) zero t found =
+all_globals m (v ∷ vs) (one, shared, kept) zero t found =
     let same : v.of_type ≡ t = some_same v.of_type t found in
     (ap (λ u. Some (global_type (at (as_heap (frees_of m)) u))) same, refl, subst (λ u. IsDeclarable m 0 u) same one)
-all_globals m (v ∷ vs) (one, kept) (suc n) t found = all_globals m vs kept n t found
+all_globals m (v ∷ vs) (one, shared, kept) (suc n) t found = all_globals m vs kept n t found
 
 all_fields : (m : Reading) (n : ℕ) (ts : List Ty) → InFields m n ts → (field : ℕ) (t : Ty) → slice_get ts field ≡ Some t → IsDeclarable m n t
 all_fields m n [] kept field t found = absurd (let z : None ≡ Some t = found in cc)
-all_fields m n (u ∷ ts) (one, usual, kept) zero t found = subst (λ z. IsDeclarable m n z) (some_same u t found) one
-all_fields m n (u ∷ ts) (one, usual, kept) (suc field) t found = all_fields m n ts kept field t found
+all_fields m n (u ∷ ts) (one, usual, shared, kept) zero t found = subst (λ z. IsDeclarable m n z) (some_same u t found) one
+all_fields m n (u ∷ ts) (one, usual, shared, kept) (suc field) t found = all_fields m n ts kept field t found
+
+all_shared : (m : Reading) (n : ℕ) (ts : List Ty) → InFields m n ts → (field : ℕ) (t : Ty) → slice_get ts field ≡ Some t → IsShared m t
+all_shared m n [] kept field t found = absurd (let z : None ≡ Some t = found in cc)
+all_shared m n (u ∷ ts) (one, usual, shared, kept) zero t found = subst (λ z. IsShared m z) (some_same u t found) shared
+all_shared m n (u ∷ ts) (one, usual, shared, kept) (suc field) t found = all_shared m n ts kept field t found
 
 -- where things are lent, none is a key
 all_usual : (m : Reading) (n : ℕ) (ts : List Ty) → HasLoans m → InFields m n ts → (field : ℕ) (t : Ty) → slice_get ts field ≡ Some t → is_key t ≡ false
 all_usual AsHeap n ts loans kept field t found = absurd loans
 all_usual (ByScope false frees) n ts loans kept field t found = absurd (let z : false ≡ true = loans in cc)
 all_usual (ByScope true frees) n [] loans kept field t found = absurd (let z : None ≡ Some t = found in cc)
-all_usual (ByScope true frees) n (u ∷ ts) loans (one, usual, kept) zero t found = subst (λ z. is_key z ≡ false) (some_same u t found) usual
-all_usual (ByScope true frees) n (u ∷ ts) loans (one, usual, kept) (suc field) t found = all_usual (ByScope true frees) n ts loans kept field t found
+all_usual (ByScope true frees) n (u ∷ ts) loans (one, usual, shared, kept) zero t found = subst (λ z. is_key z ≡ false) (some_same u t found) usual
+all_usual (ByScope true frees) n (u ∷ ts) loans (one, usual, shared, kept) (suc field) t found = all_usual (ByScope true frees) n ts loans kept field t found
 
 all_structs : (m : Reading) (ss : List StructType) → InStructs m ss → (n : ℕ) (s : StructType) → slice_get ss n ≡ Some s → InFields m s.parameters s.fields
 all_structs m [] kept n s found = absurd (let z : None ≡ Some s = found in cc)
@@ -257,10 +272,12 @@ well_start p input accepted well (in_functions, in_globals, in_structs) =
     let objects : IsTyped g w.regions w.objects = record {
       count = mapped_length global_object (global_of (frees_of p.reading)) p.program.globals;
       counts = mapped_length global_object (λ (v : GlobalVariable). 1) p.program.globals;
-      each = globals_each (frees_of p.reading) g p.program.globals well.globals;
+      each = globals_each p.reading g p.program.globals well.globals in_globals;
       heap = refl;
       kept = λ n is. none_among is;
       fresh = λ n less. refl;
+      unique = λ n held. absurd held;
+      owned = λ n t x here. let z : false ≡ true = here in absurd (cc);
     } in
     let knows : KnowsProgram g p = record {
       globals = λ n t there. (let (object, flag, closed) = all_globals p.reading p.program.globals in_globals n t there in (object, (1, flag, (let one : 1 ≤ 1 = omega arith in one)), closed));
@@ -269,6 +286,7 @@ well_start p input accepted well (in_functions, in_globals, in_structs) =
       keys = λ n is. none_among is;
       constraints = λ n h there. (let (end, ok) = accepted n h there in ok.typed.constraints);
       plain = λ loans n s there. all_usual p.reading s.parameters s.fields loans (all_structs p.reading p.program.structs in_structs n s there);
+      shared = λ n s there. all_shared p.reading s.parameters s.fields (all_structs p.reading p.program.structs in_structs n s there);
       fields = λ n s there. all_fields p.reading s.parameters s.fields (all_structs p.reading p.program.structs in_structs n s there);
     } in
     let count : 0 ≡ length h.parameters = sym (ap length none) in
@@ -283,7 +301,7 @@ well_start p input accepted well (in_functions, in_globals, in_structs) =
       (frees_of p.reading, refl),
       stand_first p.reading (regions_at_call h) (λ a given. plain_given h a unmixed given) (λ b given. first_given h b unmixed given),
       subst (λ ts. AreOperands g (map (read bs) ts) []) (sym none) tt,
-      subst (λ ts. AreGiven g.own 0 (map (read bs) ts)) (sym none) tt,
+      subst (λ ts. AreGiven g.own 0 (map (read bs) ts) []) (sym none) tt,
       (refl, int, ap (λ o. read_value bs (result_type o)) int, ok.ends types.Int int, tt),
     )))
 
@@ -293,6 +311,10 @@ sound_by : (p : Source) → IsWellTypedProgram p.program → IsAllowedProgram p.
 sound_by p well allowed kept input count =
     let accepted : AreAccepted p = accepted_among p p.program.functions well.functions allowed kept.0 in
     well_alive p (run p.program input count) (well_steps p count (start p.program input) accepted (nests_start p.program input) (well_start p input accepted well kept))
+
+-- programs that give back unique objects to which locals have the pointers
+pub freeing_sound : (p : Program) → IsWellTypedProgram p → IsAllowedProgram p → FreesLocals p → IsSound p
+freeing_sound p well allowed kept = sound_by (record { program = p; reading = ByScope true true }) well allowed kept
 
 -- programs that give no object back
 pub lending_sound : (p : Program) → IsWellTypedProgram p → IsAllowedProgram p → FreesNoObject p → IsSound p
@@ -304,11 +326,11 @@ scopes_sound p well allowed kept = sound_by (record { program = p; reading = ByS
 
 globals_as_heap : (vs : List GlobalVariable) → InGlobals AsHeap vs
 globals_as_heap [] = tt
-globals_as_heap (v ∷ vs) = (tt, globals_as_heap vs)
+globals_as_heap (v ∷ vs) = (tt, tt, globals_as_heap vs)
 
 fields_as_heap : (n : ℕ) (ts : List Ty) → InFields AsHeap n ts
 fields_as_heap n [] = tt
-fields_as_heap n (t ∷ ts) = (tt, tt, fields_as_heap n ts)
+fields_as_heap n (t ∷ ts) = (tt, tt, tt, fields_as_heap n ts)
 
 structs_as_heap : (ss : List StructType) → InStructs AsHeap ss
 structs_as_heap [] = tt

@@ -15,8 +15,8 @@ use Rattle.cyc_meaning.specs.State.{globals_number, Entry, CloseRegion, Caller}
 use Rattle.cyc_meaning.specs.Nesting.{ends_of}
 use Rattle.cyc_soundness.specs.Lives.{Life, OfRegion, Kept, RunTy, RunValue, Void, Lives, at, value_at, heap_life, lives_of, as_heap, Reading, AsHeap, ByScope, AllIn, AllInValue, IsKnown}
 pub use Rattle.cyc_soundness.specs.Worlds.{IsAmong, first, later}
-use Rattle.cyc_soundness.specs.Worlds.{In, Typing, Claims, IsOpenIn, IsKnownLife, IsFull, variable_type, global_type, IsEndOf, Outlasts, IsNumber}
-use Rattle.cyc_soundness.specs.Classes.{is_full, Relied, frees_of, HasLoans, IsDeclarable, Source}
+use Rattle.cyc_soundness.specs.Worlds.{OfLocal, ObjectType, Typing, IsHere, IsOpenIn, IsKnownLife, IsFull, variable_type, global_type, IsEndOf, Outlasts, IsNumber}
+use Rattle.cyc_soundness.specs.Classes.{is_full, Relied, frees_of, HasLoans, IsShared, IsDeclarable, Source}
 
 -- a local in scope, with its object and how long this is there
 pub record Bound : Type 0 where
@@ -26,6 +26,10 @@ pub record Bound : Type 0 where
   pub life : Life
   -- no pointer leads to it
   pub is_hidden : Bool
+
+-- the type of its object, in a call with so many others around
+abbrev pub local_type : (depth : ℕ) → Bound → ObjectType
+local_type d b = variable_type b.of_type b.life b.is_hidden (OfLocal d b.number)
 
 -- what is in scope
 pub data InScope : Type 0 where
@@ -132,7 +136,7 @@ IsBound locals counters (b ∷ bs) = HasMeaning locals counters b × IsBound loc
 
 -- the objects of locals are variables of their types, and what regions stand for is known; what is live is open
 abbrev pub IsOfVariable : Typing → InScope → Type 0
-IsOfVariable g (Variable b) = (slice_get g.objects b.object ≡ Some (variable_type b.of_type b.life b.is_hidden)) × IsOpenIn g b.life
+IsOfVariable g (Variable b) = (slice_get g.objects b.object ≡ Some (local_type g.depth b)) × IsOpenIn g b.life
 IsOfVariable g (Names number life live) = IsKnownLife g life × (live ≡ true → IsOpenIn g life)
 IsOfVariable g (Instance frees these live) = (n : ℕ) → IsKnownLife g (these n) × (live n ≡ true → IsOpenIn g (these n))
 IsOfVariable g b = Unit {0}
@@ -190,7 +194,7 @@ abbrev pub IsFullIn : flow.State → ℕ → Type 0
 IsFullIn f n = is_full (fullness f n) ≡ true
 
 abbrev pub HoldsIts : Typing → flow.State → InScope → Type 0
-HoldsIts g f (Variable b) = (IsSet f b.number → IsFull g b.object) × (IsFullIn f b.number → Claims g.own (In g.depth b.number) b.of_type)
+HoldsIts g f (Variable b) = (IsSet f b.number → IsFull g b.object) × (IsFullIn f b.number → IsHere g g.depth b.number b.object)
 HoldsIts g f b = Unit {0}
 
 abbrev pub AreSet : Typing → flow.State → List InScope → Type 0
@@ -246,14 +250,14 @@ lending x n = record x { locks = x.locks ++ n ∷ [] }
 abbrev pub relying : Exits → flow.State → Exits
 relying x f = record x { relied = f ∷ x.relied }
 
--- a local of this number has this type and holds something
-abbrev pub IsFullAt : Typing → ℕ → RunTy → InScope → Type 0
-IsFullAt g n t (Variable b) = b.number ≡ n → IsFull g b.object × (b.of_type ≡ t)
-IsFullAt g n t b = Unit {0}
+-- a local of this number has this object, and holds something
+abbrev pub IsFullAt : Typing → (number object : ℕ) → InScope → Type 0
+IsFullAt g n object (Variable b) = b.number ≡ n → IsFull g b.object × (b.object ≡ object)
+IsFullAt g n object b = Unit {0}
 
-abbrev pub AreFullAt : Typing → ℕ → RunTy → List InScope → Type 0
-AreFullAt g n t [] = Unit {0}
-AreFullAt g n t (b ∷ bs) = IsFullAt g n t b × AreFullAt g n t bs
+abbrev pub AreFullAt : Typing → (number object : ℕ) → List InScope → Type 0
+AreFullAt g n object [] = Unit {0}
+AreFullAt g n object (b ∷ bs) = IsFullAt g n object b × AreFullAt g n object bs
 
 -- what is known at breaks so far holds behind the loop
 abbrev pub AreBreaks : Option LoopExit → flow.State → Type 0
@@ -338,5 +342,7 @@ pub record KnowsProgram (g : Typing) (p : Source) : Type 0 where
   pub plain : HasLoans p.reading → (number : ℕ) (s : StructType) → slice_get p.program.structs number ≡ Some s → (field : ℕ) (t : Ty) → slice_get s.fields field ≡ Some t → is_key t ≡ false
   -- no constraint names the region of unique pointers
   pub constraints : (number : ℕ) (h : Function) → slice_get p.program.functions number ≡ Some h → AreConstraints h.variables h.constraints
+  -- and where objects are given back, none is a unique pointer
+  pub shared : (number : ℕ) (s : StructType) → slice_get p.program.structs number ≡ Some s → (field : ℕ) (t : Ty) → slice_get s.fields field ≡ Some t → IsShared p.reading t
   -- its fields speak of no others
   pub fields : (number : ℕ) (s : StructType) → slice_get p.program.structs number ≡ Some s → (field : ℕ) (t : Ty) → slice_get s.fields field ≡ Some t → IsDeclarable p.reading s.parameters t

@@ -6,4 +6,5 @@ pub mod Stacks
 -- which programs a theorem speaks of
 pub mod Classes
 pub mod Frees
+pub mod FreesLocals
 pub mod Sound

@@ -1,7 +1,7 @@
 -- TYPES AS A RUN READS THEM. Trees name regions, which mean something in their function alone. States speak of lives: the region of a
 -- number, or a unique object. A type of a tree becomes one of a state by what each region of its function stands for. (One language of
 -- types in two readings is this project's own choice.)
-use Rattle.std.specs.Prelude.{◌≢◌, ℕ, Bool, true, false, List, [], map}
+use Rattle.std.specs.Prelude.{◌≢◌, ℕ, Bool, true, false, List, [], ◌∷◌, map, Option, Some, None}
 use Rattle.cyc_syntax.specs.declared.tree.PointerKind.{PointerKind}
 use Rattle.cyc_types.specs.declared.region.Region.{Region}
 use Rattle.cyc_types.specs.declared.region.Region.TheVariants as regions
@@ -38,6 +38,8 @@ pub data RunValue : Type 0 where
   Value : RunTy → RunValue
   -- of this type, and looked at only
   Seen : RunTy → RunValue
+  -- a pointer into what is looked at in this local, or else is in hand
+  Into : (peek : Option ℕ) → RunTy → RunValue
 
 -- what the regions of a function stand for
 abbrev pub Lives : Type 0
@@ -54,6 +56,12 @@ abbrev pub value_at : Lives → ValueType → RunValue
 value_at m types.Void = Void
 value_at m types.Null = Null
 value_at m (types.Value t) = Value (at m t)
+
+-- of a peek of this local, if it is one
+abbrev pub looked : Option ℕ → RunValue → RunValue
+looked None r = r
+looked (Some n) (Value t) = Into (Some n) t
+looked (Some n) r = r
 
 -- the kind of the cells of a type
 abbrev pub kind_at : RunTy → Kind

@@ -9,26 +9,37 @@ use Rattle.cyc_meaning.specs.Values.{Operand, Cell}
 use Rattle.cyc_meaning.specs.Values as values
 use Rattle.cyc_meaning.specs.Operators.{Result, Gives, Raises, Misfits}
 use Rattle.cyc_meaning.specs.State.{Dynamic, Region, Owner, InRegion, Unique, Object, heap_number, globals_number, is_open}
-use Rattle.cyc_soundness.specs.Lives.{Life, OfRegion, OfObject, Owned, Kept, heap_life, RunTy, Int, Pointer, Handle, Key, Struct, RunValue, Void, Null, Value, Seen, Lives, kind_at}
+use Rattle.cyc_soundness.specs.Lives.{Life, OfRegion, OfObject, Owned, Kept, heap_life, RunTy, Int, Pointer, Handle, Key, Struct, RunValue, Void, Null, Value, Seen, Into, Lives, kind_at}
 
 pub data IsAmong {A : Type 0} (a : A) : List A → Type 0 where
   first : (as' : List A) → IsAmong a (a ∷ as')
   later : (b : A) (as' : List A) → IsAmong a as' → IsAmong a (b ∷ as')
+
+-- the local of this number, in a call with so many others around, whose variable an object is
+pub data Slot : Type 0 where
+  NoLocal : Slot
+  OfLocal : (depth number : ℕ) → Slot
 
 pub record ObjectType : Type 0 where
   pub cells : List RunTy
   pub life : Life
   -- no pointer leads to it
   pub is_hidden : Bool
+  pub slot : Slot
 
--- who has the key of a dynamic region
+-- what only one may have: the key of a dynamic region, or the pointer to a unique object
+pub data Thing : Type 0 where
+  KeyOf : (region : ℕ) → Thing
+  PointerTo : (object : ℕ) → Thing
+
+-- who has it
 pub data Holder : Type 0 where
   -- nobody who may use it
   Nobody : Holder
   -- an operand, above so many others on the stack
   Hand : ℕ → Holder
-  -- the local of this number, in a call with so many others around
-  In : (depth number : ℕ) → Holder
+  -- the variable that this object is
+  At : (object : ℕ) → Holder
   -- it is lent, behind so many other loans
   Lent : ℕ → Holder
 
@@ -41,8 +52,10 @@ pub record Typing : Type 0 where
   pub fields : ℕ → List Life → Option (List RunTy)
   -- the dynamic regions
   pub kept : List ℕ
-  -- AT THIS MOMENT: who has the key of each, how many calls are around the running one, and how many loans there are
-  pub own : ℕ → Holder
+  -- AT THIS MOMENT: who has each thing, which variables have what is in them, how many calls are around the running one, and how many
+  -- loans there are
+  pub own : Thing → Holder
+  pub here : (object : ℕ) → Bool
   pub depth : ℕ
   pub loans : ℕ
 
@@ -66,14 +79,14 @@ abbrev pub IsFull : Typing → (object : ℕ) → Type 0
 IsFull g object = IsFilled g object 1
 
 -- an object of one cell
-abbrev pub variable_type : RunTy → Life → (is_hidden : Bool) → ObjectType
-variable_type t life hidden = record { cells = t ∷ []; life = life; is_hidden = hidden }
+abbrev pub variable_type : RunTy → Life → (is_hidden : Bool) → Slot → ObjectType
+variable_type t life hidden slot = record { cells = t ∷ []; life = life; is_hidden = hidden; slot = slot }
 
 abbrev pub global_life : Life
 global_life = OfRegion globals_number [] (λ number. false)
 
 abbrev pub global_type : RunTy → ObjectType
-global_type t = variable_type t global_life false
+global_type t = variable_type t global_life false NoLocal
 
 -- these are the last of those
 pub data IsEndOf (ms : List ℕ) : List ℕ → Type 0 where
@@ -134,6 +147,7 @@ IsResult g Void v = Unit {0}
 IsResult g Null v = (v.kind ≡ kinds.Nullable) × (v.value ≡ values.Null)
 IsResult g (Value t) v = (v.kind ≡ kind_at t) × HasType g t v.value
 IsResult g (Seen t) v = (v.kind ≡ kind_at t) × HasType g t v.value
+IsResult g (Into peek t) v = (v.kind ≡ kind_at t) × HasType g t v.value
 
 -- what was computed: a value of this type, or an exception
 abbrev pub Fits : Typing → RunTy → Result → Type 0
@@ -166,18 +180,25 @@ AreCells g (t ∷ ts) [] n = ⊥
 AreCells g (t ∷ ts) (c ∷ cs) zero = IsCell g false t c × AreCells g ts cs zero
 AreCells g (t ∷ ts) (c ∷ cs) (suc n) = IsCell g true t c × AreCells g ts cs n
 
--- where nothing is given back, a unique object is there as long as the heap
+-- where nothing is given back, a unique object is there as long as the heap, and else as long as somebody has the pointer to it
 abbrev pub IsOwner : Life → Owner → Type 0
 IsOwner (OfRegion region around lent) (InRegion number) = region ≡ number
 IsOwner (OfRegion region around lent) (Unique live) = (region ≡ heap_number) × (live ≡ true)
 IsOwner (OfObject object) (Unique live) = Unit {0}
-IsOwner Owned (Unique live) = live ≡ true
+IsOwner Owned (Unique live) = Unit {0}
 IsOwner (Kept region) (InRegion number) = region ≡ number
 IsOwner l o = ⊥
 
--- no cell that a pointer may lead to has a key
+-- and is so where an object is made
+abbrev pub IsNewOwner : Life → Owner → Type 0
+IsNewOwner l (Unique false) = ⊥
+IsNewOwner l (Unique true) = IsOwner l (Unique true)
+IsNewOwner l (InRegion number) = IsOwner l (InRegion number)
+
+-- no cell that a pointer may lead to has what only one may have
 abbrev pub IsKeyless : RunTy → Type 0
 IsKeyless (Key (Kept region)) = ⊥
+IsKeyless (Pointer k t Owned) = ⊥
 IsKeyless t = Unit {0}
 
 abbrev pub AreKeyless : List RunTy → Type 0
@@ -190,59 +211,137 @@ pub record IsObject (g : Typing) (filled : ℕ) (t : ObjectType) (x : Object) : 
   pub keyless : t.is_hidden ≡ false → AreKeyless t.cells
   pub cells : AreCells g t.cells x.cells filled
 
+-- ---- what only one may have
+
+abbrev pub IsHeld : Holder → Type 0
+IsHeld Nobody = ⊥
+IsHeld h = Unit {0}
+
+abbrev pub key_at : Life → Option Thing
+key_at (Kept region) = Some (KeyOf region)
+key_at l = None
+
+abbrev pub pointer_at : Life → (object : ℕ) → Option Thing
+pointer_at Owned object = Some (PointerTo object)
+pointer_at l object = None
+
+-- the thing that a value of this type is, if it is one
+abbrev pub thing_of : RunTy → values.Value → Option Thing
+thing_of (Key l) v = key_at l
+thing_of (Pointer k t l) (values.Thin object offset) = pointer_at l object
+thing_of (Pointer k t l) (values.Fat object start count index) = pointer_at l object
+thing_of t v = None
+
+-- it is this holder's
+abbrev pub Owns : (own : Thing → Holder) → Holder → Option Thing → Type 0
+Owns own h None = Unit {0}
+Owns own h (Some a) = own a ≡ h
+
+-- a unique pointer leads to the first cell
+abbrev pub AtStart : Life → (start index : ℕ) → Type 0
+AtStart Owned start index = (start ≡ 0) × (index ≡ 0)
+AtStart l start index = Unit {0}
+
+abbrev pub IsStart : RunTy → values.Value → Type 0
+IsStart (Pointer k t l) (values.Thin object offset) = AtStart l offset 0
+IsStart (Pointer k t l) (values.Fat object start count index) = AtStart l start index
+IsStart t v = Unit {0}
+
+-- a value of this type, that may be used, is this holder's
+abbrev pub Claims : (own : Thing → Holder) → Holder → RunTy → values.Value → Type 0
+Claims own h t v = Owns own h (thing_of t v) × IsStart t v
+
+-- and is so from now on
+abbrev pub same_thing : Thing → Thing → Bool
+same_thing (KeyOf m) (KeyOf n) = m == n
+same_thing (PointerTo m) (PointerTo n) = m == n
+same_thing a b = false
+
+abbrev pub given : Option Thing → Holder → (Thing → Holder) → Thing → Holder
+given None h own = own
+given (Some a) h own = λ b. if same_thing b a then h else own b
+
+abbrev pub giving : Typing → Option Thing → Holder → Typing
+giving g o h = record g { own = given o h g.own }
+
+-- a variable has what is in it, or does not, from now on
+abbrev pub marked : (object : ℕ) → Bool → (ℕ → Bool) → ℕ → Bool
+marked object b here = λ n. if n == object then b else here n
+
+abbrev pub handing : Typing → Option Thing → Holder → (object : ℕ) → Bool → Typing
+handing g o h object b = record g { own = given o h g.own; here = marked object b g.here }
+
+-- the object is the variable of this local, in a call with so many others around
+abbrev pub IsSlot : Typing → (depth number object : ℕ) → Type 0
+IsSlot g d n object = (x : ObjectType) × (slice_get g.objects object ≡ Some x) × (x.slot ≡ OfLocal d n)
+
+-- and has what is in it
+abbrev pub IsHere : Typing → (depth number object : ℕ) → Type 0
+IsHere g d n object = (g.here object ≡ true) × IsSlot g d n object
+
+-- this local has it
+abbrev pub IsLookedAt : Typing → (number : ℕ) → Option Thing → Type 0
+IsLookedAt g n None = Unit {0}
+IsLookedAt g n (Some a) = (object : ℕ) × IsHere g g.depth n object × (g.own a ≡ At object)
+
+-- or it is in hand
+abbrev pub ClaimsPart : Typing → (hand : ℕ) → (peek : Option ℕ) → Option Thing → Type 0
+ClaimsPart g i None o = Owns g.own (Hand i) o
+ClaimsPart g i (Some n) o = IsLookedAt g n o
+
+-- somebody has it
+abbrev pub IsHad : Typing → Option Thing → Type 0
+IsHad g None = Unit {0}
+IsHad g (Some a) = IsHeld (g.own a)
+
+abbrev pub ClaimsBy : Typing → (hand : ℕ) → RunValue → values.Value → Type 0
+ClaimsBy g i (Value t) v = Claims g.own (Hand i) t v
+ClaimsBy g i (Into peek t) v = ClaimsPart g i peek (thing_of t v)
+ClaimsBy g i r v = Unit {0}
+
+-- also where a call is left
+abbrev pub ClaimsAlone : (own : Thing → Holder) → (hand : ℕ) → RunValue → values.Value → Type 0
+ClaimsAlone own i (Value t) v = Claims own (Hand i) t v
+ClaimsAlone own i (Into peek t) v = ⊥
+ClaimsAlone own i r v = Unit {0}
+
+-- each cell's value is this object's
+abbrev pub AreOwned : (own : Thing → Holder) → (object : ℕ) → List RunTy → List Cell → Type 0
+AreOwned own object ts cs = (i : ℕ) (t : RunTy) (c : Cell) (v : values.Value) → slice_get ts i ≡ Some t → slice_get cs i ≡ Some c → c.content ≡ Some v → Claims own (At object) t v
+
 -- a dynamic region that is open
 abbrev pub IsDynamic : Option Region → Type 0
 IsDynamic None = ⊥
 IsDynamic (Some r) = (r.sort ≡ Dynamic) × (r.is_open ≡ true)
 
--- somebody has its key
-abbrev pub IsHeld : Holder → Type 0
-IsHeld Nobody = ⊥
-IsHeld h = Unit {0}
+-- a unique object that is not given back
+abbrev pub IsUniqueObject : Typing → List Object → (object : ℕ) → Type 0
+IsUniqueObject g objects object = (t : ObjectType) × (x : Object) × (slice_get g.objects object ≡ Some t) × (t.life ≡ Owned) × (slice_get objects object ≡ Some x) × (x.owner ≡ Unique true)
 
--- Each object has its type, and there are no others. The heap is open, and so are dynamic regions whose key somebody has.
+-- Each object has its type, and there are no others. The heap is open, and so are dynamic regions whose key somebody has; unique objects
+-- to which somebody has the pointer are there.
 pub record IsTyped (g : Typing) (regions : List Region) (objects : List Object) : Type 0 where
   pub count : length objects ≡ length g.objects
   pub counts : length objects ≡ length g.filled
   pub each : (number : ℕ) (t : ObjectType) → slice_get g.objects number ≡ Some t
       → (x : Object) × (filled : ℕ) × (slice_get objects number ≡ Some x) × (slice_get g.filled number ≡ Some filled) × IsObject g filled t x
   pub heap : is_open (slice_get regions heap_number) ≡ true
-  pub kept : (number : ℕ) → IsAmong number g.kept → (1 < number) × (IsHeld (g.own number) → IsDynamic (slice_get regions number))
-  pub fresh : (number : ℕ) → length regions ≤ number → g.own number ≡ Nobody
+  pub kept : (number : ℕ) → IsAmong number g.kept → (1 < number) × (IsHeld (g.own (KeyOf number)) → IsDynamic (slice_get regions number))
+  pub fresh : (number : ℕ) → length regions ≤ number → g.own (KeyOf number) ≡ Nobody
+  pub unique : (object : ℕ) → IsHeld (g.own (PointerTo object)) → IsUniqueObject g objects object
+  pub owned : (object : ℕ) (t : ObjectType) (x : Object) → g.here object ≡ true → slice_get g.objects object ≡ Some t → slice_get objects object ≡ Some x → AreOwned g.own object t.cells x.cells
 
--- what has this life is there, by which regions are open
+-- where what has this life is made, by which regions are open
 abbrev pub IsOpenLife : List Region → Life → Type 0
 IsOpenLife regions (OfRegion number around lent) = is_open (slice_get regions number) ≡ true
 IsOpenLife regions (Kept number) = is_open (slice_get regions number) ≡ true
 IsOpenLife regions Owned = Unit {0}
 IsOpenLife regions l = ⊥
 
--- ---- keys
-
--- a value of this type, that may be used, is there
-abbrev pub ClaimsLife : (own : ℕ → Holder) → Holder → Life → Type 0
-ClaimsLife own h (Kept region) = own region ≡ h
-ClaimsLife own h l = Unit {0}
-
-abbrev pub Claims : (own : ℕ → Holder) → Holder → RunTy → Type 0
-Claims own h (Key l) = ClaimsLife own h l
-Claims own h t = Unit {0}
-
-abbrev pub ClaimsBy : (own : ℕ → Holder) → Holder → RunValue → Type 0
-ClaimsBy own h (Value t) = Claims own h t
-ClaimsBy own h r = Unit {0}
-
--- and is there from now on
-abbrev pub given_life : Life → Holder → (ℕ → Holder) → ℕ → Holder
-given_life (Kept region) h own = λ n. if n == region then h else own n
-given_life l h own = own
-
-abbrev pub given : RunTy → Holder → (ℕ → Holder) → ℕ → Holder
-given (Key l) h own = given_life l h own
-given t h own = own
-
-abbrev pub giving : Typing → RunTy → Holder → Typing
-giving g t h = record g { own = given t h g.own }
+-- what has this life is there
+abbrev pub IsOpenObject : Typing → List Region → (object : ℕ) → Life → Type 0
+IsOpenObject g regions object Owned = IsHeld (g.own (PointerTo object))
+IsOpenObject g regions object l = IsOpenLife regions l
 
 -- whether a key is lent by one of so many loans, the first ones
 abbrev pub is_lent_by : ℕ → Holder → Bool
@@ -250,7 +349,7 @@ is_lent_by count (Lent before) = nat_lt before count
 is_lent_by count h = false
 
 abbrev pub lent_now : Typing → ℕ → Bool
-lent_now g region = is_lent_by g.loans (g.own region)
+lent_now g region = is_lent_by g.loans (g.own (KeyOf region))
 
 -- what has this life and is dynamic, or lasts as long, is open
 abbrev pub IsOpenIn : Typing → Life → Type 0
@@ -271,5 +370,6 @@ pub record Grows (g h : Typing) : Type 0 where
 pub record Stays (g h : Typing) : Type 0 where
   pub grows : Grows g h
   pub own : h.own ≡ g.own
+  pub here : h.here ≡ g.here
   pub depth : h.depth ≡ g.depth
   pub loans : h.loans ≡ g.loans

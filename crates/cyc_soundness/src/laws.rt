@@ -16,8 +16,9 @@ ghost use Rattle.cyc_soundness.specs.Lives.{RunTy, Lives, at, value_at};
 ghost use Rattle.cyc_soundness.specs.Worlds.{Typing, AgreesWith, HasType, IsResult, Fits, Grows, Stays};
 ghost use Rattle.cyc_soundness.specs.Frames.{InScope, Exits};
 ghost use Rattle.cyc_soundness.specs.Stacks.{Want, IsStack};
-ghost use Rattle.cyc_soundness.specs.Classes.{IsOfTheHeap, IsOfScopes, FreesNoObject, Source};
+ghost use Rattle.cyc_soundness.specs.Classes.{IsOfTheHeap, IsOfScopes, FreesNoObject, FreesLocals, Source};
 ghost use Rattle.cyc_soundness.specs.Frees.{frees_no_object};
+ghost use Rattle.cyc_soundness.specs.FreesLocals.{frees_locals};
 ghost use Rattle.cyc_soundness.specs.Sound.{IsSound};
 
 /// What is known of a world only grows, and what was typed stays so: a value keeps its type for good, and a control stack
@@ -53,6 +54,14 @@ pub fn scoped_programs_are_sound()
 /// aliases share what unique pointers lead to, to the end of a block.
 pub fn programs_that_free_no_object_are_sound()
     ensures { (p : Program) → IsWellTypedProgram p → IsAllowedProgram p → FreesNoObject p → IsSound p }
+{}
+
+/// No run of a program is ever dead or wrong that gives back unique objects, where the typing rules and the flow rules accept
+/// it, if the pointers to them are in locals, arguments and results alone. What is given back is reached by nobody then, as
+/// no other has the pointer to it. Which programs these are is computed.
+pub fn programs_that_free_what_locals_have_are_sound()
+    ensures class { (p : Program) → IsWellTypedProgram p → IsAllowedProgram p → FreesLocals p → IsSound p }
+    ensures computed { (p : Program) → IsWellTypedProgram p → IsAllowedProgram p → frees_locals p ≡ true → IsSound p }
 {}
 
 /// No run of a program that the typing rules derive from a tree and the flow rules accept is ever dead or wrong, where no expression

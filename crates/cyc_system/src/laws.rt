@@ -12,6 +12,7 @@ ghost use Rattle.cyc_words.specs.declared.fault.Fault.{Fault};
 ghost use Rattle.cyc_types.specs.TypedTrees.{Program};
 ghost use Rattle.cyc_types.specs.Texts.{IsOfTextProgram};
 ghost use Rattle.cyc_soundness.specs.Frees.{frees_no_object};
+ghost use Rattle.cyc_soundness.specs.FreesLocals.{frees_locals};
 ghost use Rattle.cyc_soundness.specs.Sound.{IsSound};
 ghost use Rattle.cyc_system.specs.Front.{IsAcceptedText, IsRefusedText};
 ghost use Rattle.cyc_system.specs.Compiled.{IsCompiledText};
@@ -46,6 +47,15 @@ pub fn programs_that_free_no_object_are_sound()
     ensures { (text : List ℕ) (p : Program) → IsAcceptedText text p → frees_no_object p ≡ true → IsSound p }
 {
     cyc_soundness::laws::typed_programs_that_free_no_object_are_sound();
+}
+
+/// Nor is one that gives objects back, if the pointers to those are in locals, arguments and results alone, and nothing is swapped or
+/// lent (`frees_locals`, which is computed).
+pub fn programs_that_free_what_locals_have_are_sound()
+    ensures { (text : List ℕ) (p : Program) → IsAcceptedText text p → frees_locals p ≡ true → IsSound p }
+{
+    cyc_types::laws::typed_trees_are_well_typed();
+    cyc_soundness::laws::programs_that_free_what_locals_have_are_sound();
 }
 
 /// What `compile` answers is read as an image, and the machine never answers that it has no place for it.

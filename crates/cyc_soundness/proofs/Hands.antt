@@ -1,0 +1,547 @@
+-- THINGS CHANGE HANDS: keys, and pointers to unique objects. What others have stays theirs, and so what is typed stays so.
+use Rattle.std.proofs.Common.{◌≡◌, ◌≢◌, ℕ, suc, ◌+◌, ◌≤◌, ◌<◌, Bool, true, false, List, [], ◌∷◌, ◌++◌, length, set, Option, Some, None, slice_get, refl, sym, ap, subst, ◌∙◌, inl, inr, arith, length-append, eqb}
+use Rattle.std.specs.Prelude.{if◌then◌else◌, ◌==◌}
+use Rattle.std.proofs.lemmas.Bool.{ltb-true, lt-ltb, eqb-true, eq-eqb, false_from_ne_true}
+use Rattle.std.proofs.lemmas.List.{length-set}
+use Rattle.cyc_types.specs.flow.States as flow
+use Rattle.cyc_meaning.specs.Values.{Operand}
+use Rattle.cyc_meaning.specs.Values as values
+use Rattle.cyc_meaning.specs.State.{Dynamic, new_region, Region, Unique, Object, heap_number, is_open}
+use Rattle.cyc_meaning.proofs.ListLemmas.{slice_get-end, slice_get-set_other}
+use Rattle.cyc_soundness.specs.Lives.{Life, OfRegion, OfObject, Never, Owned, Kept, RunTy, RunValue, Void, Null, Value, Seen, Into}
+use Rattle.cyc_soundness.specs.Worlds.{IsAmong, first as newest, later as behind, Slot, ObjectType, variable_type, Thing, KeyOf, PointerTo, Holder, Nobody, Hand, At, Lent, Typing, IsHeld, same_thing, thing_of, Owns, Claims, ClaimsPart, ClaimsBy, ClaimsAlone, IsLookedAt, IsSlot, IsHere, given, giving, marked, handing, AreOwned, IsUniqueObject, is_lent_by, lent_now, IsOpenIn, Stays, IsDynamic, IsFull, IsOwner, IsObject, IsTyped, Grows}
+use Rattle.cyc_soundness.specs.Frames.{InScope, Variable, Names, Instance, IsOfVariable, local_type, HoldsIts, IsFullIn, AreVariables, AreSet, Holds, KnowsProgram}
+use Rattle.cyc_soundness.specs.Classes.{Source}
+use Rattle.cyc_soundness.proofs.Numbers.{same_or_other, slice_get-set_same, some_same}
+use Rattle.cyc_soundness.proofs.WorldLemmas.{typed_cell, life_grown, object_grown, globals_grown, opened_typed, typed_beside}
+
+-- ---- who has what
+
+same_number : {A : Type 0} (n r : ℕ) (a b : A) → n ≡ r → (if n == r then a else b) ≡ a
+same_number n r a b same = ap (λ (z : Bool). if z then a else b) (eq-eqb n r same)
+
+other_number : {A : Type 0} (n r : ℕ) (a b : A) → n ≢ r → (if n == r then a else b) ≡ b
+other_number n r a b apart = ap (λ (z : Bool). if z then a else b) (false_from_ne_true (eqb n r) (λ h. apart (eqb-true n r h)))
+
+itself : (a : Thing) → same_thing a a ≡ true
+itself (KeyOf n) = eq-eqb n n refl
+itself (PointerTo n) = eq-eqb n n refl
+
+the_same : (a b : Thing) → same_thing a b ≡ true → a ≡ b
+the_same (KeyOf m) (KeyOf n) e = ap (λ i. KeyOf i) (eqb-true m n e)
+the_same (PointerTo m) (PointerTo n) e = ap (λ i. PointerTo i) (eqb-true m n e)
+the_same (KeyOf m) (PointerTo n) e = absurd (let k : false ≡ true = e in cc)
+the_same (PointerTo m) (KeyOf n) e = absurd (let k : false ≡ true = e in cc)
+
+-- who has been given a thing has it
+pub given_now : (own : Thing → Holder) (o : Option Thing) (h : Holder) → Owns (given o h own) h o
+given_now own None h = tt
+given_now own (Some a) h = ap (λ (z : Bool). if z then h else own a) (itself a)
+
+by_test : {A : Type 0} (b : Bool) (x y z : A) → (b ≡ true → y ≡ z) → (b ≡ false → x ≡ z) → (if b then y else x) ≡ z
+by_test true x y z one two = one refl
+by_test false x y z one two = two refl
+
+-- and who had another one has it still
+pub given_other : (own : Thing → Holder) (o : Option Thing) (old new : Holder) (a : Thing) → Owns own old o → own a ≢ old → given o new own a ≡ own a
+given_other own None old new a has apart = refl
+given_other own (Some b) old new a has apart = by_test (same_thing a b) (own a) new (own a) (λ e. absurd (apart (ap own (the_same a b e) ∙ has))) (λ e. refl)
+
+-- what somebody has now somebody had before
+held_before : (own : Thing → Holder) (o : Option Thing) (old new : Holder) (a : Thing) → Owns own old o → IsHeld old → IsHeld (given o new own a) → IsHeld (own a)
+held_before own None old new a has held now = now
+held_before own (Some b) old new a has held now = go (same_thing a b) refl now
+  where
+    go : (z : Bool) → same_thing a b ≡ z → IsHeld (if z then new else own a) → IsHeld (own a)
+    go true e now = subst (λ h. IsHeld h) (sym (ap own (the_same a b e) ∙ has)) held
+    go false e now = now
+
+-- what nobody has nobody had
+none_before : (own : Thing → Holder) (o : Option Thing) (old new : Holder) (a : Thing) → Owns own old o → IsHeld old → own a ≡ Nobody → given o new own a ≡ Nobody
+none_before own None old new a has held none = none
+none_before own (Some b) old new a has held none = by_test (same_thing a b) (own a) new Nobody (λ e. absurd (subst (λ h. IsHeld h) (sym has ∙ ap own (sym (the_same a b e)) ∙ none) held)) (λ e. none)
+
+pub marked_now : (object : ℕ) (b : Bool) (here : ℕ → Bool) → marked object b here object ≡ b
+marked_now object b here = same_number object object b (here object) refl
+
+pub marked_other : (object : ℕ) (b : Bool) (here : ℕ → Bool) (n : ℕ) → n ≢ object → marked object b here n ≡ here n
+marked_other object b here n apart = other_number n object b (here n) apart
+
+pub marked_before : (object : ℕ) (b : Bool) (here : ℕ → Bool) (n : ℕ) → n ≢ object → marked object b here n ≡ true → here n ≡ true
+marked_before object b here n apart e = sym (marked_other object b here n apart) ∙ e
+
+pub hand_same : (i j : ℕ) → Hand i ≡ Hand j → i ≡ j
+hand_same i j e = let k : Hand i ≡ Hand j = e in cc
+
+pub at_same : (m n : ℕ) → At m ≡ At n → m ≡ n
+at_same m n e = let k : At m ≡ At n = e in cc
+
+pub at_no_hand : (m i : ℕ) → At m ≢ Hand i
+at_no_hand m i e = let k : At m ≡ Hand i = e in absurd (cc)
+
+pub at_not_lent : (m j : ℕ) → At m ≢ Lent j
+at_not_lent m j e = let k : At m ≡ Lent j = e in absurd (cc)
+
+pub at_some : (m : ℕ) → At m ≢ Nobody
+at_some m e = let k : At m ≡ Nobody = e in absurd (cc)
+
+-- ---- what changes
+
+-- What one holder had is another's. Nothing else changes, but that more is known, and that variables may have more in them.
+pub record Changed (old : Holder) (g h : Typing) : Type 0 where
+  pub grows : Grows g h
+  pub own : (a : Thing) → g.own a ≢ old → h.own a ≡ g.own a
+  pub here : (object : ℕ) → g.here object ≡ true → At object ≢ old → h.here object ≡ true
+  pub depth : h.depth ≡ g.depth
+  pub loans : h.loans ≡ g.loans
+
+pub stays_changed : (old : Holder) (g h : Typing) → Stays g h → Changed old g h
+stays_changed old g h stays = record {
+  grows = stays.grows;
+  own = λ a apart. ap (λ f. f a) stays.own;
+  here = λ object is apart. ap (λ f. f object) stays.here ∙ is;
+  depth = stays.depth;
+  loans = stays.loans;
+}
+
+pub changed_after : (old : Holder) (g h i : Typing) → Changed old g h → Stays h i → Changed old g i
+changed_after old g h i changed stays = record {
+  grows = record {
+    objects = λ n t is. stays.grows.objects n t (changed.grows.objects n t is);
+    filled = λ n count is. stays.grows.filled n count (changed.grows.filled n count is);
+    fields = λ n ls ts is. stays.grows.fields n ls ts (changed.grows.fields n ls ts is);
+    kept = λ n is. stays.grows.kept n (changed.grows.kept n is);
+  };
+  own = λ a apart. ap (λ f. f a) stays.own ∙ changed.own a apart;
+  here = λ object is apart. ap (λ f. f object) stays.here ∙ changed.here object is apart;
+  depth = stays.depth ∙ changed.depth;
+  loans = stays.loans ∙ changed.loans;
+}
+
+pub same_grows : (g : Typing) (own : Thing → Holder) (here : ℕ → Bool) → Grows g (record g { own = own; here = here })
+same_grows g own here = record { objects = λ n u is. is; filled = λ n count is. is; fields = λ n ls ts is. is; kept = λ n is. is }
+
+pub giving_changed : (g : Typing) (o : Option Thing) (old new : Holder) → Owns g.own old o → Changed old g (giving g o new)
+giving_changed g o old new has = record { grows = same_grows g (given o new g.own) g.here; own = λ a apart. given_other g.own o old new a has apart; here = λ object is apart. is; depth = refl; loans = refl }
+
+-- it goes from a variable, or to one
+pub handing_changed : (g : Typing) (o : Option Thing) (old new : Holder) (object : ℕ) (b : Bool) → Owns g.own old o → (b ≡ false → old ≡ At object) → Changed old g (handing g o new object b)
+handing_changed g o old new object b has from = record {
+  grows = same_grows g (given o new g.own) (marked object b g.here);
+  own = λ a apart. given_other g.own o old new a has apart;
+  here = here b from;
+  depth = refl;
+  loans = refl;
+}
+  where
+    here : (b : Bool) → (b ≡ false → old ≡ At object) → (n : ℕ) → g.here n ≡ true → At n ≢ old → marked object b g.here n ≡ true
+    here true from n is apart = by_test (n == object) (g.here n) true true (λ e. refl) (λ e. is)
+    here false from n is apart = marked_other object false g.here n (λ same. apart (ap (λ i. At i) same ∙ sym (from refl))) ∙ is
+
+module _ (old : Holder) (g h : Typing) (changed : Changed old g h) where
+  pub owns_kept : (holder : Holder) (o : Option Thing) → holder ≢ old → Owns g.own holder o → Owns h.own holder o
+  owns_kept holder None apart is = tt
+  owns_kept holder (Some a) apart is = changed.own a (λ e. apart (sym is ∙ e)) ∙ is
+
+  pub claims_kept : (holder : Holder) (t : RunTy) (v : values.Value) → holder ≢ old → Claims g.own holder t v → Claims h.own holder t v
+  claims_kept holder t v apart (is, start) = (owns_kept holder (thing_of t v) apart is, start)
+
+  pub slot_kept : (d n object : ℕ) → IsSlot g d n object → IsSlot h d n object
+  slot_kept d n object (x, there, slot) = (x, changed.grows.objects object x there, slot)
+
+  pub here_kept : (d n object : ℕ) → At object ≢ old → IsHere g d n object → IsHere h d n object
+  here_kept d n object apart (is, slot) = (changed.here object is apart, slot_kept d n object slot)
+
+  looked_kept : (n : ℕ) (o : Option Thing) → ((object : ℕ) → IsHere g g.depth n object → At object ≢ old) → IsLookedAt g n o → IsLookedAt h n o
+  looked_kept n None apart is = tt
+  looked_kept n (Some a) apart (object, here, is) =
+      (object, subst (λ d. IsHere h d n object) (sym changed.depth) (here_kept g.depth n object (apart object here) here), changed.own a (λ e. apart object here (sym is ∙ e)) ∙ is)
+
+  pub part_kept : (i : ℕ) (peek : Option ℕ) (o : Option Thing) → Hand i ≢ old → ((n object : ℕ) → peek ≡ Some n → IsHere g g.depth n object → At object ≢ old) → ClaimsPart g i peek o → ClaimsPart h i peek o
+  part_kept i None o apart other is = owns_kept (Hand i) o apart is
+  part_kept i (Some n) o apart other is = looked_kept n o (λ object. other n object refl) is
+
+  pub alone_kept : (i : ℕ) (r : RunValue) (v : values.Value) → Hand i ≢ old → ClaimsAlone g.own i r v → ClaimsAlone h.own i r v
+  alone_kept i (Value t) v apart is = claims_kept (Hand i) t v apart is
+  alone_kept i (Into peek t) v apart is = is
+  alone_kept i Void v apart is = tt
+  alone_kept i Null v apart is = tt
+  alone_kept i (Seen t) v apart is = tt
+
+  lent_kept : (region : ℕ) → is_lent_by g.loans old ≡ false → lent_now g region ≡ true → lent_now h region ≡ true
+  lent_kept region none e =
+      let apart : g.own (KeyOf region) ≢ old = (λ same. (let k : true ≡ false = sym e ∙ ap (λ h. is_lent_by g.loans h) same ∙ none in absurd (cc))) in
+      subst (λ n. is_lent_by n (h.own (KeyOf region)) ≡ true) (sym changed.loans) (subst (λ h. is_lent_by g.loans h ≡ true) (sym (changed.own (KeyOf region) apart)) e)
+
+  pub open_kept : (l : Life) → is_lent_by g.loans old ≡ false → IsOpenIn g l → IsOpenIn h l
+  open_kept (Kept region) none is = lent_kept region none is
+  open_kept (OfRegion number ns us) none is = λ r e. lent_kept r none (is r e)
+  open_kept (OfObject object) none is = tt
+  open_kept Never none is = tt
+  open_kept Owned none is = tt
+
+  one_kept : (b : InScope) → is_lent_by g.loans old ≡ false → IsOfVariable g b → IsOfVariable h b
+  one_kept (Variable b) none (is, opens) = (subst (λ d. slice_get h.objects b.object ≡ Some (local_type d b)) (sym changed.depth) (changed.grows.objects b.object (local_type g.depth b) is), open_kept b.life none opens)
+  one_kept (Names number l live) none (is, opens) = (life_grown g h changed.grows l is, λ e. open_kept l none (opens e))
+  one_kept (Instance frees these live) none is = λ n. (life_grown g h changed.grows (these n) (is n).0, λ e. open_kept (these n) none ((is n).1 e))
+  one_kept b none is = tt
+
+  -- where what is lent stays lent, the scope is as it was
+  pub variables_kept : (bs : List InScope) → is_lent_by g.loans old ≡ false → AreVariables g bs → AreVariables h bs
+  variables_kept [] none are = tt
+  variables_kept (b ∷ bs) none (is, are) = (one_kept b none is, variables_kept bs none are)
+
+  one_holds : (f : flow.State) (b : InScope) → ((n object : ℕ) → IsFullIn f n → IsHere g g.depth n object → At object ≢ old) → HoldsIts g f b → HoldsIts h f b
+  one_holds f (Variable b) other (set, full) =
+      (λ s. changed.grows.filled b.object 1 (set s), λ s. subst (λ d. IsHere h d b.number b.object) (sym changed.depth) (here_kept g.depth b.number b.object (other b.number b.object s (full s)) (full s)))
+  one_holds f b other is = tt
+
+  pub set_kept : (f : flow.State) (bs : List InScope) → ((n object : ℕ) → IsFullIn f n → IsHere g g.depth n object → At object ≢ old) → AreSet g f bs → AreSet h f bs
+  set_kept f [] other are = tt
+  set_kept f (b ∷ bs) other (is, are) = (one_holds f b other is, set_kept f bs other are)
+
+  -- what is known of locals stays so, where none of them had it
+  pub holds_kept : (f : flow.State) (bs : List InScope) → ((n object : ℕ) → IsFullIn f n → IsHere g g.depth n object → At object ≢ old) → Holds g f bs → Holds h f bs
+  holds_kept f bs other (reached, are) = (reached, set_kept f bs other are)
+
+-- ---- nothing changes hands
+
+-- but variables may have more in them
+pub record Raises (g h : Typing) : Type 0 where
+  pub grows : Grows g h
+  pub own : h.own ≡ g.own
+  pub here : (object : ℕ) → g.here object ≡ true → h.here object ≡ true
+  pub depth : h.depth ≡ g.depth
+  pub loans : h.loans ≡ g.loans
+
+pub raises_changed : (g h : Typing) → Raises g h → Changed Nobody g h
+raises_changed g h raises = record { grows = raises.grows; own = λ a apart. ap (λ f. f a) raises.own; here = λ object is apart. raises.here object is; depth = raises.depth; loans = raises.loans }
+
+pub changed_raised : (old : Holder) (g h i : Typing) → Changed old g h → Raises h i → Changed old g i
+changed_raised old g h i changed raises = record {
+  grows = record {
+    objects = λ n t is. raises.grows.objects n t (changed.grows.objects n t is);
+    filled = λ n count is. raises.grows.filled n count (changed.grows.filled n count is);
+    fields = λ n ls ts is. raises.grows.fields n ls ts (changed.grows.fields n ls ts is);
+    kept = λ n is. raises.grows.kept n (changed.grows.kept n is);
+  };
+  own = λ a apart. ap (λ f. f a) raises.own ∙ changed.own a apart;
+  here = λ object is apart. raises.here object (changed.here object is apart);
+  depth = raises.depth ∙ changed.depth;
+  loans = raises.loans ∙ changed.loans;
+}
+
+-- a variable that has more in it
+pub marked_keeps : (object : ℕ) (here : ℕ → Bool) (n : ℕ) → here n ≡ true → marked object true here n ≡ true
+marked_keeps object here n is = by_test (n == object) (here n) true true (λ e. refl) (λ e. is)
+
+module _ (g h : Typing) (stays : Stays g h) where
+  abbrev still : Changed Nobody g h
+  still = stays_changed Nobody g h stays
+
+  pub claims_stay : (holder : Holder) (t : RunTy) (v : values.Value) → Claims g.own holder t v → Claims h.own holder t v
+  claims_stay holder t v (is, start) = (subst (λ f. Owns f holder (thing_of t v)) (sym stays.own) is, start)
+
+  pub owns_stay : (holder : Holder) (o : Option Thing) → Owns g.own holder o → Owns h.own holder o
+  owns_stay holder o is = subst (λ f. Owns f holder o) (sym stays.own) is
+
+  pub here_stays : (d n object : ℕ) → IsHere g d n object → IsHere h d n object
+  here_stays d n object is = here_kept Nobody g h still d n object (at_some object) is
+
+  pub part_stays : (i : ℕ) (peek : Option ℕ) (o : Option Thing) → ClaimsPart g i peek o → ClaimsPart h i peek o
+  part_stays i peek o is = part_kept Nobody g h still i peek o (λ e. (let k : Hand i ≡ Nobody = e in absurd (cc))) (λ n object same here. at_some object) is
+
+  pub by_stays : (i : ℕ) (r : RunValue) (v : values.Value) → ClaimsBy g i r v → ClaimsBy h i r v
+  by_stays i (Value t) v is = claims_stay (Hand i) t v is
+  by_stays i (Into peek t) v is = part_stays i peek (thing_of t v) is
+  by_stays i Void v is = tt
+  by_stays i Null v is = tt
+  by_stays i (Seen t) v is = tt
+
+  pub open_stays : (l : Life) → IsOpenIn g l → IsOpenIn h l
+  open_stays l is = open_kept Nobody g h still l refl is
+
+  pub variables_grown : (bs : List InScope) → AreVariables g bs → AreVariables h bs
+  variables_grown bs are = variables_kept Nobody g h still bs refl are
+
+  pub set_grown : (f : flow.State) (bs : List InScope) → AreSet g f bs → AreSet h f bs
+  set_grown f bs are = set_kept Nobody g h still f bs (λ n object full here. at_some object) are
+
+  pub holds_grown : (f : flow.State) (bs : List InScope) → Holds g f bs → Holds h f bs
+  holds_grown f bs holds = holds_kept Nobody g h still f bs (λ n object full here. at_some object) holds
+
+-- ---- the world is as it was
+
+-- A thing that somebody has goes to another; what variables then have they had, and it is not that.
+pub hands_typed : (g : Typing) (o : Option Thing) (old new : Holder) (here : ℕ → Bool) (regions : List Region) (objects : List Object) → Owns g.own old o → IsHeld old
+    → ((object : ℕ) → here object ≡ true → (g.here object ≡ true) × (At object ≢ old)) → IsTyped g regions objects → IsTyped (record g { own = given o new g.own; here = here }) regions objects
+hands_typed g o old new here regions objects has held before typed = record {
+  count = typed.count;
+  counts = typed.counts;
+  each = λ n u there. (let (x, m, at, flag, is) = typed.each n u there in (x, m, at, flag, object_grown g _ (same_grows g (given o new g.own) here) m u x is));
+  heap = typed.heap;
+  kept = λ n among. ((typed.kept n among).0, λ now. (typed.kept n among).1 (held_before g.own o old new (KeyOf n) has held now));
+  fresh = λ n less. none_before g.own o old new (KeyOf n) has held (typed.fresh n less);
+  unique = λ object now. typed.unique object (held_before g.own o old new (PointerTo object) has held now);
+  owned = λ object t x now there stands. (let (is, apart) = before object now in λ i u c v cell at content.
+      claims_kept old g (giving g o new) (giving_changed g o old new has) (At object) u v apart (typed.owned object t x is there stands i u c v cell at content));
+}
+
+pub given_typed : (g : Typing) (o : Option Thing) (old new : Holder) (regions : List Region) (objects : List Object) → Owns g.own old o → IsHeld old → ((object : ℕ) → At object ≢ old) → IsTyped g regions objects → IsTyped (giving g o new) regions objects
+given_typed g o old new regions objects has held apart typed = hands_typed g o old new g.here regions objects has held (λ object now. (now, apart object)) typed
+
+-- it goes from a variable
+pub taken_typed : (g : Typing) (o : Option Thing) (object : ℕ) (new : Holder) (regions : List Region) (objects : List Object) → Owns g.own (At object) o → IsTyped g regions objects → IsTyped (handing g o new object false) regions objects
+taken_typed g o object new regions objects has typed = hands_typed g o (At object) new (marked object false g.here) regions objects has tt before typed
+  where
+    before : (n : ℕ) → marked object false g.here n ≡ true → (g.here n ≡ true) × (At n ≢ At object)
+    before n now =
+        let apart : n ≢ object = (λ same. (let k : true ≡ false = sym now ∙ same_number n object false (g.here n) same in absurd (cc))) in
+        (marked_before object false g.here n apart now, λ e. apart (at_same n object e))
+
+-- a variable has what is in it from now on
+pub raised_typed : (g : Typing) (object : ℕ) (t : ObjectType) (regions : List Region) (objects : List Object) → slice_get g.objects object ≡ Some t → ((x : Object) → slice_get objects object ≡ Some x → AreOwned g.own object t.cells x.cells)
+    → IsTyped g regions objects → IsTyped (record g { here = marked object true g.here }) regions objects
+raised_typed g object t regions objects there own typed = record {
+  count = typed.count;
+  counts = typed.counts;
+  each = λ n u at. (let (x, m, stands, flag, is) = typed.each n u at in (x, m, stands, flag, object_grown g _ (same_grows g g.own (marked object true g.here)) m u x is));
+  heap = typed.heap;
+  kept = typed.kept;
+  fresh = typed.fresh;
+  unique = typed.unique;
+  owned = owned;
+}
+  where
+    owned : (n : ℕ) (u : ObjectType) (x : Object) → marked object true g.here n ≡ true → slice_get g.objects n ≡ Some u → slice_get objects n ≡ Some x → AreOwned g.own n u.cells x.cells
+    owned n u x now at stands = elim (same_or_other n object) [
+      | inl same ↦ (let type_is : t ≡ u = some_same t u (sym there ∙ ap (λ i. slice_get g.objects i) (sym same) ∙ at) in
+          subst (λ i. AreOwned g.own i u.cells x.cells) (sym same) (subst (λ z. AreOwned g.own object z.cells x.cells) type_is (own x (ap (λ i. slice_get objects i) (sym same) ∙ stands))))
+      | inr apart ↦ typed.owned n u x (marked_before object true g.here n apart now) at stands
+    ]
+
+-- somebody has the pointer to a unique object that nobody had
+pub pointed_typed : (g : Typing) (object : ℕ) (new : Holder) (regions : List Region) (objects : List Object) → g.own (PointerTo object) ≡ Nobody → IsUniqueObject g objects object → IsTyped g regions objects → IsTyped (giving g (Some (PointerTo object)) new) regions objects
+pointed_typed g object new regions objects none is typed = record {
+  count = typed.count;
+  counts = typed.counts;
+  each = λ n u there. (let (x, m, at, flag, was) = typed.each n u there in (x, m, at, flag, object_grown g _ (same_grows g (given (Some (PointerTo object)) new g.own) g.here) m u x was));
+  heap = typed.heap;
+  kept = typed.kept;
+  fresh = typed.fresh;
+  unique = λ n held. go n (n == object) refl held;
+  owned = λ n t x now there stands i u c v cell at content. claims_kept Nobody g (giving g (Some (PointerTo object)) new) (giving_changed g (Some (PointerTo object)) Nobody new none) (At n) u v (at_some n)
+      (typed.owned n t x now there stands i u c v cell at content);
+}
+  where
+    go : (n : ℕ) (b : Bool) → (n == object) ≡ b → IsHeld (if b then new else g.own (PointerTo n)) → IsUniqueObject g objects n
+    go n true same held = subst (λ i. IsUniqueObject g objects i) (sym (eqb-true n object same)) is
+    go n false other held = typed.unique n held
+
+-- a unique object is given back, which nobody has then
+pub freed_typed : (g : Typing) (object i : ℕ) (x : Object) (regions : List Region) (objects : List Object) → g.own (PointerTo object) ≡ Hand i → slice_get objects object ≡ Some x → IsTyped g regions objects
+    → IsTyped (giving g (Some (PointerTo object)) Nobody) regions (set objects object (record x { owner = Unique false }))
+freed_typed g object i x regions objects has stands typed =
+    let (t, y, there, life, at, live) = typed.unique object (subst (λ h. IsHeld h) (sym has) tt) in
+    let now : IsTyped (giving g (Some (PointerTo object)) Nobody) regions objects = given_typed g (Some (PointerTo object)) (Hand i) Nobody regions objects has tt (λ n. at_no_hand n i) typed in
+    record {
+      count = length-set objects object gone ∙ now.count;
+      counts = length-set objects object gone ∙ now.counts;
+      each = λ n u found. each n u found t there life now;
+      heap = now.heap;
+      kept = now.kept;
+      fresh = now.fresh;
+      unique = λ n held. unique n held now;
+      owned = λ n u z here found is. owned n u z here found is now;
+    }
+  where
+    gone : Object
+    gone = record x { owner = Unique false }
+
+    gone_there : slice_get (set objects object gone) object ≡ Some gone
+    gone_there = slice_get-set_same objects object x gone stands
+
+    h : Typing
+    h = giving g (Some (PointerTo object)) Nobody
+
+    gone_is : (m : ℕ) (u : ObjectType) (z : Object) → u.life ≡ Owned → IsObject h m u z → IsObject h m u (record z { owner = Unique false })
+    gone_is m u z life is = record { owner = subst (λ l. IsOwner l (Unique false)) (sym life) tt; known = is.known; keyless = is.keyless; cells = is.cells }
+
+    each : (n : ℕ) (u : ObjectType) → slice_get g.objects n ≡ Some u → (t : ObjectType) → slice_get g.objects object ≡ Some t → t.life ≡ Owned → IsTyped h regions objects
+        → (z : Object) × (m : ℕ) × (slice_get (set objects object gone) n ≡ Some z) × (slice_get g.filled n ≡ Some m) × IsObject h m u z
+    each n u found t there life now = let (z, m, at, flag, is) = now.each n u found in elim (same_or_other n object) [
+      | inl same ↦ (
+        gone,
+        m,
+        subst (λ k. slice_get (set objects object gone) k ≡ Some gone) (sym same) gone_there,
+        flag,
+        (let type_is : t ≡ u = some_same t u (sym there ∙ ap (λ k. slice_get g.objects k) (sym same) ∙ found) in
+            let same_z : z ≡ x = some_same z x (sym at ∙ ap (λ k. slice_get objects k) same ∙ stands) in
+            gone_is m u x (ap (λ (k : ObjectType). k.life) (sym type_is) ∙ life) (subst (λ k. IsObject h m u k) same_z is)),
+      )
+      | inr apart ↦ (z, m, slice_get-set_other objects object n gone apart ∙ at, flag, is)
+    ]
+
+    unique : (n : ℕ) → IsHeld (h.own (PointerTo n)) → IsTyped h regions objects → IsUniqueObject h (set objects object gone) n
+    unique n held now = let (u, z, there, life, at, live) = now.unique n held in elim (same_or_other n object) [
+      | inl same ↦ absurd (subst (λ k. IsHeld k) (same_number n object Nobody (g.own (PointerTo n)) same) held)
+      | inr apart ↦ (u, z, there, life, slice_get-set_other objects object n gone apart ∙ at, live)
+    ]
+
+    owned : (n : ℕ) (u : ObjectType) (z : Object) → g.here n ≡ true → slice_get g.objects n ≡ Some u → slice_get (set objects object gone) n ≡ Some z → IsTyped h regions objects → AreOwned h.own n u.cells z.cells
+    owned n u z here found is now = elim (same_or_other n object) [
+      | inl same ↦ (let z_is : gone ≡ z = some_same gone z (sym gone_there ∙ ap (λ k. slice_get (set objects object gone) k) (sym same) ∙ is) in
+          subst (λ (k : Object). AreOwned h.own n u.cells k.cells) z_is (now.owned n u x here found (ap (λ k. slice_get objects k) same ∙ stands)))
+      | inr apart ↦ now.owned n u z here found (sym (slice_get-set_other objects object n gone apart) ∙ is)
+    ]
+
+-- a variable that has what is in it has something
+pub here_claims : (g : Typing) (regions : List Region) (objects : List Object) (object : ℕ) (t : RunTy) (l : Life) (hidden : Bool) (s : Slot) → IsTyped g regions objects → g.here object ≡ true → slice_get g.objects object ≡ Some (variable_type t l hidden s) → IsFull g object
+    → (v : values.Value) × Claims g.own (At object) t v
+here_claims g regions objects object t l hidden s typed here there (m, flag, enough) =
+    let (x, k, stands, filled, is) = typed.each object (variable_type t l hidden s) there in
+    let c = typed_cell g (t ∷ []) x.cells k 0 t is.cells refl in
+    let same : m ≡ k = some_same m k (sym flag ∙ filled) in
+    let (v, content, has) = c.content (let less : 0 < k = omega (arith, same, enough) in less) in
+    (v, typed.owned object (variable_type t l hidden s) x here there stands 0 t c.cell v refl c.at content)
+
+pub alone_comes : (g : Typing) (i : ℕ) (r : RunValue) (v : values.Value) → ClaimsAlone g.own i r v → ClaimsBy g i r v
+alone_comes g i (Value t) v is = is
+alone_comes g i (Into peek t) v is = absurd is
+alone_comes g i Void v is = tt
+alone_comes g i Null v is = tt
+alone_comes g i (Seen t) v is = tt
+
+-- ---- a call or a loan more or less
+
+pub moment_grows : (g : Typing) (d j : ℕ) → Grows g (record g { depth = d; loans = j })
+moment_grows g d j = record { objects = λ n u is. is; filled = λ n count is. is; fields = λ n ls ts is. is; kept = λ n is. is }
+
+pub moment_typed : (g : Typing) (d j : ℕ) (regions : List Region) (objects : List Object) → IsTyped g regions objects → IsTyped (record g { depth = d; loans = j }) regions objects
+moment_typed g d j regions objects typed = record {
+  count = typed.count;
+  counts = typed.counts;
+  each = λ n u there. (let (x, m, at, flag, is) = typed.each n u there in (x, m, at, flag, object_grown g (record g { depth = d; loans = j }) (moment_grows g d j) m u x is));
+  heap = typed.heap;
+  kept = typed.kept;
+  fresh = typed.fresh;
+  unique = typed.unique;
+  owned = typed.owned;
+}
+
+pub moment_globals : (p : Source) (g : Typing) (d j : ℕ) → KnowsProgram g p → KnowsProgram (record g { depth = d; loans = j }) p
+moment_globals p g d j globals = globals_grown g (record g { depth = d; loans = j }) (moment_grows g d j) p (λ n ls. refl) globals.keys globals
+
+pub hands_globals : (p : Source) (g : Typing) (own : Thing → Holder) (here : ℕ → Bool) → KnowsProgram g p → KnowsProgram (record g { own = own; here = here }) p
+hands_globals p g own here globals = globals_grown g (record g { own = own; here = here }) (same_grows g own here) p (λ n ls. refl) globals.keys globals
+
+-- what is lent stays so where more is
+lent_more : (n : ℕ) (h : Holder) → is_lent_by n h ≡ true → is_lent_by (suc n) h ≡ true
+lent_more n Nobody e = e
+lent_more n (Hand i) e = e
+lent_more n (At i) e = e
+lent_more n (Lent j) e = let less : j < n = ltb-true j n e in lt-ltb j (suc n) (let past : j < suc n = omega (arith, less) in past)
+
+open_more : (g : Typing) (l : Life) → IsOpenIn g l → IsOpenIn (record g { loans = suc g.loans }) l
+open_more g (Kept region) is = lent_more g.loans (g.own (KeyOf region)) is
+open_more g (OfRegion number ns us) is = λ r e. lent_more g.loans (g.own (KeyOf r)) (is r e)
+open_more g (OfObject object) is = tt
+open_more g Never is = tt
+open_more g Owned is = tt
+
+variable_more : (g : Typing) (b : InScope) → IsOfVariable g b → IsOfVariable (record g { loans = suc g.loans }) b
+variable_more g (Variable b) (is, opens) = (is, open_more g b.life opens)
+variable_more g (Names number l live) (is, opens) = (life_grown g (record g { loans = suc g.loans }) (moment_grows g g.depth (suc g.loans)) l is, λ e. open_more g l (opens e))
+variable_more g (Instance frees these live) is =
+    λ n. (life_grown g (record g { loans = suc g.loans }) (moment_grows g g.depth (suc g.loans)) (these n) (is n).0, λ e. open_more g (these n) ((is n).1 e))
+variable_more g b is = tt
+
+pub variables_more : (g : Typing) (bs : List InScope) → AreVariables g bs → AreVariables (record g { loans = suc g.loans }) bs
+variables_more g [] are = tt
+variables_more g (b ∷ bs) (is, are) = (variable_more g b is, variables_more g bs are)
+
+-- what the last loan has lent
+pub lent_last : (n : ℕ) → is_lent_by (suc n) (Lent n) ≡ true
+lent_last n = lt-ltb n (suc n) (let less : n < suc n = omega arith in less)
+
+one_set_lent : (g : Typing) (j : ℕ) (f : flow.State) (b : InScope) → HoldsIts g f b → HoldsIts (record g { loans = j }) f b
+one_set_lent g j f (Variable b) is = is
+one_set_lent g j f b is = tt
+
+set_lent : (g : Typing) (j : ℕ) (f : flow.State) (bs : List InScope) → AreSet g f bs → AreSet (record g { loans = j }) f bs
+set_lent g j f [] are = tt
+set_lent g j f (b ∷ bs) (is, are) = (one_set_lent g j f b is, set_lent g j f bs are)
+
+-- how many loans there are is nothing to what locals hold
+pub holds_lent : (g : Typing) (j : ℕ) (f : flow.State) (bs : List InScope) → Holds g f bs → Holds (record g { loans = j }) f bs
+holds_lent g j f bs (reached, are) = (reached, set_lent g j f bs are)
+
+-- ---- keys
+
+-- a dynamic region closes whose key is given back
+pub closed_by_key : (g : Typing) (regions : List Region) (objects : List Object) (number i : ℕ) (r : Region) → IsAmong number g.kept → g.own (KeyOf number) ≡ Hand i → IsTyped g regions objects
+    → IsTyped (giving g (Some (KeyOf number)) Nobody) (set regions number r) objects
+closed_by_key g regions objects number i r among has typed =
+    let h = giving g (Some (KeyOf number)) Nobody in
+    let now : IsTyped h regions objects = given_typed g (Some (KeyOf number)) (Hand i) Nobody regions objects has tt (λ n. at_no_hand n i) typed in
+    let apart : heap_number ≢ number = (λ e. (let many : 1 < number = (typed.kept number among).0 in let k : heap_number ≡ number = e in absurd (omega (arith, many, k)))) in
+    typed_beside h regions (set regions number r) objects now (ap is_open (slice_get-set_other regions number heap_number r apart) ∙ typed.heap) (λ n among held. kept n among now held)
+    (let same : length (set regions number r) ≡ length regions = length-set regions number r in let few : length regions ≤ length (set regions number r) = omega (arith, same) in few)
+  where
+    kept : (n : ℕ) → IsAmong n g.kept → IsTyped (giving g (Some (KeyOf number)) Nobody) regions objects → IsHeld (given (Some (KeyOf number)) Nobody g.own (KeyOf n)) → IsDynamic (slice_get (set regions number r) n)
+    kept n among now held = elim (same_or_other n number) [
+      | inl same ↦ absurd (subst (λ h. IsHeld h) (same_number n number Nobody (g.own (KeyOf n)) same) held)
+      | inr other ↦ subst (λ z. IsDynamic z) (sym (slice_get-set_other regions number n r other)) ((now.kept n among).1 held)
+    ]
+
+-- a dynamic region more, whose key is there
+abbrev pub with_kept : Typing → ℕ → Holder → Typing
+with_kept g number holder = record g { kept = number ∷ g.kept; own = given (Some (KeyOf number)) holder g.own }
+
+pub kept_grows : (g : Typing) (number : ℕ) (holder : Holder) → Grows g (with_kept g number holder)
+kept_grows g number holder = record {
+  objects = λ n t is. is;
+  filled = λ n count is. is;
+  fields = λ n ls ts is. is;
+  kept = λ n is. behind number g.kept is;
+}
+
+pub kept_typed : (g : Typing) (regions : List Region) (objects : List Object) (holder : Holder) → 1 < length regions → IsTyped g regions objects → IsTyped (with_kept g (length regions) holder) (regions ++ new_region Dynamic ∷ []) objects
+kept_typed g regions objects holder many typed =
+    let more : IsTyped g (regions ++ new_region Dynamic ∷ []) objects = opened_typed g regions (new_region Dynamic ∷ []) objects typed in
+    record { count = typed.count; counts = typed.counts; each = each; heap = more.heap; kept = λ n among. kept n (length regions) among refl more; fresh = fresh; unique = typed.unique; owned = owned }
+  where
+    h : Typing
+    h = with_kept g (length regions) holder
+
+    none : g.own (KeyOf (length regions)) ≡ Nobody
+    none = typed.fresh (length regions) (let le : length regions ≤ length regions = omega arith in le)
+
+    each : (number : ℕ) (t : ObjectType) → slice_get g.objects number ≡ Some t
+        → (x : Object) × (m : ℕ) × (slice_get objects number ≡ Some x) × (slice_get g.filled number ≡ Some m) × IsObject h m t x
+    each number t there = let (x, m, at, flag, is) = typed.each number t there in
+        (x, m, at, flag, object_grown g h (kept_grows g (length regions) holder) m t x is)
+
+    owned : (n : ℕ) (t : ObjectType) (x : Object) → g.here n ≡ true → slice_get g.objects n ≡ Some t → slice_get objects n ≡ Some x → AreOwned h.own n t.cells x.cells
+    owned n t x now there stands i u c v cell at content =
+        claims_kept Nobody g (giving g (Some (KeyOf (length regions))) holder) (giving_changed g (Some (KeyOf (length regions))) Nobody holder none) (At n) u v (at_some n) (typed.owned n t x now there stands i u c v cell at content)
+
+    kept : (n k : ℕ) → IsAmong n (k ∷ g.kept) → k ≡ length regions → IsTyped g (regions ++ new_region Dynamic ∷ []) objects → (1 < n) × (IsHeld (h.own (KeyOf n)) → IsDynamic (slice_get (regions ++ new_region Dynamic ∷ []) n))
+    kept n k (newest ms) same more = (
+      (let less : 1 < n = omega (arith, same, many) in less),
+      λ held. subst (λ i. IsDynamic (slice_get (regions ++ new_region Dynamic ∷ []) i)) (sym same)
+          (subst (λ z. IsDynamic z) (sym (slice_get-end regions (new_region Dynamic))) (refl, refl)),
+    )
+    kept n k (behind m ms among) same more = (
+      (more.kept n among).0,
+      λ held. elim (same_or_other n (length regions)) [
+        | inl here ↦ subst (λ i. IsDynamic (slice_get (regions ++ new_region Dynamic ∷ []) i)) (sym here) (subst (λ z. IsDynamic z) (sym (slice_get-end regions (new_region Dynamic))) (refl, refl))
+        | inr apart ↦ (more.kept n among).1 (subst (λ z. IsHeld z) (other_number n (length regions) holder (g.own (KeyOf n)) apart) held)
+      ],
+    )
+
+    fresh : (n : ℕ) → length (regions ++ new_region Dynamic ∷ []) ≤ n → h.own (KeyOf n) ≡ Nobody
+    fresh n less =
+        let all : length (regions ++ new_region Dynamic ∷ []) ≡ length regions + 1 = length-append regions (new_region Dynamic ∷ []) in
+        let apart : n ≢ length regions = (λ e. absurd (omega (arith, e, less, all))) in
+        other_number n (length regions) holder (g.own (KeyOf n)) apart ∙ typed.fresh n (let few : length regions ≤ n = omega (arith, less, all) in few)
