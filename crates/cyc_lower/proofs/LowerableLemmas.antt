@@ -13,7 +13,7 @@ use Rattle.cyc_types.specs.declared.typed.UnaryOperator.TheVariants as unary
 use Rattle.cyc_syntax.specs.declared.tree.PointerKind.{PointerKind}
 use Rattle.cyc_syntax.specs.declared.tree.PointerKind.TheVariants as marks
 use Rattle.cyc_types.specs.Types.{Ty, Int, Pointer, Handle, Key, Struct, ValueType, Null, Value, substituted_ty}
-use Rattle.cyc_types.specs.TypedTrees.{Lvalue, Local, Global, Expression, Number, NullPointer, HeapRegion, Counter, NumberOfElements, Copy, Move, Peek, FreeUnique, FreeKey, Load, AddressOfCell, Call, Unary, Binary, Assign, Store, New, Dereference, Target, Member, Element, OnHeap, AsUnique, ByHandle, Initial, Plain, Fields, Converted, Convert, Arguments, NoArguments, MoreArguments, Operations, NoOperations, ThenCompute, ThenTest, ThenPointer, ThenPointerPeek, Side, VariableSide, CellSide, Statement, Block, Empty, Evaluate, Swap, If, While, Return, Break, Continue, Items, NoItems, MoreItems, Execute, Declare, DeclareRegion, OpenRegion, DeclareAlias, DeclareKey, GlobalVariable, Signature, Function, Program, Throw, Try, Clauses, NoClauses, Default, Case, Array}
+use Rattle.cyc_types.specs.TypedTrees.{Lvalue, Local, Global, Expression, Number, NullPointer, HeapRegion, Counter, NumberOfElements, Copy, Move, Peek, FreeUnique, FreeKey, Load, AddressOf, AddressOfCell, Call, Unary, Binary, Assign, Store, New, Dereference, Target, Member, Element, OnHeap, AsUnique, ByHandle, Initial, Plain, Fields, Converted, Convert, Arguments, NoArguments, MoreArguments, Operations, NoOperations, ThenCompute, ThenTest, ThenPointer, ThenPointerPeek, Side, VariableSide, CellSide, Statement, Block, Empty, Evaluate, Swap, If, While, Return, Break, Continue, Items, NoItems, MoreItems, Execute, Declare, DeclareRegion, OpenRegion, DeclareAlias, DeclareKey, GlobalVariable, Signature, Function, Program, Throw, Try, Clauses, NoClauses, Default, Case, Array}
 use Rattle.cyc_types.specs.Texts.{IsOfText, IsOfTextCell, IsOfTextObject, IsOfTextConverted, AreOfTextArguments, AreOfTextOperations, IsOfTextValue, IsOfTextSide, IsOfTextThrown, IsOfTextStatement, AreOfTextItems, AreOfTextClauses, AreOfTextFunctions, IsOfTextProgram}
 use Rattle.cyc_types.specs.Numbered.{signatures_of, Numbering, IsSignature, argument_count, IsWithin, numbering_of}
 use Rattle.cyc_types.specs.typing.Tests.{is_thin_mark, kind_of_mark, kind_of, kind_of_value}

@@ -1,5 +1,5 @@
--- Which typed trees are lowered: those whose forms have code. Each number that such a tree has names something that is there, each call passes
--- as many arguments as its function has parameters, and a break or a continue stands in a loop. A tree of the int language is one.
+-- Which typed trees are lowered. Each number that such a tree has names something that is there, each call passes as many arguments as
+-- its function has parameters, and a break or a continue stands in a loop. The typed tree of a text is one.
 use Rattle.std.specs.Prelude.{◌≡◌, ℕ, ◌<◌, Bool, true, false, List, [], ◌∷◌, Option, Some, None, length, slice_get, ◌≤◌, if◌then◌else◌}
 use Rattle.cyc_types.specs.Types.{Ty}
 use Rattle.cyc_types.specs.TypedTrees.{Array, Counter, Load, New, OnHeap, ByHandle, Initial, Plain, Fields, Dereference, Target, Local, Expression, Number, NullPointer, HeapRegion, FreeKey, Copy, Call, Unary, Binary, Assign, Converted, Convert, Arguments, NoArguments, MoreArguments, Operations, NoOperations, ThenCompute, ThenTest, ThenPointer, Statement, Block, Empty, Evaluate, If, While, Return, Break, Continue, Items, NoItems, MoreItems, Execute, Declare, DeclareRegion, OpenRegion, DeclareAlias, DeclareKey, Signature, Function, Program, Move, Peek, ThenPointerPeek, AddressOfCell, Store, Member, AsUnique, FreeUnique, Side, VariableSide, CellSide, Swap, Throw, Try, Clauses, NoClauses, Default, Case, NumberOfElements, Element}
