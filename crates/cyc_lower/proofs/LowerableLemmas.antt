@@ -132,6 +132,7 @@ module _ (b : Numbering) where
     lowerable c k (Move p n u) t i (v, moved, eq) = within c k (Local p n) u v
     lowerable c k (Peek p n u) t i w = absurd w
     lowerable c k (Load d) t i (u, r, cell, whole, shared, eq) = cell_lowerable c k d u r i cell
+    lowerable c k (AddressOf l u) t i (v, r, place, moved, is, eq) = placed c k l v r place
     lowerable c k (AddressOfCell d u) t i (v, r, cell, moved, shared, is, eq) = cell_lowerable c k d v r i cell
     lowerable c k (NumberOfElements a) t i (u, r, w, eq) = let v = Value (Pointer marks.Fat u r) in seen c k a v (λ h. lowerable c k a v i h) w
     lowerable c k (FreeUnique a) t i (m, u, w, eq) = lowerable c k a _ i w
@@ -149,7 +150,6 @@ module _ (b : Numbering) where
     lowerable c k (New AsUnique m u) t (placed, values) (l, v, r, there, made, is, eq) = made_lowerable c k m l v values made
     lowerable c k (New (ByHandle a) m u) t (handle, values) (l, v, r, (there, live), made, is, eq) =
         (lowerable c k a (Value (Handle r)) handle there, made_lowerable c k m l v values made)
-    lowerable c k (AddressOf l u) t i (v, r, place, moved, is, eq) = placed c k l v r place
 
     cell_lowerable : (c : Context) → Agrees b c → (d : Dereference) (t : Ty) (r : Region) → IsOfTextCell d → IsCell c d t r → IsLowerableCell b d
     cell_lowerable c k (Target l a u) t r i (m, w, live, mark, eq) =
