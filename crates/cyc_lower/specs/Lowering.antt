@@ -2,8 +2,7 @@
 -- for a place p. An expression brings its value to a slot d by its last instruction, so d may be the slot of a local that
 -- is read on the way. Else it writes to the slots from t on alone. Numbers and locals are operands where they are used.
 --
--- A value has as many slots as its kind has words, one behind the other, and a global as many words. There is code for the int language
--- and more; a form that is not built has a constant in its place, which nothing runs.
+-- A value has as many slots as its kind has words, one behind the other, and a global as many words.
 use Rattle.std.specs.Prelude.{ℕ, zero, suc, ◌+◌, max, ◌==◌, Bool, false, if◌then◌else◌, List, [], ◌∷◌, ◌++◌, length, map, replicate, ◌-◌, Option, None, Some, slice_get, ◌%◌, ◌^◌, true, option_map, unwrap_or, ◌*◌, ◌||◌}
 use Rattle.std.specs.List.{list_any}
 use Rattle.cyc_words.specs.Word.{add_of, mul_of}
