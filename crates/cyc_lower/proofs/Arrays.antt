@@ -320,7 +320,7 @@ module _ (source : Program) (pages calls : ℕ) where
       tables = grown;
       same_output = shared.same_output ∙ sym makes.output;
       same_input = shared.same_input ∙ sym makes.input;
-      inside = inside-more shared.tables (Placed choice.address (kinds_of cells)) shared.inside (made-inside shared.related handle cells choice free served.allowed);
+      inside = known-more (length (global_types source.globals)) shared.tables (Placed choice.address (kinds_of cells)) shared.inside (made-inside shared.related handle cells choice free served.allowed);
       same_pages = makes.pages choice ∙ shared.same_pages;
       related = makes.related choice free served.allowed;
       globals = shared.globals;

@@ -19,7 +19,8 @@ use Rattle.cyc_lower.proofs.Relation.{homes, IsTold, HasScopes, SharedAt, Shared
 use Rattle.cyc_lower.specs.Lowering.{scopes_of}
 use Rattle.cyc_lower.proofs.Counters.{counted_less}
 use Rattle.cyc_lower.proofs.Data.{append_seam, variables_grow}
-use Rattle.cyc_objects.proofs.Inside.{inside-more}
+use Rattle.cyc_lower.proofs.Known.{known-more}
+use Rattle.cyc_lower.specs.Slots.{global_types}
 
 module _ (source : Program) (pages calls : ℕ) (k : List Entry) (e : Environment) (w : World) (c : Configuration) (s : SharedAt source pages calls k e w c) where
   -- a variable is declared
@@ -29,7 +30,7 @@ module _ (source : Program) (pages calls : ℕ) (k : List Entry) (e : Environmen
     tables = with_row s.tables Variable;
     same_output = s.same_output;
     same_input = s.same_input;
-    inside = inside-more s.tables Variable s.inside tt;
+    inside = known-more (length (global_types source.globals)) s.tables Variable s.inside tt;
     same_pages = s.same_pages;
     related = declared s.related e.home r kind content Variable there s.variables.0 tt tt;
     globals = s.globals;

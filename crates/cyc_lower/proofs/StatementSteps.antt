@@ -55,7 +55,8 @@ module _ (source : Program) (pages calls : ℕ) where
   -- ---- calls
 
   -- one call less waits
-  abbrev pub shared_returned : (w : World) (regions : List ℕ) (counting : Type 0) (output input : List ℕ) (store : StoreState) (home waiting : ℕ) → Shared pages calls w (home ∷ regions) counting output input store (suc waiting) → Shared pages calls w regions counting output input store waiting
+  abbrev pub shared_returned : (w : World) (regions : List ℕ) (counting : Type 0) (output input : List ℕ) (store : StoreState) (home waiting : ℕ) → Shared pages calls (length (global_types source.globals)) w (home ∷ regions) counting output input store (suc waiting)
+      → Shared pages calls (length (global_types source.globals)) w regions counting output input store waiting
   shared_returned w regions counting output input store home waiting s = record {
     tables = s.tables;
     same_output = s.same_output;
