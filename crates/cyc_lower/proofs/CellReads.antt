@@ -1,6 +1,7 @@
 -- What a cell holds, by its address: it is one of the store's, or a global's.
 use Rattle.std.proofs.Common.{◌≡◌, ℕ, ◌+◌, ◌*◌, ◌<◌, List, length, Option, Some, refl, sym, ap, subst, ◌∙◌, arith, inl, inr, length-append}
 use Rattle.std.specs.Prelude.{slice_get}
+use Rattle.cyc_words.specs.Word.{add_of}
 use Rattle.cyc_types.specs.declared.typed.Kind.{Kind}
 use Rattle.cyc_types.specs.Types.{Ty}
 use Rattle.cyc_types.specs.TypedTrees.{Program}
@@ -26,7 +27,7 @@ use Rattle.cyc_lower.specs.Lowering.{lower_program, lower_globals, scopes_words,
 use Rattle.cyc_lower.proofs.Slots.{global-room, globals_counted}
 use Rattle.cyc_lower.proofs.Known.{AreKnown, IsGlobalRow, found-known, global-first, global_kind, first_word}
 use Rattle.cyc_lower.proofs.Relation.{GlobalsHold, contents, content_of, content_of_cell, with_kind, types_at}
-use Rattle.cyc_lower.proofs.PlaceWords.{cell_kind}
+use Rattle.cyc_lower.proofs.PlaceWords.{cell_kind, word_is}
 use Rattle.cyc_lower.proofs.StoredWords.{cell-stored, global-found}
 
 -- a variable that is found holds it
@@ -65,7 +66,7 @@ module _ (source : Program) (g : ℕ) {t : Tables} {w : World} (c : Configuratio
       let (row, holds) = hold object few in
       let first = first_word globals object in
       let (start, place) = global-first globals object offset address row points in
-      let kind : row.kind ≡ cell.cell.kind = global_kind row (cell_kind related cell points found) in
+      let kind : row.kind ≡ cell.cell.kind = global_kind row points (cell_kind related cell points found) in
       let inside = global-room (types_at source g) object few in
       let far : (j : ℕ) → address + 4 * j ≡ GLOBALS_BASE + 4 * (first + j) = λ j. omega (arith, place) in
       let short : (j : ℕ) → j < words_of_kind cell.cell.kind → j < words_of_kind row.kind = λ j below. subst (λ i. j < words_of_kind i) (sym kind) below in
@@ -77,7 +78,7 @@ module _ (source : Program) (g : ℕ) {t : Tables} {w : World} (c : Configuratio
         is = λ v has.
             let v_is : Kinded = record { kind = cell.cell.kind; value = v } in
             let (is, room) = holds v_is (held_there w object cell cell.cell.kind v (subst (λ i. cell_at w object i ≡ Found cell) start found) refl has) in
-            Is-same t cell.cell.kind v c.globals (λ j. c.globals (first + j)) first 0 (λ i below. refl) is;
+            Is-same t cell.cell.kind v c.globals (λ j. c.globals (first + j)) first 0 (λ i below. ap c.globals (let e : first + (0 + i) ≡ first + i = omega arith in e)) is;
       }
 
   pub cell_reads : (object offset address : ℕ) (at : Located) → cell_at w object offset ≡ Found at → Points t object offset address → IsRead source t c address at.cell.kind at.cell.content
@@ -87,3 +88,25 @@ module _ (source : Program) (g : ℕ) {t : Tables} {w : World} (c : Configuratio
         | inl (h, alive) ↦ read_stored object offset address h cell points alive there
         | inr few ↦ read_global object offset address cell found points few
       ]
+
+-- its words are at the addresses that the code computes
+pub read_there : (source : Program) {t : Tables} {w : World} {s : StoreState} (c : Configuration) → objects.Related t w s → {object offset address : ℕ} (cell : Located) → cell_at w object offset ≡ Found cell → Points t object offset address
+    → (reads : IsRead source t c address cell.cell.kind cell.cell.content) → (slots : Words) (next j : ℕ) → j < words_of_kind cell.cell.kind
+    → memory_at (lower_program source) (at (with_slots c slots) next) (add_of address (4 * j)) ≡ Some (reads.word j)
+read_there source c related cell found points reads slots next j below =
+    ap (memory_at (lower_program source) (at (with_slots c slots) next)) (word_is points cell.cell.kind j (cell_kind related cell points found) below)
+    ∙ reads.there slots next j below
+
+-- the value of one word
+module _ {source : Program} {t : Tables} {c : Configuration} {address : ℕ} {kind : Kind} {content : Option Value} (reads : IsRead source t c address kind content) (one : words_of_kind kind ≡ 1) where
+  pub one_there : memory_at (lower_program source) c address ≡ Some (reads.word 0)
+  one_there = ap (memory_at (lower_program source) c) (let first : address ≡ address + 4 * 0 = omega arith in first) ∙ reads.there c.active.slots c.active.next 0 (omega (arith, one))
+
+  pub one_is : (v : Value) → content ≡ Some v → (slots : Words) (d : ℕ) → slots d ≡ reads.word 0 → Is t kind v slots d
+  one_is v has slots d same =
+      Is-same t kind v reads.word slots 0 d
+      (λ i below.
+      let at_d : d + i ≡ d = omega (arith, below, one) in
+      let at_word : 0 ≡ 0 + i = omega (arith, below, one) in
+      ap slots at_d ∙ same ∙ ap reads.word at_word)
+      (reads.is v has)

@@ -118,7 +118,7 @@ module _ (source : Program) (pages calls : ℕ) (k : List Entry) (e : Environmen
     same_pages : store.pages ≡ c.store.pages
     same_demand : demand store ≡ demand c.store
     told : IsTold (scopes_of source) globals (scopes_in k)
-    data : DataAt source shared.tables c.active.function next.objects e.locals (callers k) c.active.slots globals c.frames
+    stays : DataAt source shared.tables c.active.function next.objects e.locals (callers k) c.active.slots globals c.frames
 
   in_store : (h : ℕ) → objects.Alive shared.tables (silent w) object h at.object → slice_get at.object.cells offset ≡ Some at.cell → IsSaved
   in_store h alive cell =
@@ -137,7 +137,7 @@ module _ (source : Program) (pages calls : ℕ) (k : List Entry) (e : Environmen
         same_pages = refl;
         same_demand = refl;
         told = shared.counters.1;
-        data = data_beside shared.tables source c.active.function w.objects next.objects e.locals (callers k) c.active.slots c.globals c.frames (omega (arith, objects_many))
+        stays = data_beside shared.tables source c.active.function w.objects next.objects e.locals (callers k) c.active.slots c.globals c.frames (omega (arith, objects_many))
             (λ o row. ap content_of (get_set_other w.objects object o now (λ same. row-away shared.related (global_types source.globals) o h at.object row (subst (λ n. objects.Alive shared.tables (silent w) n h at.object) (sym same) alive))))
             facts.0;
       }
@@ -150,7 +150,7 @@ module _ (source : Program) (pages calls : ℕ) (k : List Entry) (e : Environmen
       let (start, place) = global-first (global_types source.globals) object offset address row points in
       let there = (cell_found w object offset found).0 in
       let cell_there : slice_get at.object.cells 0 ≡ Some at.cell = ap (slice_get at.object.cells) (sym start) ∙ cell in
-      let kind = global_kind row (cell_kind shared.related at points found) in
+      let kind = global_kind row points (cell_kind shared.related at points found) in
       let room : HasGlobal (types_at source g) object at.cell.kind = subst (λ i. words_of_kind i ≤ words_in (global_types source.globals) object) kind row.room in
       let written_is : written w object offset at v ≡ written w object 0 at v = ap (λ (n : ℕ). written w object n at v) start in
       let u : Kinded = record { kind = at.cell.kind; value = v } in
@@ -165,7 +165,7 @@ module _ (source : Program) (pages calls : ℕ) (k : List Entry) (e : Environmen
         same_pages = refl;
         same_demand = refl;
         told = told_beside source g object at.cell.kind c.globals globals (scopes_in k) room elsewhere shared.counters.1;
-        data = subst (λ (x : World). DataAt source shared.tables g x.objects e.locals (callers k) c.active.slots globals c.frames) (sym written_is)
+        stays = subst (λ (x : World). DataAt source shared.tables g x.objects e.locals (callers k) c.active.slots globals c.frames) (sym written_is)
             (data_assigned_global shared.tables source g w.objects (written w object 0 at v).objects e.locals (callers k) c.active.slots c.globals globals c.frames object u room
             (written_here w object at v there cell_there at.cell.kind refl) (written_elsewhere w object at v there cell_there) (written_length w object at v there cell_there)
             (IsWord-is shared.tables at.cell.kind v word globals first (put-same c.globals first word) is) elsewhere facts.0);
@@ -208,4 +208,4 @@ module _ (source : Program) (pages calls : ℕ) (k : List Entry) (e : Environmen
 
   -- and so do the data of all calls
   pub data_saved : DataIn source shared.tables c.active.slots k e next (advanced with_word)
-  data_saved = (is_saved.data, facts.1)
+  data_saved = (is_saved.stays, facts.1)

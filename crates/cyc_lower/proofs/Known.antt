@@ -106,8 +106,8 @@ global-first {t} globals number offset word r points =
     (first, points.at ∙ (ap (λ n. points.address + 4 * before n points.kinds) first ∙ omega (arith, address)))
 
 -- its kind is that of its cell
-pub global_kind : {t : Tables} {globals : List Ty} {number offset word : ℕ} (r : IsGlobalRow t globals number) {points : Points t number offset word} {kind : Kind} → slice_get points.kinds offset ≡ Some kind → r.kind ≡ kind
-global_kind {t} {globals} {number} {offset} {word} r {points} {kind} there =
+pub global_kind : {t : Tables} {globals : List Ty} {number offset word : ℕ} (r : IsGlobalRow t globals number) (points : Points t number offset word) {kind : Kind} → slice_get points.kinds offset ≡ Some kind → r.kind ≡ kind
+global_kind {t} {globals} {number} {offset} {word} r points {kind} there =
     let (address, kinds) = same-row points.row r.row in
     let start = (global-first globals number offset word r points).0 in
     same_some (sym (ap (slice_get (r.kind ∷ [])) start) ∙ (sym (ap (λ ks. slice_get ks offset) kinds) ∙ there))

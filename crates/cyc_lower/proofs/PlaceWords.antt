@@ -21,7 +21,7 @@ use Rattle.cyc_objects.proofs.Values.{Is-same, before-inside}
 use Rattle.cyc_objects.specs.Related.{Related}
 use Rattle.cyc_lower.specs.Slots.{bytes_from}
 use Rattle.cyc_lower.proofs.Widths.{type_words}
-use Rattle.cyc_objects.proofs.Pointers.{thinned, member-points, pointer-word, Is-put_three}
+use Rattle.cyc_objects.proofs.Pointers.{thinned, member-points, pointer-word}
 use Rattle.cyc_plain.proofs.MemoryLaws.{store_word_in, store_word}
 use Rattle.cyc_plain.specs.Memory.{Range, OfGlobals, OfStore, OfSlots, range_of}
 
@@ -183,11 +183,6 @@ three_of t v words p is = Is-same t kinds.Fat v words (λ j. if j == 0 then word
     each (suc zero) below = refl
     each (suc (suc zero)) below = refl
     each (suc (suc (suc j))) below = absurd (omega (arith, below))
-
--- Three words are loaded into slots, the first one last, since its slot may have been the address.
-pub three_loaded : (t : Tables) (v : Value) (m : Memory) (w : ℕ) (slots : ℕ → ℕ) (d : ℕ) → Is t kinds.Fat v (words_from m w) 0
-    → Is t kinds.Fat v (put (put (put slots (d + 2) (m (w + 4 * 2))) (d + 1) (m (w + 4 * 1))) d (m (w + 4 * 0))) d
-three_loaded t v m w slots d is = Is-put_three t v slots d (m (w + 4 * 0)) (m (w + 4 * 1)) (m (w + 4 * 2)) (three_of t v (words_from m w) 0 is)
 
 -- ---- cells that the source finds
 

@@ -313,13 +313,13 @@ silent w = record w { output = []; input = [] }
 
 -- What all calls share, but for the globals: what is printed and read, the tables by which objects and regions stand in the store, and
 -- the calls that wait. Demand and calls are within limits. What is said of the counters of arrays and of lexical regions goes with it.
-pub record Shared (pages calls globals : ℕ) (w : World) (regions : List ℕ) (counting : Type 0) (plain_output plain_input : List ℕ) (store : StoreState) (waiting : ℕ) : Type 0 where
+pub record Shared (pages calls global_count : ℕ) (w : World) (regions : List ℕ) (counting : Type 0) (plain_output plain_input : List ℕ) (store : StoreState) (waiting : ℕ) : Type 0 where
   pub tables : Tables
   pub same_output : plain_output ≡ w.output
   pub same_input : plain_input ≡ w.input
   pub related : objects.Related tables (silent w) store
   -- of variables only so many globals stand anywhere
-  pub inside : AreKnown globals tables
+  pub inside : AreKnown global_count tables
   pub same_pages : store.pages ≡ pages
   -- the region of the globals is of variables, and so are these
   pub globals : slice_get tables.handles globals_number ≡ Some None
