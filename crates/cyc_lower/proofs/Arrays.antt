@@ -201,7 +201,7 @@ module _ (source : Program) (pages calls : ℕ) where
         ∙ put-other s1 (t + 2) x 0 (apart_from x t 4 (t + 2) out (omega arith) (omega arith)) ∙ put-other slots (t + 1) x (slots t) (apart_from x t 4 (t + 1) out (omega arith) (omega arith)) in
         let matches : Matches source pages calls next (plain.Running c5) = (
           shared,
-          data_written source shared.tables g w.objects e.locals k slots s5 c.active.handlers globals c.frames t 4 (height-least base (held k)) kept facts,
+          data_written source shared.tables g w.objects e.locals k slots s5 c.active.handlers c.globals c.frames t 4 (height-least base (held k)) kept facts,
           (
             handle,
             d,
@@ -344,7 +344,7 @@ module _ (source : Program) (pages calls : ℕ) where
     data_made =
         let g = c.active.function in
         let many : length new.objects ≡ length w.objects + 1 = ap length makes.joined ∙ length-append w.objects (record { owner = owner; cells = cells } ∷ []) in
-        data_written source grown g new.objects e.locals k c.active.slots after.active.slots c.active.handlers globals c.frames first 1 (omega (arith, height-least (floor source g k) (held k))) same_slots (
+        data_written source grown g new.objects e.locals k c.active.slots after.active.slots c.active.handlers c.globals c.frames first 1 (omega (arith, height-least (floor source g k) (held k))) same_slots (
           data_grows shared.tables grown grows source g new.objects e.locals (callers k) c.active.slots c.globals c.frames
               (data_beside shared.tables source g w.objects new.objects e.locals (callers k) c.active.slots c.globals c.frames (omega (arith, many)) beside facts.0),
           facts.1,
@@ -477,7 +477,7 @@ module _ (source : Program) (pages calls : ℕ) where
           (shared_within source pages calls k e w c1 shared) (shared_way source pages calls (Repeating object count index level wanted element) k e w c1 shared)
           branch jumps restart (λ choice. refl) move (λ same. omega (arith, same, before)) (λ same. omega (arith, same, before)) (λ same. omega (arith, same))
           (λ choice. made_moved source pages calls v (operands.Slot t) d k e w c1 q choice shared pointer
-          (data_written source shared.tables g w.objects e.locals k c.active.slots s1 c.active.handlers globals c.frames t 3 (omega (arith, height-least (floor source g k) (held k))) elsewhere facts)
+          (data_written source shared.tables g w.objects e.locals k c.active.slots s1 c.active.handlers c.globals c.frames t 3 (omega (arith, height-least (floor source g k) (held k))) elsewhere facts)
           (Holds-same shared.tables c.active.slots s1 (floor source g k) (held k) (λ m short. elsewhere m (inl (omega (arith, short)))) holds) end lands)
 
   -- the next one is evaluated, or all are written
@@ -619,7 +619,7 @@ module _ (source : Program) (pages calls : ℕ) where
     scales false choice = refl
 
     facts_there : DataIn source shared.tables s2 k e w c2
-    facts_there = data_written source shared.tables g w.objects e.locals k slots s2 c.active.handlers globals c.frames z 1 (omega (arith, height-least (floor source g k) (held k))) outside_both facts
+    facts_there = data_written source shared.tables g w.objects e.locals k slots s2 c.active.handlers c.globals c.frames z 1 (omega (arith, height-least (floor source g k) (held k))) outside_both facts
 
     -- the store changes, or the globals do, and the code goes on at this place
     abbrev reached : StoreState → (globals : Words) → (m : ℕ) → Configuration

@@ -100,7 +100,7 @@ cell_is_there Missing number offset v focus k e w well = absurd (well refl)
 module _ (source : Program) (pages calls : ℕ) (k : List Entry) (e : Environment) (w : World) (c : Configuration) (shared : SharedAt source pages calls k e w c)
     (facts : DataIn source shared.tables c.active.slots k e w c) (object offset address word : ℕ) (at : Located) (v : Value) (found : cell_at w object offset ≡ Found at)
     (points : Points shared.tables object offset address) (is : IsWord shared.tables at.cell.kind v word) (fits : words.IsWord word) where
-  abbrev next : World
+  abbrev pub next : World
   next = written w object offset at v
 
   abbrev now : Object
@@ -110,15 +110,15 @@ module _ (source : Program) (pages calls : ℕ) (k : List Entry) (e : Environmen
   objects_many = length-set w.objects object now
 
   -- what the instruction leads to, and what stays
-  record IsSaved : Type 0 where
-    store : StoreState
-    globals : Words
-    goes : saves (lower_program source) c address word (memory_at (lower_program source) c address) ≡ plain.Running (advanced (record c { store = store; globals = globals }))
-    related : objects.Related shared.tables (silent next) store
-    same_pages : store.pages ≡ c.store.pages
-    same_demand : demand store ≡ demand c.store
-    told : IsTold (scopes_of source) globals (scopes_in k)
-    stays : DataAt source shared.tables c.active.function next.objects e.locals (callers k) c.active.slots globals c.frames
+  pub record IsSaved : Type 0 where
+    pub store : StoreState
+    pub globals : Words
+    pub goes : saves (lower_program source) c address word (memory_at (lower_program source) c address) ≡ plain.Running (advanced (record c { store = store; globals = globals }))
+    pub related : objects.Related shared.tables (silent next) store
+    pub same_pages : store.pages ≡ c.store.pages
+    pub same_demand : demand store ≡ demand c.store
+    pub told : IsTold (scopes_of source) globals (scopes_in k)
+    pub stays : DataAt source shared.tables c.active.function next.objects e.locals (callers k) c.active.slots globals c.frames
 
   in_store : (h : ℕ) → objects.Alive shared.tables (silent w) object h at.object → slice_get at.object.cells offset ≡ Some at.cell → IsSaved
   in_store h alive cell =
@@ -148,7 +148,7 @@ module _ (source : Program) (pages calls : ℕ) (k : List Entry) (e : Environmen
       let (row, holds) = facts.0.4 object few in
       let first = first_word (global_types source.globals) object in
       let (start, place) = global-first (global_types source.globals) object offset address row points in
-      let there = (cell_found w object offset found).0 in
+      let there = (cell_found w object offset at found).0 in
       let cell_there : slice_get at.object.cells 0 ≡ Some at.cell = ap (slice_get at.object.cells) (sym start) ∙ cell in
       let kind = global_kind row points (cell_kind shared.related at points found) in
       let room : HasGlobal (types_at source g) object at.cell.kind = subst (λ i. words_of_kind i ≤ words_in (global_types source.globals) object) kind row.room in
@@ -171,7 +171,7 @@ module _ (source : Program) (pages calls : ℕ) (k : List Entry) (e : Environmen
             (IsWord-is shared.tables at.cell.kind v word globals first (put-same c.globals first word) is) elsewhere facts.0);
       }
 
-  is_saved : IsSaved
+  pub is_saved : IsSaved
   is_saved =
       let (lies, cell) = found-known shared.related (global_types source.globals) (length (global_types source.globals)) shared.inside object offset address at found points in
       elim lies [

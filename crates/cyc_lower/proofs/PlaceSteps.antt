@@ -13,7 +13,7 @@ use Rattle.cyc_plain.specs.declared.instruction.Operand.TheVariants as operands
 use Rattle.cyc_plain.specs.declared.instruction.Instruction.{Instruction}
 use Rattle.cyc_plain.specs.declared.instruction.Instruction.TheVariants as instructions
 use Rattle.cyc_plain.specs.State as plain
-use Rattle.cyc_plain.specs.State.{put, Frame, Configuration}
+use Rattle.cyc_plain.specs.State.{put, Frame, Configuration, Words}
 use Rattle.cyc_plain.specs.Step.{Choice, operand_word, with_slots, at, advanced, loads, performed}
 use Rattle.cyc_plain.specs.Straight.{At}
 use Rattle.cyc_plain.proofs.SlotLaws.{put-same}

@@ -26,7 +26,7 @@ use Rattle.cyc_meaning.specs.Nesting.{IsNested}
 use Rattle.cyc_meaning.specs.Regions.{closing_lexical}
 use Rattle.cyc_meaning.specs.Step.{target_by, inside, region_end, step}
 use Rattle.cyc_lower.specs.declared.statements.Exits.{Exits}
-use Rattle.cyc_lower.specs.Slots.{slot_of}
+use Rattle.cyc_lower.specs.Slots.{slot_of, global_types}
 use Rattle.cyc_lower.proofs.Slots.{slot-room, room-inside}
 use Rattle.cyc_lower.proofs.Widths.{HasRoom, Outside}
 use Rattle.cyc_lower.proofs.Moves.{copied_is, copied_elsewhere}

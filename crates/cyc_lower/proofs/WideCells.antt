@@ -63,35 +63,35 @@ module _ (source : Program) (pages calls : ℕ) (k : List Entry) (e : Environmen
   abbrev p : ℕ
   p = c.active.next
 
-  abbrev next : World
+  abbrev pub next : World
   next = written w object offset cell v
 
   abbrev now : Object
   now = record cell.object { cells = set cell.object.cells offset (record cell.cell { content = Some v }) }
 
   -- an instruction stores a word, from one stage to the next
-  abbrev Goes : (s others : StoreState) → (globals after : Words) → (more from : ℕ) → Type 0
+  abbrev pub Goes : (s others : StoreState) → (globals after : Words) → (more from : ℕ) → Type 0
   Goes s others globals after more from = (i : ℕ) (choice : Choice)
       → performed (lower_program source) choice (stage c s globals i) (instructions.Store (operands.Slot a) more (operands.Slot from)) ≡ plain.Running (stage c others after (i + 1))
 
   -- The cell is one of the store's, or a global's: the store changes, or the globals do.
-  record IsSaved : Type 0 where
-    one_store : StoreState
-    two_store : StoreState
-    store : StoreState
-    one_globals : Words
-    two_globals : Words
-    globals : Words
-    goes_first : Goes c.store one_store c.globals one_globals bytes n
-    goes_second : Goes one_store two_store one_globals two_globals (bytes + 4) (suc n)
-    goes_third : Goes two_store store two_globals globals (bytes + 4 + 4) (suc (suc n))
-    one_demand : demand one_store ≡ demand c.store
-    two_demand : demand two_store ≡ demand one_store
-    three_demand : demand store ≡ demand two_store
-    same_pages : store.pages ≡ c.store.pages
-    related : objects.Related shared.tables (silent next) store
-    told : IsTold (scopes_of source) globals (scopes_in k)
-    stays : DataAt source shared.tables c.active.function next.objects e.locals (callers k) c.active.slots globals c.frames
+  pub record IsSaved : Type 0 where
+    pub one_store : StoreState
+    pub two_store : StoreState
+    pub store : StoreState
+    pub one_globals : Words
+    pub two_globals : Words
+    pub globals : Words
+    pub goes_first : Goes c.store one_store c.globals one_globals bytes n
+    pub goes_second : Goes one_store two_store one_globals two_globals (bytes + 4) (suc n)
+    pub goes_third : Goes two_store store two_globals globals (bytes + 4 + 4) (suc (suc n))
+    pub one_demand : demand one_store ≡ demand c.store
+    pub two_demand : demand two_store ≡ demand one_store
+    pub three_demand : demand store ≡ demand two_store
+    pub same_pages : store.pages ≡ c.store.pages
+    pub related : objects.Related shared.tables (silent next) store
+    pub told : IsTold (scopes_of source) globals (scopes_in k)
+    pub stays : DataAt source shared.tables c.active.function next.objects e.locals (callers k) c.active.slots globals c.frames
 
   module _ (h : ℕ) (alive : objects.Alive shared.tables (silent w) object h cell.object) (at_cell : slice_get cell.object.cells offset ≡ Some cell.cell) where
     abbrev one_put : Memory
@@ -186,7 +186,7 @@ module _ (source : Program) (pages calls : ℕ) (k : List Entry) (e : Environmen
         let g = c.active.function in
         let (row, holds) = facts.0.4 object few in
         let (zeroth, place) = global-first (global_types source.globals) object offset address row points in
-        let object_there = (cell_found w object offset found).0 in
+        let object_there = (cell_found w object offset cell found).0 in
         let cell_there : slice_get cell.object.cells 0 ≡ Some cell.cell = ap (slice_get cell.object.cells) (sym zeroth) ∙ at_cell in
         let kind = global_kind row points (cell_kind shared.related cell points found) in
         let three = ap words_of_kind fat in
@@ -217,7 +217,7 @@ module _ (source : Program) (pages calls : ℕ) (k : List Entry) (e : Environmen
               (each_is shared.tables u slots c.globals 3 n start three (subst (λ i. Is shared.tables i v slots n) (sym fat) is)) elsewhere facts.0);
         }
 
-  is_saved : IsSaved
+  pub is_saved : IsSaved
   is_saved =
       let (lies, at_cell) = found-known shared.related (global_types source.globals) (length (global_types source.globals)) shared.inside object offset address cell found points in
       elim lies [
@@ -271,14 +271,14 @@ module _ (source : Program) (pages calls : ℕ) (k : List Entry) (e : Environmen
       → At (code_of source c.active.function) (p + 1) (instructions.Store (operands.Slot a) (bytes + 4) (operands.Slot (suc n)))
       → At (code_of source c.active.function) (p + 1 + 1) (instructions.Store (operands.Slot a) (bytes + 4 + 4) (operands.Slot (suc (suc n)))) → IsPath source c all_links
   all_path at_first at_second at_third =
-      let (here, leads, on, quiet, (then, leads_on, further, quiet_too, none)) = store_path at_first at_second in
+      let (here, leads, on, quiet, (behind, leads_on, further, quiet_too, none)) = store_path at_first at_second in
       (
         here,
         leads,
         on,
         quiet,
         (
-          then,
+          behind,
           leads_on,
           further,
           quiet_too,
