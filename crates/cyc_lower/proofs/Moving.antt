@@ -223,23 +223,21 @@ module _ (source : Program) where
     statement_moves g exits p frames others like (CloseLexical region ∷ k) (outer, q, is, closing, stack) =
         (outer, q, is, closing, statement_moves g outer q frames others like k stack)
     statement_moves g exits p frames others like (EndLoan lent ∷ k) stack = statement_moves g exits p frames others like k stack
-    statement_moves g exits p (f ∷ frames) (h ∷ others) ((slots, is, same), like) (Caller e ∷ k) (s, at, outside, lands) = (
+    statement_moves g exits p (f ∷ frames) (h ∷ others) like (Caller e ∷ k) (s, at, outside, lands) = (
       s,
       at,
       outside,
-      subst (λ (x : Frame). Lands (base_of source x.caller.function) (top source x.caller.function k) x.result (words_of_kind (returned_at source g))
-          (ValueStack source x.caller.function e.locals (returned_at source g) (operands.Slot x.result) x.caller.next others k) (AheadStack source x.caller.function e.locals (returned_at source g) x.result x.caller.next others k)) (sym is)
+      subst (λ (x : Frame). Lands source (base_of source x.caller.function) (top source x.caller.function k) x.result (words_of_kind (returned_at source g))
+          (ValueStack source x.caller.function e.locals (returned_at source g) (operands.Slot x.result) x.caller.next others k) (AheadStack source x.caller.function e.locals (returned_at source g) x.result x.caller.next others k)) (sym like.0.1)
           (lands_move
-          (λ stack. value_moves f.caller.function e.locals (returned_at source g) (operands.Slot f.result) f.caller.next frames others like k stack)
-          (λ stack. ahead_moves f.caller.function e.locals (returned_at source g) f.result f.caller.next frames others like k stack) lands),
+          (λ stack. value_moves f.caller.function e.locals (returned_at source g) (operands.Slot f.result) f.caller.next frames others like.1 k stack)
+          (λ stack. ahead_moves f.caller.function e.locals (returned_at source g) f.result f.caller.next frames others like.1 k stack) lands),
     )
     statement_moves g exits p [] others like (Caller e ∷ k) (s, at, outside, lands) = absurd lands
     statement_moves g exits p (f ∷ frames) [] like (Caller e ∷ k) stack = absurd like
     statement_moves g exits p [] [] like (Main ∷ k) stack = stack
     statement_moves g exits p [] (h ∷ others) like (Main ∷ k) stack = absurd like
     statement_moves g exits p (f ∷ frames) others like (Main ∷ k) (s, at, outside, last) = absurd last
-    statement_moves g exits p (f ∷ frames) others like (Main ∷ k) (s, at, outside, last) = absurd last
-    statement_moves g exits p [] others like (Main ∷ entry ∷ k) (s, at, outside, last) = absurd last
     statement_moves g exits p frames others like k stack = absurd stack
 
   pub lands_moves : (g : ℕ) (locals : ℕ → Option ℕ) (kind : Kind) (d p : ℕ) (frames others : List Frame) → Like frames others → (k : List Entry) → LandsStack source g locals kind d p frames k → LandsStack source g locals kind d p others k
@@ -264,10 +262,10 @@ module _ (source : Program) where
       (is, intact, kept, caught_moves g handler index frames others like k catches, handlers_move g slots handlers frames others like k rest)
   handlers_move g slots handlers [] others like (Caller e ∷ k) (none, rest) = absurd rest
   handlers_move g slots handlers (f ∷ frames) [] like (Caller e ∷ k) stand = absurd like
-  handlers_move g slots handlers (f ∷ frames) (h ∷ others) ((words, is, same), like) (Caller e ∷ k) (none, rest) = (
+  handlers_move g slots handlers (f ∷ frames) (h ∷ others) like (Caller e ∷ k) (none, rest) = (
     none,
-    subst (λ (x : Frame). HandlersStand source x.caller.function x.caller.slots x.caller.handlers others k) (sym is)
-        (handlers_same source f.caller.function f.caller.slots words f.caller.handlers others k (λ n from to. same n from) (handlers_move f.caller.function f.caller.slots f.caller.handlers frames others like k rest)),
+    subst (λ (x : Frame). HandlersStand source x.caller.function x.caller.slots x.caller.handlers others k) (sym like.0.1)
+        (handlers_same source f.caller.function f.caller.slots like.0.0 f.caller.handlers others k (λ n from to. like.0.2 n from) (handlers_move f.caller.function f.caller.slots f.caller.handlers frames others like.1 k rest)),
   )
   handlers_move g slots handlers [] [] like (Main ∷ k) stand = stand
   handlers_move g slots handlers [] (h ∷ others) like (Main ∷ k) stand = absurd like
