@@ -123,6 +123,7 @@ count_some program function (plain.Call callee arguments count result) in_range 
 count_some program function (plain.Return value) in_range = omega arith
 count_some program function (plain.ReadByte destination) in_range = omega arith
 count_some program function (plain.WriteByte source) in_range = omega arith
+count_some program function (plain.AddressOf destination slot count) in_range = omega arith
 count_some program function (plain.LoadGlobal destination global) in_range = omega arith
 count_some program function (plain.StoreGlobal global source) in_range = omega arith
 count_some program function (plain.MoveWords destination source count) in_range = omega (arith, length_registers count in_range.few, in_range.some)
@@ -471,6 +472,7 @@ module _ (program : Program) (well : IsWellFormed program) (words : HasWords pro
     behind_formed (plain.Return value) in_range = tt
     behind_formed (plain.ReadByte destination) in_range = tt
     behind_formed (plain.WriteByte source) in_range = tt
+    behind_formed (plain.AddressOf destination slot count) in_range = tt
     behind_formed (plain.LoadGlobal destination global) in_range = tt
     behind_formed (plain.StoreGlobal global source) in_range = tt
     behind_formed (plain.MoveWords destination source count) in_range = tt

@@ -23,7 +23,7 @@ use Rattle.cyc_words.specs.Simulation.{IsOnTheWay, Matching, IsMatchedStep, IsSt
 use Rattle.cyc_plain.specs.State as states
 use Rattle.cyc_plain.specs.State.{Words, Configuration}
 use Rattle.cyc_plain.specs.Step as steps
-use Rattle.cyc_plain.specs.Step.{IsAllowed, call_of, instruction_at, operand_word, performed, executed, gives, finishes, step, is_within, Step}
+use Rattle.cyc_plain.specs.Step.{IsAllowed, call_of, instruction_at, operand_word, performed, executed, gives, finishes, step, is_within, Step, callee_of}
 use Rattle.cyc_plain.specs.WellFormed.{IsOperand, IsWellFormed, IsInRange, IsTryInRange, is_return, HasWords, IsOfWord, HasWord}
 use Rattle.cyc_words.proofs.Matching.{way_before}
 use Rattle.cyc_plain.proofs.Placed.{holds_at, routine_in, below_of_get}
@@ -373,6 +373,6 @@ module _ (program : Program) (well : IsWellFormed program) (words : HasWords pro
     where
       go : (o : Option Instruction) → instruction_at program (states.place_of (states.Running c)) ≡ o → IsStepped above below_machine matching (states.Running c) t
       go (Some i) at = known_goes c t matches never i at
-      go None at = absurd (stuck_not c never (zeros_allowed program (states.Running c) (ap (call_of c.active.slots) at)) (ap (executed program zeros c) at))
+      go None at = absurd (stuck_not c never (zeros_allowed program (states.Running c) (ap (call_of c.active.slots) at) (ap callee_of at)) (ap (executed program zeros c) at))
   all_steps (states.Ended ending out input) t matches running never = absurd (let e : simulation.Ended ending ≡ simulation.Running = running in cc)
   all_steps (states.Stuck out input) t matches running never = absurd matches
