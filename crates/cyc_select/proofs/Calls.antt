@@ -18,7 +18,7 @@ use Rattle.cyc_plain.specs.State as states
 use Rattle.cyc_plain.specs.State.{Words, AreWords, put, copied, Configuration}
 use Rattle.cyc_plain.specs.Step.{Choice, instruction_at, performed, executed, advanced, step, is_within, callee_of}
 use Rattle.cyc_plain.specs.WellFormed.{IsWellFormed, IsCallInRange}
-use Rattle.cyc_plain.proofs.RunLaws.{zeros, zeros_at, limited-full, called_at}
+use Rattle.cyc_plain.proofs.RunLaws.{zeros, limited-full, called_at}
 use Rattle.cyc_plain.proofs.SlotLaws.{put-same, copied-inside, copied-above}
 use Rattle.cyc_frame.specs.Layout.{AreFrames, frame_at, slot_word}
 use Rattle.cyc_frame.specs.declared.frame.Frame.{Frame}

@@ -5,19 +5,16 @@ use Rattle.std.specs.Prelude.{nat_lt}
 use Rattle.std.proofs.lemmas.Bool.{cases_eq, ltb-true}
 use Rattle.cyc_words.specs.Word.{IsWord}
 use Rattle.cyc_isa.specs.Effect.{memory_address}
-use Rattle.cyc_isa.specs.declared.instr.Instr.{Instr}
 use Rattle.cyc_isa.specs.declared.instr.Instr.TheVariants.{Memory}
 use Rattle.cyc_isa.specs.declared.instr.MemoryOp.TheVariants.{LoadWord, StoreWord}
 use Rattle.cyc_isa.specs.declared.operand.Register.{Register}
 use Rattle.cyc_machine.specs.State.{data_base, stack_end, globals_length, words_per_call}
 use Rattle.cyc_store.specs.State.{StoreState}
-use Rattle.cyc_plain.specs.declared.instruction.Instruction.TheVariants as plain
 use Rattle.cyc_plain.specs.declared.limits.TheConstants.{GLOBALS_BASE}
 use Rattle.cyc_plain.specs.Memory.{is_pinned, global_at, slot_at, word_or, word_waiting, put_or, with_waiting, Range, OfGlobals, OfStore, OfSlots, range_of, word_in, memory_at, with_global, with_slot, with_word, with_memory}
 use Rattle.cyc_plain.specs.Program.{Program, routine_at}
 use Rattle.cyc_plain.specs.State as states
 use Rattle.cyc_plain.specs.State.{Words, put, Configuration}
-use Rattle.cyc_plain.specs.Step.{instruction_at}
 use Rattle.cyc_plain.specs.WellFormed.{IsWellFormed}
 use Rattle.cyc_plain.proofs.MemoryLaws.{numbered-from, pinned-inside, length-waiting}
 use Rattle.cyc_plain.proofs.SlotLaws.{put-same, put-other}
@@ -30,7 +27,7 @@ use Rattle.cyc_select.specs.Machine as labelled
 use Rattle.cyc_select.specs.Machine.{State, Running}
 use Rattle.cyc_select.specs.Selection.{slot_offset}
 use Rattle.cyc_select.proofs.Cells.{IsCell, IsLive}
-use Rattle.cyc_select.proofs.Standing.{Holds, Chain, Lies, chain_kept, chain_lies, AreRecords, IsBeyond, IsNewest, AreBased, based_here, kept_in, Standing, lies, word_cell, global_cell, standing_at, standing_slot, standing_global, standing_saved}
+use Rattle.cyc_select.proofs.Standing.{Chain, Lies, chain_kept, chain_lies, AreRecords, IsBeyond, IsNewest, AreBased, based_here, kept_in, Standing, lies, word_cell, global_cell, standing_at, standing_slot, standing_global, standing_saved}
 use Rattle.cyc_select.proofs.Stores.{laid_live}
 use Rattle.cyc_select.proofs.Views.{Contents, written, saved_in, IsWritable}
 use Rattle.cyc_select.proofs.Walks.{Walk, Now, now_is, walk_few, walk_from, walk_block, walk_load, walk_save}
@@ -99,8 +96,8 @@ module _ (program : Program) (a word : ℕ) where
       → AreRecords program frames addresses calls base function depth rest newest handlers → AreRecords program frames addresses calls base function depth rest' newest handlers
   records_map frames addresses calls base function depth rest rest' goes newest [] records = goes newest records
   records_map frames addresses calls base function depth rest rest' goes newest (states.Caught ∷ handlers) records = absurd records
-  records_map frames addresses calls base function depth rest rest' goes newest (states.Open index first contents ∷ handlers) (record_, records) =
-      (record_, records_map frames addresses calls base function depth rest rest' goes (contents 0) handlers records)
+  records_map frames addresses calls base function depth rest rest' goes newest (states.Open index first contents ∷ handlers) (one, others) =
+      (one, records_map frames addresses calls base function depth rest rest' goes (contents 0) handlers others)
 
   beyond_waiting : (frames : List Frame) (addresses : ℕ → ℕ) (calls base function : ℕ) (waiting : List states.Frame) (newest : ℕ) → IsBeyond program frames addresses calls base function waiting newest
       → IsBeyond program frames addresses calls base function (with_waiting program waiting a word) newest

@@ -1,5 +1,5 @@
 -- The instructions that neither call nor return.
-use Rattle.std.proofs.Common.{◌≡◌, ◌≢◌, ℕ, suc, slice_get, length-append, ◌+◌, ◌-◌, ◌*◌, ◌/◌, ◌%◌, ◌^◌, ◌<◌, ◌≤◌, Bool, true, false, not, List, [], ◌∷◌, ◌++◌, length, drop, Some, None, refl, sym, ap, subst, ◌∙◌, arith, inl, inr}
+use Rattle.std.proofs.Common.{◌≡◌, ◌≢◌, ℕ, suc, slice_get, length-append, ◌+◌, ◌-◌, ◌*◌, ◌/◌, ◌%◌, ◌^◌, ◌<◌, ◌≤◌, Bool, true, false, not, List, [], ◌∷◌, ◌++◌, length, drop, Some, refl, sym, ap, subst, ◌∙◌, arith, inl, inr}
 use Rattle.std.specs.Prelude.{◌==◌, if◌then◌else◌}
 use Rattle.std.specs.List.{AllByRecursion}
 use Rattle.std.proofs.lemmas.Bool.{cases_eq, eq-eqb, ne_eqb}
@@ -27,7 +27,7 @@ use Rattle.cyc_plain.specs.Operators.{unary_result, binary_result, compares}
 use Rattle.cyc_plain.specs.Program.{Program, routine_at}
 use Rattle.cyc_plain.specs.State as states
 use Rattle.cyc_plain.specs.State.{Words, AreWords, put, Configuration}
-use Rattle.cyc_plain.specs.Step.{call_of, instruction_at, operand_word, performed, gives, at}
+use Rattle.cyc_plain.specs.Step.{instruction_at, operand_word, performed, gives, at}
 use Rattle.cyc_plain.specs.WellFormed.{IsOperand, IsOfWord, IsWellFormed}
 use Rattle.cyc_plain.proofs.SlotLaws.{put-other}
 use Rattle.cyc_plain.proofs.RunLaws.{zeros, over_within, zeros_at, calls_nothing}
