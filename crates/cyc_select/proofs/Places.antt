@@ -174,8 +174,14 @@ module _ (program : Program) (well : IsWellFormed program) (frames : List Frame)
             aligned = omega (arith, a_is, lies_there.aligned);
             is = ap w.words a_is ∙ (holds slot below ∙ value);
             chain = λ new.
-                subst (λ (o : Option ℕ). Chain program frames addresses (written w a new) base back function (put_or o new f waiting (with_waiting program waiting a new))) (sym is)
-                (arguments, count, index, known, at, next, is_back,
+                subst (λ (o : Option ℕ). Chain program frames addresses (written w a new) base back function (put_or o new f waiting (with_waiting program waiting a new))) (sym is) (
+                  arguments,
+                  count,
+                  index,
+                  known,
+                  at,
+                  next,
+                  is_back,
                   (λ other other_below. elim (cases_eq other slot) [
                     | inl same ↦
                         ap (put w.words a new) (ap (λ (x : ℕ). above + slot_offset its x) same ∙ sym a_is)
@@ -185,9 +191,10 @@ module _ (program : Program) (well : IsWellFormed program) (frames : List Frame)
                         ∙ (holds other other_below ∙ sym (put-other f.caller.slots slot other new apart))
                   ]),
                   subst (λ (b : ℕ). Chain program frames addresses (written w a new) above b f.caller.function waiting)
-                  (sym (put-other w.words a (above + 4 * its.return_address) new (λ e. frame.beside slot below (omega (arith, e, a_is)))))
-                  (chain_kept program frames fit addresses w (written w a new) above its_back f.caller.function waiting
-                  (λ b from. put-other w.words a b new (λ e. absurd (omega (arith, e, from, a_is, inside)))) chain));
+                      (sym (put-other w.words a (above + 4 * its.return_address) new (λ e. frame.beside slot below (omega (arith, e, a_is)))))
+                      (chain_kept program frames fit addresses w (written w a new) above its_back f.caller.function waiting
+                      (λ b from. put-other w.words a b new (λ e. absurd (omega (arith, e, from, a_is, inside)))) chain),
+                );
           }
 
       go : (slot : Option ℕ) → slot_at program f.caller a ≡ slot → (word_waiting program waiting a ≡ Some word → IsAbove w above its_back f.caller.function waiting a word)
@@ -201,12 +208,19 @@ module _ (program : Program) (well : IsWellFormed program) (frames : List Frame)
             aligned = rest.aligned;
             is = rest.is;
             chain = λ new.
-                subst (λ (o : Option ℕ). Chain program frames addresses (written w a new) base back function (put_or o new f waiting (with_waiting program waiting a new))) (sym is)
-                (arguments, count, index, known, at, next, is_back,
+                subst (λ (o : Option ℕ). Chain program frames addresses (written w a new) base back function (put_or o new f waiting (with_waiting program waiting a new))) (sym is) (
+                  arguments,
+                  count,
+                  index,
+                  known,
+                  at,
+                  next,
+                  is_back,
                   (λ slot below. put-other w.words a (above + slot_offset its slot) new (λ e. absurd (omega (arith, e, rest.low, frame.inside slot below))) ∙ holds slot below),
                   subst (λ (b : ℕ). Chain program frames addresses (written w a new) above b f.caller.function (with_waiting program waiting a new))
-                  (sym (put-other w.words a (above + 4 * its.return_address) new (λ e. absurd (omega (arith, e, rest.low, frame.return_inside)))))
-                  (rest.chain new));
+                      (sym (put-other w.words a (above + 4 * its.return_address) new (λ e. absurd (omega (arith, e, rest.low, frame.return_inside)))))
+                      (rest.chain new),
+                );
           }
 
 -- ---- loads and stores
