@@ -12,12 +12,13 @@ use Rattle.cyc_isa.specs.Decoding.{register_of}
 use Rattle.cyc_machine.specs.State.{data_base, stack_end, globals_length, words_per_call}
 use Rattle.cyc_store.specs.State.{demand}
 use Rattle.cyc_plain.specs.declared.instruction.Instruction.TheVariants as plain
+use Rattle.cyc_plain.specs.Memory.{IsBelow}
 use Rattle.cyc_plain.specs.Program.{Program, no_routine, routine_at}
 use Rattle.cyc_plain.specs.State as states
 use Rattle.cyc_plain.specs.State.{Words, AreWords, put, copied, Configuration}
 use Rattle.cyc_plain.specs.Step.{Choice, instruction_at, performed, executed, advanced, step, is_within, callee_of}
 use Rattle.cyc_plain.specs.WellFormed.{IsWellFormed, IsCallInRange}
-use Rattle.cyc_plain.proofs.RunLaws.{zeros, zeros_at, limited-full, called_at}
+use Rattle.cyc_plain.proofs.RunLaws.{zeros, limited-full, called_at}
 use Rattle.cyc_plain.proofs.SlotLaws.{put-same, copied-inside, copied-above}
 use Rattle.cyc_frame.specs.Layout.{AreFrames, frame_at, slot_word}
 use Rattle.cyc_frame.specs.declared.frame.Frame.{Frame}
@@ -36,7 +37,6 @@ use Rattle.cyc_select.proofs.Walks.{Stands, stands_front, stands_back, after_r, 
 use Rattle.cyc_select.proofs.Copies.{Copied, copied_all}
 use Rattle.cyc_select.proofs.Standing.{Holds, Chain, IsNewest, Standing, behind_line, lies, chain_kept, word_cell, return_cell, return_address, standing_return, AreBased, based_here, slots_fit}
 use Rattle.cyc_select.proofs.Matches.{At, Reached, reached, within}
-use Rattle.cyc_plain.specs.Memory.{IsBelow}
 
 pub length_ordinary : (is : List Instr) → length (ordinary is) ≡ length is
 length_ordinary [] = refl

@@ -396,6 +396,8 @@ module _ (program : Program) (well : IsWellFormed program) (words : HasWords pro
     body_formed (plain.ReadByte destination) n below fits long = ((refl, (omega arith)), ((refl, tt), ((refl, slot_fits destination below), tt)))
     body_formed (plain.WriteByte source) n below fits long =
         formed_append (load_code frame ARGUMENT source) (small SERVICE PUT_BYTE ∷ syscall ∷ []) (load_formed ARGUMENT source (below, fits)) ((refl, (omega arith)), ((refl, tt), tt))
+    body_formed (plain.AddressOf destination slot count) n (a, some, named) fits long =
+        ((refl, slot_fits slot (omega (arith, some, named))), ((refl, slot_fits destination a), tt))
     body_formed (plain.LoadGlobal destination global) n (a, b) fits long =
         ((refl, upper_fits global b), ((refl, low_fits (data_base + 4 * global)), ((refl, slot_fits destination a), tt)))
     body_formed (plain.StoreGlobal global source) n (a, b) fits long =

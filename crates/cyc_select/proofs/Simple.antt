@@ -1,5 +1,5 @@
 -- The instructions that neither call nor return.
-use Rattle.std.proofs.Common.{◌≡◌, ◌≢◌, ℕ, suc, slice_get, length-append, ◌+◌, ◌-◌, ◌*◌, ◌/◌, ◌%◌, ◌^◌, ◌<◌, ◌≤◌, Bool, true, false, not, List, [], ◌∷◌, ◌++◌, length, drop, Some, None, refl, sym, ap, subst, ◌∙◌, arith, inl, inr}
+use Rattle.std.proofs.Common.{◌≡◌, ◌≢◌, ℕ, suc, slice_get, length-append, ◌+◌, ◌-◌, ◌*◌, ◌/◌, ◌%◌, ◌^◌, ◌<◌, ◌≤◌, Bool, true, false, not, List, [], ◌∷◌, ◌++◌, length, drop, Some, refl, sym, ap, subst, ◌∙◌, arith, inl, inr}
 use Rattle.std.specs.Prelude.{◌==◌, if◌then◌else◌}
 use Rattle.std.specs.List.{AllByRecursion}
 use Rattle.std.proofs.lemmas.Bool.{cases_eq, eq-eqb, ne_eqb}
@@ -27,7 +27,7 @@ use Rattle.cyc_plain.specs.Operators.{unary_result, binary_result, compares}
 use Rattle.cyc_plain.specs.Program.{Program, routine_at}
 use Rattle.cyc_plain.specs.State as states
 use Rattle.cyc_plain.specs.State.{Words, AreWords, put, Configuration}
-use Rattle.cyc_plain.specs.Step.{call_of, instruction_at, operand_word, performed, gives, at}
+use Rattle.cyc_plain.specs.Step.{instruction_at, operand_word, performed, gives, at}
 use Rattle.cyc_plain.specs.WellFormed.{IsOperand, IsOfWord, IsWellFormed}
 use Rattle.cyc_plain.proofs.SlotLaws.{put-other}
 use Rattle.cyc_plain.proofs.RunLaws.{zeros, over_within, zeros_at, calls_nothing}
@@ -47,7 +47,7 @@ use Rattle.cyc_select.specs.Labelled.{Labelled, IsFormed}
 use Rattle.cyc_select.specs.Machine as labelled
 use Rattle.cyc_select.specs.Machine.{State, Running, Ended, holds_of}
 use Rattle.cyc_select.specs.Numbers.{is_zero_word}
-use Rattle.cyc_select.specs.Selection.{store_slot, slot_offset, small, arithmetic_of, ordinary, syscall, upper_of_global, at_global, word_code, load_code, operand_code, operand_register, operands_code, operation_of, computed_code, plan_code, branch_on, branch_code, divided_code, divide_code, word_count, load_count, operand_count, plan_count, test_count, is_tested, body, body_count, count_of, instruction_line}
+use Rattle.cyc_select.specs.Selection.{add_immediate, store_slot, slot_offset, small, arithmetic_of, ordinary, syscall, upper_of_global, at_global, word_code, load_code, operand_code, operand_register, operands_code, operation_of, computed_code, plan_code, branch_on, branch_code, divided_code, divide_code, word_count, load_count, operand_count, plan_count, test_count, is_tested, body, body_count, count_of, instruction_line}
 use Rattle.cyc_select.proofs.Blocks.{Keeps, puts_keeps, after_both, safe_append}
 use Rattle.cyc_select.proofs.Calls.{length_ordinary}
 use Rattle.cyc_select.proofs.Cells.{IsCell}
@@ -60,7 +60,7 @@ use Rattle.cyc_select.proofs.Operations.{add_small, global_lies}
 use Rattle.cyc_select.proofs.Plans.{multiply_divide_result, AllOfTest, operation_word, plan_word, unary_word, binary_word, test_taken, test_goes, all_unary, all_binary, all_test}
 use Rattle.cyc_select.proofs.Views.{Contents, written}
 use Rattle.cyc_select.proofs.Walks.{Stands, stands_front, stands_back, stands_first, stands_behind, after_r, after_w, after_w-append, AreSafe, Walk, now_at, now_is, walk_end, walk_few, walk_from, walk_block, walk_branch, walk_jump, walk_get, walk_put, walk_uncaught}
-use Rattle.cyc_select.proofs.Standing.{Standing, slot_cell, slot_word_is, global_cell, standing_global, standing_registers, standing_at}
+use Rattle.cyc_select.proofs.Standing.{Standing, based_here, lies, slot_cell, slot_word_is, global_cell, standing_global, standing_registers, standing_at}
 use Rattle.cyc_select.proofs.Matches.{At, Reached, reached, reached_gives, reached_at, within}
 
 module _ (program : Program) (well : IsWellFormed program) (frames : List Frame) (fit : AreFrames program frames) (code : Labelled) (formed : IsFormed code) (addresses : ℕ → ℕ) (pages calls : ℕ) (few : calls ≤ 4096)
@@ -521,6 +521,23 @@ module _ (program : Program) (well : IsWellFormed program) (frames : List Frame)
         now = now_at code formed addresses globals_length (words_per_call * calls) (here + length is + 2) (instruction_line program c.active.function (c.active.next + 1)) c.output c.input _ _ e line later;
         standing = four;
       }))))))
+
+  -- ---- addresses
+
+  pub address_goes : (destination slot count : ℕ) → IsAt (plain.AddressOf destination slot count) → destination < slots → slot < slots
+      → Stands code here (body program frames c.active.function here (plain.AddressOf destination slot count)) → Goes 1 here (here + 2) (Running run)
+  address_goes destination slot count at_i below named stands =
+      let own = fit.each c.active.function s.known in
+      let inside = own.inside slot named in
+      let lie = lies program well frames fit addresses pages calls few c r w base (r RETURN_ADDRESS) (suc (length c.frames)) c.active.slots s in
+      let place = based_here frames base c.active.function c.active.base c.frames s.based in
+      let sum : add_of (r FRAME) (sign_extended (slot_offset frame slot)) ≡ base + slot_offset frame slot =
+      ap (λ (x : ℕ). add_of x (sign_extended (slot_offset frame slot))) s.base_is
+      ∙ add_small base (slot_offset frame slot) (omega (arith, inside, own.within, own.small)) (omega (arith, inside, lie.below_end)) in
+      let same : base + slot_offset frame slot ≡ add_of c.active.base (4 * slot) = omega (arith, place, inside, lie.below_end) in
+      gives_by (plain.AddressOf destination slot count) at_i refl (add_immediate FIRST FRAME (slot_offset frame slot) ∷ []) FIRST destination (add_of c.active.base (4 * slot)) 2
+      (record { safe = (refl, tt); memory = refl; zero = refl; base = refl; left = refl; back = refl; newest = refl })
+      (sum ∙ same) below refl (omega arith) (omega arith) stands
 
   -- ---- the end by an exception
 

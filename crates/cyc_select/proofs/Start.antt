@@ -15,6 +15,7 @@ use Rattle.cyc_store.proofs.NewStores.{new_words}
 use Rattle.cyc_machine.specs.Bounds.{AreAllowed}
 use Rattle.cyc_machine.specs.State.{Place, InText, InGlobals, InStack, InStore, Nowhere, loaded, place_of, data_base, stack_base, stack_end, word_number, globals_length, words_per_call}
 use Rattle.cyc_plain.specs.declared.instruction.Instruction.{Instruction}
+use Rattle.cyc_plain.specs.Memory.{IsBelow, slots_end}
 use Rattle.cyc_plain.specs.Program.{Program, routine_at}
 use Rattle.cyc_words.specs.Simulation.{Comes, Follows, IsOnTheWay, NeverFails}
 use Rattle.cyc_plain.specs.State.{Words, AreWords, Configuration}
@@ -40,7 +41,6 @@ use Rattle.cyc_select.proofs.Standing.{Standing, slots_fit}
 use Rattle.cyc_select.proofs.Stores.{new_laid}
 use Rattle.cyc_select.proofs.Matches.{Matches}
 use Rattle.cyc_select.proofs.Runs.{own_of, matching, all_steps}
-use Rattle.cyc_plain.specs.Memory.{IsBelow, slots_end}
 
 -- ---- rising places that are as many as there are
 

@@ -5,13 +5,13 @@ use Rattle.cyc_store.specs.State.{StoreState}
 use Rattle.cyc_store.specs.New.{IsNew}
 use Rattle.cyc_machine.specs.Bounds.{AreAllowed}
 use Rattle.cyc_words.specs.Simulation.{NeverFails, Follows}
+use Rattle.cyc_plain.specs.Memory.{IsBelow, slots_end}
 use Rattle.cyc_plain.specs.Program.{Program, CodePlace, routine_at, places_of, size}
 use Rattle.cyc_plain.specs.Step as plain
 use Rattle.cyc_select.specs.declared.constants.TheConstants.{MAX_START_WORDS}
 use Rattle.cyc_select.specs.declared.code.Line.TheVariants as lines
 use Rattle.cyc_select.specs.Labelled.{Labelled, IsFormed, AreAddresses, words_of, all_words}
 use Rattle.cyc_select.specs.Machine as labelled
-use Rattle.cyc_plain.specs.Memory.{IsBelow, slots_end}
 
 -- how many words the line of this number takes at most
 abbrev pub words_at : Labelled → ℕ → ℕ
