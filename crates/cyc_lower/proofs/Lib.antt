@@ -53,6 +53,7 @@ pub mod WaysOut
 pub mod StatementSteps
 pub mod Keeping
 pub mod Levels
+pub mod Pinned
 pub mod Whole
 -- the rest of the promise: it is well formed, of words, and small
 pub mod WellFormed
