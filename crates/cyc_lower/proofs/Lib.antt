@@ -8,6 +8,9 @@ pub mod Lowerings
 pub mod Routines
 pub mod Lengths
 -- a run of the plain program is one of the source
+pub mod Known
+pub mod Moving
+pub mod GlobalRows
 pub mod Relation
 pub mod Matched
 pub mod Closings
