@@ -74,8 +74,7 @@ pub fn hint(code: Code) -> &'static str {
             "return a value on every path; conditions are not evaluated, so end with a return",
         Code::TooManyFunctions => "merge some functions",
         Code::FrameTooLarge => "move some of its variables or expressions to another function",
-        Code::NotBuiltYet =>
-            "write it with ints, pointers, structs and exceptions: so far programs over these are compiled",
+        Code::NotBuiltYet => "write it without & of a variable: that is not compiled yet",
     }
 }
 

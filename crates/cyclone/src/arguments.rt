@@ -59,9 +59,8 @@ A message says what is wrong first in the source file, and where.";
 const COMPILE_HELP: &str = "Example:
   cyclone compile hello.cyc -o hello.elf
 
-Where the program is refused, no file is written: a message says what is wrong, and where. So
-far programs over ints, pointers, structs and exceptions are compiled; one that uses more
-of the language is refused with fault 60, not supported yet.";
+Where the program is refused, no file is written: a message says what is wrong, and where. A
+program that takes the address of a variable is refused with fault 60, not supported yet.";
 
 const RUN_HELP: &str = "Example:
   echo hello | cyclone run echo.elf --calls 64 --steps 5000000
