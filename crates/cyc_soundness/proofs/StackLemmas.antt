@@ -44,19 +44,6 @@ module _ (p : Source) (g h : Typing) (grows : Grows g h) where
   pub array_grown : (t : RunTy) (l : Life) (object count index : ℕ) → IsArray g t l object count index → IsArray h t l object count index
   array_grown t l object count index (y, there, shown, life, cells, filled, few) = (y, grows.objects object y there, shown, life, cells, grows.filled object index filled, few)
 
-  pub spot_grown : (bs : List InScope) (t : Ty) (f : flow.State) (v : values.Value) → IsSpot p g bs t f v → IsSpot p h bs t f v
-  spot_grown bs t f v (of_local b among of_type is) = of_local b among of_type is
-  spot_grown bs t f v (of_global number there same) = of_global number there same
-  spot_grown bs t f v (of_cell place r alive common has) = of_cell place r alive common (type_grown g h grows (lives.Pointer marks.NonNull (read bs t) (lives_in bs r)) place has)
-
-  keeps_place_grown : (bs : List InScope) (a : AwaitingPlace) (r : RunTy) (f : flow.State) → KeepsPlace p g bs a r f → KeepsPlace p h bs a r f
-  keeps_place_grown bs (SwapRight kind peek is_cell left) r f (t, same, plain, spot) = (t, same, plain, spot_grown bs t f left spot)
-  keeps_place_grown bs a r f keeps = tt
-
-  pub swapped_grown : (bs : List InScope) (f : flow.State) (ws : List Write) → AreSwapped p g bs f ws → AreSwapped p h bs f ws
-  swapped_grown bs f [] are = tt
-  swapped_grown bs f (w ∷ ws) ((t, plain, by_type, spot, is), are) = ((t, plain, by_type, spot_grown bs t f w.place spot, result_grown g h grows (Value (read bs t)) w.operand is), swapped_grown bs f ws are)
-
   one_at_grown : (n object : ℕ) (b : InScope) → IsFullAt g n object b → IsFullAt h n object b
   one_at_grown n object (Variable b) is = λ same. (grows.filled b.object 1 (is same).0, (is same).1)
   one_at_grown n object b is = tt
@@ -67,11 +54,16 @@ module _ (p : Source) (g h : Typing) (grows : Grows g h) where
 
 -- ---- a thing changes hands
 
+-- no local is this object's, whose values only one may have
+abbrev pub IsShown : Typing → (object : ℕ) → Type 0
+IsShown g object = (d n : ℕ) → IsSlot g d n object → g.here object ≡ true → ⊥
+
 -- nothing that waits on this stack claims a thing by what had it
 abbrev pub IsAbove : Exits → Typing → List Entry → Holder → Type 0
 IsAbove x g k Nobody = Unit {0}
 IsAbove x g k (Hand i) = operands_in k ≤ i
-IsAbove x g k (At object) = (d n : ℕ) × IsSlot g d n object × (((d ≡ g.depth) × IsSpared (relied_at x.relied k) n) ⊎ (g.depth < d))
+IsAbove x g k (At object (suc i)) = Unit {0}
+IsAbove x g k (At object zero) = IsShown g object ⊎ ((d n : ℕ) × IsSlot g d n object × (((d ≡ g.depth) × IsSpared (relied_at x.relied k) n) ⊎ (g.depth < d)))
 IsAbove x g k (Lent j) = g.loans ≤ j
 
 lent_same : (i j : ℕ) → Lent i ≡ Lent j → i ≡ j
