@@ -22,10 +22,10 @@ use Rattle.cyc_meaning.specs.Nesting.{ends_of, IsFound, AreOpen, IsHome, IsNeste
 use Rattle.cyc_meaning.specs.Nesting as nesting
 use Rattle.cyc_soundness.specs.Lives.{Life, OfRegion, OfObject, Never, Owned, Kept, heap_life, RunTy, RunValue, Void, Null, Value, Seen, Into, looked, Lives, at, value_at, Reading}
 use Rattle.cyc_soundness.specs.Lives as lives
-use Rattle.cyc_soundness.specs.Worlds.{OfLocal, KeyOf, IsHeld, Holder, Nobody, Hand, At, Lent, pointer_at, thing_of, Claims, ClaimsBy, IsSlot, IsHere, is_lent_by, Stays, IsOpenIn, AreOperands, ObjectType, Typing, IsTyped, IsFull, variable_type, IsEndOf, whole, behind, Outlasts, alike, heap as for_ever, globals as with_globals, stays, encloses, IsOpenLife, Grows, IsKnownOwner}
+use Rattle.cyc_soundness.specs.Worlds.{OfLocal, Thing, KeyOf, ClaimsPart, IsHeld, Holder, Nobody, Hand, At, Lent, pointer_at, thing_of, Claims, ClaimsBy, IsHad, IsSlot, IsHere, is_lent_by, Stays, IsOpenIn, AreOperands, ObjectType, Typing, IsTyped, IsFull, variable_type, IsEndOf, whole, behind, Outlasts, alike, heap as for_ever, globals as with_globals, stays, encloses, IsOpenLife, Grows, IsKnownOwner}
 use Rattle.cyc_soundness.specs.Frames.{IsAmong, first, later, Bound, InScope, Variable, Level, Home, lives_in, read, IsThere, home_of, IsHomed, IsScope, AreBelow, IsBound, AreVariables, IsLasting, AreLiveIn, home_in, LiveIn, IsInner, Within, itself, older, IsSet, AreSet, IsFullIn, Holds, IsFullAt, AreFullAt, Exits, relying, frees_in, life_named, read_value, local_type}
 use Rattle.cyc_soundness.specs.Classes.{is_full, Relied, only, and_looked, IsSparedBy, IsSpared, InOperations, Source}
-use Rattle.cyc_soundness.specs.Stacks.{IsAccepted, Part, Whole, PartOf, part, part_of_place, relied_by, relied_at, WaitsPlace, Want, Nothing, Val, PlaceOf, Go, held, Waits, place_operand, count_held, IsThrough, IsArray, IsArrayOf, AreClaimed, IsHeldPart, operands_in, Keeps, IsSpot, of_local, of_global, of_cell, KeepsPlace, AreSwapped, IsStack}
+use Rattle.cyc_soundness.specs.Stacks.{IsAccepted, Part, Whole, PartOf, part, part_of_place, relied_by, relied_at, WaitsPlace, Want, Nothing, Val, PlaceOf, Go, held, Waits, place_operand, count_held, count_place, IsThrough, IsArray, IsArrayOf, AreClaimed, IsHeldPart, operands_in, Keeps, IsSpot, of_local, of_global, of_cell, IsLeftSpot, left_variable, left_cell, KeepsPlace, AreSwapped, IsStack}
 use Rattle.cyc_soundness.specs.Stacks as stacks
 use Rattle.cyc_soundness.proofs.Numbers.{same_or_other, some_same}
 use Rattle.cyc_soundness.proofs.FlowLemmas.{other_set, other_full, full_put, reached_with}
@@ -43,19 +43,6 @@ AreAccepted p = (number : ℕ) (h : Function) → slice_get p.program.functions 
 module _ (p : Source) (g h : Typing) (grows : Grows g h) where
   pub array_grown : (t : RunTy) (l : Life) (object count index : ℕ) → IsArray g t l object count index → IsArray h t l object count index
   array_grown t l object count index (y, there, shown, life, cells, filled, few) = (y, grows.objects object y there, shown, life, cells, grows.filled object index filled, few)
-
-  pub spot_grown : (bs : List InScope) (t : Ty) (f : flow.State) (v : values.Value) → IsSpot p g bs t f v → IsSpot p h bs t f v
-  spot_grown bs t f v (of_local b among of_type is) = of_local b among of_type is
-  spot_grown bs t f v (of_global number there same) = of_global number there same
-  spot_grown bs t f v (of_cell place r alive common has) = of_cell place r alive common (type_grown g h grows (lives.Pointer marks.NonNull (read bs t) (lives_in bs r)) place has)
-
-  keeps_place_grown : (bs : List InScope) (a : AwaitingPlace) (r : RunTy) (f : flow.State) → KeepsPlace p g bs a r f → KeepsPlace p h bs a r f
-  keeps_place_grown bs (SwapRight kind peek is_cell left) r f (t, same, plain, spot) = (t, same, plain, spot_grown bs t f left spot)
-  keeps_place_grown bs a r f keeps = tt
-
-  pub swapped_grown : (bs : List InScope) (f : flow.State) (ws : List Write) → AreSwapped p g bs f ws → AreSwapped p h bs f ws
-  swapped_grown bs f [] are = tt
-  swapped_grown bs f (w ∷ ws) ((t, plain, by_type, spot, is), are) = ((t, plain, by_type, spot_grown bs t f w.place spot, result_grown g h grows (Value (read bs t)) w.operand is), swapped_grown bs f ws are)
 
   one_at_grown : (n object : ℕ) (b : InScope) → IsFullAt g n object b → IsFullAt h n object b
   one_at_grown n object (Variable b) is = λ same. (grows.filled b.object 1 (is same).0, (is same).1)
@@ -146,6 +133,9 @@ passed_kept g i callee before rest (t ∷ ts) (are, claims) = (are, claims)
 -- a value for an entry in which no operand waits
 pub comes_alone : (g : Typing) (k : List Entry) (r : RunValue) (v : values.Value) → ClaimsBy g (0 + operands_in k) r v → ClaimsBy g (operands_in k) r v
 comes_alone g k r v is = let same : 0 + operands_in k ≡ operands_in k = omega arith in subst (λ i. ClaimsBy g i r v) same is
+
+pub part_alone : (g : Typing) (k : List Entry) (peek : Option ℕ) (o : Option Thing) → ClaimsPart g (0 + operands_in k) peek o → ClaimsPart g (operands_in k) peek o
+part_alone g k peek o is = let same : 0 + operands_in k ≡ operands_in k = omega arith in subst (λ i. ClaimsPart g i peek o) same is
 
 pub comes_under : (g : Typing) (k : List Entry) (r : RunValue) (v : values.Value) → ClaimsBy g (operands_in k) r v → ClaimsBy g (0 + operands_in k) r v
 comes_under g k r v is = let same : operands_in k ≡ 0 + operands_in k = omega arith in subst (λ i. ClaimsBy g i r v) same is
@@ -242,8 +232,8 @@ place_whole : {p : Source} {x : Exits} {q : Relied} {bs : List InScope} {a : Awa
 place_whole (stacks.loads_from seen t r f alive plain kind) peek e = part_whole None peek e
 place_whole (stacks.takes_address seen t l f common) peek e = part_whole None peek e
 place_whole (stacks.stores_to c v t r f h alive stands evaluates conv from to) peek e = part_whole None peek e
-place_whole (stacks.swaps_left through c t r f h alive none stands kind plain finds) peek e = (h, refl)
-place_whole (stacks.swaps_right through t r f alive none kind) peek e = (f, refl)
+place_whole (stacks.swaps_left c t r f h alive by_type stands kind plain finds) peek e = (h, refl)
+place_whole (stacks.swaps_right through t r f alive by_type kind) peek e = (f, refl)
 
 goes_relied : (p : Source) (g : Typing) (x : Exits) (bs : List InScope) (next : Want) (k : List Entry) (q : Relied) → (h : flow.State) × (next ≡ Go h) → IsStack p g x bs next k → relied_at q k ≡ q
 goes_relied p g x bs next k q (h, same) is = statement_relied p g x bs h k q (subst (λ z. IsStack p g x bs z k) same is)
@@ -295,6 +285,10 @@ held_peek (StoreCell peek place) = peek
 held_peek (Advance peek target base) = peek
 held_peek a = None
 
+abbrev place_peek : AwaitingPlace → Option ℕ
+place_peek (SwapRight kind peek is_cell left) = peek
+place_peek a = None
+
 only_full : (n : ℕ) → get_or (only n) n Vacant ≡ Full
 only_full zero = refl
 only_full (suc n) = only_full n
@@ -312,6 +306,10 @@ unspared (ApplyPointer peek operator left) q r n e spared = looked_unspared peek
 unspared (StoreCell peek place) q r n e spared = looked_unspared peek r n e spared
 unspared (Advance peek target base) q r n e spared = looked_unspared peek r n e spared
 unspared a q r n e spared = let k : None ≡ Some n = e in absurd (cc)
+
+unspared_place : (a : AwaitingPlace) (q r : Relied) (n : ℕ) → place_peek a ≡ Some n → IsSpared (relied_by (part_of_place a) q r) n → ⊥
+unspared_place (SwapRight kind peek is_cell left) q r n e spared = looked_unspared peek q n e spared
+unspared_place a q r n e spared = let k : None ≡ Some n = e in absurd (cc)
 
 counted : (a : Awaiting) → length (held a) ≤ count_held a
 counted (FillElement object count index level kind element) = omega arith
@@ -333,6 +331,17 @@ module _ (p : Source) (old : Holder) (g h : Typing) (changed : Changed old g h) 
   array_kept : (i : ℕ) (ts : List RunTy) (object count index : ℕ) → Hand i ≢ old → IsArrayOf g i ts object count index → IsArrayOf h i ts object count index
   array_kept i (lives.Pointer m t l ∷ []) object count index apart (less, array, is) = (less, array_grown p g h changed.grows t l object count index array, owns_kept old g h changed (Hand i) (pointer_at l object) apart is)
   array_kept i ts object count index apart is = absurd is
+
+  left_kept : (i : ℕ) (peek : Option ℕ) (bs : List InScope) (t : Ty) (f : flow.State) (v : values.Value) → Hand i ≢ old → ((n object : ℕ) → peek ≡ Some n → IsHere g g.depth n object → At object ≢ old) → IsLeftSpot p g i peek bs t f v → IsLeftSpot p h i peek bs t f v
+  left_kept i peek bs t f v apart other (left_variable place is) = left_variable place is
+  left_kept i peek bs t f v apart other (left_cell place r alive has part) =
+      left_cell place r alive (type_grown g h changed.grows (lives.Pointer marks.NonNull (read bs t) (lives_in bs r)) place has)
+      (part_kept old g h changed i peek (thing_of (lives.Pointer marks.NonNull (read bs t) (lives_in bs r)) place) apart other part)
+
+  keeps_place_kept : (i : ℕ) (bs : List InScope) (a : AwaitingPlace) (r : RunTy) (f : flow.State) → ((j : ℕ) → j < count_place a + i → Hand j ≢ old) → ((n object : ℕ) → place_peek a ≡ Some n → IsHere g g.depth n object → At object ≢ old)
+      → KeepsPlace p g i bs a r f → KeepsPlace p h i bs a r f
+  keeps_place_kept i bs (SwapRight kind peek is_cell left) r f hands other (t, same, plain, spot) = (t, same, plain, left_kept i peek bs t f left (hands i (let less : i < 1 + i = omega arith in less)) other spot)
+  keeps_place_kept i bs a r f hands other keeps = tt
 
   keeps_kept : (i : ℕ) (a : Awaiting) (ts : List RunTy) → ((j : ℕ) → j < count_held a + i → Hand j ≢ old) → ((n object : ℕ) → held_peek a ≡ Some n → IsHere g g.depth n object → At object ≢ old) → Keeps g i a ts → Keeps h i a ts
   keeps_kept i (FillElement object count index level kind element) ts hands other are = array_kept i ts object count index (hands i (let less : i < 1 + i = omega arith in less)) are
@@ -378,9 +387,9 @@ stack_changed p old g h x bs (Val r f) (Needs a ∷ k) changed above (ts, cs, ne
 stack_changed p old g h x bs (PlaceOf peek u l f) (NeedsPlace a ∷ k) changed above (next, waits, keeps, rest) = (
   next,
   waits,
-  keeps_place_grown p g h changed.grows bs a u f keeps,
+  keeps_place_kept p old g h changed (operands_in k) bs a u f (λ j less. hand_other x g (NeedsPlace a ∷ k) j old above less) (λ n object same here. variable_other x g (NeedsPlace a ∷ k) n object old above here.1 (λ spared. unspared_place a x.relied (relied_at x.relied k) n same spared)) keeps,
   stack_changed p old g h x bs next k changed
-      (above_to x x g (NeedsPlace a) k old (fewer k) (λ n spared. part_spared (part_of_place a) x.relied (relied_at x.relied k) n (λ o same. goes_relied p g x bs next k x.relied (place_whole waits o same) rest) spared) above) rest,
+      (above_to x x g (NeedsPlace a) k old (let fewer : operands_in k ≤ count_place a + operands_in k = omega arith in fewer) (λ n spared. part_spared (part_of_place a) x.relied (relied_at x.relied k) n (λ o same. goes_relied p g x bs next k x.relied (place_whole waits o same) rest) spared) above) rest,
 )
 stack_changed p old g h x bs (Val r f) (Discard ∷ k) changed above is = stack_changed p old g h x bs (Go f) k changed (above_to x x g Discard k old (fewer k) (λ n spared. statement_spared p g x bs f k x.relied n is spared) above) is
 stack_changed p old g h x bs (Go f) (Discard ∷ k) changed above is = stack_changed p old g h x bs (Go f) k changed (above_to x x g Discard k old (fewer k) (λ n spared. statement_spared p g x bs f k x.relied n is spared) above) is
@@ -455,6 +464,22 @@ stack_changed p old g h x bs w k changed above is = absurd is
 -- nor where nothing does
 pub stack_grown : (p : Source) (g h : Typing) → Stays g h → (x : Exits) (bs : List InScope) (w : Want) (k : List Entry) → IsStack p g x bs w k → IsStack p h x bs w k
 stack_grown p g h same x bs w k is = stack_changed p Nobody g h x bs w k (stays_changed Nobody g h same) tt is
+
+-- what is known of the places of a swap stays so
+module _ (p : Source) (g h : Typing) (same : Stays g h) where
+  had_stays : (o : Option Thing) → IsHad g o → IsHad h o
+  had_stays None had = tt
+  had_stays (Some a) had = subst (λ own. IsHeld (own a)) (sym same.own) had
+
+  pub spot_grown : (bs : List InScope) (t : Ty) (f : flow.State) (v : values.Value) → IsSpot p g bs t f v → IsSpot p h bs t f v
+  spot_grown bs t f v (of_local b among of_type is) = of_local b among of_type is
+  spot_grown bs t f v (of_global number there means) = of_global number there means
+  spot_grown bs t f v (of_cell place r alive has had) =
+      of_cell place r alive (type_grown g h same.grows (lives.Pointer marks.NonNull (read bs t) (lives_in bs r)) place has) (had_stays (thing_of (lives.Pointer marks.NonNull (read bs t) (lives_in bs r)) place) had)
+
+  pub swapped_grown : (bs : List InScope) (f : flow.State) (ws : List Write) → AreSwapped p g bs f ws → AreSwapped p h bs f ws
+  swapped_grown bs f [] are = tt
+  swapped_grown bs f (w ∷ ws) ((t, plain, by_type, spot, is), are) = ((t, plain, by_type, spot_grown bs t f w.place spot, result_grown g h same.grows (Value (read bs t)) w.operand is), swapped_grown bs f ws are)
 
 -- ---- what has no value is only dropped
 

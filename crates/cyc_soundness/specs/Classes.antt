@@ -4,7 +4,7 @@ use Rattle.cyc_types.specs.declared.region.Region.{Region}
 use Rattle.cyc_types.specs.declared.region.Region.TheVariants.{Unique}
 use Rattle.cyc_types.specs.Types.{Ty, Pointer, Struct}
 use Rattle.cyc_types.specs.Declarations.{declared_regions, item_regions}
-use Rattle.cyc_types.specs.TypedTrees.{Local, Global, Expression, Number, NullPointer, HeapRegion, Counter, Copy, Move, Peek, Load, AddressOf, AddressOfCell, NumberOfElements, FreeUnique, FreeKey, Call, Unary, Binary, Assign, Store, New, Dereference, Target, Member, Element, Placement, OnHeap, AsUnique, ByHandle, Initial, Plain, Fields, Array, Converted, Convert, Arguments, NoArguments, MoreArguments, Operations, NoOperations, ThenCompute, ThenTest, ThenPointer, ThenPointerPeek, Side, VariableSide, CellSide, Statement, Block, Empty, Evaluate, Swap, If, While, Return, Break, Continue, Throw, Try, Items, NoItems, MoreItems, Execute, Declare, DeclareRegion, OpenRegion, DeclareAlias, DeclareKey, Clauses, NoClauses, Default, Case, StructType, GlobalVariable, Function, Program}
+use Rattle.cyc_types.specs.TypedTrees.{type_of_place, Local, Global, Expression, Number, NullPointer, HeapRegion, Counter, Copy, Move, Peek, Load, AddressOf, AddressOfCell, NumberOfElements, FreeUnique, FreeKey, Call, Unary, Binary, Assign, Store, New, Dereference, Target, Member, Element, Placement, OnHeap, AsUnique, ByHandle, Initial, Plain, Fields, Array, Converted, Convert, Arguments, NoArguments, MoreArguments, Operations, NoOperations, ThenCompute, ThenTest, ThenPointer, ThenPointerPeek, Side, VariableSide, CellSide, Statement, Block, Empty, Evaluate, Swap, If, While, Return, Break, Continue, Throw, Try, Items, NoItems, MoreItems, Execute, Declare, DeclareRegion, OpenRegion, DeclareAlias, DeclareKey, Clauses, NoClauses, Default, Case, StructType, GlobalVariable, Function, Program}
 use Rattle.cyc_types.specs.typing.Tests.{is_key, is_unique}
 use Rattle.cyc_types.specs.flow.States as flow
 use Rattle.cyc_types.specs.flow.States.{Fullness, Vacant, Locked, Full, Unreached, Reached}
@@ -29,11 +29,6 @@ HasAliases (ByScope lends frees) = (lends ≡ true) × (frees ≡ false)
 abbrev pub HasFrees : Reading → Type 0
 HasFrees AsHeap = ⊥
 HasFrees (ByScope lends frees) = frees ≡ true
-
--- a form that is not there yet where objects are given back
-abbrev pub FreesNone : Reading → Type 0
-FreesNone AsHeap = Unit {0}
-FreesNone (ByScope lends frees) = frees ≡ false
 
 -- a region that others may reach
 abbrev pub IsCommon : Region → Type 0
@@ -93,7 +88,7 @@ and_looked (Some n) q = Reached (only n) ∷ q
 -- Programs of a class. All types are there, objects in the heap, unique ones and those of regions, places behind pointers, swaps,
 -- functions with regions, conversions between all marks, loops and exceptions. Only where things are lent do they have dynamic regions,
 -- keys and aliases, and only where objects are given back `ufree`: then unique pointers are in locals, arguments and results alone, and
--- there are no aliases and no swaps. Read as the heap, they have no lexical regions, and take the address of no local. What is consumed
+-- there are no aliases, nor swaps of unique pointers. Read as the heap, they have no lexical regions, and take the address of no local. What is consumed
 -- or lent is nothing that the clauses around rely on: at the start of a function there are none, and of the body of a `try` that is shown.
 abbrev mutual
   pub InExpression : Reading → Relied → Expression → Type 0
@@ -155,9 +150,10 @@ abbrev pub InThrown : Reading → Relied → Option Expression → Type 0
 InThrown m q None = Unit {0}
 InThrown m q (Some a) = InExpression m q a
 
+-- where objects are given back, no unique pointers are swapped
 abbrev pub InSide : Reading → Relied → Side → Type 0
-InSide m q (VariableSide l t) = Unit {0}
-InSide m q (CellSide d) = InPlace m q d
+InSide m q (VariableSide l t) = IsShared m t
+InSide m q (CellSide d) = IsShared m (type_of_place d) × InPlace m q d
 
 -- Statements where the next region gets this number: the types of locals name only regions that are declared before them.
 abbrev mutual
@@ -165,7 +161,7 @@ abbrev mutual
   InStatement m q n (Block r js) = InItems m q (suc n) js
   InStatement m q n Empty = Unit {0}
   InStatement m q n (Evaluate a) = InExpression m q a
-  InStatement m q n (Swap x y) = FreesNone m × InSide m q x × InSide m q y
+  InStatement m q n (Swap x y) = InSide m q x × InSide m q y
   InStatement m q n (If a s t) = InExpression m q a × InStatement m q n s × InStatement m q (n + declared_regions s) t
   InStatement m q n (While p a s) = InExpression m q a × InStatement m q n s
   InStatement m q n (Return v) = InValue m q v
