@@ -116,7 +116,7 @@ thrown_kept (Some a) built frees = expression_kept a built frees
 
 side_kept : (x : Side) → is_built_side x ≡ true → side_frees_none x ≡ true → InSide AsHeap [] x
 side_kept (VariableSide l t) built frees = tt
-side_kept (CellSide d) built frees = place_kept d built frees
+side_kept (CellSide d) built frees = (tt, place_kept d built frees)
 
 mutual
   statement_kept : (n : ℕ) (s : Statement) → is_built_statement s ≡ true → statement_frees_none s ≡ true → InStatement AsHeap [] n s
@@ -125,7 +125,7 @@ mutual
   statement_kept n (Evaluate a) built frees = expression_kept a built frees
   statement_kept n (Swap x y) built frees =
       let each = halves (is_built_side x) (is_built_side y) (side_frees_none x) (side_frees_none y) built frees in
-      (tt, side_kept x each.0 each.2, side_kept y each.1 each.3)
+      (side_kept x each.0 each.2, side_kept y each.1 each.3)
   statement_kept n (If a s t) built frees =
       let each = halves (is_built_expression a) (is_built_statement s && is_built_statement t) (expression_frees_none a) (statement_frees_none s && statement_frees_none t) built frees in
       let ways = halves (is_built_statement s) (is_built_statement t) (statement_frees_none s) (statement_frees_none t) each.1 each.3 in

@@ -124,7 +124,7 @@ swapped : Ends (check_of texts (
     (MoreItems (Execute (Swap (field 3) (field 4)))
     (MoreItems (Execute (Return (at 12) (Some (field 3)))) NoItems)))
     ∷ [])) (HasEnded (Returned (pos 5)))
-swapped = (refl, ((tt, (tt, tt, (tt, (tt, tt))), ((tt, tt, tt), (tt, tt))), tt), refl)
+swapped = (refl, ((tt, (tt, tt, (tt, (tt, tt))), (((tt, tt), (tt, tt)), (tt, tt))), tt), refl)
 
 -- int main(){ int @`U p = rnew(unique_region) 5; return *p; }
 unique : Ends (check_of texts (
@@ -232,6 +232,18 @@ elements_freed : EndsIn FreesObjects (check_of texts (
     (MoreItems (Execute (Return (at 24) (Some (Variable (named 3 25))))) NoItems)))))
     ∷ [])) (HasEnded (Returned (pos 4)))
 elements_freed = (refl, (refl, refl), refl)
+
+-- int main(){ int @`U p = rnew(unique_region) 5; int ?n = new {for i < 3 : i}; *p :=: n[2]; int x = *p + n[2]; ufree(p); return x; }
+swapped_and_freed : EndsIn FreesObjects (check_of texts (
+    main (
+    MoreItems (Local (into 6) (named 2 5) (Some (RegionNew (at 6) (UniqueRegion (at 7)) (Plain (Number (at 8) 5)))))
+    (MoreItems (Local (written Int (marks.Fat ∷ [])) (named 4 9) (Some (New (at 10) (Array (at 11) (named 5 12) (Number (at 13) 3) (Variable (named 5 14))))))
+    (MoreItems (Execute (Swap (Prefixed (at 17) prefixes.Dereference (Variable (named 2 18))) (Chained (Variable (named 4 19)) (ThenIndex (Number (at 20) 2) NoPostfixes))))
+    (MoreItems (Local (written Int []) (named 3 21) (Some (plus (Prefixed (at 22) prefixes.Dereference (Variable (named 2 23))) (Chained (Variable (named 4 24)) (ThenIndex (Number (at 25) 2) NoPostfixes)))))
+    (MoreItems (Execute (Evaluate (FreeUnique (at 26) (Variable (named 2 27)))))
+    (MoreItems (Execute (Return (at 28) (Some (Variable (named 3 29))))) NoItems))))))
+    ∷ [])) (HasEnded (Returned (pos 7)))
+swapped_and_freed = (refl, (refl, refl), refl)
 
 -- int main(){ int n = 0; while (n < 6) { int @`U p = rnew(unique_region) 3; n = n + *p; ufree(p); } return n; }
 freed_in_a_loop : EndsIn FreesObjects (check_of texts (

@@ -8,13 +8,13 @@ use Rattle.cyc_types.specs.declared.region.Region.TheVariants as regions
 use Rattle.cyc_types.specs.Types.{Ty}
 use Rattle.cyc_types.specs.Types as types
 use Rattle.cyc_types.specs.Declarations.{declared_regions, item_regions}
-use Rattle.cyc_types.specs.TypedTrees.{Local, Global, Expression, Number, NullPointer, HeapRegion, Counter, Copy, Move, Peek, Load, AddressOf, AddressOfCell, NumberOfElements, FreeUnique, FreeKey, Call, Unary, Binary, Assign, Store, New, Dereference, Target, Member, Element, Placement, OnHeap, AsUnique, ByHandle, Initial, Plain, Fields, Array, Converted, Convert, Arguments, NoArguments, MoreArguments, Operations, NoOperations, ThenCompute, ThenTest, ThenPointer, ThenPointerPeek, Statement, Block, Empty, Evaluate, Swap, If, While, Return, Break, Continue, Throw, Try, Items, NoItems, MoreItems, Execute, Declare, DeclareRegion, OpenRegion, DeclareAlias, DeclareKey, Clauses, NoClauses, Default, Case, StructType, GlobalVariable, Function, Program}
+use Rattle.cyc_types.specs.TypedTrees.{Local, Global, Expression, Number, NullPointer, HeapRegion, Counter, Copy, Move, Peek, Load, AddressOf, AddressOfCell, NumberOfElements, FreeUnique, FreeKey, Call, Unary, Binary, Assign, Store, New, Dereference, Target, Member, Element, Placement, OnHeap, AsUnique, ByHandle, Initial, Plain, Fields, Array, Converted, Convert, Arguments, NoArguments, MoreArguments, Operations, NoOperations, ThenCompute, ThenTest, ThenPointer, ThenPointerPeek, Side, VariableSide, CellSide, type_of_place, Statement, Block, Empty, Evaluate, Swap, If, While, Return, Break, Continue, Throw, Try, Items, NoItems, MoreItems, Execute, Declare, DeclareRegion, OpenRegion, DeclareAlias, DeclareKey, Clauses, NoClauses, Default, Case, StructType, GlobalVariable, Function, Program}
 use Rattle.cyc_types.specs.typing.Tests.{is_key, is_unique}
 use Rattle.cyc_types.specs.typing.WellTyped.{IsWellTypedProgram}
 use Rattle.cyc_types.specs.flow.Programs.{IsAllowedProgram}
 use Rattle.cyc_soundness.specs.Lives.{Reading, ByScope, AllOf, AllIn, IsKnown}
-use Rattle.cyc_soundness.specs.Classes.{IsCommon, IsShared, LeadsToShared, InExpression, InPlace, InPlacement, InInitial, InConverted, InArguments, InOperations, InValue, InThrown, InStatement, InItems, InClauses, InFunctions, InGlobals, InFields, InStructs, FreesLocals}
-use Rattle.cyc_soundness.specs.FreesLocals.{is_known, is_declarable, is_common, is_shared, leads_to_shared, expression_is_in, place_is_in, placement_is_in, initial_is_in, converted_is_in, arguments_are_in, operations_are_in, value_is_in, thrown_is_in, statement_is_in, items_are_in, clauses_are_in, function_is_in, global_is_in, field_is_in, struct_is_in, frees_locals}
+use Rattle.cyc_soundness.specs.Classes.{IsCommon, IsShared, LeadsToShared, InExpression, InPlace, InPlacement, InInitial, InConverted, InArguments, InOperations, InValue, InThrown, InSide, InStatement, InItems, InClauses, InFunctions, InGlobals, InFields, InStructs, FreesLocals}
+use Rattle.cyc_soundness.specs.FreesLocals.{is_known, is_declarable, is_common, is_shared, leads_to_shared, expression_is_in, place_is_in, placement_is_in, initial_is_in, converted_is_in, arguments_are_in, operations_are_in, value_is_in, thrown_is_in, side_is_in, statement_is_in, items_are_in, clauses_are_in, function_is_in, global_is_in, field_is_in, struct_is_in, frees_locals}
 use Rattle.cyc_soundness.specs.Sound.{IsSound}
 use Rattle.cyc_soundness.proofs.Numbers.{both_true}
 use Rattle.cyc_soundness.proofs.Evaluation.{not_true}
@@ -132,6 +132,10 @@ thrown_in : (v : Option Expression) → thrown_is_in v ≡ true → InThrown rea
 thrown_in None is = tt
 thrown_in (Some a) is = expression_in a is
 
+side_in : (x : Side) → side_is_in x ≡ true → InSide reading [] x
+side_in (VariableSide l t) is = shared_in t is
+side_in (CellSide d) is = let both = both_true (is_shared (type_of_place d)) (place_is_in d) is in (shared_in (type_of_place d) both.0, place_in d both.1)
+
 -- ---- statements
 
 mutual
@@ -139,7 +143,7 @@ mutual
   statement_in n (Block r js) is = items_in (suc n) js is
   statement_in n Empty is = tt
   statement_in n (Evaluate a) is = expression_in a is
-  statement_in n (Swap x y) is = refused is
+  statement_in n (Swap x y) is = let both = both_true (side_is_in x) (side_is_in y) is in (side_in x both.0, side_in y both.1)
   statement_in n (If a s t) is =
       let both = both_true (expression_is_in a) (statement_is_in n s && statement_is_in (n + declared_regions s) t) is in
       let each = both_true (statement_is_in n s) (statement_is_in (n + declared_regions s) t) both.1 in

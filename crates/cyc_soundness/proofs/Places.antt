@@ -36,17 +36,17 @@ use Rattle.cyc_soundness.specs.Lives as lives
 use Rattle.cyc_soundness.specs.Worlds.{ObjectType, Typing, IsFilled, IsPart, IsTarget, HasType, IsResult, Fits, AreCells, IsObject, IsTyped}
 use Rattle.cyc_soundness.specs.Frames.{InScope, IsBound, AreVariables, LiveIn, lives_among, Holds, Exits, IsContext, KnowsProgram, lives_in, read, read_value, IsThere}
 use Rattle.cyc_soundness.specs.Classes.{and_looked, InExpression, InPlace, Source, frees_of}
-use Rattle.cyc_soundness.specs.Stacks.{IsThrough, seen_by, EvaluatesWhole, relied_at, Val, PlaceOf, null, WaitsPlace, of_cell, KeepsPlace, IsStack, IsFocus, IsWell}
+use Rattle.cyc_soundness.specs.Stacks.{IsThrough, seen_by, EvaluatesWhole, relied_at, Val, PlaceOf, null, WaitsPlace, of_cell, left_cell, IsByType, KeepsPlace, IsStack, IsFocus, IsWell}
 use Rattle.cyc_soundness.specs.Stacks as stacks
 use Rattle.cyc_soundness.proofs.Numbers.{some_same, inside, mapped, both}
 use Rattle.cyc_soundness.proofs.TypeLemmas.{target_typed, is_kind_same, mark_kinds, kind_meant}
 use Rattle.cyc_soundness.proofs.WorldLemmas.{result_grown, typed_cell}
 use Rattle.cyc_soundness.proofs.Hands.{holds_grown, variables_grown}
 use Rattle.cyc_soundness.proofs.Sharing.{region_common, life_common, plain_read, by_type_read, keeps_by}
-use Rattle.cyc_soundness.proofs.StackLemmas.{stack_grown, IsPresent, there_present}
+use Rattle.cyc_soundness.proofs.StackLemmas.{stack_grown, part_alone, IsPresent, there_present}
 use Rattle.cyc_soundness.proofs.RegionLemmas.{agrees_of, there_of, mapped_count, field_means}
 use Rattle.cyc_soundness.proofs.Looking.{looked_expression, peeked_so}
-use Rattle.cyc_soundness.proofs.Swapping.{finds_right_on, both_on}
+use Rattle.cyc_soundness.proofs.Swapping.{left_spot, finds_right_on, both_on}
 use Rattle.cyc_soundness.specs.Worlds.{Hand, pointer_at, thing_of, Claims, ClaimsPart, ClaimsBy, IsHad, IsKeyless}
 use Rattle.cyc_soundness.proofs.Cells.{keyless_claims, pointer_keyless, part_had, running, part_at, target_live, reads_target, writes_target}
 
@@ -447,10 +447,10 @@ module _ (p : Source) (g : Typing) (x : Exits) (bs : List InScope) (e : Environm
   -- ---- what waits for a place
 
   pub place_given : {a : AwaitingPlace} {o : Option ℕ} {t : RunTy} {l : Life} {f : flow.State} {next : stacks.Want} (place : values.Value) (k : List Entry) → AreOpen w.regions (ends_of k) → LiveIn k bs → Holds g f bs → HasType g (lives.Pointer marks.NonNull t l) place
-      → ClaimsPart g (stacks.operands_in k) o (thing_of (lives.Pointer marks.NonNull t l) place) → WaitsPlace p x (relied_at x.relied k) bs a o t l f next → KeepsPlace p g bs a t f → IsStack p g x bs next k → IsWell p (placed a place k e w)
+      → ClaimsPart g (stacks.count_place a + stacks.operands_in k) o (thing_of (lives.Pointer marks.NonNull t l) place) → WaitsPlace p x (relied_at x.relied k) bs a o t l f next → KeepsPlace p g (stacks.operands_in k) bs a t f → IsStack p g x bs next k → IsWell p (placed a place k e w)
   place_given (values.Thin object offset) k opens live holds has part (stacks.loads_from {kind} seen t r f alive plain same) keeps stack =
       reads_target p g x bs e w typed globals bound variables k kind object offset (lives_in bs) t (lives_in bs r) f opens live (there_present g (ends_of k) bs r live.0 variables alive)
-      (part_had g (stacks.operands_in k) seen (pointer_at (lives_in bs r) object) part) holds has plain (kind_meant (lives_in bs) t ∙ sym same) stack
+      (part_had g (0 + stacks.operands_in k) seen (pointer_at (lives_in bs r) object) part) holds has plain (kind_meant (lives_in bs) t ∙ sym same) stack
   place_given place k opens live holds has part (stacks.takes_address seen t l f common) keeps stack =
       on (Given (record { kind = kinds.NonNull; value = place })) k live (Value (lives.Pointer marks.NonNull t l), f, holds, (refl, has), keyless_claims g.own (Hand (stacks.operands_in k)) (lives.Pointer marks.NonNull t l) place (pointer_keyless marks.NonNull t l common), stack)
   place_given place k opens live holds has part (stacks.stores_to {peek} {from} {to} {a} c v t r f h alive stands later conv from_is to_is) keeps stack =
@@ -469,15 +469,19 @@ module _ (p : Source) (g : Typing) (x : Exits) (bs : List InScope) (e : Environm
           Val (Value (read bs t)) h,
           stacks.converts c v t h (agrees_of p x bs c stands) (keeps_by g bs variables p.reading c.regions stands.regions) conv from_is to_is (target_typed c a v evaluates.typed),
           tt,
-          (lives.Pointer marks.NonNull (read bs t) (lives_in bs r) ∷ [], bs, Val (read_value bs (assigned_type t)) h, stacks.stores_cell t r h alive, (((refl, has), tt), part), stack),
+          (lives.Pointer marks.NonNull (read bs t) (lives_in bs r) ∷ [], bs, Val (read_value bs (assigned_type t)) h, stacks.stores_cell t r h alive, (((refl, has), tt), part_alone g k peek (thing_of (lives.Pointer marks.NonNull (read bs t) (lives_in bs r)) place) part), stack),
         ),
       )
-  place_given place k opens live holds has part (stacks.swaps_left {kind} {peek} {right} through c t r f h alive none stands kind_is plain later) keeps stack =
+  place_given place k opens live holds has part (stacks.swaps_left {kind} {peek} {right} c t r f h alive by stands kind_is plain later) keeps stack =
       let finds = later holds.0 in
-      finds_right_on p g x bs e w typed globals bound variables kind peek true place right c t k f h finds.waiting live stands holds none kind_is plain (λ i. of_cell place r alive (life_common g bs variables r none) has) finds.typed finds.flows finds.used finds.kept stack
-  place_given place k opens live holds has part (stacks.swaps_right {kind} {peek} {is_cell} {left} through t r f alive none kind_is) (u, same, plain, spot) stack =
-      both_on p g x bs e w typed globals bound variables kind left place u k f live holds (kind_is ∙ sym (kind_meant (lives_in bs) t) ∙ ap kind_at same ∙ kind_meant (lives_in bs) u) plain (by_type_read g bs variables u none) spot
-      (of_cell place r alive (life_common g bs variables r none) (subst (λ z. HasType g (lives.Pointer marks.NonNull z (lives_in bs r)) place) same has)) stack
+      finds_right_on p g x bs e w typed globals bound variables kind peek true place right c t k f h finds.waiting live stands holds by kind_is plain
+      (left_cell place r alive has (part_alone g k peek (thing_of (lives.Pointer marks.NonNull (read bs t) (lives_in bs r)) place) part)) finds.typed finds.flows finds.used finds.kept stack
+  place_given place k opens live holds has part (stacks.swaps_right {kind} {peek} {is_cell} {left} through t r f alive by kind_is) (u, same, plain, spot) stack =
+      let pointer = λ (z : RunTy). lives.Pointer marks.NonNull z (lives_in bs r) in
+      both_on p g x bs e w typed globals bound variables kind left place u k f live holds (kind_is ∙ sym (kind_meant (lives_in bs) t) ∙ ap kind_at same ∙ kind_meant (lives_in bs) u) plain (subst (λ z. IsByType z) same by)
+      (left_spot p g x bs e w typed globals bound variables (stacks.operands_in k) peek u f left spot)
+      (of_cell place r alive (subst (λ z. HasType g (pointer z) place) same has)
+      (subst (λ z. IsHad g (thing_of (pointer z) place)) same (part_had g (1 + stacks.operands_in k) through (thing_of (pointer (read bs t)) place) part))) stack
   place_given place k opens live holds has part waits keeps stack = absurd has
 
   pub cell_stored : (place : values.Value) (v : Operand) (t : Ty) (l : Life) (k : List Entry) (f : flow.State) → AreOpen w.regions (ends_of k) → LiveIn k bs → IsPresent g (ends_of k) l → IsHad g (thing_of (lives.Pointer marks.NonNull (read bs t) l) place) → Holds g f bs

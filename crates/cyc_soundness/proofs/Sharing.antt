@@ -11,7 +11,7 @@ use Rattle.cyc_types.specs.Types as types
 use Rattle.cyc_types.specs.typing.Tests.{is_key, is_moved}
 use Rattle.cyc_soundness.specs.Lives.{Life, OfRegion, OfObject, Never, Owned, Kept, heap_life, owned_life, RunTy, Pointer, Key, Reading, AsHeap, ByScope, AllOf}
 use Rattle.cyc_soundness.specs.Worlds.{Typing, IsKnownLife, IsKeyless, AtStart}
-use Rattle.cyc_soundness.specs.Classes.{IsCommon, IsShared, frees_of, FreesNone, HasFrees}
+use Rattle.cyc_soundness.specs.Classes.{IsCommon, IsShared, frees_of, HasFrees}
 use Rattle.cyc_soundness.specs.Frames.{InScope, AreVariables, lives_in, life_named, frees_in, read, Stand}
 use Rattle.cyc_soundness.specs.Stacks.{KeepsUnique, IsCommonLife, IsByType}
 use Rattle.cyc_soundness.proofs.RegionLemmas.{name_known, heap_lives}
@@ -43,11 +43,6 @@ at_start Owned = (refl, refl)
 pub frees_same : (m : Reading) (c : RegionContext) (bs : List InScope) → Stand m c bs → frees_in bs ≡ frees_of m
 frees_same AsHeap c bs stand = stand.0
 frees_same (ByScope lends frees) c bs stand = stand.0
-
--- where nothing is given back, all lives are common
-pub none_freed : (m : Reading) (c : RegionContext) (bs : List InScope) → FreesNone m → Stand m c bs → frees_in bs ≡ false
-none_freed AsHeap c bs none stand = stand.0
-none_freed (ByScope lends frees) c bs none stand = stand.0 ∙ none
 
 pub all_freed : (m : Reading) (c : RegionContext) (bs : List InScope) → HasFrees m → Stand m c bs → frees_in bs ≡ true
 all_freed AsHeap c bs frees stand = absurd frees
@@ -112,6 +107,16 @@ module _ (g : Typing) (bs : List InScope) (variables : AreVariables g bs) where
   read_shared m c (types.Handle r) stand shared keys = tt
   read_shared m c (types.Key r) stand shared keys = keys r refl
   read_shared m c (types.Struct n rs) stand shared keys = tt
+
+  -- what is shared is so by its type
+  pub shared_by_type : (m : Reading) (c : RegionContext) (t : Ty) → Stand m c bs → IsShared m t → IsByType (read bs t)
+  shared_by_type m c types.Int stand shared = tt
+  shared_by_type m c (types.Pointer k t regions.Heap) stand shared = tt
+  shared_by_type m c (types.Pointer k t regions.Unique) stand shared = shared_unique m c k t stand shared
+  shared_by_type m c (types.Pointer k t (regions.Variable n)) stand shared = name_common n
+  shared_by_type m c (types.Handle r) stand shared = tt
+  shared_by_type m c (types.Key r) stand shared = tt
+  shared_by_type m c (types.Struct n rs) stand shared = tt
 
   -- where nothing is given back, what values claim their types tell
   pub by_type_read : (t : Ty) → frees_in bs ≡ false → IsByType (read bs t)

@@ -192,7 +192,7 @@ module _ (m : Reading) (q : Relied) (f : flow.State) where
 
   relied_side : (y : Side) (ns : List ℕ) → AreSpared f (touched_side y ns) → InSide m q y → InSide m (f ∷ q) y
   relied_side (VariableSide l t) ns spared kept = kept
-  relied_side (CellSide d) ns spared kept = relied_place d ns spared kept
+  relied_side (CellSide d) ns spared (shared, kept) = (shared, relied_place d ns spared kept)
 
   relied_value : (v : Option Converted) (ns : List ℕ) → AreSpared f (touched_value v ns) → InValue m q v → InValue m (f ∷ q) v
   relied_value None ns spared kept = kept
@@ -211,7 +211,7 @@ module _ (m : Reading) (q : Relied) (f : flow.State) where
     relied_statement k (Block r js) ns spared kept = relied_items (suc k) js ns spared kept
     relied_statement k Empty ns spared kept = kept
     relied_statement k (Evaluate a) ns spared kept = relied_expression a ns spared kept
-    relied_statement k (Swap x y) ns spared (none, one, kept) = (none, relied_side x ns (λ n is. spared n (side_too n y (touched_side x ns) is)) one, relied_side y (touched_side x ns) spared kept)
+    relied_statement k (Swap x y) ns spared (one, kept) = (relied_side x ns (λ n is. spared n (side_too n y (touched_side x ns) is)) one, relied_side y (touched_side x ns) spared kept)
     relied_statement k (If a s t) ns spared (one, two, kept) = (
       relied_expression a ns (λ n is. spared n (statement_too n t (touched_statement s (touched a ns)) (statement_too n s (touched a ns) is))) one,
       relied_statement k s (touched a ns) (λ n is. spared n (statement_too n t (touched_statement s (touched a ns)) is)) two,

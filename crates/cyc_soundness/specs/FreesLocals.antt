@@ -1,5 +1,5 @@
 -- WHICH PROGRAMS GIVE BACK ONLY WHAT LOCALS HAVE: unique objects to which the pointers are in locals, arguments and results alone, with no
--- aliases and no swaps. It is computed for each program, and is the class `FreesLocals`, decided.
+-- aliases, and no swaps of such pointers. It is computed for each program, and is the class `FreesLocals`, decided.
 use Rattle.std.specs.Prelude.{ℕ, suc, ◌+◌, nat_lt, Bool, true, false, not, ◌&&◌, Option, None, Some}
 use Rattle.std.specs.List.{list_all}
 use Rattle.cyc_types.specs.declared.region.Region.{Region}
@@ -7,7 +7,7 @@ use Rattle.cyc_types.specs.declared.region.Region.TheVariants as regions
 use Rattle.cyc_types.specs.Types.{Ty}
 use Rattle.cyc_types.specs.Types as types
 use Rattle.cyc_types.specs.Declarations.{declared_regions, item_regions}
-use Rattle.cyc_types.specs.TypedTrees.{Expression, Load, AddressOfCell, NumberOfElements, FreeUnique, FreeKey, Call, Unary, Binary, Assign, Store, New, Dereference, Target, Member, Element, Placement, OnHeap, AsUnique, ByHandle, Initial, Plain, Fields, Array, Converted, Convert, Arguments, NoArguments, MoreArguments, Operations, NoOperations, ThenCompute, ThenTest, ThenPointer, ThenPointerPeek, Statement, Block, Empty, Evaluate, Swap, If, While, Return, Break, Continue, Throw, Try, Items, NoItems, MoreItems, Execute, Declare, DeclareRegion, OpenRegion, DeclareAlias, DeclareKey, Clauses, NoClauses, Default, Case, StructType, GlobalVariable, Function, Program}
+use Rattle.cyc_types.specs.TypedTrees.{type_of_place, Expression, Load, AddressOfCell, NumberOfElements, FreeUnique, FreeKey, Call, Unary, Binary, Assign, Store, New, Dereference, Target, Member, Element, Placement, OnHeap, AsUnique, ByHandle, Initial, Plain, Fields, Array, Converted, Convert, Arguments, NoArguments, MoreArguments, Operations, NoOperations, ThenCompute, ThenTest, ThenPointer, ThenPointerPeek, Side, VariableSide, CellSide, Statement, Block, Empty, Evaluate, Swap, If, While, Return, Break, Continue, Throw, Try, Items, NoItems, MoreItems, Execute, Declare, DeclareRegion, OpenRegion, DeclareAlias, DeclareKey, Clauses, NoClauses, Default, Case, StructType, GlobalVariable, Function, Program}
 use Rattle.cyc_types.specs.typing.Tests.{is_key, is_unique}
 
 -- ---- types
@@ -92,6 +92,11 @@ abbrev pub thrown_is_in : Option Expression → Bool
 thrown_is_in None = true
 thrown_is_in (Some a) = expression_is_in a
 
+-- no unique pointer is swapped
+abbrev pub side_is_in : Side → Bool
+side_is_in (VariableSide l t) = is_shared t
+side_is_in (CellSide d) = is_shared (type_of_place d) && place_is_in d
+
 -- ---- statements, where the next region gets this number
 
 abbrev mutual
@@ -99,7 +104,7 @@ abbrev mutual
   statement_is_in n (Block r js) = items_are_in (suc n) js
   statement_is_in n Empty = true
   statement_is_in n (Evaluate a) = expression_is_in a
-  statement_is_in n (Swap x y) = false
+  statement_is_in n (Swap x y) = side_is_in x && side_is_in y
   statement_is_in n (If a s t) = expression_is_in a && (statement_is_in n s && statement_is_in (n + declared_regions s) t)
   statement_is_in n (While p a s) = expression_is_in a && statement_is_in n s
   statement_is_in n (Return v) = value_is_in v
