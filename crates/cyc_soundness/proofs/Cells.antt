@@ -194,8 +194,28 @@ by_type_claims own h (Struct n ls) u v by is = (tt, tt)
 by_type_claims own h (Key l) u v by is = (is.0, tt)
 by_type_claims own h (Pointer k t l) u v by is = plain_claims own h (Pointer k t l) v (pointer_plain k t l by)
 
+-- which has no key either
+pub plain_unkept : (t : RunTy) → IsPlain t → IsKeyless t
+plain_unkept Int plain = tt
+plain_unkept (Pointer k t l) plain = tt
+plain_unkept (Handle l) plain = tt
+plain_unkept (Key (Kept region)) plain = plain
+plain_unkept (Key (OfRegion number ns us)) plain = tt
+plain_unkept (Key (OfObject object)) plain = tt
+plain_unkept (Key Never) plain = tt
+plain_unkept (Key Owned) plain = tt
+plain_unkept (Struct n ls) plain = tt
+
+-- and is no thing
+pub plain_nothing : (t : RunTy) (v : values.Value) → IsPlain t → thing_of t v ≡ None
+plain_nothing t v plain = go (thing_of t v) (plain_claims (λ a. Nobody) (Hand 0) t v plain).0
+  where
+    go : (o : Option Thing) → Owns (λ a. Nobody) (Hand 0) o → o ≡ None
+    go None is = refl
+    go (Some a) is = absurd (let k : Nobody ≡ Hand 0 = is in cc)
+
 -- nor does what others may reach, where it is told by its type: it has no key
-both_plain : (t : RunTy) → IsKeyless t → IsByType t → IsPlain t
+pub both_plain : (t : RunTy) → IsKeyless t → IsByType t → IsPlain t
 both_plain Int keyless by = tt
 both_plain (Pointer k t l) keyless by = pointer_plain k t l by
 both_plain (Handle l) keyless by = tt

@@ -310,6 +310,16 @@ taken_typed g o object new y regions objects has there hidden typed = hands_type
       | inr apart ↦ (((λ is. marked_before object false g.here n apart (kept.0 is)), kept.1), λ e. apart (at_same n i object 0 e).0)
     ]
 
+-- and nothing from any other
+pub untaken_typed : (g : Typing) (object : ℕ) (new : Holder) (regions : List Region) (objects : List Object) → IsTyped g regions objects → IsTyped (handing g None new object false) regions objects
+untaken_typed g object new regions objects typed = hands_typed g None (Lent 0) new (marked object false g.here) regions objects tt tt before typed
+  where
+    before : (n i : ℕ) (u : ObjectType) → slice_get g.objects n ≡ Some u → IsKept (handing g None new object false) n i u.is_hidden → IsKept g n i u.is_hidden × (At n i ≢ Lent 0)
+    before n i u found kept = elim (same_or_other n object) [
+      | inl same ↦ (((λ is. let k : true ≡ false = sym (kept.0 is) ∙ same_number n object false (g.here n) same in absurd (cc)), kept.1), at_not_lent n i 0)
+      | inr apart ↦ (((λ is. marked_before object false g.here n apart (kept.0 is)), kept.1), at_not_lent n i 0)
+    ]
+
 -- a variable has what is in it from now on
 pub raised_typed : (g : Typing) (object : ℕ) (t : ObjectType) (regions : List Region) (objects : List Object) → slice_get g.objects object ≡ Some t
     → ((x : Object) → slice_get objects object ≡ Some x → AreOwned (record g { here = marked object true g.here }) object t x.cells) → IsTyped g regions objects → IsTyped (record g { here = marked object true g.here }) regions objects

@@ -1,5 +1,5 @@
 -- OBJECTS are made: their cells hold nothing yet, and then are written one by one.
-use Rattle.std.proofs.Common.{◌≡◌, ◌≢◌, ◌⊎◌, inl, inr, ℕ, zero, suc, ◌+◌, ◌*◌, ◌≤◌, ◌<◌, Bool, true, false, List, [], ◌∷◌, ◌++◌, length, map, set, reverse, Some, slice_get, refl, sym, ap, subst, ◌∙◌, arith}
+use Rattle.std.proofs.Common.{◌≡◌, ◌≢◌, ◌⊎◌, inl, inr, ℕ, zero, suc, ◌+◌, ◌*◌, ◌≤◌, ◌<◌, Bool, true, false, List, [], ◌∷◌, ◌++◌, length, map, set, reverse, Some, slice_get, refl, sym, ap, subst, ◌∙◌, arith, None}
 use Rattle.std.specs.Prelude.{if◌then◌else◌, ◌==◌, nat_le}
 use Rattle.std.proofs.lemmas.Bool.{eq-eqb, eqb-true}
 use mathlib.Core.List.{reverse_aux}
@@ -20,7 +20,7 @@ use Rattle.cyc_types.specs.typing.WellTyped.{Context, ArePassed, IsMade}
 use Rattle.cyc_types.specs.typing.WellTyped as counting
 use Rattle.cyc_types.specs.flow.States as flow
 use Rattle.cyc_types.specs.flow.Expressions.{rule_initial, rule_arguments}
-use Rattle.cyc_meaning.specs.Values.{Operand, Cell}
+use Rattle.cyc_meaning.specs.Values.{Operand, Cell, blank}
 use Rattle.cyc_meaning.specs.Values as values
 use Rattle.cyc_meaning.specs.State.{Region, Owner, InRegion, Unique, Object, World, Found, Closed, found_region, region_at, cell_at, heap_number, is_open, Environment, with_counter, ConvertTo, MakePlain, MakeFields, MakeArray, FillElement, Write, Entry, Needs, Focus, Evaluating, Given, Writing, Beginning, Repeating, Throwing, Running}
 use Rattle.cyc_meaning.specs.Objects.{made_in, made_unique, created_in, created}
@@ -31,11 +31,11 @@ use Rattle.cyc_meaning.specs.Nesting.{ends_of, AreOpen}
 use Rattle.cyc_meaning.proofs.ListLemmas.{slice_get-end, slice_get-set_other}
 use Rattle.cyc_soundness.specs.Lives.{Reading, AsHeap, ByScope, at, Life, OfRegion, OfObject, Never, Kept, RunTy, Int, Pointer, Handle, Key, Struct, Value, looked, kind_at, Owned, owned_life}
 use Rattle.cyc_soundness.specs.Worlds.{NoLocal, Thing, KeyOf, PointerTo, Holder, Nobody, Hand, At, Lent, pointer_at, Owns, Claims, given, giving, AreOwned, IsUniqueObject, IsOpenObject, IsNewOwner, IsAmong, IsHeld, IsKeyless, AreKeyless, IsDynamic, ObjectType, Typing, Outlasts, alike, IsFilled, IsPart, IsTarget, HasType, IsResult, AreOperands, AreCells, IsOwner, IsObject, IsTyped, IsOpenLife, Grows, IsKnownOwner}
-use Rattle.cyc_soundness.specs.Frames.{first, later, InScope, Level, HasMeaning, IsBound, AreVariables, LiveIn, Holds, Implies, Exits, IsContext, KnowsProgram, lives_in, read, IsThere, frees_in, life_named}
+use Rattle.cyc_soundness.specs.Frames.{first, later, InScope, Level, HasMeaning, IsBound, AreVariables, LiveIn, Holds, Implies, Exits, IsContext, KnowsProgram, lives_in, read, IsThere, frees_in, life_named, lives_among}
 use Rattle.cyc_soundness.specs.Classes.{HasLoans, InInitial, InArguments, Source, frees_of}
-use Rattle.cyc_soundness.specs.Stacks.{Val, turned, AreClaimed, operands_in, AreFields, Repeats, AreNext, IsWhole, IsMaking, IsArray, IsStack, IsFocus, IsWell, relied_at}
+use Rattle.cyc_soundness.specs.Stacks.{Val, turned, AreClaimed, operands_in, AreFields, Repeats, AreNext, IsWhole, IsMaking, IsArray, IsStack, IsFocus, IsWell, relied_at, AreGiven, AreNextGiven}
 use Rattle.cyc_soundness.specs.Stacks as stacks
-use Rattle.cyc_soundness.proofs.Numbers.{same_or_other, less_or_same, slice_get-set_same}
+use Rattle.cyc_soundness.proofs.Numbers.{same_or_other, less_or_same, slice_get-set_same, some_same}
 use Rattle.cyc_soundness.proofs.FlowLemmas.{at_least_implies, holds_implied}
 use Rattle.cyc_soundness.proofs.TypeLemmas.{target_typed, is_kind_same, kind_read}
 use Rattle.cyc_soundness.proofs.WorldLemmas.{beyond, owner_grown, operands_grown, globals_grown, with_object, object_grows, object_stays, object_typed, typed_beside, open_region, risen, with_filled}
