@@ -42,7 +42,7 @@ use Rattle.cyc_soundness.specs.Stacks as stacks
 use Rattle.cyc_soundness.proofs.Numbers.{some_same, both}
 use Rattle.cyc_soundness.proofs.TypeLemmas.{place_type, target_typed, is_kind_same, kind_read, kind_meant}
 use Rattle.cyc_soundness.proofs.FlowLemmas.{implies_self, meet_first, meet_second, vacant_implied, holds_implied, reached_with}
-use Rattle.cyc_soundness.proofs.WorldLemmas.{cells_own, risen, with_filled, type_grown, result_grown}
+use Rattle.cyc_soundness.proofs.WorldLemmas.{type_grown, result_grown}
 use Rattle.cyc_soundness.proofs.Hands.{Changed, at_no_hand, given_now, marked_now, marked_before, marked_keeps, giving_changed, handing_changed, changed_raised, variables_kept, holds_kept, variables_grown, holds_grown, given_typed, taken_typed, hands_globals, kept_now}
 use Rattle.cyc_soundness.proofs.Sharing.{keeps_by, region_common, plain_read, all_freed, unique_by_type}
 use Rattle.cyc_soundness.proofs.StackLemmas.{emptied_other, stack_changed, stack_grown, comes_alone, keeps_passed, void_goes, pointer_left, bound_of, bound_to, lasting_open, kept_open, object_known, among_open, among_own, place_local, among_bound, among_variable, among_live, among_level, among_set, set_stored, open_of, globals_among, settled}

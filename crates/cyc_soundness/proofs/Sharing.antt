@@ -8,8 +8,8 @@ use Rattle.cyc_types.specs.Outlives.{RegionContext, OutlivesIn, itself, given, t
 use Rattle.cyc_types.specs.Regions.{substituted_region}
 use Rattle.cyc_types.specs.Types.{Ty, substituted_ty}
 use Rattle.cyc_types.specs.Types as types
-use Rattle.cyc_types.specs.typing.Tests.{is_key, is_moved}
-use Rattle.cyc_soundness.specs.Lives.{Life, OfRegion, OfObject, Never, Owned, Kept, heap_life, owned_life, RunTy, Pointer, Key, Reading, AsHeap, ByScope, AllOf}
+use Rattle.cyc_types.specs.typing.Tests.{is_key, is_moved, is_unique}
+use Rattle.cyc_soundness.specs.Lives.{Life, OfRegion, OfObject, Never, Owned, Kept, heap_life, owned_life, RunTy, Pointer, Key, Reading, AsHeap, ByScope, AllOf, Lives, at}
 use Rattle.cyc_soundness.specs.Worlds.{Typing, IsKnownLife, IsKeyless, IsPlain, AtStart}
 use Rattle.cyc_soundness.specs.Classes.{IsCommon, IsShared, frees_of, HasFrees}
 use Rattle.cyc_soundness.specs.Frames.{InScope, AreVariables, lives_in, life_named, frees_in, read, Stand}

@@ -102,7 +102,7 @@ module _ (p : Source) (g : Typing) (e : Environment) (w : World) (typed : IsType
       where
         variable_owned : (h : Typing) (object : ℕ) (t : RunTy) (l : Life) (hidden : Bool) (s : Slot) (cs : List Cell) → IsByType t → Claims h.own (At object 0) t values.Null → AreOwned h object (variable_type t l hidden s) cs
         variable_owned h object t l hidden s cs by is zero u c v kept found at content = subst (λ e. Claims h.own (At object 0) e v) (some_same t u found) (by_type_claims h.own (At object 0) t values.Null v by is)
-        variable_owned own object t cs by is (suc i) u c v found at content = absurd (let e : None ≡ Some u = found in cc)
+        variable_owned h object t l hidden s cs by is (suc i) u c v kept found at content = absurd (let e : None ≡ Some u = found in cc)
 
     -- and it is full
     ended_holds : (f : flow.State) (lent j : ℕ) (t : RunTy) (object : ℕ) → IsLentOut g lent j t object → AreFullAt g lent object bs → Holds g f bs → Holds (ended_typing j t object) (with_fullness Full f lent) bs

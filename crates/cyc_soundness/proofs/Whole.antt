@@ -178,7 +178,7 @@ value_claims own h frees v (inl (int, (word, is))) = subst (λ t. Claims own h (
 value_claims own h frees v (inr (k, t, r, pointer, null, is)) =
     subst (λ z. Claims own h (at (as_heap frees) v.of_type) (constant_value z)) (sym is) (subst (λ u. Claims own h (at (as_heap frees) u) values.Null) (sym pointer) (tt, tt))
 
-content_of : Option Cell → Option values.Value
+abbrev content_of : Option Cell → Option values.Value
 content_of (Some c) = c.content
 content_of None = None
 
@@ -191,12 +191,12 @@ global_owned own h frees v has zero u c z found at' content =
 global_owned own h frees v has (suc i) u c z found at' content = absurd (let k : None ≡ Some u = found in cc)
 
 globals_owned : (g : Typing) (frees : Bool) (vs : List GlobalVariable) → AreWellTypedGlobals vs → (n : ℕ) (t : ObjectType) (x : Object) → slice_get (map (global_of frees) vs) n ≡ Some t → slice_get (map global_object vs) n ≡ Some x → (object : ℕ) → AreOwned g object t x.cells
-globals_owned g frees [] have n t x found stands object = absurd (let z : None ≡ Some t = found in cc)
+globals_owned g frees [] have n t x found stands object i u c z kept cell at' content = absurd (let k : None ≡ Some t = found in cc)
 globals_owned g frees (v ∷ vs) (has, have) zero t x found stands object i u c z kept cell at' content =
     let type_is : global_of frees v ≡ t = some_same (global_of frees v) t found in
     let object_is : global_object v ≡ x = some_same (global_object v) x stands in
     global_owned g.own (At object i) frees v has i u c z (ap (λ (y : ObjectType). slice_get y.cells i) type_is ∙ cell) (ap (λ (y : Object). slice_get y.cells i) object_is ∙ at') content
-globals_owned g frees (v ∷ vs) (has, have) (suc n) t x found stands object = globals_owned g frees vs have n t x found stands object
+globals_owned g frees (v ∷ vs) (has, have) (suc n) t x found stands object i u c z kept cell at' content = globals_owned g frees vs have n t x found stands object i u c z kept cell at' content
 
 mapped_length : {A B C : Type 0} (f : A → B) (h : A → C) (xs : List A) → length (map f xs) ≡ length (map h xs)
 mapped_length f h [] = refl
