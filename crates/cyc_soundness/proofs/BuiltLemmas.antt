@@ -11,7 +11,7 @@ use Rattle.cyc_types.specs.Built.{is_built_type, is_built_result, is_built_value
 use Rattle.cyc_types.specs.typing.WellTyped.{IsWellTypedProgram}
 use Rattle.cyc_types.specs.flow.Programs.{IsAllowedProgram}
 use Rattle.cyc_soundness.specs.Lives.{AsHeap}
-use Rattle.cyc_soundness.specs.Classes.{LeadsToShared, InExpression, InPlace, InPlacement, InInitial, InConverted, InArguments, InOperations, InValue, InThrown, InSide, InStatement, InItems, InClauses, InFunctions, IsOfTheHeap}
+use Rattle.cyc_soundness.specs.Classes.{InExpression, InPlace, InPlacement, InInitial, InConverted, InArguments, InOperations, InValue, InThrown, InSide, InStatement, InItems, InClauses, InFunctions, IsOfTheHeap}
 use Rattle.cyc_soundness.specs.Frees.{expression_frees_none, place_frees_none, placement_frees_none, initial_frees_none, converted_frees_none, arguments_free_none, operations_free_none, value_frees_none, thrown_frees_none, side_frees_none, statement_frees_none, items_free_none, clauses_free_none, function_frees_none, frees_no_object}
 use Rattle.cyc_soundness.specs.Sound.{IsSound}
 use Rattle.cyc_soundness.proofs.Numbers.{both_true}
@@ -31,14 +31,6 @@ placement_kept : (w : Placement) → is_built_placement w ≡ true → InPlaceme
 placement_kept OnHeap built = tt
 placement_kept AsUnique built = tt
 placement_kept w built = refused built
-
--- read as the heap, all cells are shared
-leads_shared : (t : Ty) → LeadsToShared AsHeap t
-leads_shared types.Int = tt
-leads_shared (types.Pointer k t r) = tt
-leads_shared (types.Handle r) = tt
-leads_shared (types.Key r) = tt
-leads_shared (types.Struct n rs) = tt
 
 mutual
   expression_kept : (a : Expression) → is_built_expression a ≡ true → expression_frees_none a ≡ true → InExpression AsHeap [] a
@@ -63,7 +55,7 @@ mutual
       (place_kept d each.0 each.2, converted_kept c (both_true (is_built_converted c) (is_built_value_type t) each.1).0 each.3)
   expression_kept (New w i t) built frees =
       let each = halves (is_built_placement w) (is_built_initial i && is_built_type t) (placement_frees_none w) (initial_frees_none i) built frees in
-      (leads_shared t, placement_kept w each.0, initial_kept i (both_true (is_built_initial i) (is_built_type t) each.1).0 each.3)
+      (placement_kept w each.0, initial_kept i (both_true (is_built_initial i) (is_built_type t) each.1).0 each.3)
   expression_kept a built frees = refused built
 
   place_kept : (d : Dereference) → is_built_place d ≡ true → place_frees_none d ≡ true → InPlace AsHeap [] d

@@ -21,8 +21,8 @@ use Rattle.cyc_meaning.specs.Nesting.{ends_of, AreOpen}
 use Rattle.cyc_soundness.proofs.Looking.{peeked_so}
 use Rattle.cyc_soundness.specs.Lives.{Life, RunTy, as_heap, kind_at}
 use Rattle.cyc_soundness.specs.Lives as lives
-use Rattle.cyc_soundness.specs.Worlds.{At, thing_of, IsHad, Claims, IsOpenObject, ObjectType, Typing, global_type, IsFilled, HasType, IsTyped}
-use Rattle.cyc_soundness.specs.Frames.{InScope, local_type, IsBound, AreVariables, LiveIn, IsSet, Holds, Exits, IsContext, KnowsProgram, lives_in, read}
+use Rattle.cyc_soundness.specs.Worlds.{At, IsKept, thing_of, IsHad, Claims, IsOpenObject, ObjectType, Typing, global_type, IsFilled, HasType, IsTyped}
+use Rattle.cyc_soundness.specs.Frames.{InScope, local_type, IsBound, AreVariables, LiveIn, IsSet, Holds, Exits, IsContext, KnowsProgram, frees_in, lives_in, read}
 use Rattle.cyc_soundness.specs.Classes.{InSide, Source, and_looked, frees_of}
 use Rattle.cyc_soundness.specs.Stacks.{IsByType, relied_at, operands_in, Finds, Go, IsSpot, of_local, of_global, of_cell, IsLeftSpot, left_variable, left_cell, IsRead, AreSwapped, IsStack, IsWell}
 use Rattle.cyc_soundness.specs.Stacks as stacks
@@ -49,7 +49,7 @@ pub record SpotAt (g : Typing) (w : World) (t : RunTy) (v : values.Value) : Type
   pub cell : slice_get of_type.cells offset ≡ Some t
   pub opens : IsOpenObject g w.regions number of_type.life
   pub full : IsFilled g number (suc offset)
-  pub claims : (value : values.Value) → IsByType t → g.here number ≡ true → Claims g.own (At number) t value
+  pub claims : (value : values.Value) → IsByType t → IsKept g number offset of_type.is_hidden → Claims g.own (At number offset) t value
 
 module _ (p : Source) (g : Typing) (x : Exits) (bs : List InScope) (e : Environment) (w : World) (typed : IsTyped g w.regions w.objects) (globals : KnowsProgram g p) (bound : IsBound e.locals e.counters bs) (variables : AreVariables g bs) where
   cell_spot : (t : Ty) (l : Life) (place : values.Value) (k : List Entry) → AreOpen w.regions (ends_of k) → IsPresent g (ends_of k) l → IsHad g (thing_of (lives.Pointer marks.NonNull (read bs t) l) place) → is_struct t ≡ false → HasType g (lives.Pointer marks.NonNull (read bs t) l) place
@@ -57,7 +57,7 @@ module _ (p : Source) (g : Typing) (x : Exits) (bs : List InScope) (e : Environm
   cell_spot t l (values.Thin object offset) k opens lasting had plain (y, there, shown, outlasts, part) =
       let open' = life_of g w typed k object y l there opens outlasts lasting had in
       let (cell, full) = value_part (lives_in bs) g object y t offset plain part in
-      record { number = object; offset = offset; of_type = y; is = refl; there = there; cell = cell; opens = open'; full = full; claims = λ v by here. shared_claims g w object offset y (read bs t) typed there shown cell (At object) v }
+      record { number = object; offset = offset; of_type = y; is = refl; there = there; cell = cell; opens = open'; full = full; claims = λ v by kept. shared_claims g w object offset y (read bs t) typed there shown cell by (At object offset) v }
   cell_spot t l place k opens lasting had plain has = absurd has
 
   spot_at : (t : Ty) (f : flow.State) (v : values.Value) (k : List Entry) → AreOpen w.regions (ends_of k) → LiveIn k bs → Holds g f bs → is_struct t ≡ false → IsSpot p g bs t f v → SpotAt g w (read bs t) v
@@ -79,7 +79,7 @@ module _ (p : Source) (g : Typing) (x : Exits) (bs : List InScope) (e : Environm
         cell = cell;
         opens = opens';
         full = full;
-        claims = λ v by here. by_type_claims g.own (At b.object) (read bs t) c.value v by (typed.owned b.object y c.object here there c.there 0 (read bs t) c.cell c.value cell c.at c.content);
+        claims = λ v by kept. by_type_claims g.own (At b.object 0) (read bs t) c.value v by (typed.owned b.object y c.object there c.there 0 (read bs t) c.cell c.value kept cell c.at c.content);
       }
   spot_at t f v k opens live holds plain (of_global number there same) =
       let (at, full, closed) = globals.globals number t there in
@@ -92,7 +92,7 @@ module _ (p : Source) (g : Typing) (x : Exits) (bs : List InScope) (e : Environm
         cell = ap (λ u. Some u) (sym same);
         opens = open_of w.regions (globals_among k) opens;
         full = full;
-        claims = λ v by here. shared_claims g w number 0 (global_type (lives.at (as_heap (frees_of p.reading)) t)) (read bs t) typed at refl (ap (λ u. Some u) (sym same)) (At number) v;
+        claims = λ v by kept. shared_claims g w number 0 (global_type (lives.at (as_heap (frees_of p.reading)) t)) (read bs t) typed at refl (ap (λ u. Some u) (sym same)) by (At number 0) v;
       }
   spot_at t f v k opens live holds plain (of_cell place r alive has had) = cell_spot t (lives_in bs r) place k opens (there_present g (ends_of k) bs r live.0 variables alive) had plain has
 
@@ -221,5 +221,5 @@ module _ (p : Source) (g : Typing) (x : Exits) (bs : List InScope) (e : Environm
       let (m, flag, enough) = s.full in
       subst (λ v. IsWell p (stored_at v one.operand (Writing ws None) k e w)) (sym s.is)
       (writes p g x bs e w typed globals bound variables one.operand (Writing ws None) k s.number s.offset m (read bs t) s.of_type live s.there s.cell s.opens flag
-      (let few : s.offset ≤ m = omega (arith, enough) in few) is (λ here. s.claims one.operand.value by here)
+      (let few : s.offset ≤ m = omega (arith, enough) in few) is (λ kept. s.claims one.operand.value by kept)
       (λ grows now. (f, holds_grown g _ grows f bs holds, swapped_grown p g _ grows bs f ws are, stack_grown p g _ grows x bs (Go f) k stack)))

@@ -157,8 +157,8 @@ module _ (m : Reading) (q : Relied) (f : flow.State) where
     relied_expression (Assign l c t) ns spared kept = relied_converted c ns (λ n is. spared n (assigned_too n l t (touched_converted c ns) is)) kept
     relied_expression (Store d c t) ns spared (one, kept) =
         (relied_place d ns (λ n is. spared n (converted_too n c (touched_place d ns) is)) one, relied_converted c (touched_place d ns) spared kept)
-    relied_expression (New w i t) ns spared (shared, one, kept) =
-        (shared, relied_placement w ns (λ n is. spared n (initial_too n i (touched_placement w ns) is)) one, relied_initial i (touched_placement w ns) spared kept)
+    relied_expression (New w i t) ns spared (one, kept) =
+        (relied_placement w ns (λ n is. spared n (initial_too n i (touched_placement w ns) is)) one, relied_initial i (touched_placement w ns) spared kept)
 
     relied_place : (d : Dereference) (ns : List ℕ) → AreSpared f (touched_place d ns) → InPlace m q d → InPlace m (f ∷ q) d
     relied_place (Target k a t) ns spared kept = relied_expression a ns spared kept

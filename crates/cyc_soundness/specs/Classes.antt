@@ -42,11 +42,6 @@ IsShared (ByScope lends false) t = Unit {0}
 IsShared (ByScope lends true) (Struct n rs) = AllOf IsCommon rs
 IsShared (ByScope lends true) t = is_unique t ≡ false
 
--- nor one that a pointer of this type leads to
-abbrev pub LeadsToShared : Reading → Ty → Type 0
-LeadsToShared m (Pointer k t r) = IsShared m t
-LeadsToShared m t = Unit {0}
-
 -- whether objects are given back
 abbrev pub frees_of : Reading → Bool
 frees_of AsHeap = false
@@ -87,8 +82,8 @@ and_looked (Some n) q = Reached (only n) ∷ q
 
 -- Programs of a class. All types are there, objects in the heap, unique ones and those of regions, places behind pointers, swaps,
 -- functions with regions, conversions between all marks, loops and exceptions. Only where things are lent do they have dynamic regions,
--- keys and aliases, and only where objects are given back `ufree`: then unique pointers are in locals, arguments and results alone, and
--- there are no aliases, nor swaps of unique pointers. Read as the heap, they have no lexical regions, and take the address of no local. What is consumed
+-- keys and aliases, and only where objects are given back `ufree`: then there are no aliases, nor swaps of
+-- unique pointers. Read as the heap, they have no lexical regions, and take the address of no local. What is consumed
 -- or lent is nothing that the clauses around rely on: at the start of a function there are none, and of the body of a `try` that is shown.
 abbrev mutual
   pub InExpression : Reading → Relied → Expression → Type 0
@@ -111,7 +106,7 @@ abbrev mutual
   InExpression m q (Binary a os t) = InExpression m q a × InOperations m q os
   InExpression m q (Assign l c t) = InConverted m q c
   InExpression m q (Store d c t) = InPlace m q d × InConverted m q c
-  InExpression m q (New w i t) = LeadsToShared m t × InPlacement m q w × InInitial m q i
+  InExpression m q (New w i t) = InPlacement m q w × InInitial m q i
 
   pub InPlace : Reading → Relied → Dereference → Type 0
   InPlace m q (Target k a t) = InExpression m q a
@@ -191,7 +186,7 @@ InFunctions m (h ∷ hs) = InItems m [] (suc h.variables) h.body × InFunctions 
 -- the types of globals name no region variable
 abbrev pub InGlobals : Reading → List GlobalVariable → Type 0
 InGlobals m [] = Unit {0}
-InGlobals m (v ∷ vs) = IsDeclarable m 0 v.of_type × IsShared m v.of_type × InGlobals m vs
+InGlobals m (v ∷ vs) = IsDeclarable m 0 v.of_type × InGlobals m vs
 
 -- where things are lent, no field is a key
 abbrev pub IsUsual : Reading → Ty → Type 0
@@ -202,7 +197,7 @@ IsUsual (ByScope true frees) t = is_key t ≡ false
 -- the types of fields name only the parameters of their struct
 abbrev pub InFields : Reading → ℕ → List Ty → Type 0
 InFields m n [] = Unit {0}
-InFields m n (t ∷ ts) = IsDeclarable m n t × IsUsual m t × IsShared m t × InFields m n ts
+InFields m n (t ∷ ts) = IsDeclarable m n t × IsUsual m t × InFields m n ts
 
 abbrev pub InStructs : Reading → List StructType → Type 0
 InStructs m [] = Unit {0}

@@ -1,5 +1,5 @@
--- WHICH PROGRAMS GIVE BACK ONLY WHAT LOCALS HAVE: unique objects to which the pointers are in locals, arguments and results alone, with no
--- aliases, and no swaps of such pointers. It is computed for each program, and is the class `FreesLocals`, decided.
+-- WHICH PROGRAMS GIVE BACK ONLY WHAT LOCALS HAVE: unique objects, with no aliases, and no swaps of unique pointers, which alone take them out
+-- of cells. It is computed for each program, and is the class `FreesLocals`, decided.
 use Rattle.std.specs.Prelude.{ℕ, suc, ◌+◌, nat_lt, Bool, true, false, not, ◌&&◌, Option, None, Some}
 use Rattle.std.specs.List.{list_all}
 use Rattle.cyc_types.specs.declared.region.Region.{Region}
@@ -29,14 +29,10 @@ abbrev pub is_common : Region → Bool
 is_common regions.Unique = false
 is_common r = true
 
--- no cell of this type, that others may reach, is a unique pointer or has one for a field
+-- neither a unique pointer, nor a struct whose fields may be some
 abbrev pub is_shared : Ty → Bool
 is_shared (types.Struct n rs) = list_all is_common rs
 is_shared t = not (is_unique t)
-
-abbrev pub leads_to_shared : Ty → Bool
-leads_to_shared (types.Pointer k t r) = is_shared t
-leads_to_shared t = true
 
 -- ---- expressions
 
@@ -52,7 +48,7 @@ abbrev mutual
   expression_is_in (Binary a os t) = expression_is_in a && operations_are_in os
   expression_is_in (Assign l c t) = converted_is_in c
   expression_is_in (Store d c t) = place_is_in d && converted_is_in c
-  expression_is_in (New w i t) = leads_to_shared t && (placement_is_in w && initial_is_in i)
+  expression_is_in (New w i t) = placement_is_in w && initial_is_in i
   expression_is_in a = true
 
   pub place_is_in : Dereference → Bool
@@ -132,13 +128,13 @@ abbrev mutual
 abbrev pub function_is_in : Function → Bool
 function_is_in h = items_are_in (suc h.variables) h.body
 
--- the types of globals name no region variable, and no global is a unique pointer
+-- the types of globals name no region variable
 abbrev pub global_is_in : GlobalVariable → Bool
-global_is_in v = is_declarable 0 v.of_type && is_shared v.of_type
+global_is_in v = is_declarable 0 v.of_type
 
--- the types of fields name only the parameters of their struct, and no field is a key or a unique pointer
+-- the types of fields name only the parameters of their struct, and no field is a key
 abbrev pub field_is_in : ℕ → Ty → Bool
-field_is_in n t = is_declarable n t && (not (is_key t) && is_shared t)
+field_is_in n t = is_declarable n t && not (is_key t)
 
 abbrev pub struct_is_in : StructType → Bool
 struct_is_in s = list_all (field_is_in s.parameters) s.fields
