@@ -62,17 +62,6 @@ part_had g i (Some n) None is = tt
 part_had g i None (Some a) is = subst (λ h. IsHeld h) (sym is) tt
 part_had g i (Some n) (Some a) (object, here, is) = subst (λ h. IsHeld h) (sym is) tt
 
-pub owned_had : (g : Typing) (i : ℕ) (o : Option Thing) → Owns g.own (Hand i) o → IsHad g o
-owned_had g i o is = part_had g i None o is
-
--- others have a life that nobody has
-pub common_had : (g : Typing) (l : Life) (object : ℕ) → IsCommonLife l → IsHad g (pointer_at l object)
-common_had g (OfRegion number around lent) object common = tt
-common_had g (OfObject o) object common = tt
-common_had g Never object common = tt
-common_had g (Kept region) object common = tt
-common_had g Owned object common = absurd common
-
 module _ (g : Typing) (w : World) (typed : IsTyped g w.regions w.objects) where
   -- no struct is in a cell
   never_struct : (number : ℕ) (x : ObjectType) (n : ℕ) (ls : List Life) (offset : ℕ) → slice_get g.objects number ≡ Some x → slice_get x.cells offset ≡ Some (Struct n ls) → IsFilled g number (suc offset) → ⊥

@@ -30,7 +30,7 @@ use Rattle.cyc_soundness.proofs.Looking.{looked_side}
 use Rattle.cyc_soundness.specs.Lives.{Life, Value, Seen, Reading, AsHeap, ByScope}
 use Rattle.cyc_soundness.specs.Worlds.{HasType, IsNumber, Typing, lent_now, IsTyped}
 use Rattle.cyc_soundness.specs.Frames.{InScope, Names, Home, life_named, lives_in, read, read_value, IsBound, AreVariables, LiveIn, Within, itself, older, IsSet, Holds, Implies, LoopExit, Exits, loop_of, around, lending, relying, AreBreaks, is_loop, IsContext, KnowsProgram}
-use Rattle.cyc_soundness.specs.Classes.{HasScopes, IsShared, IsDeclarable, InSide, InStatement, InItems, InValue, InThrown, Source}
+use Rattle.cyc_soundness.specs.Classes.{HasScopes, IsSwappable, IsDeclarable, InSide, InStatement, InItems, InValue, InThrown, Source}
 use Rattle.cyc_soundness.specs.Stacks.{IsByType, Evaluates, Executes, Continues, Catches, IsLoop, Val, Go, operands_in, IsReturn, IsStack, IsFocus, IsWell}
 use Rattle.cyc_soundness.specs.Stacks as stacks
 use Rattle.cyc_soundness.proofs.TypeLemmas.{target_typed, place_type, kind_read, kind_meant}
@@ -39,7 +39,7 @@ use Rattle.cyc_soundness.proofs.RuleLemmas.{breaks_statement, breaks_items, brea
 use Rattle.cyc_soundness.proofs.StackLemmas.{among_set, bound_of, within_bound, within_variables, within_live, within_holds, below_more}
 use Rattle.cyc_soundness.proofs.RegionLemmas.{opened_known, contains_more, live_more, same_name, known_behind, opened_life, opened_lasting, agrees_of, context_inside, context_lexical}
 use Rattle.cyc_soundness.proofs.WorldLemmas.{opened_typed}
-use Rattle.cyc_soundness.proofs.Sharing.{shared_by_type, keeps_by}
+use Rattle.cyc_soundness.proofs.Sharing.{swappable_by_type, keeps_by}
 use Rattle.cyc_soundness.proofs.Cells.{running}
 use Rattle.cyc_soundness.proofs.Evaluation.{from_bound, used_full}
 use Rattle.cyc_soundness.proofs.Loans.{type_known, keys_on, shared_loans}
@@ -173,8 +173,8 @@ module _ (p : Source) (g : Typing) (x : Exits) (bs : List InScope) (e : Environm
 
   -- what is swapped claims what its type tells
   side_by_type : (c : Context) (y : Side) (t : Ty) → IsContext p x bs c → IsSide c y t → InSide p.reading x.relied y → IsByType (read bs t)
-  side_by_type c (VariableSide l u) t stands (r, place, same) shared = shared_by_type g bs variables p.reading c.regions t stands.regions (subst (λ z. IsShared p.reading z) (sym same) shared)
-  side_by_type c (CellSide d) t stands (r, cell) (shared, kept) = shared_by_type g bs variables p.reading c.regions t stands.regions (subst (λ z. IsShared p.reading z) (sym (place_type c d t r cell)) shared)
+  side_by_type c (VariableSide l u) t stands (r, place, same) shared = swappable_by_type g bs variables p.reading c.regions t stands.regions (subst (λ z. IsSwappable p.reading z) (sym same) shared)
+  side_by_type c (CellSide d) t stands (r, cell) (shared, kept) = swappable_by_type g bs variables p.reading c.regions t stands.regions (subst (λ z. IsSwappable p.reading z) (sym (place_type c d t r cell)) shared)
 
   -- ---- statements
 

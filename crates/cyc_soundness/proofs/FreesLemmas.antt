@@ -13,8 +13,8 @@ use Rattle.cyc_types.specs.typing.Tests.{is_key, is_unique}
 use Rattle.cyc_types.specs.typing.WellTyped.{IsWellTypedProgram}
 use Rattle.cyc_types.specs.flow.Programs.{IsAllowedProgram}
 use Rattle.cyc_soundness.specs.Lives.{Reading, ByScope, AllOf, AllIn, IsKnown}
-use Rattle.cyc_soundness.specs.Classes.{IsCommon, IsShared, InExpression, InPlace, InPlacement, InInitial, InConverted, InArguments, InOperations, InValue, InThrown, InSide, InStatement, InItems, InClauses, InFunctions, InGlobals, InFields, InStructs, FreesLocals}
-use Rattle.cyc_soundness.specs.FreesLocals.{is_known, is_declarable, is_common, is_shared, expression_is_in, place_is_in, placement_is_in, initial_is_in, converted_is_in, arguments_are_in, operations_are_in, value_is_in, thrown_is_in, side_is_in, statement_is_in, items_are_in, clauses_are_in, function_is_in, global_is_in, field_is_in, struct_is_in, frees_locals}
+use Rattle.cyc_soundness.specs.Classes.{InExpression, InPlace, InPlacement, InInitial, InConverted, InArguments, InOperations, InValue, InThrown, InSide, InStatement, InItems, InClauses, InFunctions, InGlobals, InFields, InStructs, FreesLocals}
+use Rattle.cyc_soundness.specs.FreesLocals.{is_known, is_declarable, expression_is_in, place_is_in, placement_is_in, initial_is_in, converted_is_in, arguments_are_in, operations_are_in, value_is_in, thrown_is_in, side_is_in, statement_is_in, items_are_in, clauses_are_in, function_is_in, global_is_in, field_is_in, struct_is_in, frees_locals}
 use Rattle.cyc_soundness.specs.Sound.{IsSound}
 use Rattle.cyc_soundness.proofs.Numbers.{both_true}
 use Rattle.cyc_soundness.proofs.Evaluation.{not_true}
@@ -40,22 +40,6 @@ declarable_in n (types.Pointer k t r) is = let both = both_true (is_declarable n
 declarable_in n (types.Handle r) is = known_in n r is
 declarable_in n (types.Key r) is = known_in n r is
 declarable_in n (types.Struct s rs) is = all_known n rs is
-
-common_in : (r : Region) → is_common r ≡ true → IsCommon r
-common_in regions.Heap is = tt
-common_in regions.Unique is = refused is
-common_in (regions.Variable n) is = tt
-
-all_common : (rs : List Region) → list_all is_common rs ≡ true → AllOf IsCommon rs
-all_common [] are = tt
-all_common (r ∷ rs) are = let both = both_true (is_common r) (list_all is_common rs) are in (common_in r both.0, all_common rs both.1)
-
-shared_in : (t : Ty) → is_shared t ≡ true → IsShared (ByScope true true) t
-shared_in types.Int is = refl
-shared_in (types.Pointer k t r) is = not_true (is_unique (types.Pointer k t r)) is
-shared_in (types.Handle r) is = refl
-shared_in (types.Key r) is = refl
-shared_in (types.Struct n rs) is = all_common rs is
 
 -- ---- expressions
 
@@ -125,8 +109,8 @@ thrown_in None is = tt
 thrown_in (Some a) is = expression_in a is
 
 side_in : (x : Side) → side_is_in x ≡ true → InSide reading [] x
-side_in (VariableSide l t) is = shared_in t is
-side_in (CellSide d) is = let both = both_true (is_shared (type_of_place d)) (place_is_in d) is in (shared_in (type_of_place d) both.0, place_in d both.1)
+side_in (VariableSide l t) is = not_true (is_unique t) is
+side_in (CellSide d) is = let both = both_true (not (is_unique (type_of_place d))) (place_is_in d) is in (not_true (is_unique (type_of_place d)) both.0, place_in d both.1)
 
 -- ---- statements
 

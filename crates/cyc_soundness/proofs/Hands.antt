@@ -248,30 +248,8 @@ module _ (g h : Typing) (stays : Stays g h) where
   pub claims_stay : (holder : Holder) (t : RunTy) (v : values.Value) → Claims g.own holder t v → Claims h.own holder t v
   claims_stay holder t v (is, start) = (subst (λ f. Owns f holder (thing_of t v)) (sym stays.own) is, start)
 
-  pub owns_stay : (holder : Holder) (o : Option Thing) → Owns g.own holder o → Owns h.own holder o
-  owns_stay holder o is = subst (λ f. Owns f holder o) (sym stays.own) is
-
-  pub here_stays : (d n object : ℕ) → IsHere g d n object → IsHere h d n object
-  here_stays d n object is = here_kept Nobody g h still d n object (at_some object 0) is
-
-  pub part_stays : (i : ℕ) (peek : Option ℕ) (o : Option Thing) → ClaimsPart g i peek o → ClaimsPart h i peek o
-  part_stays i peek o is = part_kept Nobody g h still i peek o (λ e. (let k : Hand i ≡ Nobody = e in absurd (cc))) (λ n object same here. at_some object 0) is
-
-  pub by_stays : (i : ℕ) (r : RunValue) (v : values.Value) → ClaimsBy g i r v → ClaimsBy h i r v
-  by_stays i (Value t) v is = claims_stay (Hand i) t v is
-  by_stays i (Into peek t) v is = part_stays i peek (thing_of t v) is
-  by_stays i Void v is = tt
-  by_stays i Null v is = tt
-  by_stays i (Seen t) v is = tt
-
-  pub open_stays : (l : Life) → IsOpenIn g l → IsOpenIn h l
-  open_stays l is = open_kept Nobody g h still l refl is
-
   pub variables_grown : (bs : List InScope) → AreVariables g bs → AreVariables h bs
   variables_grown bs are = variables_kept Nobody g h still bs refl are
-
-  pub set_grown : (f : flow.State) (bs : List InScope) → AreSet g f bs → AreSet h f bs
-  set_grown f bs are = set_kept Nobody g h still f bs (λ n object full here. at_some object 0) are
 
   pub holds_grown : (f : flow.State) (bs : List InScope) → Holds g f bs → Holds h f bs
   holds_grown f bs holds = holds_kept Nobody g h still f bs (λ n object full here. at_some object 0) holds
@@ -422,9 +400,6 @@ not_awaited g object i settled e = let k : Settled ≡ Awaits object i = sym set
 
 pub kept_now : (g : Typing) (object i : ℕ) (hidden : Bool) → g.here object ≡ true → g.pending ≡ Settled → IsKept g object i hidden
 kept_now g object i hidden here settled = ((λ is. here), not_awaited g object i settled)
-
-pub shown_now : (g : Typing) (object i : ℕ) (hidden : Bool) → hidden ≡ false → g.pending ≡ Settled → IsKept g object i hidden
-shown_now g object i hidden shown settled = ((λ is. let k : true ≡ false = sym is ∙ shown in absurd (cc)), not_awaited g object i settled)
 
 -- a variable that has what is in it has something
 pub here_claims : (g : Typing) (regions : List Region) (objects : List Object) (object : ℕ) (t : RunTy) (l : Life) (hidden : Bool) (s : Slot) → IsTyped g regions objects → g.here object ≡ true → g.pending ≡ Settled → slice_get g.objects object ≡ Some (variable_type t l hidden s) → IsFull g object

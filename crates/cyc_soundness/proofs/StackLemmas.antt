@@ -139,9 +139,6 @@ comes_alone g k r v is = let same : 0 + operands_in k ≡ operands_in k = omega 
 pub part_alone : (g : Typing) (k : List Entry) (peek : Option ℕ) (o : Option Thing) → ClaimsPart g (0 + operands_in k) peek o → ClaimsPart g (operands_in k) peek o
 part_alone g k peek o is = let same : 0 + operands_in k ≡ operands_in k = omega arith in subst (λ i. ClaimsPart g i peek o) same is
 
-pub comes_under : (g : Typing) (k : List Entry) (r : RunValue) (v : values.Value) → ClaimsBy g (operands_in k) r v → ClaimsBy g (0 + operands_in k) r v
-comes_under g k r v is = let same : operands_in k ≡ 0 + operands_in k = omega arith in subst (λ i. ClaimsBy g i r v) same is
-
 -- one more, above these
 pub claimed_next : (g : Typing) (i : ℕ) (t : RunTy) (v : values.Value) (ts : List RunTy) (vs : List Operand) → AreOperands g ts vs → Claims g.own (Hand (length vs + i)) t v → Claims g.own (Hand (i + length ts)) t v
 claimed_next g i t v ts vs are is =

@@ -361,9 +361,6 @@ module _ (g : Typing) (w : World) (number offset : ℕ) (x : ObjectType) (t : Ru
   pub written_grows : Grows g (with_filled g number (risen offset c.filled))
   written_grows = filled_grows g number c.filled (risen offset c.filled) c.flag (risen_keeps offset c.filled)
 
-  pub written_stays : Stays g (with_filled g number (risen offset c.filled))
-  written_stays = record { grows = written_grows; own = refl; here = refl; pending = refl; depth = refl; loans = refl }
-
   abbrev pub with_value : Object
   with_value = record c.object { cells = set c.object.cells offset (filled_with c.of.cell v) }
 

@@ -1,14 +1,12 @@
 -- CLASSES OF PROGRAMS that a theorem speaks of. Each is a predicate on typed trees, empty for the nodes that are not in it yet.
 use Rattle.std.specs.Prelude.{◌≡◌, ℕ, zero, suc, ◌+◌, Bool, true, false, List, [], ◌∷◌, Option, Some, None, get_or}
-use Rattle.cyc_types.specs.declared.region.Region.{Region}
-use Rattle.cyc_types.specs.declared.region.Region.TheVariants.{Unique}
-use Rattle.cyc_types.specs.Types.{Ty, Pointer, Struct}
+use Rattle.cyc_types.specs.Types.{Ty}
 use Rattle.cyc_types.specs.Declarations.{declared_regions, item_regions}
 use Rattle.cyc_types.specs.TypedTrees.{type_of_place, Local, Global, Expression, Number, NullPointer, HeapRegion, Counter, Copy, Move, Peek, Load, AddressOf, AddressOfCell, NumberOfElements, FreeUnique, FreeKey, Call, Unary, Binary, Assign, Store, New, Dereference, Target, Member, Element, Placement, OnHeap, AsUnique, ByHandle, Initial, Plain, Fields, Array, Converted, Convert, Arguments, NoArguments, MoreArguments, Operations, NoOperations, ThenCompute, ThenTest, ThenPointer, ThenPointerPeek, Side, VariableSide, CellSide, Statement, Block, Empty, Evaluate, Swap, If, While, Return, Break, Continue, Throw, Try, Items, NoItems, MoreItems, Execute, Declare, DeclareRegion, OpenRegion, DeclareAlias, DeclareKey, Clauses, NoClauses, Default, Case, StructType, GlobalVariable, Function, Program}
 use Rattle.cyc_types.specs.typing.Tests.{is_key, is_unique}
 use Rattle.cyc_types.specs.flow.States as flow
 use Rattle.cyc_types.specs.flow.States.{Fullness, Vacant, Locked, Full, Unreached, Reached}
-use Rattle.cyc_soundness.specs.Lives.{Reading, AsHeap, ByScope, AllOf, AllIn, IsKnown}
+use Rattle.cyc_soundness.specs.Lives.{Reading, AsHeap, ByScope, AllIn, IsKnown}
 
 -- a form that makes what ends with a scope
 abbrev pub HasScopes : Reading → Type 0
@@ -30,17 +28,11 @@ abbrev pub HasFrees : Reading → Type 0
 HasFrees AsHeap = ⊥
 HasFrees (ByScope lends frees) = frees ≡ true
 
--- a region that others may reach
-abbrev pub IsCommon : Region → Type 0
-IsCommon Unique = ⊥
-IsCommon r = Unit {0}
-
--- where objects are given back, no cell that others may reach is a unique pointer, and no struct has one for a field
-abbrev pub IsShared : Reading → Ty → Type 0
-IsShared AsHeap t = Unit {0}
-IsShared (ByScope lends false) t = Unit {0}
-IsShared (ByScope lends true) (Struct n rs) = AllOf IsCommon rs
-IsShared (ByScope lends true) t = is_unique t ≡ false
+-- what may be swapped: where objects are given back, no unique pointer
+abbrev pub IsSwappable : Reading → Ty → Type 0
+IsSwappable AsHeap t = Unit {0}
+IsSwappable (ByScope lends false) t = Unit {0}
+IsSwappable (ByScope lends true) t = is_unique t ≡ false
 
 -- whether objects are given back
 abbrev pub frees_of : Reading → Bool
@@ -147,8 +139,8 @@ InThrown m q (Some a) = InExpression m q a
 
 -- where objects are given back, no unique pointers are swapped
 abbrev pub InSide : Reading → Relied → Side → Type 0
-InSide m q (VariableSide l t) = IsShared m t
-InSide m q (CellSide d) = IsShared m (type_of_place d) × InPlace m q d
+InSide m q (VariableSide l t) = IsSwappable m t
+InSide m q (CellSide d) = IsSwappable m (type_of_place d) × InPlace m q d
 
 -- Statements where the next region gets this number: the types of locals name only regions that are declared before them.
 abbrev mutual

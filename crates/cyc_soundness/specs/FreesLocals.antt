@@ -25,15 +25,6 @@ is_declarable n (types.Handle r) = is_known n r
 is_declarable n (types.Key r) = is_known n r
 is_declarable n (types.Struct s rs) = list_all (is_known n) rs
 
-abbrev pub is_common : Region → Bool
-is_common regions.Unique = false
-is_common r = true
-
--- neither a unique pointer, nor a struct whose fields may be some
-abbrev pub is_shared : Ty → Bool
-is_shared (types.Struct n rs) = list_all is_common rs
-is_shared t = not (is_unique t)
-
 -- ---- expressions
 
 abbrev mutual
@@ -90,8 +81,8 @@ thrown_is_in (Some a) = expression_is_in a
 
 -- no unique pointer is swapped
 abbrev pub side_is_in : Side → Bool
-side_is_in (VariableSide l t) = is_shared t
-side_is_in (CellSide d) = is_shared (type_of_place d) && place_is_in d
+side_is_in (VariableSide l t) = not (is_unique t)
+side_is_in (CellSide d) = not (is_unique (type_of_place d)) && place_is_in d
 
 -- ---- statements, where the next region gets this number
 
