@@ -11,7 +11,7 @@ use Rattle.cyc_types.specs.declared.typed.Kind.{Kind}
 use Rattle.cyc_types.specs.declared.typed.Kind.TheVariants as kinds
 use Rattle.cyc_types.specs.Types.{Ty, substituted_ty}
 use Rattle.cyc_types.specs.Types as types
-use Rattle.cyc_types.specs.TypedTrees.{StructType, Expression, Initial, Plain, Fields, Array, Convert, Arguments, NoArguments, MoreArguments}
+use Rattle.cyc_types.specs.TypedTrees.{Expression, Initial, Plain, Fields, Array, Convert, Arguments, NoArguments, MoreArguments}
 use Rattle.cyc_types.specs.Rules.{Derives}
 use Rattle.cyc_types.specs.typing.Tests as tests
 use Rattle.cyc_types.specs.typing.Tests.{is_key}
@@ -38,10 +38,10 @@ use Rattle.cyc_soundness.specs.Stacks as stacks
 use Rattle.cyc_soundness.proofs.Numbers.{same_or_other, less_or_same, slice_get-set_same, some_same}
 use Rattle.cyc_soundness.proofs.FlowLemmas.{at_least_implies, holds_implied}
 use Rattle.cyc_soundness.proofs.TypeLemmas.{target_typed, is_kind_same, kind_read}
-use Rattle.cyc_soundness.proofs.WorldLemmas.{beyond, owner_grown, operands_grown, globals_grown, with_object, object_grows, object_stays, object_typed, typed_beside, open_region, risen, with_filled}
+use Rattle.cyc_soundness.proofs.WorldLemmas.{beyond, owner_grown, operands_grown, globals_grown, with_object, object_grows, object_stays, object_typed, typed_beside, open_region}
 use Rattle.cyc_soundness.proofs.Hands.{Changed, hand_same, at_no_hand, given_now, at_some, changed_after, giving_changed, owns_kept, claims_kept, variables_kept, holds_kept, given_typed, hands_globals, pointed_typed}
 use Rattle.cyc_soundness.proofs.Sharing.{at_start, keeps_by, plain_keyless}
-use Rattle.cyc_soundness.proofs.StackLemmas.{keeps_fields, stack_changed, stack_grown, kept_open, lasting_open}
+use Rattle.cyc_soundness.proofs.StackLemmas.{keeps_fields, stack_changed, kept_open, lasting_open}
 use Rattle.cyc_soundness.proofs.RegionLemmas.{region_owner, there_open, agrees_of, there_lasting, mapped_count, fields_mean}
 use Rattle.cyc_soundness.proofs.Cells.{running, part_at, stored_typing, stores_on}
 

@@ -41,8 +41,8 @@ use Rattle.cyc_soundness.specs.Stacks as stacks
 use Rattle.cyc_soundness.proofs.Numbers.{some_same, inside, mapped, both}
 use Rattle.cyc_soundness.proofs.TypeLemmas.{target_typed, is_kind_same, mark_kinds, kind_meant}
 use Rattle.cyc_soundness.proofs.WorldLemmas.{result_grown, typed_cell}
-use Rattle.cyc_soundness.proofs.Hands.{Changed, at_no_hand, holds_kept, variables_kept}
-use Rattle.cyc_soundness.proofs.Sharing.{region_common, life_common, plain_read, by_type_read, keeps_by}
+use Rattle.cyc_soundness.proofs.Hands.{at_no_hand, holds_kept, variables_kept}
+use Rattle.cyc_soundness.proofs.Sharing.{region_common, plain_read, keeps_by}
 use Rattle.cyc_soundness.proofs.StackLemmas.{stack_changed, part_alone, IsPresent, there_present}
 use Rattle.cyc_soundness.proofs.RegionLemmas.{agrees_of, there_of, mapped_count, field_means}
 use Rattle.cyc_soundness.proofs.Looking.{looked_expression, peeked_so}

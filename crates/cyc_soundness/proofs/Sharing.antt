@@ -1,17 +1,15 @@
 -- WHAT IS UNIQUE, and what others may reach: which types have what only one may have.
-use Rattle.std.proofs.Common.{◌≡◌, ◌≢◌, ℕ, zero, suc, Bool, true, false, List, [], ◌∷◌, map, refl, sym, ap, subst, ◌∙◌}
-use Rattle.std.specs.Prelude.{slice_index_or}
+use Rattle.std.proofs.Common.{◌≡◌, ◌≢◌, ℕ, Bool, true, false, List, refl, sym, subst, ◌∙◌}
 use Rattle.cyc_syntax.specs.declared.tree.PointerKind.{PointerKind}
 use Rattle.cyc_types.specs.declared.region.Region.{Region}
 use Rattle.cyc_types.specs.declared.region.Region.TheVariants as regions
 use Rattle.cyc_types.specs.Outlives.{RegionContext, OutlivesIn, itself, given, through, IsGiven}
-use Rattle.cyc_types.specs.Regions.{substituted_region}
 use Rattle.cyc_types.specs.Types.{Ty, substituted_ty}
 use Rattle.cyc_types.specs.Types as types
 use Rattle.cyc_types.specs.typing.Tests.{is_key, is_moved, is_unique}
-use Rattle.cyc_soundness.specs.Lives.{Life, OfRegion, OfObject, Never, Owned, Kept, heap_life, owned_life, RunTy, Pointer, Key, Reading, AsHeap, ByScope, AllOf, Lives, at}
+use Rattle.cyc_soundness.specs.Lives.{Life, OfRegion, OfObject, Never, Owned, Kept, heap_life, owned_life, RunTy, Pointer, Reading, AsHeap, ByScope, Lives, at}
 use Rattle.cyc_soundness.specs.Worlds.{Typing, IsKnownLife, IsKeyless, IsPlain, AtStart}
-use Rattle.cyc_soundness.specs.Classes.{IsSwappable, frees_of, HasFrees}
+use Rattle.cyc_soundness.specs.Classes.{IsSwappable, HasFrees}
 use Rattle.cyc_soundness.specs.Frames.{InScope, AreVariables, lives_in, life_named, frees_in, read, Stand}
 use Rattle.cyc_soundness.specs.Stacks.{KeepsUnique, IsCommonLife, IsByType}
 use Rattle.cyc_soundness.proofs.RegionLemmas.{name_known, heap_lives}

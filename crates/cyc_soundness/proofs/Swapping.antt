@@ -22,7 +22,7 @@ use Rattle.cyc_soundness.proofs.Looking.{peeked_so}
 use Rattle.cyc_soundness.specs.Lives.{Life, RunTy, as_heap, kind_at}
 use Rattle.cyc_soundness.specs.Lives as lives
 use Rattle.cyc_soundness.specs.Worlds.{At, IsKept, thing_of, IsHad, Claims, IsOpenObject, ObjectType, Typing, global_type, IsFilled, HasType, IsTyped}
-use Rattle.cyc_soundness.specs.Frames.{InScope, local_type, IsBound, AreVariables, LiveIn, IsSet, Holds, Exits, IsContext, KnowsProgram, frees_in, lives_in, read}
+use Rattle.cyc_soundness.specs.Frames.{InScope, local_type, IsBound, AreVariables, LiveIn, IsSet, Holds, Exits, IsContext, KnowsProgram, lives_in, read}
 use Rattle.cyc_soundness.specs.Classes.{InSide, Source, and_looked, frees_of}
 use Rattle.cyc_soundness.specs.Stacks.{IsByType, relied_at, operands_in, Finds, Go, IsSpot, of_local, of_global, of_cell, IsLeftSpot, left_variable, left_cell, IsRead, AreSwapped, IsStack, IsWell}
 use Rattle.cyc_soundness.specs.Stacks as stacks

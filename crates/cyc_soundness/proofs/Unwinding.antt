@@ -14,7 +14,7 @@ use Rattle.cyc_meaning.specs.Nesting.{IsNested}
 use Rattle.cyc_meaning.specs.Step.{step_proceeding, step_breaking, step_continuing, returned, main_returned, step_returning, step_throwing}
 use Rattle.cyc_soundness.specs.Lives.{Life, RunTy, RunValue, Value}
 use Rattle.cyc_soundness.specs.Lives as lives
-use Rattle.cyc_soundness.specs.Worlds.{OfLocal, Thing, Holder, Hand, At, Lent, thing_of, IsStart, Claims, giving, given, marked, handing, AreOwned, variable_type, Typing, HasType, IsTyped, Slot}
+use Rattle.cyc_soundness.specs.Worlds.{OfLocal, Hand, At, Lent, thing_of, IsStart, Claims, giving, given, marked, handing, AreOwned, variable_type, Typing, HasType, IsTyped, Slot}
 use Rattle.cyc_soundness.specs.Frames.{InScope, Names, Home, IsBound, AreVariables, AreFullAt, LiveIn, Holds, Implies, LoopExit, Exits, HasResult, is_loop, KnowsProgram}
 use Rattle.cyc_soundness.specs.Stacks.{IsByType, IsLentOut, IsLoop, Want, Nothing, Val, PlaceOf, Go, operands_in, IsBlocked, IsReturn, IsStack, IsFocus, IsWell}
 use Rattle.cyc_soundness.specs.Stacks as stacks
