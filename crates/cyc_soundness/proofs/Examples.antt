@@ -240,7 +240,7 @@ swapped_and_freed : EndsIn FreesObjects (check_of texts (
     (MoreItems (Execute (Evaluate (FreeUnique (at 26) (Variable (named 2 27)))))
     (MoreItems (Execute (Return (at 28) (Some (Variable (named 3 29))))) NoItems))))))
     ∷ [])) (HasEnded (Returned (pos 7)))
-swapped_and_freed = (refl, (refl, refl), refl)
+swapped_and_freed = (refl, refl, refl)
 
 -- struct S { int x; int @`U n; }; int main(){ struct S @p = new S{4, rnew(unique_region) 5}; int @`U i = rnew(unique_region) 3; p->n = rnew(unique_region) 3; ufree(i); return p->x; }
 stored_and_freed : EndsIn FreesObjects (check_of texts (
@@ -252,7 +252,7 @@ stored_and_freed : EndsIn FreesObjects (check_of texts (
     (MoreItems (Execute (Evaluate (FreeUnique (at 25) (Variable (named 5 26)))))
     (MoreItems (Execute (Return (at 27) (Some (field 3)))) NoItems)))))
     ∷ [])) (HasEnded (Returned (pos 4)))
-stored_and_freed = (refl, (refl, refl), refl)
+stored_and_freed = (refl, refl, refl)
 
 -- int main(){ int n = 0; while (n < 6) { int @`U p = rnew(unique_region) 3; n = n + *p; ufree(p); } return n; }
 freed_in_a_loop : EndsIn FreesObjects (check_of texts (
