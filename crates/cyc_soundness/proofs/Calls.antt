@@ -2,7 +2,6 @@
 use Rattle.std.proofs.Common.{◌≡◌, ℕ, suc, ◌+◌, ◌<◌, ◌≤◌, ◌%◌, Bool, true, false, List, [], ◌∷◌, ◌++◌, length, map, reverse, Option, Some, None, refl, sym, ap, subst, ◌∙◌, arith}
 use Rattle.std.specs.Prelude.{if◌then◌else◌, ◌==◌}
 use Rattle.std.proofs.lemmas.Bool.{eq-eqb}
-use mathlib.Core.List.{reverse_aux}
 use Rattle.cyc_types.specs.declared.typed.Kind.TheVariants as kinds
 use Rattle.cyc_types.specs.declared.typed.Callee.{Callee}
 use Rattle.cyc_types.specs.declared.typed.Callee.TheVariants as callees
@@ -41,7 +40,7 @@ use Rattle.cyc_soundness.proofs.Hands.{Changed, hand_same, at_no_hand, claims_ke
 use Rattle.cyc_soundness.proofs.StackLemmas.{AreAccepted, stack_changed, stack_grown, below_more}
 use Rattle.cyc_soundness.proofs.RegionLemmas.{region_known, there_open, opened_known, live_more, there_lasting, opened_life, opened_lasting, stand_opened, new_home, context_inside, other_same, named_function, known_body}
 use Rattle.cyc_soundness.proofs.Cells.{running}
-use Rattle.cyc_soundness.proofs.Objects.{operands_reversed}
+use Rattle.cyc_soundness.proofs.Objects.{operands_reversed, given_turned}
 use Rattle.cyc_soundness.proofs.Supply.{new_life, made_typing, declares}
 use Rattle.cyc_soundness.proofs.Execution.{block_scope, block_live, block_stack, context_behind, breaks_before}
 
@@ -53,15 +52,6 @@ turned_length (a ∷ as') bs =
     let e : length (turned as' (a ∷ bs)) ≡ length as' + suc (length bs) = turned_length as' (a ∷ bs) in
     let r : length (turned as' (a ∷ bs)) ≡ suc (length as') + length bs = omega (arith, e) in
     r
-
--- what operands on the stack claim, they claim as arguments in order
-given_turned : (g : Typing) (i : ℕ) (ts us : List RunTy) (vs ws : List Operand) → AreOperands g ts vs → AreClaimed g.own i ts vs → AreGiven g.own (i + length ts) us ws → AreGiven g.own i (turned ts us) (reverse_aux vs ws)
-given_turned g i [] us [] ws operands are more = let e : i + 0 ≡ i = omega arith in subst (λ j. AreGiven g.own j us ws) e more
-given_turned g i [] us (v ∷ vs) ws operands are more = absurd operands
-given_turned g i (t ∷ ts) us [] ws operands are more = absurd operands
-given_turned g i (t ∷ ts) us (v ∷ vs) ws operands (is, are) more =
-    let e : i + suc (length ts) ≡ suc (i + length ts) = omega arith in
-    given_turned g i ts (t ∷ us) vs (v ∷ ws) operands.1 are (is, subst (λ j. AreGiven g.own j us ws) e more)
 
 -- the arguments behind one that becomes a parameter
 given_later : (g h : Typing) (i j : ℕ) (ts : List RunTy) (vs : List Operand) → Changed (Hand i) g h → i < j → AreGiven g.own j ts vs → AreGiven h.own j ts vs
@@ -75,7 +65,7 @@ given_later g h i j (t ∷ ts) (v ∷ vs) changed less (is, are) = (
 -- and the parameters before it
 own_kept : (g h : Typing) (i : ℕ) (bs : List InScope) → Changed (Hand i) g h → AreOwn g bs → AreOwn h bs
 own_kept g h i [] changed are = tt
-own_kept g h i (Variable b ∷ bs) changed (is, are) = (subst (λ d. IsHere h d b.number b.object) (sym changed.depth) (here_kept (Hand i) g h changed g.depth b.number b.object (at_no_hand b.object i) is), own_kept g h i bs changed are)
+own_kept g h i (Variable b ∷ bs) changed (is, are) = (subst (λ d. IsHere h d b.number b.object) (sym changed.depth) (here_kept (Hand i) g h changed g.depth b.number b.object (at_no_hand b.object 0 i) is), own_kept g h i bs changed are)
 own_kept g h i (b ∷ bs) changed (is, are) = (tt, own_kept g h i bs changed are)
 
 -- what is open is so in a call, too
@@ -99,6 +89,7 @@ same_around g = record {
   grows = record { objects = λ n u is. is; filled = λ n count is. is; fields = λ n ls ts is. is; kept = λ n is. is };
   own = refl;
   here = refl;
+  pending = refl;
   depth = refl;
   loans = refl;
 }

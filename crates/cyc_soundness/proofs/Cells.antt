@@ -1,5 +1,5 @@
 -- CELLS that a step reads and writes: those of variables, and those that a pointer leads to.
-use Rattle.std.proofs.Common.{◌≡◌, ◌≢◌, set, Option, ℕ, zero, suc, ◌≤◌, ◌<◌, Bool, true, false, List, [], ◌∷◌, Some, None, slice_get, refl, sym, ap, subst, ◌∙◌, arith}
+use Rattle.std.proofs.Common.{◌≡◌, ◌≢◌, Option, ℕ, zero, suc, ◌≤◌, ◌<◌, Bool, true, false, List, [], ◌∷◌, Some, None, slice_get, refl, sym, ap, subst, ◌∙◌, arith}
 use Rattle.std.specs.Prelude.{if◌then◌else◌}
 use Rattle.cyc_syntax.specs.declared.tree.PointerKind.{PointerKind}
 use Rattle.cyc_types.specs.declared.typed.Kind.{Kind}
@@ -15,13 +15,13 @@ use Rattle.cyc_meaning.specs.Parts.{wrong, read, loaded, stored}
 use Rattle.cyc_meaning.specs.Nesting.{ends_of, AreOpen}
 use Rattle.cyc_soundness.specs.Lives.{Life, OfRegion, OfObject, Never, Owned, Kept, RunTy, RunValue, Int, Pointer, Handle, Key, Struct, Value, Lives, at, kind_at}
 use Rattle.cyc_soundness.specs.Lives.{at as at'}
-use Rattle.cyc_soundness.specs.Worlds.{Thing, Holder, Nobody, Hand, At, IsHeld, pointer_at, Owns, Claims, ClaimsPart, ClaimsBy, IsHad, AreOwned, IsOpenObject, IsKeyless, AreKeyless, Stays, ObjectType, Typing, IsOpenIn, Outlasts, alike, heap as for_ever, globals as with_globals, stays, encloses, IsFilled, IsPart, IsTarget, HasType, IsResult, IsTyped, IsOpenLife}
+use Rattle.cyc_soundness.specs.Worlds.{IsKept, IsPlain, PointerTo, thing_of, same_thing, given, giving, Thing, Holder, Nobody, Hand, At, IsHeld, pointer_at, Owns, Claims, ClaimsPart, ClaimsBy, IsHad, IsOpenObject, IsKeyless, AreKeyless, Stays, ObjectType, Typing, IsOpenIn, Outlasts, alike, heap as for_ever, globals as with_globals, stays, encloses, IsFilled, IsPart, IsTarget, HasType, IsResult, IsTyped, IsOpenLife}
 use Rattle.cyc_soundness.specs.Frames.{InScope, IsBound, AreVariables, LiveIn, Holds, Exits, KnowsProgram, IsLasting}
 use Rattle.cyc_soundness.specs.Stacks.{IsCommonLife, IsByType, Val, operands_in, IsStack, IsFocus, IsWell}
 use Rattle.cyc_soundness.proofs.Numbers.{slice_get-set_same, some_same}
 use Rattle.cyc_soundness.proofs.TypeLemmas.{is_kind_same}
-use Rattle.cyc_soundness.proofs.WorldLemmas.{typed_cell, cell_there, live_object, risen, risen_past, with_filled, written_grows, cell_written, cells_own, globals_grown}
-use Rattle.cyc_soundness.proofs.Hands.{Raises, raises_changed, variables_kept}
+use Rattle.cyc_soundness.proofs.WorldLemmas.{typed_cell, cell_there, live_object, result_grown, risen, risen_past, with_filled, written_grows, cell_written, globals_grown}
+use Rattle.cyc_soundness.proofs.Hands.{Changed, Raises, raises_changed, changed_raised, at_no_hand, given_now, giving_changed, given_typed, hands_globals, variables_kept}
 use Rattle.cyc_soundness.proofs.StackLemmas.{open_of, globals_among, kept_open, object_known, open_outlasting, IsPresent, outlasting_open}
 use Rattle.cyc_soundness.specs.Classes.{Source}
 
@@ -61,17 +61,6 @@ part_had g i None None is = tt
 part_had g i (Some n) None is = tt
 part_had g i None (Some a) is = subst (λ h. IsHeld h) (sym is) tt
 part_had g i (Some n) (Some a) (object, here, is) = subst (λ h. IsHeld h) (sym is) tt
-
-pub owned_had : (g : Typing) (i : ℕ) (o : Option Thing) → Owns g.own (Hand i) o → IsHad g o
-owned_had g i o is = part_had g i None o is
-
--- others have a life that nobody has
-pub common_had : (g : Typing) (l : Life) (object : ℕ) → IsCommonLife l → IsHad g (pointer_at l object)
-common_had g (OfRegion number around lent) object common = tt
-common_had g (OfObject o) object common = tt
-common_had g Never object common = tt
-common_had g (Kept region) object common = tt
-common_had g Owned object common = absurd common
 
 module _ (g : Typing) (w : World) (typed : IsTyped g w.regions w.objects) where
   -- no struct is in a cell
@@ -141,18 +130,18 @@ keyless_at (u ∷ ts) zero t (is, are) found = subst (λ z. IsKeyless z) (some_s
 keyless_at (u ∷ ts) (suc i) t (is, are) found = keyless_at ts i t are found
 
 -- what is neither a key nor unique claims nothing
-pub keyless_claims : (own : Thing → Holder) (h : Holder) (t : RunTy) (v : values.Value) → IsKeyless t → Claims own h t v
-keyless_claims own h Int v is = (tt, tt)
-keyless_claims own h (Handle l) v is = (tt, tt)
-keyless_claims own h (Struct n ls) v is = (tt, tt)
-keyless_claims own h (Key (Kept region)) v is = absurd is
-keyless_claims own h (Key (OfRegion number ns us)) v is = (tt, tt)
-keyless_claims own h (Key (OfObject object)) v is = (tt, tt)
-keyless_claims own h (Key Never) v is = (tt, tt)
-keyless_claims own h (Key Owned) v is = (tt, tt)
-keyless_claims own h (Pointer k t l) v is = pointer_claims l v is
+pub plain_claims : (own : Thing → Holder) (h : Holder) (t : RunTy) (v : values.Value) → IsPlain t → Claims own h t v
+plain_claims own h Int v is = (tt, tt)
+plain_claims own h (Handle l) v is = (tt, tt)
+plain_claims own h (Struct n ls) v is = (tt, tt)
+plain_claims own h (Key (Kept region)) v is = absurd is
+plain_claims own h (Key (OfRegion number ns us)) v is = (tt, tt)
+plain_claims own h (Key (OfObject object)) v is = (tt, tt)
+plain_claims own h (Key Never) v is = (tt, tt)
+plain_claims own h (Key Owned) v is = (tt, tt)
+plain_claims own h (Pointer k t l) v is = pointer_claims l v is
   where
-    pointer_claims : (l : Life) (v : values.Value) → IsKeyless (Pointer k t l) → Claims own h (Pointer k t l) v
+    pointer_claims : (l : Life) (v : values.Value) → IsPlain (Pointer k t l) → Claims own h (Pointer k t l) v
     pointer_claims Owned v is = absurd is
     pointer_claims (OfRegion number ns us) values.Null is = (tt, tt)
     pointer_claims (OfRegion number ns us) (values.Int n) is = (tt, tt)
@@ -179,12 +168,12 @@ keyless_claims own h (Pointer k t l) v is = pointer_claims l v is
     pointer_claims (Kept region) (values.Handle n) is = (tt, tt)
     pointer_claims (Kept region) (values.Key n) is = (tt, tt)
 
-pub pointer_keyless : (k : PointerKind) (t : RunTy) (l : Life) → IsCommonLife l → IsKeyless (Pointer k t l)
-pointer_keyless k t (OfRegion number ns us) common = tt
-pointer_keyless k t (OfObject object) common = tt
-pointer_keyless k t Never common = tt
-pointer_keyless k t (Kept region) common = tt
-pointer_keyless k t Owned common = absurd common
+pub pointer_plain : (k : PointerKind) (t : RunTy) (l : Life) → IsCommonLife l → IsPlain (Pointer k t l)
+pointer_plain k t (OfRegion number ns us) common = tt
+pointer_plain k t (OfObject object) common = tt
+pointer_plain k t Never common = tt
+pointer_plain k t (Kept region) common = tt
+pointer_plain k t Owned common = absurd common
 
 -- what their type tells, all values of a type claim
 pub by_type_claims : (own : Thing → Holder) (h : Holder) (t : RunTy) (u v : values.Value) → IsByType t → Claims own h t u → Claims own h t v
@@ -192,11 +181,42 @@ by_type_claims own h Int u v by is = (tt, tt)
 by_type_claims own h (Handle l) u v by is = (tt, tt)
 by_type_claims own h (Struct n ls) u v by is = (tt, tt)
 by_type_claims own h (Key l) u v by is = (is.0, tt)
-by_type_claims own h (Pointer k t l) u v by is = keyless_claims own h (Pointer k t l) v (pointer_keyless k t l by)
+by_type_claims own h (Pointer k t l) u v by is = plain_claims own h (Pointer k t l) v (pointer_plain k t l by)
 
--- nor does what others may reach
-pub shared_claims : (g : Typing) (w : World) (number offset : ℕ) (y : ObjectType) (t : RunTy) → IsTyped g w.regions w.objects → slice_get g.objects number ≡ Some y → y.is_hidden ≡ false → slice_get y.cells offset ≡ Some t → (h : Holder) (v : values.Value) → Claims g.own h t v
-shared_claims g w number offset y t typed there shown at h v = let (x, m, stands, flag, is) = typed.each number y there in keyless_claims g.own h t v (keyless_at y.cells offset t (is.keyless shown) at)
+-- which has no key either
+pub plain_unkept : (t : RunTy) → IsPlain t → IsKeyless t
+plain_unkept Int plain = tt
+plain_unkept (Pointer k t l) plain = tt
+plain_unkept (Handle l) plain = tt
+plain_unkept (Key (Kept region)) plain = plain
+plain_unkept (Key (OfRegion number ns us)) plain = tt
+plain_unkept (Key (OfObject object)) plain = tt
+plain_unkept (Key Never) plain = tt
+plain_unkept (Key Owned) plain = tt
+plain_unkept (Struct n ls) plain = tt
+
+-- and is no thing
+pub plain_nothing : (t : RunTy) (v : values.Value) → IsPlain t → thing_of t v ≡ None
+plain_nothing t v plain = go (thing_of t v) (plain_claims (λ a. Nobody) (Hand 0) t v plain).0
+  where
+    go : (o : Option Thing) → Owns (λ a. Nobody) (Hand 0) o → o ≡ None
+    go None is = refl
+    go (Some a) is = absurd (let k : Nobody ≡ Hand 0 = is in cc)
+
+-- nor does what others may reach, where it is told by its type: it has no key
+pub both_plain : (t : RunTy) → IsKeyless t → IsByType t → IsPlain t
+both_plain Int keyless by = tt
+both_plain (Pointer k t l) keyless by = pointer_plain k t l by
+both_plain (Handle l) keyless by = tt
+both_plain (Key (Kept region)) keyless by = keyless
+both_plain (Key (OfRegion number ns us)) keyless by = tt
+both_plain (Key (OfObject object)) keyless by = tt
+both_plain (Key Never) keyless by = tt
+both_plain (Key Owned) keyless by = tt
+both_plain (Struct n ls) keyless by = tt
+
+pub shared_claims : (g : Typing) (w : World) (number offset : ℕ) (y : ObjectType) (t : RunTy) → IsTyped g w.regions w.objects → slice_get g.objects number ≡ Some y → y.is_hidden ≡ false → slice_get y.cells offset ≡ Some t → IsByType t → (h : Holder) (v : values.Value) → Claims g.own h t v
+shared_claims g w number offset y t typed there shown at by h v = let (x, m, stands, flag, is) = typed.each number y there in plain_claims g.own h t v (both_plain t (keyless_at y.cells offset t (is.keyless shown) at) by)
 
 -- ---- reads and writes
 
@@ -246,11 +266,12 @@ module _ (p : Source) (g : Typing) (x : Exits) (bs : List InScope) (e : Environm
     written_typing = record (with_filled g number (risen offset m)) { here = here }
 
     pub writes_marking : LiveIn k bs → slice_get g.objects number ≡ Some y → slice_get y.cells offset ≡ Some t → IsOpenObject g w.regions number y.life → slice_get g.filled number ≡ Some m → offset ≤ m
-        → IsResult g (Value t) v → ((object : ℕ) → object ≢ number → here object ≡ true → g.here object ≡ true) → ((object : ℕ) → g.here object ≡ true → here object ≡ true)
-        → (here number ≡ true → (z : Object) (d : Cell) → slice_get w.objects number ≡ Some z → slice_get z.cells offset ≡ Some d → AreOwned g.own number y.cells (set z.cells offset (record d { content = Some v.value })))
+        → IsResult g (Value t) v → ((object i : ℕ) (hidden : Bool) → object ≢ number → IsKept written_typing object i hidden → IsKept g object i hidden)
+        → ((i : ℕ) (u : RunTy) → slice_get y.cells i ≡ Some u → i ≢ offset → IsKept written_typing number i y.is_hidden → IsKept g number i y.is_hidden) → ((object : ℕ) → g.here object ≡ true → here object ≡ true)
+        → (IsKept written_typing number offset y.is_hidden → Claims g.own (At number offset) t v.value)
         → (Raises g written_typing → IsFilled written_typing number (suc offset) → IsFocus p written_typing x bs focus k)
         → IsWell p (stored (cell_at w number offset) number offset v focus k e w)
-    writes_marking live at cells opens flag few is before raises own goes =
+    writes_marking live at cells opens flag few is before beside raises claims goes =
         let c = cell_there g w number offset t y typed at cells opens in
         let count : m ≡ c.filled = some_same m c.filled (sym flag ∙ c.flag) in
         let few_too : offset ≤ c.filled = omega (arith, count, few) in
@@ -260,6 +281,7 @@ module _ (p : Source) (g : Typing) (x : Exits) (bs : List InScope) (e : Environm
           grows = record { objects = grows.objects; filled = grows.filled; fields = grows.fields; kept = grows.kept };
           own = refl;
           here = raises;
+          pending = refl;
           depth = refl;
           loans = refl;
         } in
@@ -271,36 +293,84 @@ module _ (p : Source) (g : Typing) (x : Exits) (bs : List InScope) (e : Environm
         (subst (λ (b : Bool). IsWell p (if b then Running focus k e (written w number offset (record { object = c.object; cell = c.of.cell }) v.value) else wrong w))
         (sym (is_kind_same c.of.cell.kind v.kind (c.of.kind ∙ sym is.0)))
         (running p h x bs e (written w number offset (record { object = c.object; cell = c.of.cell }) v.value)
-        (cell_written g w number offset y t v.value typed at cells c few_too is.1 here before (λ now. own now c.object c.of.cell c.there c.of.at))
+        (cell_written g w number offset y t v.value typed at cells c few_too is.1 here g.pending (λ object i hidden apart kept. before object i hidden apart kept) (λ i u found apart kept. beside i u found apart kept) (λ kept. claims kept))
         (globals_grown g h changed.grows p (λ n ls. refl) globals.keys globals) bound (variables_kept Nobody g h (raises_changed g h changed) bs refl variables) focus k live (goes_on changed now)))
 
   -- of which nobody learns more than that
   pub writes : (v : Operand) (focus : Focus) (k : List Entry) (number offset m : ℕ) (t : RunTy) (y : ObjectType) → LiveIn k bs
       → slice_get g.objects number ≡ Some y → slice_get y.cells offset ≡ Some t → IsOpenObject g w.regions number y.life → slice_get g.filled number ≡ Some m → offset ≤ m
-      → IsResult g (Value t) v → (g.here number ≡ true → Claims g.own (At number) t v.value)
+      → IsResult g (Value t) v → (IsKept g number offset y.is_hidden → Claims g.own (At number offset) t v.value)
       → (Stays g (with_filled g number (risen offset m)) → IsFilled (with_filled g number (risen offset m)) number (suc offset) → IsFocus p (with_filled g number (risen offset m)) x bs focus k)
       → IsWell p (stored (cell_at w number offset) number offset v focus k e w)
   writes v focus k number offset m t y live at cells opens flag few is claims goes =
-      writes_marking v focus k number offset m t y g.here live at cells opens flag few is (λ object apart now. now) (λ object now. now)
-      (λ here z d there at'. cells_own g.own number y.cells z.cells offset t d v.value cells at' (claims here) (λ j apart u c content found at'' is'. typed.owned number y z here at there j u c content found at'' is'))
-      (λ changed now. goes (record { grows = changed.grows; own = refl; here = refl; depth = refl; loans = refl }) now)
+      writes_marking v focus k number offset m t y g.here live at cells opens flag few is (λ object i hidden apart kept. kept) (λ i u found apart kept. kept) (λ object now. now) claims
+      (λ changed now. goes (record { grows = changed.grows; own = refl; here = refl; pending = refl; depth = refl; loans = refl }) now)
 
   -- a place that a pointer leads to is read
   pub reads_target : (k : List Entry) (kind : Kind) (object offset : ℕ) (n : Lives) (t : Ty) (l : Life) (f : flow.State) → AreOpen w.regions (ends_of k) → LiveIn k bs → IsPresent g (ends_of k) l → IsHad g (pointer_at l object) → Holds g f bs
-      → IsTarget g (at n t) l object offset → is_struct t ≡ false → kind_at (at n t) ≡ kind → IsStack p g x bs (Val (Value (at n t)) f) k
+      → IsTarget g (at n t) l object offset → IsByType (at n t) → is_struct t ≡ false → kind_at (at n t) ≡ kind → IsStack p g x bs (Val (Value (at n t)) f) k
       → IsWell p (loaded kind (cell_at w object offset) k e w)
-  reads_target k kind object offset n t l f opens live lasting had holds (y, there, shown, outlasts, part) plain same stack =
+  reads_target k kind object offset n t l f opens live lasting had holds (y, there, shown, outlasts, part) by plain same stack =
       let open' = life_of g w typed k object y l there opens outlasts lasting had in
       let (cells, filled) = value_part n g object y t offset plain part in
       reads k kind object offset (at' n t) y f live holds there cells open' filled same (Value (at' n t)) (λ v has. (sym same, has))
-      (λ c. shared_claims g w object offset y (at' n t) typed there shown cells (Hand (operands_in k)) c.value) stack
+      (λ c. shared_claims g w object offset y (at' n t) typed there shown cells by (Hand (operands_in k)) c.value) stack
+
+-- ---- what is in hand is stored
+
+-- somebody has still what somebody had
+pub held_still : (own : Thing → Holder) (o : Option Thing) (new : Holder) (a : Thing) → IsHeld new → IsHeld (own a) → IsHeld (given o new own a)
+held_still own None new a now held = held
+held_still own (Some b) new a now held = go (same_thing a b)
+  where
+    go : (z : Bool) → IsHeld (if z then new else own a)
+    go true = now
+    go false = held
+
+open_still : (g : Typing) (o : Option Thing) (new : Holder) (regions : List Region) (object : ℕ) (l : Life) → IsHeld new → IsOpenObject g regions object l → IsOpenObject (giving g o new) regions object l
+open_still g o new regions object (OfRegion number ns us) now opens = opens
+open_still g o new regions object (OfObject n) now opens = opens
+open_still g o new regions object Never now opens = opens
+open_still g o new regions object (Kept region) now opens = opens
+open_still g o new regions object Owned now held = held_still g.own o new (PointerTo object) now held
+
+module _ (p : Source) (g : Typing) (x : Exits) (bs : List InScope) (e : Environment) (w : World) (typed : IsTyped g w.regions w.objects) (globals : KnowsProgram g p) (bound : IsBound e.locals e.counters bs) (variables : AreVariables g bs) where
+  -- a value goes from the hand into a cell
+  module _ (v : Operand) (focus : Focus) (k : List Entry) (number offset m i : ℕ) (t : RunTy) (y : ObjectType) (here : ℕ → Bool) where
+    abbrev pub stored_given : Typing
+    stored_given = giving g (thing_of t v.value) (At number offset)
+
+    abbrev pub stored_typing : Typing
+    stored_typing = record (with_filled stored_given number (risen offset m)) { here = here }
+
+    pub stores_marking : LiveIn k bs → slice_get g.objects number ≡ Some y → slice_get y.cells offset ≡ Some t → IsOpenObject g w.regions number y.life → slice_get g.filled number ≡ Some m → offset ≤ m
+        → IsResult g (Value t) v → Claims g.own (Hand i) t v.value → ((object j : ℕ) (hidden : Bool) → object ≢ number → IsKept stored_typing object j hidden → IsKept g object j hidden)
+        → ((j : ℕ) (u : RunTy) → slice_get y.cells j ≡ Some u → j ≢ offset → IsKept stored_typing number j y.is_hidden → IsKept g number j y.is_hidden) → ((object : ℕ) → g.here object ≡ true → here object ≡ true)
+        → (Changed (Hand i) g stored_typing → IsFilled stored_typing number (suc offset) → IsFocus p stored_typing x bs focus k)
+        → IsWell p (stored (cell_at w number offset) number offset v focus k e w)
+    stores_marking live at cells opens flag few is claims before beside raises goes =
+        let thing = thing_of t v.value in
+        let its = At number offset in
+        let changed : Changed (Hand i) g stored_given = giving_changed g thing (Hand i) its claims.0 in
+        writes_marking p stored_given x bs e w (given_typed g thing (Hand i) its w.regions w.objects claims.0 tt (λ object j. at_no_hand object j i) typed) (hands_globals p g (given thing its g.own) g.here globals) bound
+        (variables_kept (Hand i) g stored_given changed bs refl variables) v focus k number offset m t y here live at cells (open_still g thing its w.regions number y.life tt opens) flag few (result_grown g stored_given changed.grows (Value t) v is)
+        (λ object j hidden apart kept. before object j hidden apart kept) (λ j u found apart kept. beside j u found apart kept) raises (λ kept. (given_now g.own thing its, claims.1))
+        (λ more now. goes (changed_raised (Hand i) g stored_given stored_typing changed more) now)
+
+  -- where what variables have is as it was
+  pub stores_on : (v : Operand) (focus : Focus) (k : List Entry) (number offset m i : ℕ) (t : RunTy) (y : ObjectType) → LiveIn k bs → slice_get g.objects number ≡ Some y → slice_get y.cells offset ≡ Some t → IsOpenObject g w.regions number y.life
+      → slice_get g.filled number ≡ Some m → offset ≤ m → IsResult g (Value t) v → Claims g.own (Hand i) t v.value
+      → (Changed (Hand i) g (stored_typing v focus k number offset m i t y g.here) → IsFilled (stored_typing v focus k number offset m i t y g.here) number (suc offset) → IsFocus p (stored_typing v focus k number offset m i t y g.here) x bs focus k)
+      → IsWell p (stored (cell_at w number offset) number offset v focus k e w)
+  stores_on v focus k number offset m i t y live at cells opens flag few is claims goes =
+      stores_marking v focus k number offset m i t y g.here live at cells opens flag few is claims (λ object j hidden apart kept. kept) (λ j u found apart kept. kept) (λ object now. now) goes
 
   -- and is written
-  pub writes_target : (v : Operand) (k : List Entry) (object offset : ℕ) (t : RunTy) (l : Life) (focus : Focus) → AreOpen w.regions (ends_of k) → LiveIn k bs → IsPresent g (ends_of k) l → IsHad g (pointer_at l object)
-      → IsTarget g t l object offset → IsResult g (Value t) v → ((h : Typing) → Stays g h → IsFocus p h x bs focus k)
+  pub writes_target : (v : Operand) (k : List Entry) (object offset i : ℕ) (t : RunTy) (l : Life) (focus : Focus) → AreOpen w.regions (ends_of k) → LiveIn k bs → IsPresent g (ends_of k) l → IsHad g (pointer_at l object)
+      → IsTarget g t l object offset → IsResult g (Value t) v → Claims g.own (Hand i) t v.value → ((h : Typing) → Changed (Hand i) g h → IsFocus p h x bs focus k)
       → IsWell p (stored (cell_at w object offset) object offset v focus k e w)
-  writes_target v k object offset t l focus opens live lasting had (y, there, shown, outlasts, part) is goes =
+  writes_target v k object offset i t l focus opens live lasting had (y, there, shown, outlasts, part) is claims goes =
       let open' = life_of g w typed k object y l there opens outlasts lasting had in
       let (cells, (m, flag, enough)) = stored_part g object y t offset v.value is.1 part in
       let few : offset ≤ m = omega (arith, enough) in
-      writes v focus k object offset m t y live there cells open' flag few is (λ here. shared_claims g w object offset y t typed there shown cells (At object) v.value) (λ grows now. goes (with_filled g object (risen offset m)) grows)
+      stores_on v focus k object offset m i t y live there cells open' flag few is claims (λ changed now. goes (stored_typing v focus k object offset m i t y g.here) changed)

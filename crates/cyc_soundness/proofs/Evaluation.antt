@@ -34,21 +34,21 @@ use Rattle.cyc_meaning.specs.Nesting.{ends_of, AreOpen}
 use Rattle.cyc_meaning.specs.Step.{step_evaluating, addressed, counts, passes, assigned, decided, tested, awaits_right, chained, converts}
 use Rattle.cyc_soundness.specs.Lives.{Life, OfRegion, OfObject, Never, Owned, Kept, heap_life, as_heap, Reading, Lives, AsHeap, ByScope, RunTy, RunValue, Value, Into, looked, kind_at}
 use Rattle.cyc_soundness.specs.Lives as lives
-use Rattle.cyc_soundness.specs.Worlds.{Thing, Holder, Nobody, Hand, At, thing_of, Owns, AtStart, Claims, ClaimsPart, ClaimsBy, IsLookedAt, IsSlot, IsHere, given, giving, marked, handing, AreOwned, IsOpenObject, IsNewOwner, IsKeyless, HasType, Typing, IsFull, global_type, Outlasts, alike, globals as with_globals, AgreesWith, IsResult, AreOperands, IsTyped}
-use Rattle.cyc_soundness.specs.Frames.{IsAmong, Bound, local_type, InScope, Variable, IsLasting, IsBound, AreVariables, IsHomed, LiveIn, IsSet, IsFullIn, Holds, Implies, Exits, IsContext, KnowsProgram, lives_in, read, read_value, frees_in}
-use Rattle.cyc_soundness.specs.Classes.{is_full, Relied, frees_of, and_looked, IsSpared, HasScopes, LeadsToShared, InExpression, InArguments, InOperations, Source}
+use Rattle.cyc_soundness.specs.Worlds.{Thing, Holder, Nobody, Hand, At, thing_of, Owns, AtStart, Claims, ClaimsPart, ClaimsBy, IsLookedAt, IsSlot, IsHere, given, marked, handing, Settled, IsOpenObject, IsNewOwner, IsPlain, HasType, Typing, IsFull, global_type, Outlasts, alike, globals as with_globals, AgreesWith, IsResult, AreOperands, IsTyped}
+use Rattle.cyc_soundness.specs.Frames.{IsAmong, Bound, local_type, InScope, Variable, IsBound, AreVariables, IsHomed, LiveIn, IsSet, IsFullIn, Holds, Implies, Exits, IsContext, KnowsProgram, lives_in, read, read_value, frees_in}
+use Rattle.cyc_soundness.specs.Classes.{is_full, Relied, frees_of, and_looked, IsSpared, HasScopes, InExpression, InArguments, InOperations, Source}
 use Rattle.cyc_soundness.specs.Stacks.{KeepsUnique, IsCommonLife, IsPlainValue, IsChained, Evaluates, Val, Go, turned, relied_at, IsCalled, null, IsStack, IsFocus, IsWell}
 use Rattle.cyc_soundness.specs.Stacks as stacks
 use Rattle.cyc_soundness.proofs.Numbers.{some_same, both}
 use Rattle.cyc_soundness.proofs.TypeLemmas.{place_type, target_typed, is_kind_same, kind_read, kind_meant}
 use Rattle.cyc_soundness.proofs.FlowLemmas.{implies_self, meet_first, meet_second, vacant_implied, holds_implied, reached_with}
-use Rattle.cyc_soundness.proofs.WorldLemmas.{cells_own, risen, with_filled, type_grown, result_grown}
-use Rattle.cyc_soundness.proofs.Hands.{Changed, at_no_hand, given_now, marked_now, marked_before, marked_keeps, giving_changed, handing_changed, changed_raised, variables_kept, holds_kept, variables_grown, holds_grown, given_typed, taken_typed, hands_globals}
-use Rattle.cyc_soundness.proofs.Sharing.{keeps_by, region_common, plain_read, all_freed}
-use Rattle.cyc_soundness.proofs.StackLemmas.{emptied_other, stack_changed, stack_grown, comes_alone, keeps_passed, void_goes, pointer_left, bound_of, bound_to, lasting_open, kept_open, object_known, among_open, among_own, place_local, among_bound, among_variable, among_live, among_level, among_set, set_stored, open_of, globals_among}
+use Rattle.cyc_soundness.proofs.WorldLemmas.{type_grown, result_grown}
+use Rattle.cyc_soundness.proofs.Hands.{Changed, at_no_hand, given_now, marked_now, marked_before, marked_keeps, handing_changed, variables_kept, holds_kept, taken_typed, hands_globals, kept_now}
+use Rattle.cyc_soundness.proofs.Sharing.{keeps_by, region_common, plain_read, all_freed, unique_by_type}
+use Rattle.cyc_soundness.proofs.StackLemmas.{emptied_other, stack_changed, comes_alone, keeps_passed, void_goes, pointer_left, bound_of, bound_to, lasting_open, kept_open, object_known, among_open, among_own, place_local, among_bound, among_variable, among_live, among_level, among_set, set_stored, open_of, globals_among, settled}
 use Rattle.cyc_soundness.proofs.ValueLemmas.{zero_is, converted_by, kind_given}
 use Rattle.cyc_soundness.proofs.RegionLemmas.{agrees_of, there_of, cell_live, global_means, these_by, live_by, instance_is, parameters_mean, result_means}
-use Rattle.cyc_soundness.proofs.Cells.{lasting_common, open_object, keyless_claims, pointer_keyless, shared_claims, running, part_at, Content, content_of, reads, written_typing, writes_marking, writes}
+use Rattle.cyc_soundness.proofs.Cells.{lasting_common, open_object, plain_claims, pointer_plain, running, part_at, Content, content_of, reads, stored_typing, stores_marking, stores_on}
 use Rattle.cyc_soundness.proofs.Looking.{looked_expression, looked_converted, peeked_so}
 use Rattle.cyc_soundness.proofs.Objects.{makes_on}
 use Rattle.cyc_soundness.proofs.Places.{gives_same, looked_result, looked_part, takes, gives, gives_by, converted_leads, moved_comes}
@@ -94,8 +94,8 @@ part_none g i None = tt
 part_none g i (Some n) = tt
 
 result_plain : {c : Context} {o : PointerOperator} {u v w : ValueType} (g : Typing) (bs : List InScope) → AreVariables g bs → PointerOperation c o u v w → IsPlainValue (read_value bs w)
-result_plain g bs variables (adds t r other) = pointer_keyless marks.Fat (read bs t) (lives_in bs r) (region_common g bs variables r other)
-result_plain g bs variables (subtracts t r other) = pointer_keyless marks.Fat (read bs t) (lives_in bs r) (region_common g bs variables r other)
+result_plain g bs variables (adds t r other) = pointer_plain marks.Fat (read bs t) (lives_in bs r) (region_common g bs variables r other)
+result_plain g bs variables (subtracts t r other) = pointer_plain marks.Fat (read bs t) (lives_in bs r) (region_common g bs variables r other)
 result_plain g bs variables (equals k l t r s one two here there) = tt
 result_plain g bs variables (differs k l t r s one two here there) = tt
 result_plain g bs variables (thin_null k t r thin) = tt
@@ -162,10 +162,10 @@ life_claims own h m t l n z keeps is = go n refl
   where
     go : (n' : Life) → n ≡ n' → Claims own h (lives.Pointer m t n) z
     go Owned same = subst (λ e. Claims own h (lives.Pointer m t e) z) (keeps same ∙ sym same) is
-    go (OfRegion number ns us) same = keyless_claims own h (lives.Pointer m t n) z (pointer_keyless m t n (subst (λ e. IsCommonLife e) (sym same) tt))
-    go (OfObject object) same = keyless_claims own h (lives.Pointer m t n) z (pointer_keyless m t n (subst (λ e. IsCommonLife e) (sym same) tt))
-    go Never same = keyless_claims own h (lives.Pointer m t n) z (pointer_keyless m t n (subst (λ e. IsCommonLife e) (sym same) tt))
-    go (Kept region) same = keyless_claims own h (lives.Pointer m t n) z (pointer_keyless m t n (subst (λ e. IsCommonLife e) (sym same) tt))
+    go (OfRegion number ns us) same = plain_claims own h (lives.Pointer m t n) z (pointer_plain m t n (subst (λ e. IsCommonLife e) (sym same) tt))
+    go (OfObject object) same = plain_claims own h (lives.Pointer m t n) z (pointer_plain m t n (subst (λ e. IsCommonLife e) (sym same) tt))
+    go Never same = plain_claims own h (lives.Pointer m t n) z (pointer_plain m t n (subst (λ e. IsCommonLife e) (sym same) tt))
+    go (Kept region) same = plain_claims own h (lives.Pointer m t n) z (pointer_plain m t n (subst (λ e. IsCommonLife e) (sym same) tt))
 
 converted_claims : (g : Typing) (i : ℕ) (n : Lives) (c : Context) (s : ValueType) (t : Ty) (v : Operand) (z : values.Value) → KeepsUnique c.regions n → Converts c s t → IsResult g (lives.value_at n s) v → conversion (tests.kind_of t) v.value ≡ Gives z
     → ClaimsBy g i (lives.value_at n s) v.value → Claims g.own (Hand i) (lives.at n t) z
@@ -196,6 +196,11 @@ full_set Full full = refl
 pub used_full : (f : flow.State) (n : ℕ) → not (is_vacant (fullness f n)) ≡ true → not (is_locked (fullness f n)) ≡ true → IsFullIn f n
 used_full f n set free = full_of (fullness f n) (not_true (is_vacant (fullness f n)) set) (not_true (is_locked (fullness f n)) free)
 
+-- the one cell of a variable
+only_first : (t : lives.RunTy) (j : ℕ) (u : lives.RunTy) → slice_get (t ∷ []) j ≡ Some u → j ≢ 0 → ⊥
+only_first t zero u found apart = apart refl
+only_first t (suc j) u found apart = absurd (let k : None ≡ Some u = found in cc)
+
 -- ---- a local is read
 
 module _ (p : Source) (g : Typing) (x : Exits) (bs : List InScope) (e : Environment) (w : World) (typed : IsTyped g w.regions w.objects) (globals : KnowsProgram g p) (bound : IsBound e.locals e.counters bs) (variables : AreVariables g bs) where
@@ -214,8 +219,9 @@ module _ (p : Source) (g : Typing) (x : Exits) (bs : List InScope) (e : Environm
       (ap kind_at of_type ∙ kind_meant (lives_in bs) u)
 
   -- it is its variable's
-  pub its_own : (b : Bound) (kind : Kind) (c : Held b kind) → IsAmong (Variable b) bs → IsHere g g.depth b.number b.object → Claims g.own (At b.object) b.of_type c.value
-  its_own b kind c among here = typed.owned b.object (local_type g.depth b) c.object here.0 (among_variable g among variables) c.there 0 b.of_type c.cell c.value refl c.at c.content
+  pub its_own : (b : Bound) (kind : Kind) (c : Held b kind) → g.pending ≡ Settled → IsAmong (Variable b) bs → IsHere g g.depth b.number b.object → Claims g.own (At b.object 0) b.of_type c.value
+  its_own b kind c still among here =
+      typed.owned b.object (local_type g.depth b) c.object (among_variable g among variables) c.there 0 b.of_type c.cell c.value (kept_now g b.object 0 b.is_hidden here.0 still) refl c.at c.content
 
   -- its value, for what waits
   pub from_bound : (k : List Entry) (n : ℕ) (u : Ty) (b : Bound) (h : flow.State) (r : RunValue) → AreOpen w.regions (ends_of k) → LiveIn k bs → Holds g h bs → IsAmong (Variable b) bs → b.number ≡ n → b.of_type ≡ read bs u → IsFull g b.object
@@ -227,31 +233,36 @@ module _ (p : Source) (g : Typing) (x : Exits) (bs : List InScope) (e : Environm
       (among_variable g among variables) refl (open_local k b opens live among) full (ap kind_at of_type ∙ kind_meant (lives_in bs) u) r fits comes stack)
 
   -- a local's value goes to an operand
-  pub moves : (k : List Entry) (c : Context) (n : ℕ) (u : Ty) (f : flow.State) → AreOpen w.regions (ends_of k) → LiveIn k bs → IsContext p x bs c → Holds g f bs → (r : ℕ) × HasLocal c.locals n u r → IsFullIn f n → IsSpared (relied_at x.relied k) n
+  pub moves : (k : List Entry) (c : Context) (n : ℕ) (u : Ty) (f : flow.State) → AreOpen w.regions (ends_of k) → LiveIn k bs → IsContext p x bs c → Holds g f bs → (r : ℕ) × HasLocal c.locals n u r → is_moved u ≡ true → IsFullIn f n → IsSpared (relied_at x.relied k) n
       → IsStack p g x bs (Val (Value (read bs u)) (with_fullness Vacant f n)) k → IsWell p (loaded_from (values.kind_of u) (e.locals n) k e w)
-  moves k c n u f opens live stands holds (r, has) full spared stack =
-      let (b, among, number, of_type) = bound_of p.reading (lives_in bs) c.locals bs n u r stands.scope has in
+  moves k c n u f opens live stands holds (r, has) moved full spared stack =
+      let l = bound_to p.reading (lives_in bs) c.locals bs n u r stands.scope has in
+      let b = l.bound in
+      let among = l.among in
+      let number = l.number in
+      let of_type = l.of_type in
       let full_here : IsFullIn f b.number = subst (λ i. IsFullIn f i) (sym number) full in
       let there : e.locals n ≡ Some b.object = ap e.locals (sym number) ∙ among_bound e among bound in
       let here : IsHere g g.depth b.number b.object = among_own g f among holds.1 full_here in
       let slot : IsSlot g g.depth n b.object = subst (λ i. IsSlot g g.depth i b.object) number here.1 in
       let v = held_in k u b opens live among of_type (among_set g f among holds.1 (full_set (fullness f b.number) full_here)) in
-      let claims : Claims g.own (At b.object) (read bs u) v.value = subst (λ t. Claims g.own (At b.object) t v.value) of_type (its_own b (values.kind_of u) v among here) in
+      let still = settled p g x bs (Val (Value (read bs u)) (with_fullness Vacant f n)) k stack in
+      let claims : Claims g.own (At b.object 0) (read bs u) v.value = subst (λ t. Claims g.own (At b.object 0) t v.value) of_type (its_own b (values.kind_of u) v still among here) in
       let o = thing_of (read bs u) v.value in
       let hand = Hand (stacks.operands_in k) in
       let h = handing g o hand b.object false in
-      let changed : Changed (At b.object) g h = handing_changed g o (At b.object) hand b.object false claims.0 (λ same. refl) in
+      let changed : Changed (At b.object 0) g h = handing_changed g o (At b.object 0) hand b.object false claims.0 (λ same. refl) in
       let f1 = with_fullness Vacant f n in
       subst (λ i. IsWell p (loaded_from (values.kind_of u) i k e w)) (sym there)
       (subst (λ s. IsWell p s) (sym (v.loads k e))
-      (running p h x bs e w (taken_typed g o b.object hand w.regions w.objects claims.0 typed) (hands_globals p g (given o hand g.own) (marked b.object false g.here) globals) bound (variables_kept (At b.object) g h changed bs refl variables)
+      (running p h x bs e w (taken_typed g o b.object hand (local_type g.depth b) w.regions w.objects claims.0 (among_variable g among variables) (l.hidden ∙ moved) typed) (hands_globals p g (given o hand g.own) (marked b.object false g.here) globals) bound (variables_kept (At b.object 0) g h changed bs refl variables)
       (Given (record { kind = values.kind_of u; value = v.value })) k live (
         Value (read bs u),
         f1,
-        holds_kept (At b.object) g h changed f1 bs (λ m other s its. emptied_other g Vacant f n m b.object other refl holds.0 s slot its.1) (holds_implied g f f1 bs (vacant_implied f n) holds),
+        holds_kept (At b.object 0) g h changed f1 bs (λ m other s its. emptied_other g Vacant f n m b.object other refl holds.0 s slot its.1) (holds_implied g f f1 bs (vacant_implied f n) holds),
         (sym (kind_meant (lives_in bs) u), type_grown g h changed.grows (read bs u) v.value (subst (λ t. HasType g t v.value) of_type v.has)),
         (given_now g.own o hand, claims.1),
-        stack_changed p (At b.object) g h x bs (Val (Value (read bs u)) f1) k changed (g.depth, n, slot, inl (refl, spared)) stack,
+        stack_changed p (At b.object 0) g h x bs (Val (Value (read bs u)) f1) k changed (g.depth, n, slot, inl (refl, spared)) stack,
       )))
 
 module _ (p : Source) where
@@ -293,24 +304,24 @@ module _ (p : Source) where
     -- a local that is read, and keeps what it holds
     from_local : (k : List Entry) (c : Context) (n : ℕ) (u : Ty) (f h : flow.State) (r : RunValue) → AreOpen w.regions (ends_of k) → LiveIn k bs → IsContext p x bs c → Holds g f bs
         → (i : ℕ) × HasLocal c.locals n u i → IsSet f n → Implies f h → ((v : values.Value) → HasType g (read bs u) v → IsResult g r (record { kind = values.kind_of u; value = v }))
-        → ((b : Bound) (v : values.Value) → b.number ≡ n → (IsHere g g.depth b.number b.object → Claims g.own (At b.object) (read bs u) v) → IsAmong (Variable b) bs → ClaimsBy g (stacks.operands_in k) r v)
+        → ((b : Bound) (v : values.Value) → b.number ≡ n → (IsHere g g.depth b.number b.object → Claims g.own (At b.object 0) (read bs u) v) → IsAmong (Variable b) bs → ClaimsBy g (stacks.operands_in k) r v)
         → IsStack p g x bs (Val r h) k → IsWell p (loaded_from (values.kind_of u) (e.locals n) k e w)
     from_local k c n u f h r opens live stands holds (i, has) is_set implies fits comes stack =
         let (b, among, number, of_type) = bound_of p.reading (lives_in bs) c.locals bs n u i stands.scope has in
         let full : IsFull g b.object = among_set g f among holds.1 (subst (λ m. IsSet f m) (sym number) is_set) in
         from_bound p g x bs e w typed globals bound variables k n u b h r opens live (holds_implied g f h bs implies holds) among number of_type full
         (λ v is. fits v (subst (λ z. HasType g z v) of_type is))
-        (λ v. comes b v.value number (λ here. subst (λ t. Claims g.own (At b.object) t v.value) of_type (its_own p g x bs e w typed globals bound variables b (values.kind_of u) v among here)) among) stack
+        (λ v. comes b v.value number (λ here. subst (λ t. Claims g.own (At b.object 0) t v.value) of_type (its_own p g x bs e w typed globals bound variables b (values.kind_of u) v (settled p g x bs (Val r h) k stack) among here)) among) stack
 
     -- a value that is copied
     pub copies : (k : List Entry) (c : Context) (n : ℕ) (u : Ty) (t : ValueType) (f h : flow.State) → AreOpen w.regions (ends_of k) → LiveIn k bs → IsContext p x bs c → Holds g f bs
         → (i : ℕ) × HasLocal c.locals n u i → IsSet f n → is_moved u ≡ false → Implies f h → t ≡ types.Value u → IsStack p g x bs (Val (read_value bs t) h) k → IsWell p (loaded_from (values.kind_of u) (e.locals n) k e w)
     copies k c n u t f h opens live stands holds has is_set plain implies same stack =
         from_local k c n u f h (Value (read bs u)) opens live stands holds has is_set implies (λ v is. (sym (kind_meant (lives_in bs) u), is))
-        (λ b v number own among. keyless_claims g.own (Hand (stacks.operands_in k)) (read bs u) v (plain_read g bs variables u plain)) (subst (λ z. IsStack p g x bs (Val z h) k) (ap (read_value bs) same) stack)
+        (λ b v number own among. plain_claims g.own (Hand (stacks.operands_in k)) (read bs u) v (plain_read g bs variables u plain)) (subst (λ z. IsStack p g x bs (Val z h) k) (ap (read_value bs) same) stack)
 
     -- and one that is looked at
-    looked_at : (n object : ℕ) (o : Option Thing) → IsHere g g.depth n object → Owns g.own (At object) o → IsLookedAt g n o
+    looked_at : (n object : ℕ) (o : Option Thing) → IsHere g g.depth n object → Owns g.own (At object 0) o → IsLookedAt g n o
     looked_at n object None here is = tt
     looked_at n object (Some a) here is = (object, here, is)
 
@@ -323,14 +334,14 @@ module _ (p : Source) where
         (subst (λ z. IsStack p g x bs (Val (looked (Some n) (read_value bs z)) h) k) same stack)
 
     from_global : (k : List Entry) (c : Context) (n : ℕ) (u : Ty) (t : ValueType) (f : flow.State) → AreOpen w.regions (ends_of k) → LiveIn k bs → IsContext p x bs c → Holds g f bs
-        → slice_get c.globals n ≡ Some u → t ≡ types.Value u → IsStack p g x bs (Val (read_value bs t) f) k
+        → slice_get c.globals n ≡ Some u → is_moved u ≡ false → t ≡ types.Value u → IsStack p g x bs (Val (read_value bs t) f) k
         → IsWell p (loaded_from (values.kind_of u) (Some n) k e w)
-    from_global k c n u t f opens live stands holds has same stack =
+    from_global k c n u t f opens live stands holds has plain same stack =
         let (there, means) = global_there n u c stands has in
         let (at, full, closed) = globals.globals n u there in
         let z = lives.at (as_heap (frees_of p.reading)) u in
         reads p g x bs e w typed globals bound variables k (values.kind_of u) n 0 z (global_type z) f live holds at refl (open_of w.regions (globals_among k) opens) full (kind_meant (as_heap (frees_of p.reading)) u)
-        (Value z) (λ v is. (sym (kind_meant (as_heap (frees_of p.reading)) u), is)) (λ v. shared_claims g w n 0 (global_type z) z typed at refl refl (Hand (stacks.operands_in k)) v.value)
+        (Value z) (λ v is. (sym (kind_meant (as_heap (frees_of p.reading)) u), is)) (λ v. plain_claims g.own (Hand (stacks.operands_in k)) z v.value (subst (λ y. IsPlain y) means (plain_read g bs variables u plain)))
         (subst (λ z. IsStack p g x bs (Val z f) k) (ap (read_value bs) same ∙ ap Value means) stack)
 
     -- ---- arguments
@@ -378,9 +389,9 @@ module _ (p : Source) where
     evaluate (Copy (Local place n) u) k c t f h q opens live stands holds (inl ((has, there), moved, same)) (demands, known) kept stack =
         copies k c n u t f h opens live stands holds has (not_true (is_vacant (fullness f n)) demands.0) moved (subst (λ z. Implies f z) (sym known) (implies_self f)) same stack
     evaluate (Copy (Global n) u) k c t f h q opens live stands holds (inl (there, moved, same)) (demands, known) kept stack =
-        from_global k c n u t h opens live stands (subst (λ z. Holds g z bs) (sym known) holds) there same stack
+        from_global k c n u t h opens live stands (subst (λ z. Holds g z bs) (sym known) holds) there moved same stack
     evaluate (Move place n u) k c t f h q opens live stands holds (inl ((has, there), moved, same)) (demands, known) kept stack =
-        moves p g x bs e w typed globals bound variables k c n u f opens live stands holds has (used_full f n demands.0 demands.1.0) kept
+        moves p g x bs e w typed globals bound variables k c n u f opens live stands holds has moved (used_full f n demands.0 demands.1.0) kept
         (subst (λ z. IsStack p g x bs (Val z (with_fullness Vacant f n)) k) (ap (read_value bs) same) (subst (λ z. IsStack p g x bs (Val (read_value bs t) z) k) known stack))
     evaluate (Peek place n u) k c t f h q opens live stands holds (inr ((has, there), unique, same)) (demands, known) kept stack =
         peeks k c n u t f h opens live stands holds has (used_full f n demands.0 demands.1.0) (subst (λ z. Implies f z) (sym known) (implies_self f)) same stack
@@ -505,7 +516,7 @@ module _ (p : Source) where
           record { waiting = q; typed = cell; flows = flows; kept = kept },
           (
             Val (Value (read bs u)) h,
-            stacks.loads_from (peek_behind d) u r h (there_of p x bs c stands r (cell_live c d u r cell)) plain (ap values.kind_of (sym (place_type c d u r cell))),
+            stacks.loads_from (peek_behind d) u r h (there_of p x bs c stands r (cell_live c d u r cell)) (unique_by_type g bs variables u unique) plain (ap values.kind_of (sym (place_type c d u r cell))),
             tt,
             subst (λ z. IsStack p g x bs (Val (read_value bs z) h) k) same stack,
           ),
@@ -519,7 +530,7 @@ module _ (p : Source) where
         ap (read_value bs) (same ∙ ap types.Value u_is) ∙ ap (λ z. Value (lives.Pointer marks.NonNull z (lives_in bs r))) means in
         hands k (read_value bs t) (Value (lives.Pointer marks.NonNull (lives.at (as_heap (frees_of p.reading)) v) (lives_in bs r))) (record { kind = kinds.NonNull; value = values.Thin n 0 }) f h live holds known
         is (refl, (global_type (lives.at (as_heap (frees_of p.reading)) v), at, refl, with_globals (lives_in bs r), part))
-        (keyless_claims g.own (Hand (stacks.operands_in k)) (lives.Pointer marks.NonNull (lives.at (as_heap (frees_of p.reading)) v) (lives_in bs r)) (values.Thin n 0) (pointer_keyless marks.NonNull (lives.at (as_heap (frees_of p.reading)) v) (lives_in bs r) common)) stack
+        (plain_claims g.own (Hand (stacks.operands_in k)) (lives.Pointer marks.NonNull (lives.at (as_heap (frees_of p.reading)) v) (lives_in bs r)) (values.Thin n 0) (pointer_plain marks.NonNull (lives.at (as_heap (frees_of p.reading)) v) (lives_in bs r) common)) stack
     evaluate (AddressOf (Local place n) u) k c t f h q opens live stands holds (inl (v, r, (m, has, region, there), plain, u_is, same)) (demands, known) kept stack =
         let l = bound_to p.reading (lives_in bs) c.locals bs n v m stands.scope (place_local c.locals n v m has) in
         let b = l.bound in
@@ -533,7 +544,7 @@ module _ (p : Source) where
         (hands k (read_value bs t) (Value (lives.Pointer marks.NonNull (read bs v) (lives_in bs r))) (record { kind = kinds.NonNull; value = values.Thin b.object 0 }) f h live holds known
         (ap (read_value bs) (same ∙ ap types.Value u_is))
         (refl, (y, among_variable g l.among variables, l.hidden ∙ plain, subst (λ z. Outlasts b.life z) life (alike b.life), part))
-        (keyless_claims g.own (Hand (stacks.operands_in k)) (lives.Pointer marks.NonNull (read bs v) (lives_in bs r)) (values.Thin b.object 0) (pointer_keyless marks.NonNull (read bs v) (lives_in bs r) common)) stack)
+        (plain_claims g.own (Hand (stacks.operands_in k)) (lives.Pointer marks.NonNull (read bs v) (lives_in bs r)) (values.Thin b.object 0) (pointer_plain marks.NonNull (read bs v) (lives_in bs r) common)) stack)
     evaluate (AddressOfCell d u) k c t f h q opens live stands holds (inl (v, r, cell, plain, other, u_is, same)) flows kept stack =
         on (Locating d) (NeedsPlace TakeAddress ∷ k) live (
           c,
@@ -589,12 +600,12 @@ module _ (p : Source) where
           ),
         )
     evaluate (New OnHeap i u) k c t f h q opens live stands holds (inl (m, v, r, region, made, u_is, same)) (f1, (unit, known), di) kept stack =
-        makes_on p g x bs e w typed globals bound variables i (InRegion heap_number) k c m v regions.Heap f1 h q opens live stands (subst (λ z. Holds g z bs) (sym known) holds) tt refl made di kept.2 (subst (λ z. LeadsToShared p.reading z) u_is kept.0)
+        makes_on p g x bs e w typed globals bound variables i (InRegion heap_number) k c m v regions.Heap f1 h q opens live stands (subst (λ z. Holds g z bs) (sym known) holds) tt refl made di kept.1
         (subst (λ z. IsStack p g x bs (Val (read_value bs z) h) k) (same ∙ ap types.Value (u_is ∙ ap (λ z. types.Pointer m v z) region)) stack)
     evaluate (New AsUnique i u) k c t f h q opens live stands holds (inl (m, v, r, region, made, u_is, same)) (f1, (unit, known), di) kept stack =
-        makes_on p g x bs e w typed globals bound variables i (Unique true) k c m v regions.Unique f1 h q opens live stands (subst (λ z. Holds g z bs) (sym known) holds) tt (owned_made (frees_in bs)) made di kept.2 (subst (λ z. LeadsToShared p.reading z) u_is kept.0)
+        makes_on p g x bs e w typed globals bound variables i (Unique true) k c m v regions.Unique f1 h q opens live stands (subst (λ z. Holds g z bs) (sym known) holds) tt (owned_made (frees_in bs)) made di kept.1
         (subst (λ z. IsStack p g x bs (Val (read_value bs z) h) k) (same ∙ ap types.Value (u_is ∙ ap (λ z. types.Pointer m v z) region)) stack)
-    evaluate (New (ByHandle a) i u) k c t f h q opens live stands holds (inl (m, v, r, (well, alive), made, u_is, same)) (f1, d, di) (shared, ka, ki) stack =
+    evaluate (New (ByHandle a) i u) k c t f h q opens live stands holds (inl (m, v, r, (well, alive), made, u_is, same)) (f1, d, di) (ka, ki) stack =
         on (Evaluating a) (Needs (PlaceBy i) ∷ k) live (
           c,
           types.Value (types.Handle r),
@@ -607,7 +618,7 @@ module _ (p : Source) where
             [],
             bs,
             Val (Value (lives.Pointer m (read bs v) (lives_in bs r))) h,
-            stacks.places_by c m v r f1 h stands (record { waiting = q; typed = made; flows = di; kept = ki; shared = subst (λ z. LeadsToShared p.reading z) u_is shared }) (there_of p x bs c stands r alive),
+            stacks.places_by c m v r f1 h stands (record { waiting = q; typed = made; flows = di; kept = ki }) (there_of p x bs c stands r alive),
             tt,
             subst (λ z. IsStack p g x bs (Val (read_value bs z) h) k) (same ∙ ap types.Value u_is) stack,
           ),
@@ -689,8 +700,8 @@ module _ (p : Source) where
         nothing_at None has = tt
         nothing_at (Some a) has = let z : Nobody ≡ Hand 0 = has in absurd (cc)
 
-        looked_at_plain : (t : lives.RunTy) (v : values.Value) → IsKeyless t → IsLookedAt g n (thing_of t v)
-        looked_at_plain t v plain = nothing_at (thing_of t v) (keyless_claims (λ a. Nobody) (Hand 0) t v plain).0
+        looked_at_plain : (t : lives.RunTy) (v : values.Value) → IsPlain t → IsLookedAt g n (thing_of t v)
+        looked_at_plain t v plain = nothing_at (thing_of t v) (plain_claims (λ a. Nobody) (Hand 0) t v plain).0
 
     -- a left operand stands before what is left of its chain
     pub chain_on : (os : Operations) (peek : Option ℕ) (v : Operand) (k : List Entry) (c : Context) (s : ValueType) (u : Ty) (f h : flow.State) (q : List ℕ) → LiveIn k bs → IsContext p x bs c → Holds g f bs
@@ -774,39 +785,23 @@ module _ (p : Source) where
     handed h t v true is = tt
     handed h t v false is = is
 
-    -- the one cell of a variable
-    one_cell : (own : Thing → Holder) (object : ℕ) (u : lives.RunTy) (v : values.Value) (cs : List Cell) (d : Cell) → slice_get cs 0 ≡ Some d → Claims own (At object) u v → AreOwned own object (u ∷ []) (set cs 0 (record d { content = Some v }))
-    one_cell own object u v cs d at is = cells_own own object (u ∷ []) cs 0 u d v refl at is others
-      where
-        others : (j : ℕ) → j ≢ 0 → (t : lives.RunTy) (c : Cell) (z : values.Value) → slice_get (u ∷ []) j ≡ Some t → slice_get cs j ≡ Some c → c.content ≡ Some z → Claims own (At object) t z
-        others zero apart t c z found there content = absurd (apart refl)
-        others (suc j) apart t c z found there content = absurd (let k : None ≡ Some t = found in cc)
-
     pub writes_local : (v : Operand) (k : List Entry) (b : Bound) (t : Ty) (f : flow.State) → AreOpen w.regions (ends_of k) → LiveIn k bs → IsAmong (Variable b) bs → b.of_type ≡ read bs t
         → Holds g f bs → IsResult g (Value (read bs t)) v → stacks.Comes g (Value (read bs t)) v k → IsStack p g x bs (Val (read_value bs (assigned_type t)) (with_fullness Full f b.number)) k
         → IsWell p (stored (cell_at w b.object 0) b.object 0 v (Given v) k e w)
     writes_local v k b t f opens live among of_type holds is comes stack =
         let u = read bs t in
-        let thing = thing_of u v.value in
-        let hand = Hand (stacks.operands_in k) in
-        let its = At b.object in
-        let o = giving g thing its in
+        let i = stacks.operands_in k in
+        let hand = Hand i in
         let y = local_type g.depth b in
         let there = among_variable g among variables in
         let (z, m, stands, flag, typed_is) = typed.each b.object y there in
         let here = marked b.object true g.here in
-        let changed : Changed hand g o = giving_changed g thing hand its comes.0 in
-        let is_now = result_grown g o changed.grows (Value u) v is in
-        let scope : AreVariables o bs = variables_kept hand g o changed bs refl variables in
-        let typed_now : IsTyped o w.regions w.objects = given_typed g thing hand its w.regions w.objects comes.0 tt (λ n. at_no_hand n (stacks.operands_in k)) typed in
-        let knows = hands_globals p g (given thing its g.own) g.here globals in
-        writes_marking p o x bs e w typed_now knows bound scope v (Given v) k b.object 0 m u y here live there (ap (λ z. Some z) of_type)
-        (opens_so o (open_local p g x bs e w typed globals bound variables k b opens live among) (among_live (ends_of k) among live.0)) flag (let few : 0 ≤ m = omega arith in few) is_now
-        (λ object apart now. marked_before b.object true g.here object apart now) (λ object now. marked_keeps b.object g.here object now)
-        (λ now c d stands at. subst (λ z. AreOwned o.own b.object (z ∷ []) (set c.cells 0 (record d { content = Some v.value }))) (sym of_type) (one_cell o.own b.object u v.value c.cells d at (given_now g.own thing its, comes.1)))
-        (λ raises full. (let h = written_typing p o x bs e w typed_now knows bound scope v (Given v) k b.object 0 m u y here in
-        let all : Changed hand g h = changed_raised hand g o h changed raises in
-        let (reached, are) = holds_kept hand g h all f bs (λ n object full' here'. at_no_hand object (stacks.operands_in k)) holds in (
+        stores_marking p g x bs e w typed globals bound variables v (Given v) k b.object 0 m i u y here live there (ap (λ z. Some z) of_type)
+        (open_local p g x bs e w typed globals bound variables k b opens live among) flag (let few : 0 ≤ m = omega arith in few) is comes
+        (λ object j hidden apart kept. ((λ hides. marked_before b.object true g.here object apart (kept.0 hides)), kept.1))
+        (λ j z found apart kept. absurd (only_first b.of_type j z found apart)) (λ object now. marked_keeps b.object g.here object now)
+        (λ all full. (let h = stored_typing p g x bs e w typed globals bound variables v (Given v) k b.object 0 m i u y here in
+        let (reached, are) = holds_kept hand g h all f bs (λ n object full' here'. at_no_hand object 0 i) holds in (
           read_value bs (assigned_type t),
           with_fullness Full f b.number,
           (reached_with Full f b.number reached, set_stored h e Full f b.number b.object bs bound (among_bound e among bound) full reached (λ s. (marked_now b.object true g.here, (y, there, refl))) are),
@@ -814,32 +809,23 @@ module _ (p : Source) where
           moved_comes h (stacks.operands_in k) bs t v.value (variables_kept hand g h all bs refl variables),
           stack_changed p hand g h x bs (Val (read_value bs (assigned_type t)) (with_fullness Full f b.number)) k all (let le : stacks.operands_in k ≤ stacks.operands_in k = omega arith in le) stack,
         )))
-      where
-        opens_so : (h : Typing) → IsOpenObject g w.regions b.object b.life → IsLasting (ends_of k) b.life → IsOpenObject h w.regions b.object b.life
-        opens_so h opens lasts = go b.life opens (lasting_common (ends_of k) b.life lasts)
-          where
-            go : (l : Life) → IsOpenObject g w.regions b.object l → IsCommonLife l → IsOpenObject h w.regions b.object l
-            go (lives.OfRegion number ns us) opens common = opens
-            go (lives.OfObject object) opens common = opens
-            go lives.Never opens common = opens
-            go (lives.Kept region) opens common = opens
-            go lives.Owned opens common = absurd common
 
     pub writes_global : (v : Operand) (k : List Entry) (n : ℕ) (t : Ty) (f : flow.State) → AreOpen w.regions (ends_of k) → LiveIn k bs
-        → slice_get (map (λ (v : GlobalVariable). v.of_type) p.program.globals) n ≡ Some t → read bs t ≡ lives.at (as_heap (frees_of p.reading)) t → Holds g f bs → IsResult g (Value (read bs t)) v → IsStack p g x bs (Val (read_value bs (assigned_type t)) f) k
-        → IsWell p (stored (cell_at w n 0) n 0 v (Given v) k e w)
-    writes_global v k n t f opens live there means holds is stack =
+        → slice_get (map (λ (v : GlobalVariable). v.of_type) p.program.globals) n ≡ Some t → read bs t ≡ lives.at (as_heap (frees_of p.reading)) t → Holds g f bs → IsResult g (Value (read bs t)) v → stacks.Comes g (Value (read bs t)) v k
+        → IsStack p g x bs (Val (read_value bs (assigned_type t)) f) k → IsWell p (stored (cell_at w n 0) n 0 v (Given v) k e w)
+    writes_global v k n t f opens live there means holds is comes stack =
         let (at, full, closed) = globals.globals n t there in
         let z = global_type (lives.at (as_heap (frees_of p.reading)) t) in
         let (y, m, stands, flag, typed_is) = typed.each n z at in
         let cell : slice_get z.cells 0 ≡ Some (read bs t) = ap (λ z. Some z) (sym means) in
-        writes p g x bs e w typed globals bound variables v (Given v) k n 0 m (read bs t) z live at
-        cell (open_of w.regions (globals_among k) opens) flag (let few : 0 ≤ m = omega arith in few) is (λ here. shared_claims g w n 0 z (read bs t) typed at refl cell (At n) v.value)
-        (λ grows now. (
+        let i = stacks.operands_in k in
+        let hand = Hand i in
+        stores_on p g x bs e w typed globals bound variables v (Given v) k n 0 m i (read bs t) z live at cell (open_of w.regions (globals_among k) opens) flag (let few : 0 ≤ m = omega arith in few) is comes
+        (λ changed now. (let h = stored_typing p g x bs e w typed globals bound variables v (Given v) k n 0 m i (read bs t) z g.here in (
           read_value bs (assigned_type t),
           f,
-          holds_grown g (with_filled g n (risen 0 m)) grows f bs holds,
-          handed (with_filled g n (risen 0 m)) t v (is_moved t) (result_grown g (with_filled g n (risen 0 m)) grows.grows (Value (read bs t)) v is),
-          moved_comes (with_filled g n (risen 0 m)) (stacks.operands_in k) bs t v.value (variables_grown g (with_filled g n (risen 0 m)) grows bs variables),
-          stack_grown p g (with_filled g n (risen 0 m)) grows x bs (Val (read_value bs (assigned_type t)) f) k stack,
-        ))
+          holds_kept hand g h changed f bs (λ number object full' here'. at_no_hand object 0 i) holds,
+          handed h t v (is_moved t) (result_grown g h changed.grows (Value (read bs t)) v is),
+          moved_comes h i bs t v.value (variables_kept hand g h changed bs refl variables),
+          stack_changed p hand g h x bs (Val (read_value bs (assigned_type t)) f) k changed (let le : i ≤ i = omega arith in le) stack,
+        )))

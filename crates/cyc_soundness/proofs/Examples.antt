@@ -104,7 +104,7 @@ fields : Ends (check_of texts (
     (MoreItems (Execute (Evaluate (Assign (field 4) (New (at 10) (Plain (Number (at 11) 3))))))
     (MoreItems (Execute (Return (at 12) (Some (plus (field 3) (Prefixed (at 13) prefixes.Dereference (field 4)))))) NoItems)))
     ∷ [])) (HasEnded (Returned (pos 7)))
-fields = (refl, ((tt, (tt, tt, (tt, (tt, tt))), ((tt, (tt, tt, tt)), ((tt, (tt, tt)), tt))), tt), refl)
+fields = (refl, ((tt, (tt, (tt, (tt, tt))), ((tt, (tt, tt)), ((tt, (tt, tt)), tt))), tt), refl)
 
 -- int main(){ int ?p = new {for i < 3 : i * i}; return p[2] + numelts(p + 1); }
 elements : Ends (check_of texts (
@@ -112,7 +112,7 @@ elements : Ends (check_of texts (
     MoreItems (Local (written Int (marks.Fat ∷ [])) (named 2 5) (Some (New (at 6) (Array (at 7) (named 5 8) (Number (at 9) 3) (Binary (Variable (named 5 10)) (ThenOperation operators.Multiply (at 11) (Variable (named 5 12)) NoOperations))))))
     (MoreItems (Execute (Return (at 13) (Some (plus (Chained (Variable (named 2 14)) (ThenIndex (Number (at 15) 2) NoPostfixes)) (NumberOfElements (at 16) (plus (Variable (named 2 17)) (Number (at 18) 1))))))) NoItems))
     ∷ [])) (HasEnded (Returned (pos 6)))
-elements = (refl, ((tt, (tt, tt, (tt, (tt, (tt, tt)))), (((tt, tt), ((tt, (tt, tt)), tt)), tt)), tt), refl)
+elements = (refl, ((tt, (tt, (tt, (tt, (tt, tt)))), (((tt, tt), ((tt, (tt, tt)), tt)), tt)), tt), refl)
 
 -- struct S { int x; int n; }; int main(){ struct S @p = new S{1, 5}; p->x :=: p->n; return p->x; }
 swapped : Ends (check_of texts (
@@ -122,7 +122,7 @@ swapped : Ends (check_of texts (
     (MoreItems (Execute (Swap (field 3) (field 4)))
     (MoreItems (Execute (Return (at 12) (Some (field 3)))) NoItems)))
     ∷ [])) (HasEnded (Returned (pos 5)))
-swapped = (refl, ((tt, (tt, tt, (tt, (tt, tt))), ((tt, tt, tt), (tt, tt))), tt), refl)
+swapped = (refl, ((tt, (tt, (tt, (tt, tt))), (((tt, tt), (tt, tt)), (tt, tt))), tt), refl)
 
 -- int main(){ int @`U p = rnew(unique_region) 5; return *p; }
 unique : Ends (check_of texts (
@@ -130,7 +130,7 @@ unique : Ends (check_of texts (
     MoreItems (Local (into 6) (named 2 5) (Some (RegionNew (at 6) (UniqueRegion (at 7)) (Plain (Number (at 8) 5)))))
     (MoreItems (Execute (Return (at 9) (Some (Prefixed (at 10) prefixes.Dereference (Variable (named 2 11)))))) NoItems))
     ∷ [])) (HasEnded (Returned (pos 5)))
-unique = (refl, ((tt, (tt, tt, tt), (tt, tt)), tt), refl)
+unique = (refl, ((tt, (tt, tt), (tt, tt)), tt), refl)
 
 -- int main(){ int *p = NULL; try return *p; catch { default: return 9; } }
 caught : Ends (check_of texts (
@@ -157,7 +157,7 @@ by_handle : Ends (check_of texts (
     (MoreItems (Execute (Return (at 9) (Some (Prefixed (at 10) prefixes.Dereference (Variable (named 2 11)))))) NoItems)) (at 12))
     ∷ main (MoreItems (Execute (Return (at 13) (Some (Call (named 7 14) (MoreExpressions (HeapRegion (at 15)) NoExpressions))))) NoItems)
     ∷ [])) (HasEnded (Returned (pos 6)))
-by_handle = (refl, ((tt, (tt, tt, tt), (tt, tt)), (((tt, tt), tt), tt)), refl)
+by_handle = (refl, ((tt, (tt, tt), (tt, tt)), (((tt, tt), tt), tt)), refl)
 
 -- ---- texts in which no object is given back, and those in which one is that locals have
 
@@ -230,6 +230,30 @@ elements_freed : EndsIn FreesObjects (check_of texts (
     ∷ [])) (HasEnded (Returned (pos 4)))
 elements_freed = (refl, refl, refl)
 
+-- int main(){ int @`U p = rnew(unique_region) 5; int ?n = new {for i < 3 : i}; *p :=: n[2]; int x = *p + n[2]; ufree(p); return x; }
+swapped_and_freed : EndsIn FreesObjects (check_of texts (
+    main (
+    MoreItems (Local (into 6) (named 2 5) (Some (RegionNew (at 6) (UniqueRegion (at 7)) (Plain (Number (at 8) 5)))))
+    (MoreItems (Local (written Int (marks.Fat ∷ [])) (named 4 9) (Some (New (at 10) (Array (at 11) (named 5 12) (Number (at 13) 3) (Variable (named 5 14))))))
+    (MoreItems (Execute (Swap (Prefixed (at 17) prefixes.Dereference (Variable (named 2 18))) (Chained (Variable (named 4 19)) (ThenIndex (Number (at 20) 2) NoPostfixes))))
+    (MoreItems (Local (written Int []) (named 3 21) (Some (plus (Prefixed (at 22) prefixes.Dereference (Variable (named 2 23))) (Chained (Variable (named 4 24)) (ThenIndex (Number (at 25) 2) NoPostfixes)))))
+    (MoreItems (Execute (Evaluate (FreeUnique (at 26) (Variable (named 2 27)))))
+    (MoreItems (Execute (Return (at 28) (Some (Variable (named 3 29))))) NoItems))))))
+    ∷ [])) (HasEnded (Returned (pos 7)))
+swapped_and_freed = (refl, refl, refl)
+
+-- struct S { int x; int @`U n; }; int main(){ struct S @p = new S{4, rnew(unique_region) 5}; int @`U i = rnew(unique_region) 3; p->n = rnew(unique_region) 3; ufree(i); return p->x; }
+stored_and_freed : EndsIn FreesObjects (check_of texts (
+    StructType (named 1 1) [] (record { of_type = written Int []; name = named 3 2 } ∷ record { of_type = into 6; name = named 4 3 } ∷ [])
+    ∷ main (
+    MoreItems (Local (written (Struct (named 1 4) []) (marks.NonNull ∷ [])) (named 2 5) (Some (New (at 6) (Fields (named 1 7) [] (MoreExpressions (Number (at 8) 4) (MoreExpressions (RegionNew (at 9) (UniqueRegion (at 10)) (Plain (Number (at 11) 5))) NoExpressions))))))
+    (MoreItems (Local (into 6) (named 5 12) (Some (RegionNew (at 13) (UniqueRegion (at 14)) (Plain (Number (at 15) 3)))))
+    (MoreItems (Execute (Evaluate (Assign (field 4) (RegionNew (at 22) (UniqueRegion (at 23)) (Plain (Number (at 24) 3))))))
+    (MoreItems (Execute (Evaluate (FreeUnique (at 25) (Variable (named 5 26)))))
+    (MoreItems (Execute (Return (at 27) (Some (field 3)))) NoItems)))))
+    ∷ [])) (HasEnded (Returned (pos 4)))
+stored_and_freed = (refl, refl, refl)
+
 -- int main(){ int n = 0; while (n < 6) { int @`U p = rnew(unique_region) 3; n = n + *p; ufree(p); } return n; }
 freed_in_a_loop : EndsIn FreesObjects (check_of texts (
     main (
@@ -299,7 +323,7 @@ lexical : EndsByScope (check_of texts (
     (returned (behind 2))) (at 12))
     ∷ main (MoreItems (Region (named 8 13) (named 9 14) None) (returned (Call (named 7 15) (MoreExpressions (Variable (named 9 16)) NoExpressions))))
     ∷ [])) (HasEnded (Returned (pos 6)))
-lexical = (refl, ((((tt, less 1), (tt, tt, tt), (tt, tt)), ((tt, ((tt, tt), tt)), tt)), tt, tt), refl)
+lexical = (refl, ((((tt, less 1), (tt, tt), (tt, tt)), ((tt, ((tt, tt), tt)), tt)), tt, tt), refl)
 
 -- int main(){ int n = 0; while (n < 6) { region<`r> h; int @p = rnew(h) 3; n = n + *p; } return n; }
 opened_again : EndsByScope (check_of texts (
@@ -312,7 +336,7 @@ opened_again : EndsByScope (check_of texts (
     (returned (Variable (named 4 21)))))
     ∷ [])) (HasEnded (Returned (pos 6)))
 unfolding slt_of
-opened_again = (refl, (((tt, tt, (((tt, (tt, tt)), (tt, ((tt, less 2), (tt, tt, tt), ((tt, (tt, tt)), tt)))), (tt, tt))), tt), tt, tt), refl)
+opened_again = (refl, (((tt, tt, (((tt, (tt, tt)), (tt, ((tt, less 2), (tt, tt), ((tt, (tt, tt)), tt)))), (tt, tt))), tt), tt, tt), refl)
 
 -- int main(){ try { region<`r> h; int *p = NULL; return *p; } catch { default: return 9; } }
 left_by_exception : EndsByScope (check_of texts (
@@ -347,7 +371,7 @@ opened_twice : EndsWithLoans (check_of texts (
     (block (opened (assigned (Variable (named 2 9)) (RegionNew (at 10) (Variable (named 9 11)) (Plain (Number (at 12) 4))) NoItems))
     (block (opened (returned (behind 2))) NoItems))))
     ∷ [])) (HasEnded (Returned (pos 4)))
-opened_twice = (refl, (((refl, ((tt, less 1), tt, ((refl, tt, ((tt, tt, tt), tt)), ((refl, tt, (tt, tt)), tt)))), tt), tt, tt), refl)
+opened_twice = (refl, (((refl, ((tt, less 1), tt, ((refl, tt, ((tt, tt), tt)), ((refl, tt, (tt, tt)), tt)))), tt), tt, tt), refl)
 
 -- int main(){ int @`U p = rnew(unique_region) 5; { let alias <`r> int @`r x = p; *x = *x + 1; } return *p; }
 shared : EndsWithLoans (check_of texts (
@@ -356,7 +380,7 @@ shared : EndsWithLoans (check_of texts (
     (block (MoreItems (Alias (named 8 9) (into 8) (named 3 10) (named 2 11)) (assigned (behind 3) (plus (behind 3) (Number (at 12) 1)) NoItems))
     (returned (behind 2))))
     ∷ [])) (HasEnded (Returned (pos 6)))
-shared = (refl, ((((tt, tt), (tt, tt, tt), (((refl, refl), tt, ((tt, (tt, (tt, tt))), tt)), (tt, tt))), tt), tt, tt), refl)
+shared = (refl, ((((tt, tt), (tt, tt), (((refl, refl), tt, ((tt, (tt, (tt, tt))), tt)), (tt, tt))), tt), tt, tt), refl)
 
 -- int main(){ let NewDynamicRegion{<`r> i} = new_ukey(); while (1) { region<`r> h = open(i); break; } { region<`r> h = open(i); int @`r p = rnew(h) 3; return *p; } }
 left_by_break : EndsWithLoans (check_of texts (
@@ -365,7 +389,7 @@ left_by_break : EndsWithLoans (check_of texts (
     MoreItems (Execute (While (at 7) (Number (at 8) 1) (Block (Braces (at 9) (opened (MoreItems (Execute (Break (at 10))) NoItems)) (at 11)))))
     (block (opened (MoreItems (Local (into 8) (named 2 12) (Some (RegionNew (at 13) (Variable (named 9 14)) (Plain (Number (at 15) 3))))) (returned (behind 2)))) NoItems)))
     ∷ [])) (HasEnded (Returned (pos 3)))
-left_by_break = (refl, (((refl, ((tt, (refl, tt, (tt, tt))), ((refl, tt, ((tt, (let few : 1 < 4 = omega arith in few)), (tt, tt, tt), (tt, tt))), tt))), tt), tt, tt), refl)
+left_by_break = (refl, (((refl, ((tt, (refl, tt, (tt, tt))), ((refl, tt, ((tt, (let few : 1 < 4 = omega arith in few)), (tt, tt), (tt, tt))), tt))), tt), tt, tt), refl)
 
 -- int f(region_key_t<`r> i){ region<`r> h = open(i); int *p = NULL; return *p; } int main(){ let NewDynamicRegion{<`r> i} = new_ukey(); try return f(i); catch { default: return 8; } }
 left_by_exception_in_a_call : EndsWithLoans (check_of texts (
@@ -387,7 +411,7 @@ given_back : EndsWithLoans (check_of texts (
     block (opened (MoreItems (Local (into 8) (named 2 7) (Some (RegionNew (at 8) (Variable (named 9 9)) (Plain (Number (at 10) 4))))) NoItems))
     (freed (returned (Number (at 11) 3)))))
     ∷ [])) (HasEnded (Returned (pos 3)))
-given_back = (refl, (((refl, ((refl, tt, ((tt, (let few : 1 < 3 = omega arith in few)), (tt, tt, tt), tt)), ((refl, tt), (tt, tt)))), tt), tt, tt), refl)
+given_back = (refl, (((refl, ((refl, tt, ((tt, (let few : 1 < 3 = omega arith in few)), (tt, tt), tt)), ((refl, tt), (tt, tt)))), tt), tt, tt), refl)
 
 -- int f(region_key_t<`r> i){ free_ukey(i); return 2; } int main(){ let NewDynamicRegion{<`r> i} = new_ukey(); return f(i); }
 given_back_by_a_call : EndsWithLoans (check_of texts (
@@ -419,4 +443,4 @@ given_back_in_a_loop : EndsWithLoans (check_of texts (
     ∷ [])) (HasEnded (Returned (pos 6)))
 unfolding slt_of
 given_back_in_a_loop =
-    (refl, (((tt, tt, (((tt, (tt, tt)), (refl, ((refl, tt, ((tt, (let few : 2 < 4 = omega arith in few)), (tt, tt, tt), ((tt, (tt, tt)), tt))), ((refl, tt), tt)))), (tt, tt))), tt), tt, tt), refl)
+    (refl, (((tt, tt, (((tt, (tt, tt)), (refl, ((refl, tt, ((tt, (let few : 2 < 4 = omega arith in few)), (tt, tt), ((tt, (tt, tt)), tt))), ((refl, tt), tt)))), (tt, tt))), tt), tt, tt), refl)

@@ -3,7 +3,7 @@ use Rattle.std.proofs.Common.{◌≡◌, ℕ, suc, ◌+◌, true, false, List, [
 use Rattle.std.specs.Prelude.{◌&&◌}
 use Rattle.std.specs.List.{list_all}
 use Rattle.cyc_syntax.specs.Trees.{Declaration}
-use Rattle.cyc_types.specs.Types.{Ty, Pointer}
+use Rattle.cyc_types.specs.Types.{Ty}
 use Rattle.cyc_types.specs.TypedTrees.{Local, Global, Expression, Number, NullPointer, HeapRegion, Counter, Copy, Move, Peek, Load, AddressOf, AddressOfCell, NumberOfElements, FreeUnique, FreeKey, Call, Unary, Binary, Assign, Store, New, Dereference, Target, Member, Element, Placement, OnHeap, AsUnique, ByHandle, Initial, Plain, Fields, Array, Converted, Convert, Arguments, NoArguments, MoreArguments, Operations, NoOperations, ThenCompute, ThenTest, ThenPointer, ThenPointerPeek, Side, VariableSide, CellSide, Statement, Block, Empty, Evaluate, Swap, If, While, Return, Break, Continue, Throw, Try, Items, NoItems, MoreItems, Execute, Declare, DeclareRegion, OpenRegion, DeclareAlias, DeclareKey, Clauses, NoClauses, Default, Case, StructType, GlobalVariable, Function, Program}
 use Rattle.cyc_types.specs.Declarations.{declared_regions, item_regions}
 use Rattle.cyc_types.specs.typing.Formed.{IsFormedStatement, AreFormedItems, AreFormedClauses, AreFormedFunctions, AreFormedGlobals, AreFormedFields, AreFormedStructs, IsFormedProgram}
@@ -12,7 +12,7 @@ use Rattle.cyc_types.specs.flow.Programs.{IsAllowedProgram}
 use Rattle.cyc_types.proofs.typing.ProgramLemmas.{program_well}
 use Rattle.cyc_types.proofs.typing.FormedPrograms.{program_formed}
 use Rattle.cyc_soundness.specs.Lives.{Reading, ByScope}
-use Rattle.cyc_soundness.specs.Classes.{LeadsToShared, InExpression, InPlace, InPlacement, InInitial, InConverted, InArguments, InOperations, InValue, InThrown, InSide, InStatement, InItems, InClauses, InFunctions, InGlobals, InFields, InStructs, FreesNoObject}
+use Rattle.cyc_soundness.specs.Classes.{InExpression, InPlace, InPlacement, InInitial, InConverted, InArguments, InOperations, InValue, InThrown, InSide, InStatement, InItems, InClauses, InFunctions, InGlobals, InFields, InStructs, FreesNoObject}
 use Rattle.cyc_soundness.specs.Frees.{expression_frees_none, place_frees_none, placement_frees_none, initial_frees_none, converted_frees_none, arguments_free_none, operations_free_none, value_frees_none, thrown_frees_none, side_frees_none, statement_frees_none, items_free_none, clauses_free_none, function_frees_none, frees_no_object}
 use Rattle.cyc_soundness.specs.Sound.{IsSound}
 use Rattle.cyc_soundness.proofs.Numbers.{both_true}
@@ -23,10 +23,6 @@ reading = ByScope true false
 
 refused : {A : Type 0} → false ≡ true → A
 refused e = absurd (let k : false ≡ true = e in cc)
-
-leads_kept : (t : Ty) → LeadsToShared reading t
-leads_kept (Pointer k t r) = tt
-leads_kept t = tt
 
 mutual
   expression_kept : (a : Expression) → expression_frees_none a ≡ true → InExpression reading [] a
@@ -49,7 +45,7 @@ mutual
   expression_kept (Binary a os t) frees = let (one, two) = both_true (expression_frees_none a) (operations_free_none os) frees in (expression_kept a one, operations_kept os two)
   expression_kept (Assign l c t) frees = converted_kept c frees
   expression_kept (Store d c t) frees = let (one, two) = both_true (place_frees_none d) (converted_frees_none c) frees in (place_kept d one, converted_kept c two)
-  expression_kept (New w i t) frees = let (one, two) = both_true (placement_frees_none w) (initial_frees_none i) frees in (leads_kept t, placement_kept w one, initial_kept i two)
+  expression_kept (New w i t) frees = let (one, two) = both_true (placement_frees_none w) (initial_frees_none i) frees in (placement_kept w one, initial_kept i two)
 
   place_kept : (d : Dereference) → place_frees_none d ≡ true → InPlace reading [] d
   place_kept (Target k a t) frees = expression_kept a frees
@@ -90,14 +86,14 @@ thrown_kept (Some a) frees = expression_kept a frees
 
 side_kept : (x : Side) → side_frees_none x ≡ true → InSide reading [] x
 side_kept (VariableSide l t) frees = tt
-side_kept (CellSide d) frees = place_kept d frees
+side_kept (CellSide d) frees = (tt, place_kept d frees)
 
 mutual
   statement_kept : (n : ℕ) (s : Statement) → IsFormedStatement n s → statement_frees_none s ≡ true → InStatement reading [] n s
   statement_kept n (Block r js) formed frees = items_kept (suc n) js formed frees
   statement_kept n Empty formed frees = tt
   statement_kept n (Evaluate a) formed frees = expression_kept a frees
-  statement_kept n (Swap x y) formed frees = let (one, two) = both_true (side_frees_none x) (side_frees_none y) frees in (refl, side_kept x one, side_kept y two)
+  statement_kept n (Swap x y) formed frees = let (one, two) = both_true (side_frees_none x) (side_frees_none y) frees in (side_kept x one, side_kept y two)
   statement_kept n (If a s t) (f, g) frees =
       let (one, ways) = both_true (expression_frees_none a) (statement_frees_none s && statement_frees_none t) frees in
       let (two, three) = both_true (statement_frees_none s) (statement_frees_none t) ways in
@@ -130,11 +126,11 @@ functions_kept (h ∷ hs) (f, g) frees = let (one, two) = both_true (function_fr
 
 globals_kept : (vs : List GlobalVariable) → AreFormedGlobals vs → InGlobals reading vs
 globals_kept [] formed = tt
-globals_kept (v ∷ vs) (f, g) = (f, tt, globals_kept vs g)
+globals_kept (v ∷ vs) (f, g) = (f, globals_kept vs g)
 
 fields_kept : (n : ℕ) (ts : List Ty) → AreFormedFields n ts → InFields reading n ts
 fields_kept n [] formed = tt
-fields_kept n (t ∷ ts) (f, no_key, g) = (f, no_key, tt, fields_kept n ts g)
+fields_kept n (t ∷ ts) (f, no_key, g) = (f, no_key, fields_kept n ts g)
 
 structs_kept : (ss : List StructType) → AreFormedStructs ss → InStructs reading ss
 structs_kept [] formed = tt

@@ -8,13 +8,13 @@ use Rattle.cyc_types.specs.declared.region.Region.TheVariants as regions
 use Rattle.cyc_types.specs.Types.{Ty}
 use Rattle.cyc_types.specs.Types as types
 use Rattle.cyc_types.specs.Declarations.{declared_regions, item_regions}
-use Rattle.cyc_types.specs.TypedTrees.{Local, Global, Expression, Number, NullPointer, HeapRegion, Counter, Copy, Move, Peek, Load, AddressOf, AddressOfCell, NumberOfElements, FreeUnique, FreeKey, Call, Unary, Binary, Assign, Store, New, Dereference, Target, Member, Element, Placement, OnHeap, AsUnique, ByHandle, Initial, Plain, Fields, Array, Converted, Convert, Arguments, NoArguments, MoreArguments, Operations, NoOperations, ThenCompute, ThenTest, ThenPointer, ThenPointerPeek, Statement, Block, Empty, Evaluate, Swap, If, While, Return, Break, Continue, Throw, Try, Items, NoItems, MoreItems, Execute, Declare, DeclareRegion, OpenRegion, DeclareAlias, DeclareKey, Clauses, NoClauses, Default, Case, StructType, GlobalVariable, Function, Program}
+use Rattle.cyc_types.specs.TypedTrees.{Local, Global, Expression, Number, NullPointer, HeapRegion, Counter, Copy, Move, Peek, Load, AddressOf, AddressOfCell, NumberOfElements, FreeUnique, FreeKey, Call, Unary, Binary, Assign, Store, New, Dereference, Target, Member, Element, Placement, OnHeap, AsUnique, ByHandle, Initial, Plain, Fields, Array, Converted, Convert, Arguments, NoArguments, MoreArguments, Operations, NoOperations, ThenCompute, ThenTest, ThenPointer, ThenPointerPeek, Side, VariableSide, CellSide, type_of_place, Statement, Block, Empty, Evaluate, Swap, If, While, Return, Break, Continue, Throw, Try, Items, NoItems, MoreItems, Execute, Declare, DeclareRegion, OpenRegion, DeclareAlias, DeclareKey, Clauses, NoClauses, Default, Case, StructType, GlobalVariable, Function, Program}
 use Rattle.cyc_types.specs.typing.Tests.{is_key, is_unique}
 use Rattle.cyc_types.specs.typing.WellTyped.{IsWellTypedProgram}
 use Rattle.cyc_types.specs.flow.Programs.{IsAllowedProgram}
 use Rattle.cyc_soundness.specs.Lives.{Reading, ByScope, AllOf, AllIn, IsKnown}
-use Rattle.cyc_soundness.specs.Classes.{IsCommon, IsShared, LeadsToShared, InExpression, InPlace, InPlacement, InInitial, InConverted, InArguments, InOperations, InValue, InThrown, InStatement, InItems, InClauses, InFunctions, InGlobals, InFields, InStructs, FreesLocals}
-use Rattle.cyc_soundness.specs.FreesLocals.{is_known, is_declarable, is_common, is_shared, leads_to_shared, expression_is_in, place_is_in, placement_is_in, initial_is_in, converted_is_in, arguments_are_in, operations_are_in, value_is_in, thrown_is_in, statement_is_in, items_are_in, clauses_are_in, function_is_in, global_is_in, field_is_in, struct_is_in, frees_locals}
+use Rattle.cyc_soundness.specs.Classes.{InExpression, InPlace, InPlacement, InInitial, InConverted, InArguments, InOperations, InValue, InThrown, InSide, InStatement, InItems, InClauses, InFunctions, InGlobals, InFields, InStructs, FreesLocals}
+use Rattle.cyc_soundness.specs.FreesLocals.{is_known, is_declarable, expression_is_in, place_is_in, placement_is_in, initial_is_in, converted_is_in, arguments_are_in, operations_are_in, value_is_in, thrown_is_in, side_is_in, statement_is_in, items_are_in, clauses_are_in, function_is_in, global_is_in, field_is_in, struct_is_in, frees_locals}
 use Rattle.cyc_soundness.specs.Sound.{IsSound}
 use Rattle.cyc_soundness.proofs.Numbers.{both_true}
 use Rattle.cyc_soundness.proofs.Evaluation.{not_true}
@@ -40,29 +40,6 @@ declarable_in n (types.Pointer k t r) is = let both = both_true (is_declarable n
 declarable_in n (types.Handle r) is = known_in n r is
 declarable_in n (types.Key r) is = known_in n r is
 declarable_in n (types.Struct s rs) is = all_known n rs is
-
-common_in : (r : Region) → is_common r ≡ true → IsCommon r
-common_in regions.Heap is = tt
-common_in regions.Unique is = refused is
-common_in (regions.Variable n) is = tt
-
-all_common : (rs : List Region) → list_all is_common rs ≡ true → AllOf IsCommon rs
-all_common [] are = tt
-all_common (r ∷ rs) are = let both = both_true (is_common r) (list_all is_common rs) are in (common_in r both.0, all_common rs both.1)
-
-shared_in : (t : Ty) → is_shared t ≡ true → IsShared (ByScope true true) t
-shared_in types.Int is = refl
-shared_in (types.Pointer k t r) is = not_true (is_unique (types.Pointer k t r)) is
-shared_in (types.Handle r) is = refl
-shared_in (types.Key r) is = refl
-shared_in (types.Struct n rs) is = all_common rs is
-
-leads_in : (t : Ty) → leads_to_shared t ≡ true → LeadsToShared (ByScope true true) t
-leads_in types.Int is = tt
-leads_in (types.Pointer k t r) is = shared_in t is
-leads_in (types.Handle r) is = tt
-leads_in (types.Key r) is = tt
-leads_in (types.Struct n rs) is = tt
 
 -- ---- expressions
 
@@ -91,9 +68,8 @@ mutual
   expression_in (Assign l c t) is = converted_in c is
   expression_in (Store d c t) is = let both = both_true (place_is_in d) (converted_is_in c) is in (place_in d both.0, converted_in c both.1)
   expression_in (New w i t) is =
-      let both = both_true (leads_to_shared t) (placement_is_in w && initial_is_in i) is in
-      let each = both_true (placement_is_in w) (initial_is_in i) both.1 in
-      (leads_in t both.0, placement_in w each.0, initial_in i each.1)
+      let both = both_true (placement_is_in w) (initial_is_in i) is in
+      (placement_in w both.0, initial_in i both.1)
 
   place_in : (d : Dereference) → place_is_in d ≡ true → InPlace reading [] d
   place_in (Target k a t) is = expression_in a is
@@ -132,6 +108,10 @@ thrown_in : (v : Option Expression) → thrown_is_in v ≡ true → InThrown rea
 thrown_in None is = tt
 thrown_in (Some a) is = expression_in a is
 
+side_in : (x : Side) → side_is_in x ≡ true → InSide reading [] x
+side_in (VariableSide l t) is = not_true (is_unique t) is
+side_in (CellSide d) is = let both = both_true (not (is_unique (type_of_place d))) (place_is_in d) is in (not_true (is_unique (type_of_place d)) both.0, place_in d both.1)
+
 -- ---- statements
 
 mutual
@@ -139,7 +119,7 @@ mutual
   statement_in n (Block r js) is = items_in (suc n) js is
   statement_in n Empty is = tt
   statement_in n (Evaluate a) is = expression_in a is
-  statement_in n (Swap x y) is = refused is
+  statement_in n (Swap x y) is = let both = both_true (side_is_in x) (side_is_in y) is in (side_in x both.0, side_in y both.1)
   statement_in n (If a s t) is =
       let both = both_true (expression_is_in a) (statement_is_in n s && statement_is_in (n + declared_regions s) t) is in
       let each = both_true (statement_is_in n s) (statement_is_in (n + declared_regions s) t) both.1 in
@@ -180,16 +160,14 @@ globals_in : (vs : List GlobalVariable) → list_all global_is_in vs ≡ true �
 globals_in [] are = tt
 globals_in (v ∷ vs) are =
     let both = both_true (global_is_in v) (list_all global_is_in vs) are in
-    let each = both_true (is_declarable 0 v.of_type) (is_shared v.of_type) both.0 in
-    (declarable_in 0 v.of_type each.0, shared_in v.of_type each.1, globals_in vs both.1)
+    (declarable_in 0 v.of_type both.0, globals_in vs both.1)
 
 fields_in : (n : ℕ) (ts : List Ty) → list_all (field_is_in n) ts ≡ true → InFields reading n ts
 fields_in n [] are = tt
 fields_in n (t ∷ ts) are =
     let both = both_true (field_is_in n t) (list_all (field_is_in n) ts) are in
-    let each = both_true (is_declarable n t) (not (is_key t) && is_shared t) both.0 in
-    let other = both_true (not (is_key t)) (is_shared t) each.1 in
-    (declarable_in n t each.0, not_true (is_key t) other.0, shared_in t other.1, fields_in n ts both.1)
+    let each = both_true (is_declarable n t) (not (is_key t)) both.0 in
+    (declarable_in n t each.0, not_true (is_key t) each.1, fields_in n ts both.1)
 
 structs_in : (ss : List StructType) → list_all struct_is_in ss ≡ true → InStructs reading ss
 structs_in [] are = tt

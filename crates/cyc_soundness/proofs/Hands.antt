@@ -9,7 +9,7 @@ use Rattle.cyc_meaning.specs.Values as values
 use Rattle.cyc_meaning.specs.State.{Dynamic, new_region, Region, Unique, Object, heap_number, is_open}
 use Rattle.cyc_meaning.proofs.ListLemmas.{slice_get-end, slice_get-set_other}
 use Rattle.cyc_soundness.specs.Lives.{Life, OfRegion, OfObject, Never, Owned, Kept, RunTy, RunValue, Void, Null, Value, Seen, Into}
-use Rattle.cyc_soundness.specs.Worlds.{IsAmong, first as newest, later as behind, Slot, ObjectType, variable_type, Thing, KeyOf, PointerTo, Holder, Nobody, Hand, At, Lent, Typing, IsHeld, same_thing, thing_of, Owns, Claims, ClaimsPart, ClaimsBy, ClaimsAlone, IsLookedAt, IsSlot, IsHere, given, giving, marked, handing, AreOwned, IsUniqueObject, is_lent_by, lent_now, IsOpenIn, Stays, IsDynamic, IsFull, IsOwner, IsObject, IsTyped, Grows}
+use Rattle.cyc_soundness.specs.Worlds.{Settled, Awaits, IsKept, IsAmong, first as newest, later as behind, Slot, ObjectType, variable_type, Thing, KeyOf, PointerTo, Holder, Nobody, Hand, At, Lent, Typing, IsHeld, same_thing, thing_of, Owns, Claims, ClaimsPart, ClaimsBy, ClaimsAlone, IsLookedAt, IsSlot, IsHere, given, giving, marked, handing, AreOwned, IsUniqueObject, is_lent_by, lent_now, IsOpenIn, Stays, IsDynamic, IsFull, IsOwner, IsObject, IsTyped, Grows}
 use Rattle.cyc_soundness.specs.Frames.{InScope, Variable, Names, Instance, IsOfVariable, local_type, HoldsIts, IsFullIn, AreVariables, AreSet, Holds, KnowsProgram}
 use Rattle.cyc_soundness.specs.Classes.{Source}
 use Rattle.cyc_soundness.proofs.Numbers.{same_or_other, slice_get-set_same, some_same}
@@ -73,17 +73,17 @@ marked_before object b here n apart e = sym (marked_other object b here n apart)
 pub hand_same : (i j : ℕ) → Hand i ≡ Hand j → i ≡ j
 hand_same i j e = let k : Hand i ≡ Hand j = e in cc
 
-pub at_same : (m n : ℕ) → At m ≡ At n → m ≡ n
-at_same m n e = let k : At m ≡ At n = e in cc
+pub at_same : (m i n j : ℕ) → At m i ≡ At n j → (m ≡ n) × (i ≡ j)
+at_same m i n j e = let k : At m i ≡ At n j = e in (cc, cc)
 
-pub at_no_hand : (m i : ℕ) → At m ≢ Hand i
-at_no_hand m i e = let k : At m ≡ Hand i = e in absurd (cc)
+pub at_no_hand : (m n i : ℕ) → At m n ≢ Hand i
+at_no_hand m n i e = let k : At m n ≡ Hand i = e in absurd (cc)
 
-pub at_not_lent : (m j : ℕ) → At m ≢ Lent j
-at_not_lent m j e = let k : At m ≡ Lent j = e in absurd (cc)
+pub at_not_lent : (m n j : ℕ) → At m n ≢ Lent j
+at_not_lent m n j e = let k : At m n ≡ Lent j = e in absurd (cc)
 
-pub at_some : (m : ℕ) → At m ≢ Nobody
-at_some m e = let k : At m ≡ Nobody = e in absurd (cc)
+pub at_some : (m n : ℕ) → At m n ≢ Nobody
+at_some m n e = let k : At m n ≡ Nobody = e in absurd (cc)
 
 -- ---- what changes
 
@@ -91,7 +91,8 @@ at_some m e = let k : At m ≡ Nobody = e in absurd (cc)
 pub record Changed (old : Holder) (g h : Typing) : Type 0 where
   pub grows : Grows g h
   pub own : (a : Thing) → g.own a ≢ old → h.own a ≡ g.own a
-  pub here : (object : ℕ) → g.here object ≡ true → At object ≢ old → h.here object ≡ true
+  pub here : (object : ℕ) → g.here object ≡ true → At object 0 ≢ old → h.here object ≡ true
+  pub pending : h.pending ≡ g.pending
   pub depth : h.depth ≡ g.depth
   pub loans : h.loans ≡ g.loans
 
@@ -101,6 +102,7 @@ stays_changed old g h stays = record {
   own = λ a apart. ap (λ f. f a) stays.own;
   here = λ object is apart. ap (λ f. f object) stays.here ∙ is;
   depth = stays.depth;
+  pending = stays.pending;
   loans = stays.loans;
 }
 
@@ -115,6 +117,7 @@ changed_after old g h i changed stays = record {
   own = λ a apart. ap (λ f. f a) stays.own ∙ changed.own a apart;
   here = λ object is apart. ap (λ f. f object) stays.here ∙ changed.here object is apart;
   depth = stays.depth ∙ changed.depth;
+  pending = stays.pending ∙ changed.pending;
   loans = stays.loans ∙ changed.loans;
 }
 
@@ -122,21 +125,22 @@ pub same_grows : (g : Typing) (own : Thing → Holder) (here : ℕ → Bool) →
 same_grows g own here = record { objects = λ n u is. is; filled = λ n count is. is; fields = λ n ls ts is. is; kept = λ n is. is }
 
 pub giving_changed : (g : Typing) (o : Option Thing) (old new : Holder) → Owns g.own old o → Changed old g (giving g o new)
-giving_changed g o old new has = record { grows = same_grows g (given o new g.own) g.here; own = λ a apart. given_other g.own o old new a has apart; here = λ object is apart. is; depth = refl; loans = refl }
+giving_changed g o old new has = record { grows = same_grows g (given o new g.own) g.here; own = λ a apart. given_other g.own o old new a has apart; here = λ object is apart. is; pending = refl; depth = refl; loans = refl }
 
 -- it goes from a variable, or to one
-pub handing_changed : (g : Typing) (o : Option Thing) (old new : Holder) (object : ℕ) (b : Bool) → Owns g.own old o → (b ≡ false → old ≡ At object) → Changed old g (handing g o new object b)
+pub handing_changed : (g : Typing) (o : Option Thing) (old new : Holder) (object : ℕ) (b : Bool) → Owns g.own old o → (b ≡ false → old ≡ At object 0) → Changed old g (handing g o new object b)
 handing_changed g o old new object b has from = record {
   grows = same_grows g (given o new g.own) (marked object b g.here);
   own = λ a apart. given_other g.own o old new a has apart;
   here = here b from;
+  pending = refl;
   depth = refl;
   loans = refl;
 }
   where
-    here : (b : Bool) → (b ≡ false → old ≡ At object) → (n : ℕ) → g.here n ≡ true → At n ≢ old → marked object b g.here n ≡ true
+    here : (b : Bool) → (b ≡ false → old ≡ At object 0) → (n : ℕ) → g.here n ≡ true → At n 0 ≢ old → marked object b g.here n ≡ true
     here true from n is apart = by_test (n == object) (g.here n) true true (λ e. refl) (λ e. is)
-    here false from n is apart = marked_other object false g.here n (λ same. apart (ap (λ i. At i) same ∙ sym (from refl))) ∙ is
+    here false from n is apart = marked_other object false g.here n (λ same. apart (ap (λ i. At i 0) same ∙ sym (from refl))) ∙ is
 
 module _ (old : Holder) (g h : Typing) (changed : Changed old g h) where
   pub owns_kept : (holder : Holder) (o : Option Thing) → holder ≢ old → Owns g.own holder o → Owns h.own holder o
@@ -149,15 +153,15 @@ module _ (old : Holder) (g h : Typing) (changed : Changed old g h) where
   pub slot_kept : (d n object : ℕ) → IsSlot g d n object → IsSlot h d n object
   slot_kept d n object (x, there, slot) = (x, changed.grows.objects object x there, slot)
 
-  pub here_kept : (d n object : ℕ) → At object ≢ old → IsHere g d n object → IsHere h d n object
+  pub here_kept : (d n object : ℕ) → At object 0 ≢ old → IsHere g d n object → IsHere h d n object
   here_kept d n object apart (is, slot) = (changed.here object is apart, slot_kept d n object slot)
 
-  looked_kept : (n : ℕ) (o : Option Thing) → ((object : ℕ) → IsHere g g.depth n object → At object ≢ old) → IsLookedAt g n o → IsLookedAt h n o
+  looked_kept : (n : ℕ) (o : Option Thing) → ((object : ℕ) → IsHere g g.depth n object → At object 0 ≢ old) → IsLookedAt g n o → IsLookedAt h n o
   looked_kept n None apart is = tt
   looked_kept n (Some a) apart (object, here, is) =
       (object, subst (λ d. IsHere h d n object) (sym changed.depth) (here_kept g.depth n object (apart object here) here), changed.own a (λ e. apart object here (sym is ∙ e)) ∙ is)
 
-  pub part_kept : (i : ℕ) (peek : Option ℕ) (o : Option Thing) → Hand i ≢ old → ((n object : ℕ) → peek ≡ Some n → IsHere g g.depth n object → At object ≢ old) → ClaimsPart g i peek o → ClaimsPart h i peek o
+  pub part_kept : (i : ℕ) (peek : Option ℕ) (o : Option Thing) → Hand i ≢ old → ((n object : ℕ) → peek ≡ Some n → IsHere g g.depth n object → At object 0 ≢ old) → ClaimsPart g i peek o → ClaimsPart h i peek o
   part_kept i None o apart other is = owns_kept (Hand i) o apart is
   part_kept i (Some n) o apart other is = looked_kept n o (λ object. other n object refl) is
 
@@ -191,17 +195,17 @@ module _ (old : Holder) (g h : Typing) (changed : Changed old g h) where
   variables_kept [] none are = tt
   variables_kept (b ∷ bs) none (is, are) = (one_kept b none is, variables_kept bs none are)
 
-  one_holds : (f : flow.State) (b : InScope) → ((n object : ℕ) → IsFullIn f n → IsHere g g.depth n object → At object ≢ old) → HoldsIts g f b → HoldsIts h f b
+  one_holds : (f : flow.State) (b : InScope) → ((n object : ℕ) → IsFullIn f n → IsHere g g.depth n object → At object 0 ≢ old) → HoldsIts g f b → HoldsIts h f b
   one_holds f (Variable b) other (set, full) =
       (λ s. changed.grows.filled b.object 1 (set s), λ s. subst (λ d. IsHere h d b.number b.object) (sym changed.depth) (here_kept g.depth b.number b.object (other b.number b.object s (full s)) (full s)))
   one_holds f b other is = tt
 
-  pub set_kept : (f : flow.State) (bs : List InScope) → ((n object : ℕ) → IsFullIn f n → IsHere g g.depth n object → At object ≢ old) → AreSet g f bs → AreSet h f bs
+  pub set_kept : (f : flow.State) (bs : List InScope) → ((n object : ℕ) → IsFullIn f n → IsHere g g.depth n object → At object 0 ≢ old) → AreSet g f bs → AreSet h f bs
   set_kept f [] other are = tt
   set_kept f (b ∷ bs) other (is, are) = (one_holds f b other is, set_kept f bs other are)
 
   -- what is known of locals stays so, where none of them had it
-  pub holds_kept : (f : flow.State) (bs : List InScope) → ((n object : ℕ) → IsFullIn f n → IsHere g g.depth n object → At object ≢ old) → Holds g f bs → Holds h f bs
+  pub holds_kept : (f : flow.State) (bs : List InScope) → ((n object : ℕ) → IsFullIn f n → IsHere g g.depth n object → At object 0 ≢ old) → Holds g f bs → Holds h f bs
   holds_kept f bs other (reached, are) = (reached, set_kept f bs other are)
 
 -- ---- nothing changes hands
@@ -211,11 +215,12 @@ pub record Raises (g h : Typing) : Type 0 where
   pub grows : Grows g h
   pub own : h.own ≡ g.own
   pub here : (object : ℕ) → g.here object ≡ true → h.here object ≡ true
+  pub pending : h.pending ≡ g.pending
   pub depth : h.depth ≡ g.depth
   pub loans : h.loans ≡ g.loans
 
 pub raises_changed : (g h : Typing) → Raises g h → Changed Nobody g h
-raises_changed g h raises = record { grows = raises.grows; own = λ a apart. ap (λ f. f a) raises.own; here = λ object is apart. raises.here object is; depth = raises.depth; loans = raises.loans }
+raises_changed g h raises = record { grows = raises.grows; own = λ a apart. ap (λ f. f a) raises.own; here = λ object is apart. raises.here object is; pending = raises.pending; depth = raises.depth; loans = raises.loans }
 
 pub changed_raised : (old : Holder) (g h i : Typing) → Changed old g h → Raises h i → Changed old g i
 changed_raised old g h i changed raises = record {
@@ -228,6 +233,7 @@ changed_raised old g h i changed raises = record {
   own = λ a apart. ap (λ f. f a) raises.own ∙ changed.own a apart;
   here = λ object is apart. raises.here object (changed.here object is apart);
   depth = raises.depth ∙ changed.depth;
+  pending = raises.pending ∙ changed.pending;
   loans = raises.loans ∙ changed.loans;
 }
 
@@ -242,39 +248,18 @@ module _ (g h : Typing) (stays : Stays g h) where
   pub claims_stay : (holder : Holder) (t : RunTy) (v : values.Value) → Claims g.own holder t v → Claims h.own holder t v
   claims_stay holder t v (is, start) = (subst (λ f. Owns f holder (thing_of t v)) (sym stays.own) is, start)
 
-  pub owns_stay : (holder : Holder) (o : Option Thing) → Owns g.own holder o → Owns h.own holder o
-  owns_stay holder o is = subst (λ f. Owns f holder o) (sym stays.own) is
-
-  pub here_stays : (d n object : ℕ) → IsHere g d n object → IsHere h d n object
-  here_stays d n object is = here_kept Nobody g h still d n object (at_some object) is
-
-  pub part_stays : (i : ℕ) (peek : Option ℕ) (o : Option Thing) → ClaimsPart g i peek o → ClaimsPart h i peek o
-  part_stays i peek o is = part_kept Nobody g h still i peek o (λ e. (let k : Hand i ≡ Nobody = e in absurd (cc))) (λ n object same here. at_some object) is
-
-  pub by_stays : (i : ℕ) (r : RunValue) (v : values.Value) → ClaimsBy g i r v → ClaimsBy h i r v
-  by_stays i (Value t) v is = claims_stay (Hand i) t v is
-  by_stays i (Into peek t) v is = part_stays i peek (thing_of t v) is
-  by_stays i Void v is = tt
-  by_stays i Null v is = tt
-  by_stays i (Seen t) v is = tt
-
-  pub open_stays : (l : Life) → IsOpenIn g l → IsOpenIn h l
-  open_stays l is = open_kept Nobody g h still l refl is
-
   pub variables_grown : (bs : List InScope) → AreVariables g bs → AreVariables h bs
   variables_grown bs are = variables_kept Nobody g h still bs refl are
 
-  pub set_grown : (f : flow.State) (bs : List InScope) → AreSet g f bs → AreSet h f bs
-  set_grown f bs are = set_kept Nobody g h still f bs (λ n object full here. at_some object) are
-
   pub holds_grown : (f : flow.State) (bs : List InScope) → Holds g f bs → Holds h f bs
-  holds_grown f bs holds = holds_kept Nobody g h still f bs (λ n object full here. at_some object) holds
+  holds_grown f bs holds = holds_kept Nobody g h still f bs (λ n object full here. at_some object 0) holds
 
 -- ---- the world is as it was
 
--- A thing that somebody has goes to another; what variables then have they had, and it is not that.
+-- A thing that somebody has goes to another; what cells then have they had, and it is not that.
 pub hands_typed : (g : Typing) (o : Option Thing) (old new : Holder) (here : ℕ → Bool) (regions : List Region) (objects : List Object) → Owns g.own old o → IsHeld old
-    → ((object : ℕ) → here object ≡ true → (g.here object ≡ true) × (At object ≢ old)) → IsTyped g regions objects → IsTyped (record g { own = given o new g.own; here = here }) regions objects
+    → ((object i : ℕ) (y : ObjectType) → slice_get g.objects object ≡ Some y → IsKept (record g { own = given o new g.own; here = here }) object i y.is_hidden → IsKept g object i y.is_hidden × (At object i ≢ old)) → IsTyped g regions objects
+    → IsTyped (record g { own = given o new g.own; here = here }) regions objects
 hands_typed g o old new here regions objects has held before typed = record {
   count = typed.count;
   counts = typed.counts;
@@ -283,25 +268,39 @@ hands_typed g o old new here regions objects has held before typed = record {
   kept = λ n among. ((typed.kept n among).0, λ now. (typed.kept n among).1 (held_before g.own o old new (KeyOf n) has held now));
   fresh = λ n less. none_before g.own o old new (KeyOf n) has held (typed.fresh n less);
   unique = λ object now. typed.unique object (held_before g.own o old new (PointerTo object) has held now);
-  owned = λ object t x now there stands. (let (is, apart) = before object now in λ i u c v cell at content.
-      claims_kept old g (giving g o new) (giving_changed g o old new has) (At object) u v apart (typed.owned object t x is there stands i u c v cell at content));
+  owned = λ object t x there stands i u c v kept cell at content. (let (is, apart) = before object i t there kept in
+      claims_kept old g (giving g o new) (giving_changed g o old new has) (At object i) u v apart (typed.owned object t x there stands i u c v is cell at content));
 }
 
-pub given_typed : (g : Typing) (o : Option Thing) (old new : Holder) (regions : List Region) (objects : List Object) → Owns g.own old o → IsHeld old → ((object : ℕ) → At object ≢ old) → IsTyped g regions objects → IsTyped (giving g o new) regions objects
-given_typed g o old new regions objects has held apart typed = hands_typed g o old new g.here regions objects has held (λ object now. (now, apart object)) typed
+pub given_typed : (g : Typing) (o : Option Thing) (old new : Holder) (regions : List Region) (objects : List Object) → Owns g.own old o → IsHeld old → ((object i : ℕ) → At object i ≢ old) → IsTyped g regions objects → IsTyped (giving g o new) regions objects
+given_typed g o old new regions objects has held apart typed = hands_typed g o old new g.here regions objects has held (λ object i y there kept. (kept, apart object i)) typed
 
--- it goes from a variable
-pub taken_typed : (g : Typing) (o : Option Thing) (object : ℕ) (new : Holder) (regions : List Region) (objects : List Object) → Owns g.own (At object) o → IsTyped g regions objects → IsTyped (handing g o new object false) regions objects
-taken_typed g o object new regions objects has typed = hands_typed g o (At object) new (marked object false g.here) regions objects has tt before typed
+-- it goes from a variable that no pointer leads to
+pub taken_typed : (g : Typing) (o : Option Thing) (object : ℕ) (new : Holder) (y : ObjectType) (regions : List Region) (objects : List Object) → Owns g.own (At object 0) o → slice_get g.objects object ≡ Some y → y.is_hidden ≡ true → IsTyped g regions objects
+    → IsTyped (handing g o new object false) regions objects
+taken_typed g o object new y regions objects has there hidden typed = hands_typed g o (At object 0) new (marked object false g.here) regions objects has tt before typed
   where
-    before : (n : ℕ) → marked object false g.here n ≡ true → (g.here n ≡ true) × (At n ≢ At object)
-    before n now =
-        let apart : n ≢ object = (λ same. (let k : true ≡ false = sym now ∙ same_number n object false (g.here n) same in absurd (cc))) in
-        (marked_before object false g.here n apart now, λ e. apart (at_same n object e))
+    before : (n i : ℕ) (u : ObjectType) → slice_get g.objects n ≡ Some u → IsKept (handing g o new object false) n i u.is_hidden → IsKept g n i u.is_hidden × (At n i ≢ At object 0)
+    before n i u found kept = elim (same_or_other n object) [
+      | inl same ↦ (let type_is : y ≡ u = some_same y u (sym there ∙ ap (λ k. slice_get g.objects k) (sym same) ∙ found) in
+          let now = kept.0 (ap (λ (z : ObjectType). z.is_hidden) (sym type_is) ∙ hidden) in
+          absurd (let k : true ≡ false = sym now ∙ same_number n object false (g.here n) same in cc))
+      | inr apart ↦ (((λ is. marked_before object false g.here n apart (kept.0 is)), kept.1), λ e. apart (at_same n i object 0 e).0)
+    ]
+
+-- and nothing from any other
+pub untaken_typed : (g : Typing) (object : ℕ) (new : Holder) (regions : List Region) (objects : List Object) → IsTyped g regions objects → IsTyped (handing g None new object false) regions objects
+untaken_typed g object new regions objects typed = hands_typed g None (Lent 0) new (marked object false g.here) regions objects tt tt before typed
+  where
+    before : (n i : ℕ) (u : ObjectType) → slice_get g.objects n ≡ Some u → IsKept (handing g None new object false) n i u.is_hidden → IsKept g n i u.is_hidden × (At n i ≢ Lent 0)
+    before n i u found kept = elim (same_or_other n object) [
+      | inl same ↦ (((λ is. let k : true ≡ false = sym (kept.0 is) ∙ same_number n object false (g.here n) same in absurd (cc)), kept.1), at_not_lent n i 0)
+      | inr apart ↦ (((λ is. marked_before object false g.here n apart (kept.0 is)), kept.1), at_not_lent n i 0)
+    ]
 
 -- a variable has what is in it from now on
-pub raised_typed : (g : Typing) (object : ℕ) (t : ObjectType) (regions : List Region) (objects : List Object) → slice_get g.objects object ≡ Some t → ((x : Object) → slice_get objects object ≡ Some x → AreOwned g.own object t.cells x.cells)
-    → IsTyped g regions objects → IsTyped (record g { here = marked object true g.here }) regions objects
+pub raised_typed : (g : Typing) (object : ℕ) (t : ObjectType) (regions : List Region) (objects : List Object) → slice_get g.objects object ≡ Some t
+    → ((x : Object) → slice_get objects object ≡ Some x → AreOwned (record g { here = marked object true g.here }) object t x.cells) → IsTyped g regions objects → IsTyped (record g { here = marked object true g.here }) regions objects
 raised_typed g object t regions objects there own typed = record {
   count = typed.count;
   counts = typed.counts;
@@ -313,11 +312,11 @@ raised_typed g object t regions objects there own typed = record {
   owned = owned;
 }
   where
-    owned : (n : ℕ) (u : ObjectType) (x : Object) → marked object true g.here n ≡ true → slice_get g.objects n ≡ Some u → slice_get objects n ≡ Some x → AreOwned g.own n u.cells x.cells
-    owned n u x now at stands = elim (same_or_other n object) [
+    owned : (n : ℕ) (u : ObjectType) (x : Object) → slice_get g.objects n ≡ Some u → slice_get objects n ≡ Some x → AreOwned (record g { here = marked object true g.here }) n u x.cells
+    owned n u x at stands = elim (same_or_other n object) [
       | inl same ↦ (let type_is : t ≡ u = some_same t u (sym there ∙ ap (λ i. slice_get g.objects i) (sym same) ∙ at) in
-          subst (λ i. AreOwned g.own i u.cells x.cells) (sym same) (subst (λ z. AreOwned g.own object z.cells x.cells) type_is (own x (ap (λ i. slice_get objects i) (sym same) ∙ stands))))
-      | inr apart ↦ typed.owned n u x (marked_before object true g.here n apart now) at stands
+          subst (λ i. AreOwned (record g { here = marked object true g.here }) i u x.cells) (sym same) (subst (λ z. AreOwned (record g { here = marked object true g.here }) object z x.cells) type_is (own x (ap (λ i. slice_get objects i) (sym same) ∙ stands))))
+      | inr apart ↦ λ i r c v kept. typed.owned n u x at stands i r c v ((λ is. marked_before object true g.here n apart (kept.0 is)), kept.1)
     ]
 
 -- somebody has the pointer to a unique object that nobody had
@@ -330,8 +329,8 @@ pointed_typed g object new regions objects none is typed = record {
   kept = typed.kept;
   fresh = typed.fresh;
   unique = λ n held. go n (n == object) refl held;
-  owned = λ n t x now there stands i u c v cell at content. claims_kept Nobody g (giving g (Some (PointerTo object)) new) (giving_changed g (Some (PointerTo object)) Nobody new none) (At n) u v (at_some n)
-      (typed.owned n t x now there stands i u c v cell at content);
+  owned = λ n t x there stands i u c v kept cell at content. claims_kept Nobody g (giving g (Some (PointerTo object)) new) (giving_changed g (Some (PointerTo object)) Nobody new none) (At n i) u v (at_some n i)
+      (typed.owned n t x there stands i u c v kept cell at content);
 }
   where
     go : (n : ℕ) (b : Bool) → (n == object) ≡ b → IsHeld (if b then new else g.own (PointerTo n)) → IsUniqueObject g objects n
@@ -343,7 +342,7 @@ pub freed_typed : (g : Typing) (object i : ℕ) (x : Object) (regions : List Reg
     → IsTyped (giving g (Some (PointerTo object)) Nobody) regions (set objects object (record x { owner = Unique false }))
 freed_typed g object i x regions objects has stands typed =
     let (t, y, there, life, at, live) = typed.unique object (subst (λ h. IsHeld h) (sym has) tt) in
-    let now : IsTyped (giving g (Some (PointerTo object)) Nobody) regions objects = given_typed g (Some (PointerTo object)) (Hand i) Nobody regions objects has tt (λ n. at_no_hand n i) typed in
+    let now : IsTyped (giving g (Some (PointerTo object)) Nobody) regions objects = given_typed g (Some (PointerTo object)) (Hand i) Nobody regions objects has tt (λ n m. at_no_hand n m i) typed in
     record {
       count = length-set objects object gone ∙ now.count;
       counts = length-set objects object gone ∙ now.counts;
@@ -352,7 +351,7 @@ freed_typed g object i x regions objects has stands typed =
       kept = now.kept;
       fresh = now.fresh;
       unique = λ n held. unique n held now;
-      owned = λ n u z here found is. owned n u z here found is now;
+      owned = λ n u z found is. owned n u z found is now;
     }
   where
     gone : Object
@@ -388,22 +387,29 @@ freed_typed g object i x regions objects has stands typed =
       | inr apart ↦ (u, z, there, life, slice_get-set_other objects object n gone apart ∙ at, live)
     ]
 
-    owned : (n : ℕ) (u : ObjectType) (z : Object) → g.here n ≡ true → slice_get g.objects n ≡ Some u → slice_get (set objects object gone) n ≡ Some z → IsTyped h regions objects → AreOwned h.own n u.cells z.cells
-    owned n u z here found is now = elim (same_or_other n object) [
+    owned : (n : ℕ) (u : ObjectType) (z : Object) → slice_get g.objects n ≡ Some u → slice_get (set objects object gone) n ≡ Some z → IsTyped h regions objects → AreOwned h n u z.cells
+    owned n u z found is now = elim (same_or_other n object) [
       | inl same ↦ (let z_is : gone ≡ z = some_same gone z (sym gone_there ∙ ap (λ k. slice_get (set objects object gone) k) (sym same) ∙ is) in
-          subst (λ (k : Object). AreOwned h.own n u.cells k.cells) z_is (now.owned n u x here found (ap (λ k. slice_get objects k) same ∙ stands)))
-      | inr apart ↦ now.owned n u z here found (sym (slice_get-set_other objects object n gone apart) ∙ is)
+          subst (λ (k : Object). AreOwned h n u k.cells) z_is (now.owned n u x found (ap (λ k. slice_get objects k) same ∙ stands)))
+      | inr apart ↦ now.owned n u z found (sym (slice_get-set_other objects object n gone apart) ∙ is)
     ]
 
+-- where no swap is under way, a cell has what is in it
+pub not_awaited : (g : Typing) (object i : ℕ) → g.pending ≡ Settled → g.pending ≢ Awaits object i
+not_awaited g object i settled e = let k : Settled ≡ Awaits object i = sym settled ∙ e in absurd (cc)
+
+pub kept_now : (g : Typing) (object i : ℕ) (hidden : Bool) → g.here object ≡ true → g.pending ≡ Settled → IsKept g object i hidden
+kept_now g object i hidden here settled = ((λ is. here), not_awaited g object i settled)
+
 -- a variable that has what is in it has something
-pub here_claims : (g : Typing) (regions : List Region) (objects : List Object) (object : ℕ) (t : RunTy) (l : Life) (hidden : Bool) (s : Slot) → IsTyped g regions objects → g.here object ≡ true → slice_get g.objects object ≡ Some (variable_type t l hidden s) → IsFull g object
-    → (v : values.Value) × Claims g.own (At object) t v
-here_claims g regions objects object t l hidden s typed here there (m, flag, enough) =
+pub here_claims : (g : Typing) (regions : List Region) (objects : List Object) (object : ℕ) (t : RunTy) (l : Life) (hidden : Bool) (s : Slot) → IsTyped g regions objects → g.here object ≡ true → g.pending ≡ Settled → slice_get g.objects object ≡ Some (variable_type t l hidden s) → IsFull g object
+    → (v : values.Value) × Claims g.own (At object 0) t v
+here_claims g regions objects object t l hidden s typed here settled there (m, flag, enough) =
     let (x, k, stands, filled, is) = typed.each object (variable_type t l hidden s) there in
     let c = typed_cell g (t ∷ []) x.cells k 0 t is.cells refl in
     let same : m ≡ k = some_same m k (sym flag ∙ filled) in
     let (v, content, has) = c.content (let less : 0 < k = omega (arith, same, enough) in less) in
-    (v, typed.owned object (variable_type t l hidden s) x here there stands 0 t c.cell v refl c.at content)
+    (v, typed.owned object (variable_type t l hidden s) x there stands 0 t c.cell v (kept_now g object 0 hidden here settled) refl c.at content)
 
 pub alone_comes : (g : Typing) (i : ℕ) (r : RunValue) (v : values.Value) → ClaimsAlone g.own i r v → ClaimsBy g i r v
 alone_comes g i (Value t) v is = is
@@ -439,7 +445,7 @@ hands_globals p g own here globals = globals_grown g (record g { own = own; here
 lent_more : (n : ℕ) (h : Holder) → is_lent_by n h ≡ true → is_lent_by (suc n) h ≡ true
 lent_more n Nobody e = e
 lent_more n (Hand i) e = e
-lent_more n (At i) e = e
+lent_more n (At i j) e = e
 lent_more n (Lent j) e = let less : j < n = ltb-true j n e in lt-ltb j (suc n) (let past : j < suc n = omega (arith, less) in past)
 
 open_more : (g : Typing) (l : Life) → IsOpenIn g l → IsOpenIn (record g { loans = suc g.loans }) l
@@ -483,7 +489,7 @@ pub closed_by_key : (g : Typing) (regions : List Region) (objects : List Object)
     → IsTyped (giving g (Some (KeyOf number)) Nobody) (set regions number r) objects
 closed_by_key g regions objects number i r among has typed =
     let h = giving g (Some (KeyOf number)) Nobody in
-    let now : IsTyped h regions objects = given_typed g (Some (KeyOf number)) (Hand i) Nobody regions objects has tt (λ n. at_no_hand n i) typed in
+    let now : IsTyped h regions objects = given_typed g (Some (KeyOf number)) (Hand i) Nobody regions objects has tt (λ n m. at_no_hand n m i) typed in
     let apart : heap_number ≢ number = (λ e. (let many : 1 < number = (typed.kept number among).0 in let k : heap_number ≡ number = e in absurd (omega (arith, many, k)))) in
     typed_beside h regions (set regions number r) objects now (ap is_open (slice_get-set_other regions number heap_number r apart) ∙ typed.heap) (λ n among held. kept n among now held)
     (let same : length (set regions number r) ≡ length regions = length-set regions number r in let few : length regions ≤ length (set regions number r) = omega (arith, same) in few)
@@ -522,9 +528,9 @@ kept_typed g regions objects holder many typed =
     each number t there = let (x, m, at, flag, is) = typed.each number t there in
         (x, m, at, flag, object_grown g h (kept_grows g (length regions) holder) m t x is)
 
-    owned : (n : ℕ) (t : ObjectType) (x : Object) → g.here n ≡ true → slice_get g.objects n ≡ Some t → slice_get objects n ≡ Some x → AreOwned h.own n t.cells x.cells
-    owned n t x now there stands i u c v cell at content =
-        claims_kept Nobody g (giving g (Some (KeyOf (length regions))) holder) (giving_changed g (Some (KeyOf (length regions))) Nobody holder none) (At n) u v (at_some n) (typed.owned n t x now there stands i u c v cell at content)
+    owned : (n : ℕ) (t : ObjectType) (x : Object) → slice_get g.objects n ≡ Some t → slice_get objects n ≡ Some x → AreOwned h n t x.cells
+    owned n t x there stands i u c v is cell at content =
+        claims_kept Nobody g (giving g (Some (KeyOf (length regions))) holder) (giving_changed g (Some (KeyOf (length regions))) Nobody holder none) (At n i) u v (at_some n i) (typed.owned n t x there stands i u c v is cell at content)
 
     kept : (n k : ℕ) → IsAmong n (k ∷ g.kept) → k ≡ length regions → IsTyped g (regions ++ new_region Dynamic ∷ []) objects → (1 < n) × (IsHeld (h.own (KeyOf n)) → IsDynamic (slice_get (regions ++ new_region Dynamic ∷ []) n))
     kept n k (newest ms) same more = (

@@ -27,18 +27,18 @@ use Rattle.cyc_meaning.specs.Regions.{is_dynamic, opened_by, opens_with, opens_d
 use Rattle.cyc_meaning.specs.Objects.{freed}
 use Rattle.cyc_soundness.specs.Lives.{Life, OfRegion, OfObject, Never, Kept, heap_life, Value, at, Reading, AsHeap, ByScope, AllIn, IsKnown, owned_life}
 use Rattle.cyc_soundness.specs.Lives as lives
-use Rattle.cyc_soundness.specs.Worlds.{OfLocal, Thing, KeyOf, PointerTo, Nobody, Hand, At, Lent, thing_of, Owns, Claims, IsSlot, IsHere, giving, given, marked, handing, variable_type, IsHeld, is_lent_by, IsOpenIn, Stays, Grows, IsFull, IsKeyless, Typing, IsKnownLife, IsNumber, IsKeyOf, HasType, IsResult, IsTyped, IsDynamic, IsKnownOwner}
+use Rattle.cyc_soundness.specs.Worlds.{OfLocal, Thing, KeyOf, PointerTo, Nobody, Hand, At, Lent, thing_of, Owns, Claims, IsSlot, IsHere, giving, given, marked, handing, variable_type, IsHeld, is_lent_by, IsOpenIn, Stays, Grows, IsFull, IsPlain, Typing, IsKnownLife, IsNumber, IsKeyOf, HasType, IsResult, IsTyped, IsDynamic, IsKnownOwner, Settled, Holder}
 use Rattle.cyc_soundness.specs.Classes.{IsSpared, HasLoans, IsDeclarable, Source, HasAliases}
-use Rattle.cyc_soundness.specs.Frames.{IsAmong, first, later, Bound, InScope, Variable, Names, life_named, lives_in, read, IsBound, AreVariables, IsLasting, LiveIn, Within, older, IsFullIn, Holds, Implies, Exits, lending, AreKnownLocals, AreKnown, IsContext, KnowsProgram, frees_in, Stand}
+use Rattle.cyc_soundness.specs.Frames.{IsAmong, first, later, Bound, InScope, Variable, Names, life_named, lives_in, read, IsBound, AreVariables, IsLasting, LiveIn, Within, older, IsFullIn, Holds, Implies, Exits, lending, AreKnownLocals, AreKnown, IsContext, KnowsProgram, frees_in, Stand, local_type}
 use Rattle.cyc_soundness.specs.Stacks.{IsByType, operands_in, Continues, Go, IsStack, IsWell}
 use Rattle.cyc_soundness.proofs.TypeLemmas.{all_in, read_alike}
 use Rattle.cyc_soundness.proofs.FlowLemmas.{reached_with}
 use Rattle.cyc_soundness.proofs.RegionLemmas.{contains_more, name_known, same_name, known_other, known_more, other_life, context_key, context_alias, context_again, region_owner}
 use Rattle.cyc_soundness.proofs.WorldLemmas.{globals_grown, result_grown}
-use Rattle.cyc_soundness.proofs.Hands.{Changed, at_no_hand, at_some, given_now, giving_changed, handing_changed, changed_after, variables_kept, holds_kept, taken_typed, here_claims, freed_typed, hands_globals, with_kept, kept_grows, kept_typed, variables_more, moment_typed, moment_globals, holds_lent, lent_last, closed_by_key}
+use Rattle.cyc_soundness.proofs.Hands.{Changed, at_no_hand, at_some, given_now, giving_changed, handing_changed, changed_after, variables_kept, holds_kept, taken_typed, here_claims, freed_typed, hands_globals, with_kept, kept_grows, kept_typed, variables_more, moment_typed, moment_globals, holds_lent, lent_last, closed_by_key, untaken_typed}
 use Rattle.cyc_soundness.proofs.Sharing.{life_common, by_type_read}
-use Rattle.cyc_soundness.proofs.StackLemmas.{emptied_other, stack_changed, above_globals, full_here, within_full_at, within_variables, among_bound, among_variable, among_own, among_set, set_stored, statement_relied}
-use Rattle.cyc_soundness.proofs.Cells.{pointer_keyless, keyless_claims, by_type_claims, running}
+use Rattle.cyc_soundness.proofs.StackLemmas.{emptied_other, stack_changed, above_globals, full_here, within_full_at, within_variables, among_bound, among_variable, among_own, among_set, set_stored, statement_relied, settled}
+use Rattle.cyc_soundness.proofs.Cells.{pointer_plain, plain_claims, by_type_claims, running, plain_nothing, both_plain}
 use Rattle.cyc_soundness.proofs.Evaluation.{full_set}
 
 -- ---- lists
@@ -83,12 +83,12 @@ unfreed AsHeap c bs shares stand = absurd shares
 unfreed (ByScope lends frees) c bs shares (same, stand) = same ∙ shares.1
 
 -- and unique pointers are as others
-unique_keyless : (g : Typing) (bs : List InScope) (u : Ty) → AreVariables g bs → frees_in bs ≡ false → is_unique u ≡ true → IsKeyless (read bs u)
-unique_keyless g bs (types.Pointer k t r) variables none unique = pointer_keyless k (read bs t) (lives_in bs r) (life_common g bs variables r none)
-unique_keyless g bs types.Int variables none unique = absurd (let z : false ≡ true = unique in cc)
-unique_keyless g bs (types.Handle r) variables none unique = absurd (let z : false ≡ true = unique in cc)
-unique_keyless g bs (types.Key r) variables none unique = absurd (let z : false ≡ true = unique in cc)
-unique_keyless g bs (types.Struct s rs) variables none unique = absurd (let z : false ≡ true = unique in cc)
+unique_plain : (g : Typing) (bs : List InScope) (u : Ty) → AreVariables g bs → frees_in bs ≡ false → is_unique u ≡ true → IsPlain (read bs u)
+unique_plain g bs (types.Pointer k t r) variables none unique = pointer_plain k (read bs t) (lives_in bs r) (life_common g bs variables r none)
+unique_plain g bs types.Int variables none unique = absurd (let z : false ≡ true = unique in cc)
+unique_plain g bs (types.Handle r) variables none unique = absurd (let z : false ≡ true = unique in cc)
+unique_plain g bs (types.Key r) variables none unique = absurd (let z : false ≡ true = unique in cc)
+unique_plain g bs (types.Struct s rs) variables none unique = absurd (let z : false ≡ true = unique in cc)
 
 -- an alias has the type of what it shares, as a run reads it
 alias_read : (bs : List InScope) (n : ℕ) (u : Ty) → frees_in bs ≡ false → is_unique u ≡ true → AllIn (IsKnown n) u → read (Names n heap_life true ∷ bs) (with_region_of (regions.Variable n) u) ≡ read bs u
@@ -139,6 +139,17 @@ module _ (p : Source) (g : Typing) (x : Exits) (bs : List InScope) (e : Environm
   lending_grows : (b : Bound) → Grows g (lending_typing b)
   lending_grows b = record { objects = λ n u is. is; filled = λ n count is. is; fields = λ n ls ts is. is; kept = λ n is. is }
 
+  -- one that no pointer leads to gives away what it has, and any other has nothing
+  taken_lent : (b : Bound) (new : Holder) → IsAmong (Variable b) bs → IsByType b.of_type → Owns g.own (At b.object 0) (lent_thing b) → IsTyped (handing g (lent_thing b) new b.object false) w.regions w.objects
+  taken_lent b new among by has = go b.is_hidden refl
+    where
+      go : (hidden : Bool) → b.is_hidden ≡ hidden → IsTyped (handing g (lent_thing b) new b.object false) w.regions w.objects
+      go true hides = taken_typed g (lent_thing b) b.object new (local_type g.depth b) w.regions w.objects has (among_variable g among variables) hides typed
+      go false shows =
+          let (y, m, stands, flag, is) = typed.each b.object (local_type g.depth b) (among_variable g among variables) in
+          let none : lent_thing b ≡ None = plain_nothing b.of_type values.Null (both_plain b.of_type (is.keyless shows).0 by) in
+          subst (λ o. IsTyped (handing g o new b.object false) w.regions w.objects) (sym none) (untaken_typed g b.object new w.regions w.objects typed)
+
   -- what is known then
   record IsLent (b : Bound) (lent : ℕ) (f h : flow.State) (cs : List InScope) (k : List Entry) : Type 0 where
     objects : IsTyped (lending_typing b) w.regions w.objects
@@ -148,23 +159,23 @@ module _ (p : Source) (g : Typing) (x : Exits) (bs : List InScope) (e : Environm
     stack : IsStack p (lending_typing b) (lending x lent) cs (Go h) (EndLoan lent ∷ k)
 
   -- it has it before
-  lender_has : (b : Bound) (f : flow.State) → IsAmong (Variable b) bs → IsByType b.of_type → IsFullIn f b.number → Holds g f bs → (v : values.Value) → Claims g.own (At b.object) b.of_type v
-  lender_has b f among by full holds v =
+  lender_has : (b : Bound) (f : flow.State) → g.pending ≡ Settled → IsAmong (Variable b) bs → IsByType b.of_type → IsFullIn f b.number → Holds g f bs → (v : values.Value) → Claims g.own (At b.object 0) b.of_type v
+  lender_has b f still among by full holds v =
       let some : IsFull g b.object = among_set g f among holds.1 (full_set (flow.fullness f b.number) full) in
       let here : IsHere g g.depth b.number b.object = among_own g f among holds.1 full in
-      let (z, is) = here_claims g w.regions w.objects b.object b.of_type b.life b.is_hidden (OfLocal g.depth b.number) typed here.0 (among_variable g among variables) some in
-      by_type_claims g.own (At b.object) b.of_type z v by is
+      let (z, is) = here_claims g w.regions w.objects b.object b.of_type b.life b.is_hidden (OfLocal g.depth b.number) typed here.0 still (among_variable g among variables) some in
+      by_type_claims g.own (At b.object 0) b.of_type z v by is
 
   lends : (b : Bound) (lent : ℕ) (f h i : flow.State) (cs : List InScope) (k : List Entry) → Within cs bs → IsAmong (Variable b) bs → IsByType b.of_type → b.number ≡ lent → IsFullIn f lent → IsSpared x.relied lent → Holds g f bs → Implies (with_fullness Full h lent) i
       → IsStack p g x cs (Go i) k → IsLent b lent f h cs k
   lends b lent f h i cs k within among by number full spared holds again stack =
-      let old = At b.object in
+      let old = At b.object 0 in
       let new = Lent g.loans in
       let o = lent_out b in
       let j = lending_typing b in
       let f1 = with_fullness Locked f lent in
       let full_here' : IsFullIn f b.number = subst (λ n. IsFullIn f n) (sym number) full in
-      let has : Owns g.own old (lent_thing b) = (lender_has b f among by full_here' holds values.Null).0 in
+      let has : Owns g.own old (lent_thing b) = (lender_has b f (settled p g x cs (Go i) k stack) among by full_here' holds values.Null).0 in
       let there : e.locals lent ≡ Some b.object = ap e.locals (sym number) ∙ among_bound e among bound in
       let some : IsFull g b.object = among_set g f among holds.1 (full_set (flow.fullness f b.number) full_here') in
       let type_is : slice_get g.objects b.object ≡ Some (variable_type b.of_type b.life b.is_hidden (OfLocal g.depth lent)) = subst (λ n. slice_get g.objects b.object ≡ Some (variable_type b.of_type b.life b.is_hidden (OfLocal g.depth n))) number (among_variable g among variables) in
@@ -175,7 +186,7 @@ module _ (p : Source) (g : Typing) (x : Exits) (bs : List InScope) (e : Environm
       let scope : AreVariables o bs = variables_kept old g o changed bs refl variables in
       let scope_now : AreVariables j bs = variables_more o bs scope in
       record {
-        objects = moment_typed o g.depth (suc g.loans) w.regions w.objects (taken_typed g (lent_thing b) b.object new w.regions w.objects has typed);
+        objects = moment_typed o g.depth (suc g.loans) w.regions w.objects (taken_lent b new among by has);
         knows = moment_globals p o g.depth (suc g.loans) (hands_globals p g (given (lent_thing b) new g.own) (marked b.object false g.here) globals);
         scope = scope_now;
         holds = holds_lent o (suc g.loans) f1 bs now;
@@ -210,7 +221,7 @@ module _ (p : Source) (g : Typing) (x : Exits) (bs : List InScope) (e : Environm
           let key : b.of_type ≡ lives.Key (Kept n) = of_type ∙ ap (λ l. lives.Key l) is_kept in
           let known : IsAmong n g.kept = subst (λ l. IsKnownLife g l) is_kept (name_known g bs r variables) in
           let by : IsByType b.of_type = subst (λ t. IsByType t) (sym key) tt in
-          let has : g.own (KeyOf n) ≡ At b.object = (subst (λ t. Claims g.own (At b.object) t values.Null) key (lender_has b f among by (subst (λ m. IsFullIn f m) (sym number_of) full) holds values.Null)).0 in
+          let has : g.own (KeyOf n) ≡ At b.object 0 = (subst (λ t. Claims g.own (At b.object 0) t values.Null) key (lender_has b f (settled p g x cs (Go i) k stack) among by (subst (λ m. IsFullIn f m) (sym number_of) full) holds values.Null)).0 in
           let held : IsHeld (g.own (KeyOf n)) = subst (λ o. IsHeld o) (sym has) tt in
           let (s, found, dynamic) = dynamic_found (slice_get w.regions region) (subst (λ i. IsDynamic (slice_get w.regions i)) same ((typed.kept n known).1 held)) in
           let z = lends b lent f h i cs k within among by number_of full spared holds again stack in
@@ -277,7 +288,7 @@ module _ (p : Source) (g : Typing) (x : Exits) (bs : List InScope) (e : Environm
         (declared, contains_more (regions.Variable c.next_region) (regions.Variable c.region) (live_regions c.regions.live c.regions.opened) alive),
         number_is,
         subst (λ y. IsResult j (Value y) v) (sym same) is_now,
-        subst (λ y. Claims j.own (Hand (operands_in (EndLoan lent ∷ k))) y v.value) (sym same) (keyless_claims j.own (Hand (operands_in (EndLoan lent ∷ k))) (read bs u) v.value (unique_keyless g bs u variables none unique)),
+        subst (λ y. Claims j.own (Hand (operands_in (EndLoan lent ∷ k))) y v.value) (sym same) (plain_claims j.own (Hand (operands_in (EndLoan lent ∷ k))) (read bs u) v.value (unique_plain g bs u variables none unique)),
         next,
         z.stack,
       )
@@ -294,13 +305,13 @@ module _ (p : Source) (g : Typing) (x : Exits) (bs : List InScope) (e : Environm
       let o = giving g (Some (KeyOf n)) hand in
       let i = with_kept g n hand in
       let none : g.own (KeyOf n) ≡ Nobody = typed.fresh n (let le : n ≤ n = omega arith in le) in
-      let stays : Stays o i = record { grows = record { objects = λ m t is. is; filled = λ m count is. is; fields = λ m ls ts is. is; kept = λ m is. later n g.kept is }; own = refl; here = refl; depth = refl; loans = refl } in
+      let stays : Stays o i = record { grows = record { objects = λ m t is. is; filled = λ m count is. is; fields = λ m ls ts is. is; kept = λ m is. later n g.kept is }; own = refl; here = refl; pending = refl; depth = refl; loans = refl } in
       let changed : Changed Nobody g i = changed_after Nobody g o i (giving_changed g (Some (KeyOf n)) Nobody hand none) stays in
       let many : 1 < n = above_globals n k nests.1 in
       let inner : List InScope = Names c.next_region l false ∷ bs in
       let named : life_named inner r ≡ l = ap (λ m. life_named inner m) region ∙ same_name c.next_region l (life_named bs c.next_region) in
       let less : r < suc c.next_region = omega (arith, region) in
-      let (reached, are) = holds_kept Nobody g i changed f bs (λ m object s here. at_some object) holds in
+      let (reached, are) = holds_kept Nobody g i changed f bs (λ m object s here. at_some object 0) holds in
       running p i x inner e (opened_as state.Dynamic w) (kept_typed g w.regions w.objects hand many typed) (globals_grown g i (kept_grows g n hand) p (λ m ls. refl) (λ m among. loans) globals) (tt, bound)
       ((first g.kept, λ no. let z : false ≡ true = no in absurd (cc)), variables_kept Nobody g i changed bs refl variables)
       (Naming number (record { kind = kinds.Key; value = values.Key n }) js) k (((λ is. tt), live.0), live.1) (
@@ -340,7 +351,7 @@ module _ (p : Source) (g : Typing) (x : Exits) (bs : List InScope) (e : Environm
           (running p h x bs e (closed w region s)
           (subst (λ m. IsTyped h (set w.regions m (record s { is_open = false })) w.objects) same (closed_by_key g w.regions w.objects n (operands_in k) (record s { is_open = false }) known claims.0 typed))
           (hands_globals p g (given o Nobody g.own) g.here globals) bound (variables_kept hand g h changed bs refl variables) Proceeding k live
-          (f, holds_kept hand g h changed f bs (λ m object s here. at_no_hand object (operands_in k)) holds, stack_changed p hand g h x bs (Go f) k changed (let le : operands_in k ≤ operands_in k = omega arith in le) stack)))
+          (f, holds_kept hand g h changed f bs (λ m object s here. at_no_hand object 0 (operands_in k)) holds, stack_changed p hand g h x bs (Go f) k changed (let le : operands_in k ≤ operands_in k = omega arith in le) stack)))
       by_life (OfRegion n ns us) is_kept same claims = absurd same
       by_life (OfObject o) is_kept same claims = absurd same
       by_life Never is_kept same claims = absurd same
@@ -364,7 +375,7 @@ module _ (p : Source) (g : Typing) (x : Exits) (bs : List InScope) (e : Environm
           subst (λ o. IsWell p (frees_object o object k e w)) (sym stands)
           (subst (λ o. IsWell p (frees_owned o object z k e w)) (sym owner)
           (running p h x bs e (freed w object z) (freed_typed g object (operands_in k) z w.regions w.objects has stands typed) (hands_globals p g (given o Nobody g.own) g.here globals) bound (variables_kept hand g h changed bs refl variables) Proceeding k live
-          (f, holds_kept hand g h changed f bs (λ n other s here. at_no_hand other (operands_in k)) holds, stack_changed p hand g h x bs (Go f) k changed (let le : operands_in k ≤ operands_in k = omega arith in le) stack)))
+          (f, holds_kept hand g h changed f bs (λ n other s here. at_no_hand other 0 (operands_in k)) holds, stack_changed p hand g h x bs (Go f) k changed (let le : operands_in k ≤ operands_in k = omega arith in le) stack)))
 
       go : (v : values.Value) → HasType g (lives.Pointer m t lives.Owned) v → Claims g.own (Hand (operands_in k)) (lives.Pointer m t lives.Owned) v → IsWell p (frees v k e w)
       go values.Null is claims = running p g x bs e w typed globals bound variables Proceeding k live (f, holds, stack)

@@ -80,9 +80,9 @@ module _ (m : Reading) (q : Relied) (n : ℕ) where
     looks_expression (Store d c t) w f h among reached (g, dp, dc) (one, kept) =
         let (is, still) = looks_place d w f g among reached dp one in
         let (are, end) = looks_converted c (and_peeked (peek_behind d) w) g h (among_peeked n (peek_behind d) w among) still dc kept in ((is, are), end)
-    looks_expression (New p i t) w f h among reached (g, d, ds) (shared, one, kept) =
+    looks_expression (New p i t) w f h among reached (g, d, ds) (one, kept) =
         let (is, still) = looks_placement p w f g among reached d one in
-        let (are, end) = looks_initial i w g h among still ds kept in ((shared, is, are), end)
+        let (are, end) = looks_initial i w g h among still ds kept in ((is, are), end)
 
     looks_place : (d : Dereference) (w : List ℕ) (f h : flow.State) → IsAmong n w → is_reached f ≡ true → Derives (rule_place w d f) h → InPlace m q d → InPlace m looking d × (is_reached h ≡ true)
     looks_place (Target k a t) w f h among reached flows kept = looks_expression a w f h among reached flows kept
@@ -140,7 +140,7 @@ looked_converted m q (Some n) c w f h reached flows kept = (looks_converted m q 
 pub looked_side : (m : Reading) (q : Relied) (peek : Option ℕ) (y : Side) (w : List ℕ) (f h : flow.State) → is_reached f ≡ true → Derives (rule_side (and_peeked peek w) y f) h → InSide m q y → InSide m (and_looked peek q) y
 looked_side m q None y w f h reached flows kept = kept
 looked_side m q (Some n) (VariableSide l t) w f h reached flows kept = kept
-looked_side m q (Some n) (CellSide d) w f h reached flows kept = (looks_place m q n d (w ++ n ∷ []) f h (at_last n n w refl) reached flows kept).0
+looked_side m q (Some n) (CellSide d) w f h reached flows (shared, kept) = (shared, (looks_place m q n d (w ++ n ∷ []) f h (at_last n n w refl) reached flows kept).0)
 
 -- the machine and the rules mean the same local
 pub peeked_so : (d : Dereference) → peeked d ≡ peek_behind d

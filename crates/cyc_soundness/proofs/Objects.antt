@@ -1,5 +1,5 @@
 -- OBJECTS are made: their cells hold nothing yet, and then are written one by one.
-use Rattle.std.proofs.Common.{◌≡◌, ◌≢◌, ◌⊎◌, inl, inr, ℕ, zero, suc, ◌+◌, ◌*◌, ◌≤◌, ◌<◌, Bool, true, false, List, [], ◌∷◌, ◌++◌, length, map, set, reverse, Some, slice_get, refl, sym, ap, subst, ◌∙◌, arith}
+use Rattle.std.proofs.Common.{◌≡◌, ◌≢◌, ◌⊎◌, inl, inr, ℕ, zero, suc, ◌+◌, ◌*◌, ◌≤◌, ◌<◌, Bool, true, false, List, [], ◌∷◌, ◌++◌, length, map, set, reverse, Some, slice_get, refl, sym, ap, subst, ◌∙◌, arith, None}
 use Rattle.std.specs.Prelude.{if◌then◌else◌, ◌==◌, nat_le}
 use Rattle.std.proofs.lemmas.Bool.{eq-eqb, eqb-true}
 use mathlib.Core.List.{reverse_aux}
@@ -11,7 +11,7 @@ use Rattle.cyc_types.specs.declared.typed.Kind.{Kind}
 use Rattle.cyc_types.specs.declared.typed.Kind.TheVariants as kinds
 use Rattle.cyc_types.specs.Types.{Ty, substituted_ty}
 use Rattle.cyc_types.specs.Types as types
-use Rattle.cyc_types.specs.TypedTrees.{StructType, Expression, Initial, Plain, Fields, Array, Convert, Arguments, NoArguments, MoreArguments}
+use Rattle.cyc_types.specs.TypedTrees.{Expression, Initial, Plain, Fields, Array, Convert, Arguments, NoArguments, MoreArguments}
 use Rattle.cyc_types.specs.Rules.{Derives}
 use Rattle.cyc_types.specs.typing.Tests as tests
 use Rattle.cyc_types.specs.typing.Tests.{is_key}
@@ -20,7 +20,7 @@ use Rattle.cyc_types.specs.typing.WellTyped.{Context, ArePassed, IsMade}
 use Rattle.cyc_types.specs.typing.WellTyped as counting
 use Rattle.cyc_types.specs.flow.States as flow
 use Rattle.cyc_types.specs.flow.Expressions.{rule_initial, rule_arguments}
-use Rattle.cyc_meaning.specs.Values.{Operand, Cell}
+use Rattle.cyc_meaning.specs.Values.{Operand, Cell, blank}
 use Rattle.cyc_meaning.specs.Values as values
 use Rattle.cyc_meaning.specs.State.{Region, Owner, InRegion, Unique, Object, World, Found, Closed, found_region, region_at, cell_at, heap_number, is_open, Environment, with_counter, ConvertTo, MakePlain, MakeFields, MakeArray, FillElement, Write, Entry, Needs, Focus, Evaluating, Given, Writing, Beginning, Repeating, Throwing, Running}
 use Rattle.cyc_meaning.specs.Objects.{made_in, made_unique, created_in, created}
@@ -29,21 +29,21 @@ use Rattle.cyc_meaning.specs.Operators.{array_size}
 use Rattle.cyc_meaning.specs.Allocation.{writes_from, blanks_of, filled, makes_of, makes_plain, makes_fields, most_words, blanks, begun, makes_array, step_beginning, step_repeating, fills_element, makes}
 use Rattle.cyc_meaning.specs.Nesting.{ends_of, AreOpen}
 use Rattle.cyc_meaning.proofs.ListLemmas.{slice_get-end, slice_get-set_other}
-use Rattle.cyc_soundness.specs.Lives.{Reading, AsHeap, ByScope, at, Life, OfRegion, OfObject, Never, Kept, RunTy, Int, Pointer, Handle, Key, Struct, Value, looked, kind_at, Owned, owned_life}
-use Rattle.cyc_soundness.specs.Worlds.{NoLocal, Thing, KeyOf, PointerTo, Holder, Nobody, Hand, At, Lent, pointer_at, Owns, given, giving, AreOwned, IsUniqueObject, IsOpenObject, IsNewOwner, IsAmong, IsHeld, IsKeyless, AreKeyless, IsDynamic, ObjectType, Typing, Outlasts, alike, IsFilled, IsPart, IsTarget, HasType, IsResult, AreOperands, AreCells, IsOwner, IsObject, IsTyped, IsOpenLife, Grows, IsKnownOwner}
-use Rattle.cyc_soundness.specs.Frames.{first, later, InScope, Level, HasMeaning, IsBound, AreVariables, LiveIn, Holds, Implies, Exits, IsContext, KnowsProgram, lives_in, read, IsThere, frees_in, life_named}
-use Rattle.cyc_soundness.specs.Classes.{HasLoans, IsShared, InInitial, InArguments, Source}
-use Rattle.cyc_soundness.specs.Stacks.{Val, turned, AreClaimed, operands_in, AreFields, Repeats, AreNext, IsWhole, IsMaking, IsArray, IsStack, IsFocus, IsWell, relied_at}
+use Rattle.cyc_soundness.specs.Lives.{Reading, AsHeap, ByScope, at, Life, OfRegion, OfObject, Never, Kept, RunTy, Int, Pointer, Handle, Key, Struct, Value, looked, kind_at, Owned, owned_life, Lives}
+use Rattle.cyc_soundness.specs.Worlds.{NoLocal, Thing, KeyOf, PointerTo, Holder, Nobody, Hand, At, Lent, pointer_at, Owns, Claims, given, giving, AreOwned, IsUniqueObject, IsOpenObject, IsNewOwner, IsAmong, IsHeld, IsKeyless, AreKeyless, IsDynamic, ObjectType, Typing, Outlasts, alike, IsFilled, IsPart, IsTarget, HasType, IsResult, AreOperands, AreCells, IsOwner, IsObject, IsTyped, IsOpenLife, Grows, IsKnownOwner}
+use Rattle.cyc_soundness.specs.Frames.{first, later, InScope, Level, HasMeaning, IsBound, AreVariables, LiveIn, Holds, Implies, Exits, IsContext, KnowsProgram, lives_in, read, IsThere, frees_in, life_named, lives_among}
+use Rattle.cyc_soundness.specs.Classes.{HasLoans, InInitial, InArguments, Source, frees_of}
+use Rattle.cyc_soundness.specs.Stacks.{Val, turned, AreClaimed, operands_in, AreFields, Repeats, AreNext, IsWhole, IsMaking, IsArray, IsStack, IsFocus, IsWell, relied_at, AreGiven, AreNextGiven}
 use Rattle.cyc_soundness.specs.Stacks as stacks
-use Rattle.cyc_soundness.proofs.Numbers.{same_or_other, less_or_same, slice_get-set_same}
+use Rattle.cyc_soundness.proofs.Numbers.{same_or_other, less_or_same, slice_get-set_same, some_same}
 use Rattle.cyc_soundness.proofs.FlowLemmas.{at_least_implies, holds_implied}
 use Rattle.cyc_soundness.proofs.TypeLemmas.{target_typed, is_kind_same, kind_read}
-use Rattle.cyc_soundness.proofs.WorldLemmas.{beyond, owner_grown, operands_grown, globals_grown, with_object, object_grows, object_stays, object_typed, typed_beside, open_region, risen, with_filled}
-use Rattle.cyc_soundness.proofs.Hands.{Changed, given_now, at_some, changed_after, giving_changed, variables_kept, holds_kept, holds_grown, pointed_typed}
-use Rattle.cyc_soundness.proofs.Sharing.{at_start, keeps_by, read_shared, no_key, shared_field, key_field}
-use Rattle.cyc_soundness.proofs.StackLemmas.{keeps_fields, stack_changed, stack_grown, kept_open, lasting_open}
+use Rattle.cyc_soundness.proofs.WorldLemmas.{beyond, owner_grown, operands_grown, globals_grown, with_object, object_grows, object_stays, object_typed, typed_beside, open_region}
+use Rattle.cyc_soundness.proofs.Hands.{Changed, hand_same, at_no_hand, given_now, at_some, changed_after, giving_changed, owns_kept, claims_kept, variables_kept, holds_kept, given_typed, hands_globals, pointed_typed}
+use Rattle.cyc_soundness.proofs.Sharing.{at_start, keeps_by, plain_keyless}
+use Rattle.cyc_soundness.proofs.StackLemmas.{keeps_fields, stack_changed, kept_open, lasting_open}
 use Rattle.cyc_soundness.proofs.RegionLemmas.{region_owner, there_open, agrees_of, there_lasting, mapped_count, fields_mean}
-use Rattle.cyc_soundness.proofs.Cells.{running, part_at, keyless_at, keyless_claims, shared_claims, writes}
+use Rattle.cyc_soundness.proofs.Cells.{running, part_at, stored_typing, stores_on}
 
 -- ---- lists of operands
 
@@ -62,6 +62,31 @@ blank_cells g h [] (v ∷ vs) are = absurd are
 blank_cells g h (t ∷ ts) [] are = absurd are
 blank_cells g h (t ∷ ts) (v ∷ vs) (is, are) = ((is.0, refl), blank_cells g h ts vs are)
 
+-- what operands on the stack claim, they claim as arguments in order
+pub given_turned : (g : Typing) (i : ℕ) (ts us : List RunTy) (vs ws : List Operand) → AreOperands g ts vs → AreClaimed g.own i ts vs → AreGiven g.own (i + length ts) us ws → AreGiven g.own i (turned ts us) (reverse_aux vs ws)
+given_turned g i [] us [] ws operands are more = let e : i + 0 ≡ i = omega arith in subst (λ j. AreGiven g.own j us ws) e more
+given_turned g i [] us (v ∷ vs) ws operands are more = absurd operands
+given_turned g i (t ∷ ts) us [] ws operands are more = absurd operands
+given_turned g i (t ∷ ts) us (v ∷ vs) ws operands (is, are) more =
+    let e : i + suc (length ts) ≡ suc (i + length ts) = omega arith in
+    given_turned g i ts (t ∷ us) vs (v ∷ ws) operands.1 are (is, subst (λ j. AreGiven g.own j us ws) e more)
+
+-- what is behind one that goes elsewhere is in hand still
+module _ (old : Holder) (g h : Typing) (changed : Changed old g h) where
+  pub given_kept : (j : ℕ) (ts : List RunTy) (vs : List Operand) → ((i : ℕ) → j ≤ i → Hand i ≢ old) → AreGiven g.own j ts vs → AreGiven h.own j ts vs
+  given_kept j [] vs other are = tt
+  given_kept j (t ∷ ts) [] other are = tt
+  given_kept j (t ∷ ts) (v ∷ vs) other (is, are) =
+      (claims_kept old g h changed (Hand j) t v.value (other j (let le : j ≤ j = omega arith in le)) is, given_kept (suc j) ts vs (λ i less. other i (let le : j ≤ i = omega (arith, less) in le)) are)
+
+  next_given_kept : (j o : ℕ) (ts : List RunTy) (vs : List Operand) → ((i : ℕ) → j ≤ i → Hand i ≢ old) → AreNextGiven g.own j o ts vs → AreNextGiven h.own j o ts vs
+  next_given_kept j zero ts vs other are = given_kept j ts vs other are
+  next_given_kept j (suc o) [] vs other are = tt
+  next_given_kept j (suc o) (t ∷ ts) vs other are = next_given_kept j o ts vs other are
+
+pub past_hand : (j i k : ℕ) → j < i → i ≤ k → Hand k ≢ Hand j
+past_hand j i k less most e = let same : k ≡ j = hand_same k j e in absurd (omega (arith, less, most, same))
+
 -- ---- operands for cells
 
 next_grown : (g h : Typing) → Grows g h → (i : ℕ) (ts : List RunTy) (vs : List Operand) → AreNext g i ts vs → AreNext h i ts vs
@@ -75,6 +100,13 @@ next_one g zero [] v vs are = absurd are
 next_one g zero (t ∷ ts) v vs (is, are) = (t, refl, is, are)
 next_one g (suc i) [] v vs are = absurd are
 next_one g (suc i) (t ∷ ts) v vs are = next_one g i ts v vs are
+
+-- which claims what it is
+next_claims : (own : Thing → Holder) (g : Typing) (place i : ℕ) (ts : List RunTy) (v : Operand) (vs : List Operand) (t : RunTy) → slice_get ts i ≡ Some t → AreNextGiven own place i ts (v ∷ vs) → Claims own (Hand place) t v.value × AreNextGiven own (suc place) (suc i) ts vs
+next_claims own g place zero [] v vs t at are = absurd (let k : None ≡ Some t = at in cc)
+next_claims own g place zero (u ∷ ts) v vs t at (is, are) = (subst (λ z. Claims own (Hand place) z v.value) (some_same u t at) is, are)
+next_claims own g place (suc i) [] v vs t at are = absurd (let k : None ≡ Some t = at in cc)
+next_claims own g place (suc i) (u ∷ ts) v vs t at are = next_claims own g place i ts v vs t at are
 
 none_next : (g : Typing) (i : ℕ) (ts : List RunTy) → AreNext g i ts [] → length ts ≤ i
 none_next g zero [] are = omega arith
@@ -127,14 +159,42 @@ unkept g (OfObject object) none known = tt
 unkept g Never none known = tt
 unkept g Owned none known = tt
 
+unkept_type : (g : Typing) (n : Lives) (t : Ty) → ((m : ℕ) → IsAmong m g.kept → ⊥) → ((r : Region') → IsKnownOwner g (n r)) → IsKeyless (at n t)
+unkept_type g n types.Int none known = tt
+unkept_type g n (types.Pointer k t r) none known = tt
+unkept_type g n (types.Handle r) none known = tt
+unkept_type g n (types.Key r) none known = unkept g (n r) none (known r)
+unkept_type g n (types.Struct s rs) none known = tt
+
+all_unkept : (g : Typing) (n : Lives) (ts : List Ty) → ((m : ℕ) → IsAmong m g.kept → ⊥) → ((r : Region') → IsKnownOwner g (n r)) → AreKeyless (map (at n) ts)
+all_unkept g n [] none known = tt
+all_unkept g n (t ∷ ts) none known = (unkept_type g n t none known, all_unkept g n ts none known)
+
+plain_each : (n : Lives) (ts : List Ty) → ((field : ℕ) (t : Ty) → slice_get ts field ≡ Some t → is_key t ≡ false) → AreKeyless (map (at n) ts)
+plain_each n [] plain = tt
+plain_each n (t ∷ ts) plain = (plain_keyless n t (plain 0 t refl), plain_each n ts (λ i u there. plain (suc i) u there))
+
 lends_or_not : (m : Reading) → HasLoans m ⊎ (HasLoans m → ⊥)
 lends_or_not AsHeap = inr (λ h. h)
 lends_or_not (ByScope true frees) = inl refl
 lends_or_not (ByScope false frees) = inr (λ h. let z : false ≡ true = h in absurd (cc))
 
--- no new object has what only one may have
-new_owned : (own : Thing → Holder) (n : ℕ) (ts : List RunTy) (cs : List Cell) → AreKeyless ts → AreOwned own n ts cs
-new_owned own n ts cs keyless i u c v found at content = keyless_claims own (At n) u v (keyless_at ts i u keyless found)
+-- a new object has nothing yet
+abbrev AreEmpty : List Cell → Type 0
+AreEmpty cs = (i : ℕ) (c : Cell) → slice_get cs i ≡ Some c → c.content ≡ None
+
+blanks_empty : (vs : List Operand) → AreEmpty (blanks_of vs)
+blanks_empty [] i c found = absurd (let k : None ≡ Some c = found in cc)
+blanks_empty (v ∷ vs) zero c found = ap (λ (z : Cell). z.content) (sym (some_same (blank v.kind) c found))
+blanks_empty (v ∷ vs) (suc i) c found = blanks_empty vs i c found
+
+all_empty : (n : ℕ) (kind : Kind) → AreEmpty (blanks n kind)
+all_empty zero kind i c found = absurd (let k : None ≡ Some c = found in cc)
+all_empty (suc n) kind zero c found = ap (λ (z : Cell). z.content) (sym (some_same (blank kind) c found))
+all_empty (suc n) kind (suc i) c found = all_empty n kind i c found
+
+new_owned : (g : Typing) (n : ℕ) (y : ObjectType) (cs : List Cell) → AreEmpty cs → AreOwned g n y cs
+new_owned g n y cs empty i u c v kept found at content = absurd (let k : None ≡ Some v = sym (empty i c at) ∙ content in cc)
 
 -- an object that is being made is there: the pointer to it is in hand
 pub made_open : (g : Typing) (regions : List Region) (object i : ℕ) (l : Life) → IsOpenLife regions l → Owns g.own (Hand i) (pointer_at l object) → IsOpenObject g regions object l
@@ -159,7 +219,7 @@ unheld_new g regions objects typed = go (g.own (PointerTo (length objects))) ref
     go : (h : Holder) → g.own (PointerTo (length objects)) ≡ h → g.own (PointerTo (length objects)) ≡ Nobody
     go Nobody same = same
     go (Hand i) same = absurd (gone (typed.unique (length objects) (subst (λ h. IsHeld h) (sym same) tt)))
-    go (At object) same = absurd (gone (typed.unique (length objects) (subst (λ h. IsHeld h) (sym same) tt)))
+    go (At object offset) same = absurd (gone (typed.unique (length objects) (subst (λ h. IsHeld h) (sym same) tt)))
     go (Lent j) same = absurd (gone (typed.unique (length objects) (subst (λ h. IsHeld h) (sym same) tt)))
 
 unheld_at : (g : Typing) (l : Life) (object : ℕ) → g.own (PointerTo object) ≡ Nobody → Owns g.own Nobody (pointer_at l object)
@@ -307,12 +367,12 @@ module _ (p : Source) (g : Typing) (x : Exits) (bs : List InScope) (e : Environm
   abbrev new_world : List RunTy → Life → (hand : ℕ) → Typing
   new_world ts l i = giving (with_object g (new_type ts l) 0) (pointer_at l (length w.objects)) (Hand i)
 
-  made_on : (owner : Owner) (l : Life) (new : World) (ts : List RunTy) (cells : List Cell) (focus : Focus) (k : List Entry) (i : ℕ) → LiveIn k bs → IsNewOwner l owner → IsKnownOwner g l → AreKeyless ts → ((h : Typing) → AreCells h ts cells 0)
+  made_on : (owner : Owner) (l : Life) (new : World) (ts : List RunTy) (cells : List Cell) (focus : Focus) (k : List Entry) (i : ℕ) → LiveIn k bs → IsNewOwner l owner → IsKnownOwner g l → AreKeyless ts → AreEmpty cells → ((h : Typing) → AreCells h ts cells 0)
       → new.objects ≡ w.objects ++ record { owner = owner; cells = cells } ∷ [] → AreStill new.regions
       → (Changed Nobody g (new_world ts l i) → slice_get (new_world ts l i).objects (length w.objects) ≡ Some (new_type ts l) → IsFilled (new_world ts l i) (length w.objects) 0 → Owns (new_world ts l i).own (Hand i) (pointer_at l (length w.objects))
       → IsFocus p (new_world ts l i) x bs focus k)
       → IsWell p (Running focus k e new)
-  made_on owner l new ts cells focus k i live owned known keyless blanks_are objects_are still goes =
+  made_on owner l new ts cells focus k i live owned known keyless empty blanks_are objects_are still goes =
       let t = new_type ts l in
       let n = length w.objects in
       let one = with_object g t 0 in
@@ -322,7 +382,7 @@ module _ (p : Source) (g : Typing) (x : Exits) (bs : List InScope) (e : Environm
       let grows = object_grows g t 0 in
       let made : Object = record { owner = owner; cells = cells } in
       let is : IsObject one 0 t made = record { owner = new_is_owner l owner owned; known = owner_grown g one grows l known; keyless = λ shown. keyless; cells = blanks_are one } in
-      let first' : IsTyped one w.regions (w.objects ++ made ∷ []) = object_typed g w.regions w.objects t 0 made g.here typed is (λ object apart here. here) (new_owned g.own n ts cells keyless) in
+      let first' : IsTyped one w.regions (w.objects ++ made ∷ []) = object_typed g w.regions w.objects t 0 made g.here typed is (λ object apart here. here) (new_owned one n t cells empty) in
       let there = subst (λ n. slice_get h.objects n ≡ Some t) (sym typed.count) (slice_get-end g.objects t) in
       let flag = subst (λ n. slice_get h.filled n ≡ Some 0) (sym typed.counts) (slice_get-end g.filled 0) in
       let second : IsTyped h w.regions (w.objects ++ made ∷ []) = claimed_new one l n (Hand i) t made w.regions (w.objects ++ made ∷ []) owned refl none there (slice_get-end w.objects made) first' in
@@ -339,18 +399,19 @@ module _ (p : Source) (g : Typing) (x : Exits) (bs : List InScope) (e : Environm
 
   -- what is known of a world with an object more
   holds_made : (h : Typing) (f : flow.State) → Changed Nobody g h → Holds g f bs → Holds h f bs
-  holds_made h f changed holds = holds_kept Nobody g h changed f bs (λ n object full here. at_some object) holds
+  holds_made h f changed holds = holds_kept Nobody g h changed f bs (λ n object full here. at_some object 0) holds
 
   pub makes_these : (owner : Owner) (ts : List RunTy) (vs : List Operand) (t : RunTy) (r : Region') (k : List Entry) (f : flow.State) → AreOpen w.regions (ends_of k) → LiveIn k bs → Holds g f bs → IsThere bs r
-      → IsNewOwner (lives_in bs r) owner → AreKeyless ts → AreOperands g ts vs → IsWhole g (new_type ts (lives_in bs r)) t → IsStack p g x bs (Val (Value (Pointer marks.NonNull t (lives_in bs r))) f) k
+      → IsNewOwner (lives_in bs r) owner → AreKeyless ts → AreOperands g ts vs → AreGiven g.own (operands_in k) ts vs → IsWhole g (new_type ts (lives_in bs r)) t → IsStack p g x bs (Val (Value (Pointer marks.NonNull t (lives_in bs r))) f) k
       → IsWell p (makes_of owner vs k e w)
-  makes_these owner ts vs t r k f all_open live holds alive owned keyless are whole stack =
+  makes_these owner ts vs t r k f all_open live holds alive owned keyless are claims whole stack =
       let l = lives_in bs r in
       let (new, found, objects_are, opens) = created_there owner (blanks_of vs) l owned (open_life r k all_open live alive) in
-      let h = new_world ts l (operands_in k) in
+      let top = operands_in k + length vs in
+      let h = new_world ts l top in
       let handed : Operand = record { kind = kinds.NonNull; value = values.Thin (length w.objects) 0 } in
       subst (λ a. IsWell p (filled a (length w.objects) vs k e w)) (sym found)
-      (made_on owner l new ts (blanks_of vs) (Writing (writes_from (length w.objects) 0 vs) (Some handed)) k (operands_in k) live owned (region_owner g bs r variables) keyless (λ h. blank_cells g h ts vs are) objects_are opens
+      (made_on owner l new ts (blanks_of vs) (Writing (writes_from (length w.objects) 0 vs) (Some handed)) k top live owned (region_owner g bs r variables) keyless (blanks_empty vs) (λ h. blank_cells g h ts vs are) objects_are opens
       (λ changed there none has. (
         t,
         r,
@@ -370,6 +431,9 @@ module _ (p : Source) (g : Typing) (x : Exits) (bs : List InScope) (e : Environm
           filled = none;
           rest = operands_grown g h changed.grows ts vs are;
           whole = whole_grown g h changed.grows (new_type ts l) t whole;
+          place = operands_in k;
+          least = (let le : operands_in k ≤ operands_in k = omega arith in le);
+          given = given_kept Nobody g h changed (operands_in k) ts vs (λ i less e. let z : Hand i ≡ Nobody = e in absurd (cc)) claims;
           owned = has;
         },
         stack_changed p Nobody g h x bs (Val (Value (Pointer marks.NonNull t l)) f) k changed tt stack,
@@ -386,7 +450,7 @@ module _ (p : Source) (g : Typing) (x : Exits) (bs : List InScope) (e : Environm
       let ts = repeated count (read bs t) in
       let h = new_world ts l (operands_in k) in
       subst (λ a. IsWell p (begun a (length w.objects) count level kind element k e w)) (sym found)
-      (made_on owner l new ts (blanks count kind) (Repeating (length w.objects) count 0 level kind element) k (operands_in k) live owned (region_owner g bs r variables) (keyless_repeated count (read bs t) (read_shared g bs variables p.reading c.regions t stands.regions repeats.shared (λ r same. no_key r t (IsKeyless (Key (lives_in bs r))) repeats.plain same)))
+      (made_on owner l new ts (blanks count kind) (Repeating (length w.objects) count 0 level kind element) k (operands_in k) live owned (region_owner g bs r variables) (keyless_repeated count (read bs t) (plain_keyless (lives_in bs) t repeats.plain)) (all_empty count kind)
       (λ h. blanks_typed h count kind (read bs t) (repeats.kind_is ∙ sym (kind_read (lives_in bs) t))) objects_are opens
       (λ changed there none has. (
         c,
@@ -462,55 +526,70 @@ module _ (p : Source) (g : Typing) (x : Exits) (bs : List InScope) (e : Environm
   -- the next element gets its value, and the counter is out of scope
   pub fill_on : (object count index level : ℕ) (kind : Kind) (element : Expression) (v : Operand) (k : List Entry) (c : Context) (t : Ty) (r : Region') (f h : flow.State) → AreOpen w.regions (ends_of k) → LiveIn k bs → IsThere bs r
       → IsContext p x bs c → Holds g h bs → Repeats p.reading (relied_at x.relied k) c level kind element t f → Implies h f → index < count → IsArray g (read bs t) (lives_in bs r) object count index → Owns g.own (Hand (operands_in k)) (pointer_at (lives_in bs r) object) → IsResult g (Value (read bs t)) v
-      → IsStack p g x bs (Val (Value (Pointer marks.Fat (read bs t) (lives_in bs r))) f) k
+      → Claims g.own (Hand (1 + operands_in k)) (read bs t) v.value → IsStack p g x bs (Val (Value (Pointer marks.Fat (read bs t) (lives_in bs r))) f) k
       → IsWell p (fills_element object count index level kind element v k e w)
-  fill_on object count index level kind element v k c t r f h all_open live alive stands holds repeats back less (y, there, shown, life, cells, (m, flag, enough), few) has is stack =
-      let u = with_filled g object (risen index m) in
+  fill_on object count index level kind element v k c t r f h all_open live alive stands holds repeats back less (y, there, shown, life, cells, (m, flag, enough), few) has is comes stack =
+      let i = 1 + operands_in k in
+      let focus = Repeating object count (suc index) level kind element in
+      let u = stored_typing p g x bs e w typed globals bound variables v focus k object index m i (read bs t) y g.here in
       let opens : IsOpenObject g w.regions object y.life = subst (λ l. IsOpenObject g w.regions object l) (sym life) (made_open g w.regions object (operands_in k) (lives_in bs r) (open_life r k all_open live alive) has) in
-      subst (λ (b : Bool). IsWell p (if b then stored (cell_at w object index) object index v (Repeating object count (suc index) level kind element) k e w else wrong w))
+      subst (λ (b : Bool). IsWell p (if b then stored (cell_at w object index) object index v focus k e w else wrong w))
       (sym (is_kind_same v.kind kind (is.0 ∙ kind_read (lives_in bs) t ∙ sym repeats.kind_is)))
-      (writes p g x bs e w typed globals bound variables v (Repeating object count (suc index) level kind element) k object index m (read bs t) y
-      live there (cells index less) opens flag enough is (λ here. shared_claims g w object index y (read bs t) typed there shown (cells index less) (At object) v.value)
-      (λ grows now. (
+      (stores_on p g x bs e w typed globals bound variables v focus k object index m i (read bs t) y
+      live there (cells index less) opens flag enough is comes
+      (λ changed now. (
         c,
         t,
         r,
         f,
         stands,
-        holds_grown g u grows f bs (holds_implied g h f bs back holds),
+        holds_kept (Hand i) g u changed f bs (λ n other s here. at_no_hand other 0 i) (holds_implied g h f bs back holds),
         alive,
         repeats,
         (y, there, shown, life, cells, now, (let e : suc index ≤ count = omega (arith, less) in e)),
-        has,
-        stack_grown p g u grows x bs (Val (Value (Pointer marks.Fat (read bs t) (lives_in bs r))) f) k stack,
+        owns_kept (Hand i) g u changed (Hand (operands_in k)) (pointer_at (lives_in bs r) object) (λ e. let same : operands_in k ≡ i = hand_same (operands_in k) i e in absurd (omega (arith, same))) has,
+        stack_changed p (Hand i) g u x bs (Val (Value (Pointer marks.Fat (read bs t) (lives_in bs r))) f) k changed (let le : operands_in k ≤ i = omega arith in le) stack,
       )))
 
   -- ---- its cells are written
 
-  write_from : (object offset : ℕ) (vs : List Operand) (y : ObjectType) (t : RunTy) (r : Region') (k : List Entry) (f : flow.State) → AreOpen w.regions (ends_of k) → LiveIn k bs → Holds g f bs → IsThere bs r
-      → slice_get g.objects object ≡ Some y → y.is_hidden ≡ false → y.life ≡ lives_in bs r → IsFilled g object offset → AreNext g offset y.cells vs → IsWhole g y t → Owns g.own (Hand (operands_in k)) (pointer_at (lives_in bs r) object) → IsStack p g x bs (Val (Value (Pointer marks.NonNull t (lives_in bs r))) f) k
+  write_from : (object offset place : ℕ) (vs : List Operand) (y : ObjectType) (t : RunTy) (r : Region') (k : List Entry) (f : flow.State) → AreOpen w.regions (ends_of k) → LiveIn k bs → Holds g f bs → IsThere bs r
+      → slice_get g.objects object ≡ Some y → y.is_hidden ≡ false → y.life ≡ lives_in bs r → IsFilled g object offset → AreNext g offset y.cells vs → IsWhole g y t → operands_in k ≤ place → AreNextGiven g.own place offset y.cells vs
+      → Owns g.own (Hand (place + length vs)) (pointer_at (lives_in bs r) object) → IsStack p g x bs (Val (Value (Pointer marks.NonNull t (lives_in bs r))) f) k
       → IsWell p (step_writing (writes_from object offset vs) (Some (record { kind = kinds.NonNull; value = values.Thin object 0 })) k e w)
-  write_from object offset [] y t r k f all_open live holds alive there shown life full rest whole has stack =
+  write_from object offset place [] y t r k f all_open live holds alive there shown life full rest whole least given' has stack =
+      let l = lives_in bs r in
+      let o = pointer_at l object in
+      let top = Hand (place + 0) in
+      let hand = Hand (operands_in k) in
+      let h = giving g o hand in
+      let changed : Changed top g h = giving_changed g o top hand has in
       let all : IsFilled g object (length y.cells) = filled_up g object (length y.cells) offset (none_next g offset y.cells rest) full in
-      running p g x bs e w typed globals bound variables (Given (record { kind = kinds.NonNull; value = values.Thin object 0 })) k live (
-        Value (Pointer marks.NonNull t (lives_in bs r)),
+      running p h x bs e w (given_typed g o top hand w.regions w.objects has tt (λ n i. at_no_hand n i (place + 0)) typed) (hands_globals p g (given o hand g.own) g.here globals) bound (variables_kept top g h changed bs refl variables)
+      (Given (record { kind = kinds.NonNull; value = values.Thin object 0 })) k live (
+        Value (Pointer marks.NonNull t l),
         f,
-        holds,
-        (refl, (y, there, shown, subst (λ m. Outlasts m (lives_in bs r)) (sym life) (alike (lives_in bs r)), whole_part g object y t whole all)),
-        (has, at_start (lives_in bs r)),
-        stack,
+        holds_kept top g h changed f bs (λ n other s here. at_no_hand other 0 (place + 0)) holds,
+        (refl, (y, there, shown, subst (λ m. Outlasts m l) (sym life) (alike l), whole_part h object y t (whole_grown g h changed.grows y t whole) all)),
+        (given_now g.own o hand, at_start l),
+        stack_changed p top g h x bs (Val (Value (Pointer marks.NonNull t l)) f) k changed (let le : operands_in k ≤ place + 0 = omega (arith, least) in le) stack,
       )
-  write_from object offset (v ∷ vs) y t r k f all_open live holds alive there shown life (m, flag, enough) rest whole has stack =
+  write_from object offset place (v ∷ vs) y t r k f all_open live holds alive there shown life (m, flag, enough) rest whole least given' has stack =
       let (u, at, is, behind) = next_one g offset y.cells v vs rest in
-      let h = with_filled g object (risen offset m) in
+      let (claims, later') = next_claims g.own g place offset y.cells v vs u at given' in
       let handed : Operand = record { kind = kinds.NonNull; value = values.Thin object 0 } in
-      writes p g x bs e w typed globals bound variables v (Writing (writes_from object (suc offset) vs) (Some handed)) k object offset m u y live there at
-      (subst (λ m. IsOpenObject g w.regions object m) (sym life) (made_open g w.regions object (operands_in k) (lives_in bs r) (open_life r k all_open live alive) has)) flag enough is (λ here. shared_claims g w object offset y u typed there shown at (At object) v.value)
-      (λ grows now. (
+      let focus = Writing (writes_from object (suc offset) vs) (Some handed) in
+      let h = stored_typing p g x bs e w typed globals bound variables v focus k object offset m place u y g.here in
+      let l = lives_in bs r in
+      let o = pointer_at l object in
+      let same : place + suc (length vs) ≡ suc place + length vs = omega arith in
+      stores_on p g x bs e w typed globals bound variables v focus k object offset m place u y live there at
+      (subst (λ m. IsOpenObject g w.regions object m) (sym life) (made_open g w.regions object (place + suc (length vs)) l (open_life r k all_open live alive) has)) flag enough is claims
+      (λ changed now. (
         t,
         r,
         f,
-        holds_grown g h grows f bs holds,
+        holds_kept (Hand place) g h changed f bs (λ n other s here. at_no_hand other 0 place) holds,
         alive,
         record {
           object = object;
@@ -523,11 +602,14 @@ module _ (p : Source) (g : Typing) (x : Exits) (bs : List InScope) (e : Environm
           shown = shown;
           life = life;
           filled = now;
-          rest = next_grown g h grows.grows (suc offset) y.cells vs behind;
-          whole = whole_grown g h grows.grows y t whole;
-          owned = has;
+          rest = next_grown g h changed.grows (suc offset) y.cells vs behind;
+          whole = whole_grown g h changed.grows y t whole;
+          place = suc place;
+          least = (let le : operands_in k ≤ suc place = omega (arith, least) in le);
+          given = next_given_kept (Hand place) g h changed (suc place) (suc offset) y.cells vs (λ i most. past_hand place (suc place) i (let e : place < suc place = omega arith in e) most) later';
+          owned = owns_kept (Hand place) g h changed (Hand (suc place + length vs)) o (λ e. let z : suc place + length vs ≡ place = hand_same (suc place + length vs) place e in absurd (omega (arith, z))) (subst (λ i. Owns g.own (Hand i) o) same has);
         },
-        stack_grown p g h grows x bs (Val (Value (Pointer marks.NonNull t (lives_in bs r))) f) k stack,
+        stack_changed p (Hand place) g h x bs (Val (Value (Pointer marks.NonNull t l)) f) k changed least stack,
       ))
 
   pub write_on : (these : List Write) (v : Operand) (t : RunTy) (r : Region') (k : List Entry) (f : flow.State) → AreOpen w.regions (ends_of k) → LiveIn k bs → Holds g f bs → IsThere bs r → IsMaking g (operands_in k) these v t (lives_in bs r) → IsStack p g x bs (Val (Value (Pointer marks.NonNull t (lives_in bs r))) f) k
@@ -535,21 +617,21 @@ module _ (p : Source) (g : Typing) (x : Exits) (bs : List InScope) (e : Environm
   write_on these v t r k f all_open live holds alive m stack =
       subst (λ ws. IsWell p (step_writing ws (Some v) k e w)) (sym m.these)
       (subst (λ z. IsWell p (step_writing (writes_from m.object m.offset m.operands) (Some z) k e w)) (sym m.handed)
-      (write_from m.object m.offset m.operands m.of_type t r k f all_open live holds alive m.there m.shown m.life m.filled m.rest m.whole m.owned stack))
+      (write_from m.object m.offset m.place m.operands m.of_type t r k f all_open live holds alive m.there m.shown m.life m.filled m.rest m.whole m.least m.given m.owned stack))
 
   -- ---- all forms
 
   pub plain_on : (owner : Owner) (kind : Kind) (v : Operand) (t : Ty) (r : Region') (k : List Entry) (f : flow.State) → IsKeyless (read bs t) → AreOpen w.regions (ends_of k) → LiveIn k bs → Holds g f bs → IsThere bs r → IsNewOwner (lives_in bs r) owner → kind ≡ tests.kind_of t
-      → IsResult g (Value (read bs t)) v → IsStack p g x bs (Val (Value (Pointer marks.NonNull (read bs t) (lives_in bs r))) f) k → IsWell p (makes_plain owner kind v k e w)
-  plain_on owner kind v t r k f plain all_open live holds alive owned kind_is is stack =
+      → IsResult g (Value (read bs t)) v → Claims g.own (Hand (operands_in k)) (read bs t) v.value → IsStack p g x bs (Val (Value (Pointer marks.NonNull (read bs t) (lives_in bs r))) f) k → IsWell p (makes_plain owner kind v k e w)
+  plain_on owner kind v t r k f plain all_open live holds alive owned kind_is is claims stack =
       subst (λ (b : Bool). IsWell p (if b then makes_of owner (v ∷ []) k e w else wrong w)) (sym (is_kind_same v.kind kind (is.0 ∙ kind_read (lives_in bs) t ∙ sym kind_is)))
-      (makes_these owner (read bs t ∷ []) (v ∷ []) (read bs t) r k f all_open live holds alive owned (plain, tt) (is, tt) (whole_of g (lives_in bs r) (read bs t) v.value is.1) stack)
+      (makes_these owner (read bs t ∷ []) (v ∷ []) (read bs t) r k f all_open live holds alive owned (plain, tt) (is, tt) (claims, tt) (whole_of g (lives_in bs r) (read bs t) v.value is.1) stack)
 
   pub fields_on : (k : List Entry) (owner : Owner) (before : List Operand) (done : List RunTy) (as' : Arguments) (ts : List Ty) (c : Context) (n : ℕ) (ls : List Life) (r : Region') (f h : flow.State) (q : List ℕ)
       → AreOpen w.regions (ends_of k) → LiveIn k bs → IsContext p x bs c → Holds g f bs → IsThere bs r → IsNewOwner (lives_in bs r) owner → ArePassed c ts as' → Derives (rule_arguments q as' f) h → InArguments p.reading (relied_at x.relied k) as' → AreOperands g done before
       → AreClaimed g.own (operands_in k) done before → AreFields p n ls (turned done (map (read bs) ts)) → IsStack p g x bs (Val (Value (Pointer marks.NonNull (Struct n ls) (lives_in bs r))) h) k → IsWell p (makes_fields owner before as' k e w)
   fields_on k owner before done NoArguments [] c n ls r f h q all_open live stands holds alive owned passed (u, same) kept operands claims (s, at, count, fields, keyless) stack =
-      makes_these owner (turned done []) (reverse before) (Struct n ls) r k h all_open live (subst (λ z. Holds g z bs) (sym same) holds) alive owned keyless (operands_reversed g done before operands)
+      makes_these owner (turned done []) (reverse before) (Struct n ls) r k h all_open live (subst (λ z. Holds g z bs) (sym same) holds) alive owned keyless (operands_reversed g done before operands) (given_turned g (operands_in k) done [] before [] operands claims tt)
       (globals.structs n s ls at count ∙ ap (λ us. Some us) (sym fields)) stack
   fields_on k owner before done NoArguments (t ∷ ts) c n ls r f h q all_open live stands holds alive owned passed flows kept operands claims fields stack = absurd passed
   fields_on k owner before done (MoreArguments d as') [] c n ls r f h q all_open live stands holds alive owned passed flows kept operands claims fields stack = absurd passed
@@ -579,24 +661,9 @@ module _ (p : Source) (g : Typing) (x : Exits) (bs : List InScope) (e : Environm
         ),
       )
 
-  -- no field of a struct is a key, or unique where things are given back
-  fields_keyless : (c : Context) (n : ℕ) (rs : List Region') (s : StructType) → IsContext p x bs c → IsShared p.reading (types.Struct n rs) → (ts : List Ty) → ((field : ℕ) (t : Ty) → slice_get ts field ≡ Some t → IsShared p.reading t)
-      → (HasLoans p.reading → (field : ℕ) (t : Ty) → slice_get ts field ≡ Some t → is_key t ≡ false) → AreKeyless (map (read bs) (map (substituted_ty rs) ts))
-  fields_keyless c n rs s stands shared [] common plain = tt
-  fields_keyless c n rs s stands shared (t ∷ ts) common plain = (
-    read_shared g bs variables p.reading c.regions (substituted_ty rs t) stands.regions (shared_field p.reading n rs t shared (common 0 t refl)) keys,
-    fields_keyless c n rs s stands shared ts (λ i u there. common (suc i) u there) (λ lends i u there. plain lends (suc i) u there),
-  )
-    where
-      keys : (r : Region') → substituted_ty rs t ≡ types.Key r → IsKeyless (Key (lives_in bs r))
-      keys r same = elim (lends_or_not p.reading) [
-        | inl lends ↦ no_key r (substituted_ty rs t) (IsKeyless (Key (lives_in bs r))) (key_field rs t (plain lends 0 t refl)) same
-        | inr never ↦ unkept g (lives_in bs r) (λ m among. never (globals.keys m among)) (region_owner g bs r variables)
-      ]
-
   pub makes_on : (i : Initial) (owner : Owner) (k : List Entry) (c : Context) (m : PointerKind) (t : Ty) (r : Region') (f h : flow.State) (q : List ℕ) → AreOpen w.regions (ends_of k) → LiveIn k bs → IsContext p x bs c → Holds g f bs → IsThere bs r
-      → IsNewOwner (lives_in bs r) owner → IsMade c i m t → Derives (rule_initial q i f) h → InInitial p.reading (relied_at x.relied k) i → IsShared p.reading t → IsStack p g x bs (Val (Value (Pointer m (read bs t) (lives_in bs r))) h) k → IsWell p (makes owner i k e w)
-  makes_on (Plain kind a) owner k c m t r f h q all_open live stands holds alive owned (well, keyless, kind_is, mark) flows kept shared stack =
+      → IsNewOwner (lives_in bs r) owner → IsMade c i m t → Derives (rule_initial q i f) h → InInitial p.reading (relied_at x.relied k) i → IsStack p g x bs (Val (Value (Pointer m (read bs t) (lives_in bs r))) h) k → IsWell p (makes owner i k e w)
+  makes_on (Plain kind a) owner k c m t r f h q all_open live stands holds alive owned (well, keyless, kind_is, mark) flows kept stack =
       running p g x bs e w typed globals bound variables (Evaluating a) (Needs (MakePlain owner kind) ∷ k) live (
         c,
         types.Value t,
@@ -609,21 +676,24 @@ module _ (p : Source) (g : Typing) (x : Exits) (bs : List InScope) (e : Environm
           [],
           bs,
           Val (Value (Pointer marks.NonNull (read bs t) (lives_in bs r))) h,
-          stacks.makes_plain t r h (read_shared g bs variables p.reading c.regions t stands.regions shared (λ r same. no_key r t (IsKeyless (Key (lives_in bs r))) keyless same)) alive owned kind_is,
+          stacks.makes_plain t r h (plain_keyless (lives_in bs) t keyless) alive owned kind_is,
           tt,
           subst (λ z. IsStack p g x bs (Val (Value (Pointer z (read bs t) (lives_in bs r))) h) k) mark stack,
         ),
       )
-  makes_on (Fields as') owner k c m t r f h q all_open live stands holds alive owned (n, rs, s, at, count, passed, t_is, mark) flows kept shared stack =
+  makes_on (Fields as') owner k c m t r f h q all_open live stands holds alive owned (n, rs, s, at, count, passed, t_is, mark) flows kept stack =
       let there : slice_get p.program.structs n ≡ Some s = ap (λ ss. slice_get ss n) (sym stands.structs) ∙ at in
       let ls = map (lives_in bs) rs in
       let enough : length ls ≡ s.parameters = mapped_count (lives_in bs) rs ∙ count in
       let means = fields_mean p x bs c stands rs s count (λ field u found. globals.fields n s there field u found) in
-      let keyless = fields_keyless c n rs s stands (subst (λ z. IsShared p.reading z) t_is shared) s.fields (globals.shared n s there) (λ lends. globals.plain lends n s there) in
+      let keyless : AreKeyless (map (read bs) (map (substituted_ty rs) s.fields)) = elim (lends_or_not p.reading) [
+        | inl lends ↦ subst (λ us. AreKeyless us) (sym means) (plain_each (lives_among (frees_of p.reading) ls) s.fields (globals.plain lends n s there))
+        | inr never ↦ all_unkept g (lives_in bs) (map (substituted_ty rs) s.fields) (λ m among. never (globals.keys m among)) (λ r. region_owner g bs r variables)
+      ] in
       fields_on k owner [] [] as' (map (substituted_ty rs) s.fields) c n ls r f h q all_open live stands holds alive owned passed flows kept tt tt
       (s, there, enough, means, keyless)
       (subst (λ z. IsStack p g x bs (Val (Value (Pointer z (Struct n ls) (lives_in bs r))) h) k) mark (subst (λ z. IsStack p g x bs (Val (Value (Pointer m (read bs z) (lives_in bs r))) h) k) t_is stack))
-  makes_on (Array place level count kind element) owner k c m t r f h q all_open live stands holds alive owned (level_is, well, each, keyless, kind_is, mark) (f1, d, (f2, de, (demands, known))) (kn, ke) shared stack =
+  makes_on (Array place level count kind element) owner k c m t r f h q all_open live stands holds alive owned (level_is, well, each, keyless, kind_is, mark) (f1, d, (f2, de, (demands, known))) (kn, ke) stack =
       let repeats : Repeats p.reading (relied_at x.relied k) c level kind element t f1 = record {
         now = f2;
         level_is = level_is;
@@ -632,7 +702,6 @@ module _ (p : Source) (g : Typing) (x : Exits) (bs : List InScope) (e : Environm
         taken = refl;
         back = at_least_implies f2 f1 demands.0;
         plain = keyless;
-        shared = shared;
       } in
       running p g x bs e w typed globals bound variables (Evaluating count) (Needs (MakeArray owner level kind element) ∷ k) live (
         c,

@@ -36,19 +36,19 @@ use Rattle.cyc_soundness.specs.Lives as lives
 use Rattle.cyc_soundness.specs.Worlds.{ObjectType, Typing, IsFilled, IsPart, IsTarget, HasType, IsResult, Fits, AreCells, IsObject, IsTyped}
 use Rattle.cyc_soundness.specs.Frames.{InScope, IsBound, AreVariables, LiveIn, lives_among, Holds, Exits, IsContext, KnowsProgram, lives_in, read, read_value, IsThere}
 use Rattle.cyc_soundness.specs.Classes.{and_looked, InExpression, InPlace, Source, frees_of}
-use Rattle.cyc_soundness.specs.Stacks.{IsThrough, seen_by, EvaluatesWhole, relied_at, Val, PlaceOf, null, WaitsPlace, of_cell, KeepsPlace, IsStack, IsFocus, IsWell}
+use Rattle.cyc_soundness.specs.Stacks.{IsThrough, seen_by, EvaluatesWhole, relied_at, Val, PlaceOf, null, WaitsPlace, of_cell, left_cell, IsByType, KeepsPlace, IsStack, IsFocus, IsWell}
 use Rattle.cyc_soundness.specs.Stacks as stacks
 use Rattle.cyc_soundness.proofs.Numbers.{some_same, inside, mapped, both}
 use Rattle.cyc_soundness.proofs.TypeLemmas.{target_typed, is_kind_same, mark_kinds, kind_meant}
 use Rattle.cyc_soundness.proofs.WorldLemmas.{result_grown, typed_cell}
-use Rattle.cyc_soundness.proofs.Hands.{holds_grown, variables_grown}
-use Rattle.cyc_soundness.proofs.Sharing.{region_common, life_common, plain_read, by_type_read, keeps_by}
-use Rattle.cyc_soundness.proofs.StackLemmas.{stack_grown, IsPresent, there_present}
+use Rattle.cyc_soundness.proofs.Hands.{at_no_hand, holds_kept, variables_kept}
+use Rattle.cyc_soundness.proofs.Sharing.{region_common, plain_read, keeps_by}
+use Rattle.cyc_soundness.proofs.StackLemmas.{stack_changed, part_alone, IsPresent, there_present}
 use Rattle.cyc_soundness.proofs.RegionLemmas.{agrees_of, there_of, mapped_count, field_means}
 use Rattle.cyc_soundness.proofs.Looking.{looked_expression, peeked_so}
-use Rattle.cyc_soundness.proofs.Swapping.{finds_right_on, both_on}
-use Rattle.cyc_soundness.specs.Worlds.{Hand, pointer_at, thing_of, Claims, ClaimsPart, ClaimsBy, IsHad, IsKeyless}
-use Rattle.cyc_soundness.proofs.Cells.{keyless_claims, pointer_keyless, part_had, running, part_at, target_live, reads_target, writes_target}
+use Rattle.cyc_soundness.proofs.Swapping.{left_spot, finds_right_on, both_on}
+use Rattle.cyc_soundness.specs.Worlds.{Hand, pointer_at, thing_of, Claims, ClaimsPart, ClaimsBy, IsHad, IsPlain}
+use Rattle.cyc_soundness.proofs.Cells.{plain_claims, pointer_plain, part_had, running, part_at, target_live, reads_target, writes_target}
 
 -- ---- pointers
 
@@ -155,7 +155,7 @@ moved_comes g i bs t v variables = go (tests.is_moved t) refl
   where
     go : (b : Bool) → tests.is_moved t ≡ b → ClaimsBy g i (read_value bs (if b then types.Void else types.Value t)) v
     go true e = tt
-    go false e = keyless_claims g.own (Hand i) (read bs t) v (plain_read g bs variables t e)
+    go false e = plain_claims g.own (Hand i) (read bs t) v (plain_read g bs variables t e)
 
 -- a pointer that is moved leads into the same
 moved_thing : (t : RunTy) (l : Life) (change : ℕ → ℕ) (v z : values.Value) → moved change v ≡ Gives z → thing_of (lives.Pointer marks.Fat t l) z ≡ thing_of (lives.Pointer marks.Fat t l) v
@@ -263,9 +263,9 @@ module _ (p : Source) (g : Typing) (x : Exits) (bs : List InScope) (e : Environm
   gives_into k peek kind t f Misfits live holds same fits comes stack = absurd fits
 
   -- where it is nothing that only one may have
-  pub gives : (k : List Entry) (kind : Kind) (t : RunTy) (f : flow.State) (r : Result) → LiveIn k bs → Holds g f bs → IsKeyless t → kind ≡ kind_at t → Fits g t r → IsStack p g x bs (Val (Value t) f) k
+  pub gives : (k : List Entry) (kind : Kind) (t : RunTy) (f : flow.State) (r : Result) → LiveIn k bs → Holds g f bs → IsPlain t → kind ≡ kind_at t → Fits g t r → IsStack p g x bs (Val (Value t) f) k
       → IsWell p (computed kind r k e w)
-  gives k kind t f r live holds plain same fits stack = gives_by k kind t f r live holds same fits (λ v given. keyless_claims g.own (Hand (stacks.operands_in k)) t v plain) stack
+  gives k kind t f r live holds plain same fits stack = gives_by k kind t f r live holds same fits (λ v given. plain_claims g.own (Hand (stacks.operands_in k)) t v plain) stack
 
   -- ---- a place is found
 
@@ -447,12 +447,12 @@ module _ (p : Source) (g : Typing) (x : Exits) (bs : List InScope) (e : Environm
   -- ---- what waits for a place
 
   pub place_given : {a : AwaitingPlace} {o : Option ℕ} {t : RunTy} {l : Life} {f : flow.State} {next : stacks.Want} (place : values.Value) (k : List Entry) → AreOpen w.regions (ends_of k) → LiveIn k bs → Holds g f bs → HasType g (lives.Pointer marks.NonNull t l) place
-      → ClaimsPart g (stacks.operands_in k) o (thing_of (lives.Pointer marks.NonNull t l) place) → WaitsPlace p x (relied_at x.relied k) bs a o t l f next → KeepsPlace p g bs a t f → IsStack p g x bs next k → IsWell p (placed a place k e w)
-  place_given (values.Thin object offset) k opens live holds has part (stacks.loads_from {kind} seen t r f alive plain same) keeps stack =
+      → ClaimsPart g (stacks.count_place a + stacks.operands_in k) o (thing_of (lives.Pointer marks.NonNull t l) place) → WaitsPlace p x (relied_at x.relied k) bs a o t l f next → KeepsPlace p g (stacks.operands_in k) bs a t f → IsStack p g x bs next k → IsWell p (placed a place k e w)
+  place_given (values.Thin object offset) k opens live holds has part (stacks.loads_from {kind} seen t r f alive by plain same) keeps stack =
       reads_target p g x bs e w typed globals bound variables k kind object offset (lives_in bs) t (lives_in bs r) f opens live (there_present g (ends_of k) bs r live.0 variables alive)
-      (part_had g (stacks.operands_in k) seen (pointer_at (lives_in bs r) object) part) holds has plain (kind_meant (lives_in bs) t ∙ sym same) stack
+      (part_had g (0 + stacks.operands_in k) seen (pointer_at (lives_in bs r) object) part) holds has by plain (kind_meant (lives_in bs) t ∙ sym same) stack
   place_given place k opens live holds has part (stacks.takes_address seen t l f common) keeps stack =
-      on (Given (record { kind = kinds.NonNull; value = place })) k live (Value (lives.Pointer marks.NonNull t l), f, holds, (refl, has), keyless_claims g.own (Hand (stacks.operands_in k)) (lives.Pointer marks.NonNull t l) place (pointer_keyless marks.NonNull t l common), stack)
+      on (Given (record { kind = kinds.NonNull; value = place })) k live (Value (lives.Pointer marks.NonNull t l), f, holds, (refl, has), plain_claims g.own (Hand (stacks.operands_in k)) (lives.Pointer marks.NonNull t l) place (pointer_plain marks.NonNull t l common), stack)
   place_given place k opens live holds has part (stacks.stores_to {peek} {from} {to} {a} c v t r f h alive stands later conv from_is to_is) keeps stack =
       let (evaluates, whole) = later holds.0 in
       on (Evaluating a) (Needs (ConvertTo from to (target_by a)) ∷ Needs (StoreCell peek place) ∷ k) live (
@@ -469,35 +469,39 @@ module _ (p : Source) (g : Typing) (x : Exits) (bs : List InScope) (e : Environm
           Val (Value (read bs t)) h,
           stacks.converts c v t h (agrees_of p x bs c stands) (keeps_by g bs variables p.reading c.regions stands.regions) conv from_is to_is (target_typed c a v evaluates.typed),
           tt,
-          (lives.Pointer marks.NonNull (read bs t) (lives_in bs r) ∷ [], bs, Val (read_value bs (assigned_type t)) h, stacks.stores_cell t r h alive, (((refl, has), tt), part), stack),
+          (lives.Pointer marks.NonNull (read bs t) (lives_in bs r) ∷ [], bs, Val (read_value bs (assigned_type t)) h, stacks.stores_cell t r h alive, (((refl, has), tt), part_alone g k peek (thing_of (lives.Pointer marks.NonNull (read bs t) (lives_in bs r)) place) part), stack),
         ),
       )
-  place_given place k opens live holds has part (stacks.swaps_left {kind} {peek} {right} through c t r f h alive none stands kind_is plain later) keeps stack =
+  place_given place k opens live holds has part (stacks.swaps_left {kind} {peek} {right} c t r f h alive by stands kind_is plain later) keeps stack =
       let finds = later holds.0 in
-      finds_right_on p g x bs e w typed globals bound variables kind peek true place right c t k f h finds.waiting live stands holds none kind_is plain (λ i. of_cell place r alive (life_common g bs variables r none) has) finds.typed finds.flows finds.used finds.kept stack
-  place_given place k opens live holds has part (stacks.swaps_right {kind} {peek} {is_cell} {left} through t r f alive none kind_is) (u, same, plain, spot) stack =
-      both_on p g x bs e w typed globals bound variables kind left place u k f live holds (kind_is ∙ sym (kind_meant (lives_in bs) t) ∙ ap kind_at same ∙ kind_meant (lives_in bs) u) plain (by_type_read g bs variables u none) spot
-      (of_cell place r alive (life_common g bs variables r none) (subst (λ z. HasType g (lives.Pointer marks.NonNull z (lives_in bs r)) place) same has)) stack
+      finds_right_on p g x bs e w typed globals bound variables kind peek true place right c t k f h finds.waiting live stands holds by kind_is plain
+      (left_cell place r alive has (part_alone g k peek (thing_of (lives.Pointer marks.NonNull (read bs t) (lives_in bs r)) place) part)) finds.typed finds.flows finds.used finds.kept stack
+  place_given place k opens live holds has part (stacks.swaps_right {kind} {peek} {is_cell} {left} through t r f alive by kind_is) (u, same, plain, spot) stack =
+      let pointer = λ (z : RunTy). lives.Pointer marks.NonNull z (lives_in bs r) in
+      both_on p g x bs e w typed globals bound variables kind left place u k f live holds (kind_is ∙ sym (kind_meant (lives_in bs) t) ∙ ap kind_at same ∙ kind_meant (lives_in bs) u) plain (subst (λ z. IsByType z) same by)
+      (left_spot p g x bs e w typed globals bound variables (stacks.operands_in k) peek u f left spot)
+      (of_cell place r alive (subst (λ z. HasType g (pointer z) place) same has)
+      (subst (λ z. IsHad g (thing_of (pointer z) place)) same (part_had g (1 + stacks.operands_in k) through (thing_of (pointer (read bs t)) place) part))) stack
   place_given place k opens live holds has part waits keeps stack = absurd has
 
   pub cell_stored : (place : values.Value) (v : Operand) (t : Ty) (l : Life) (k : List Entry) (f : flow.State) → AreOpen w.regions (ends_of k) → LiveIn k bs → IsPresent g (ends_of k) l → IsHad g (thing_of (lives.Pointer marks.NonNull (read bs t) l) place) → Holds g f bs
       → HasType g (lives.Pointer marks.NonNull (read bs t) l) place → IsResult g (Value (read bs t)) v
-      → IsStack p g x bs (Val (read_value bs (assigned_type t)) f) k → IsWell p (stored_at place v (Given v) k e w)
-  cell_stored (values.Thin object offset) v t l k f opens live lasting had holds has is stack =
-      writes_target p g x bs e w typed globals bound variables v k object offset (read bs t) l (Given v) opens live lasting had has is
-      (λ h grows. (
+      → (i : ℕ) → stacks.operands_in k ≤ i → Claims g.own (Hand i) (read bs t) v.value → IsStack p g x bs (Val (read_value bs (assigned_type t)) f) k → IsWell p (stored_at place v (Given v) k e w)
+  cell_stored (values.Thin object offset) v t l k f opens live lasting had holds has is i above claims stack =
+      writes_target p g x bs e w typed globals bound variables v k object offset i (read bs t) l (Given v) opens live lasting had has is claims
+      (λ h changed. (
         read_value bs (assigned_type t),
         f,
-        holds_grown g h grows f bs holds,
-        handed h (tests.is_moved t) (result_grown g h grows.grows (Value (read bs t)) v is),
-        moved_comes h (stacks.operands_in k) bs t v.value (variables_grown g h grows bs variables),
-        stack_grown p g h grows x bs (Val (read_value bs (assigned_type t)) f) k stack,
+        holds_kept (Hand i) g h changed f bs (λ n object full slot. at_no_hand object 0 i) holds,
+        handed h (tests.is_moved t) (result_grown g h changed.grows (Value (read bs t)) v is),
+        moved_comes h (stacks.operands_in k) bs t v.value (variables_kept (Hand i) g h changed bs refl variables),
+        stack_changed p (Hand i) g h x bs (Val (read_value bs (assigned_type t)) f) k changed above stack,
       ))
     where
       handed : (h : Typing) (b : Bool) → IsResult h (Value (read bs t)) v → IsResult h (read_value bs (if b then types.Void else types.Value t)) v
       handed h true has = tt
       handed h false has = has
-  cell_stored place v t l k f opens live lasting had holds has is stack = absurd has
+  cell_stored place v t l k f opens live lasting had holds has is i above claims stack = absurd has
 
   -- ---- operators
 
@@ -525,10 +529,10 @@ module _ (p : Source) (g : Typing) (x : Exits) (bs : List InScope) (e : Environm
       → IsWell p (applies_pointer o left.value right.value k e w)
   point_on {c} also left right i k f opens live holds stands (adds t r other) is had too' comes stack =
       let too = looked_result g also (Value lives.Int) right too' in
-      gives k kinds.Fat (lives.Pointer marks.Fat (read bs t) (lives_in bs r)) f (pointer_result operators.AddFat left.value right.value) live holds (pointer_keyless marks.Fat (read bs t) (lives_in bs r) (region_common g bs variables r other)) refl (added g (read bs t) (lives_in bs r) left.value right.value is.1 too.1) stack
+      gives k kinds.Fat (lives.Pointer marks.Fat (read bs t) (lives_in bs r)) f (pointer_result operators.AddFat left.value right.value) live holds (pointer_plain marks.Fat (read bs t) (lives_in bs r) (region_common g bs variables r other)) refl (added g (read bs t) (lives_in bs r) left.value right.value is.1 too.1) stack
   point_on {c} also left right i k f opens live holds stands (subtracts t r other) is had too' comes stack =
       let too = looked_result g also (Value lives.Int) right too' in
-      gives k kinds.Fat (lives.Pointer marks.Fat (read bs t) (lives_in bs r)) f (pointer_result operators.SubtractFat left.value right.value) live holds (pointer_keyless marks.Fat (read bs t) (lives_in bs r) (region_common g bs variables r other)) refl (subtracted g (read bs t) (lives_in bs r) left.value right.value is.1 too.1) stack
+      gives k kinds.Fat (lives.Pointer marks.Fat (read bs t) (lives_in bs r)) f (pointer_result operators.SubtractFat left.value right.value) live holds (pointer_plain marks.Fat (read bs t) (lives_in bs r) (region_common g bs variables r other)) refl (subtracted g (read bs t) (lives_in bs r) left.value right.value is.1 too.1) stack
   point_on {c} also left right i k f opens live holds stands (equals m l t r s one two here there) is had too' comes stack =
       let too = looked_result g also (Value (lives.Pointer l (read bs t) (lives_in bs s))) right too' in
       compared_on false (read bs t) (read bs t) (lives_in bs r) (lives_in bs s) left.value right.value k f opens live (lasts c r k stands live here) (lasts c s k stands live there) m l had (looked_had g i also (lives.Pointer l (read bs t) (lives_in bs s)) right.value comes) holds

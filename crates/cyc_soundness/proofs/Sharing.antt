@@ -1,17 +1,15 @@
 -- WHAT IS UNIQUE, and what others may reach: which types have what only one may have.
-use Rattle.std.proofs.Common.{◌≡◌, ◌≢◌, ℕ, zero, suc, Bool, true, false, List, [], ◌∷◌, map, refl, sym, ap, subst, ◌∙◌}
-use Rattle.std.specs.Prelude.{slice_index_or}
+use Rattle.std.proofs.Common.{◌≡◌, ◌≢◌, ℕ, Bool, true, false, List, refl, sym, subst, ◌∙◌}
 use Rattle.cyc_syntax.specs.declared.tree.PointerKind.{PointerKind}
 use Rattle.cyc_types.specs.declared.region.Region.{Region}
 use Rattle.cyc_types.specs.declared.region.Region.TheVariants as regions
 use Rattle.cyc_types.specs.Outlives.{RegionContext, OutlivesIn, itself, given, through, IsGiven}
-use Rattle.cyc_types.specs.Regions.{substituted_region}
 use Rattle.cyc_types.specs.Types.{Ty, substituted_ty}
 use Rattle.cyc_types.specs.Types as types
-use Rattle.cyc_types.specs.typing.Tests.{is_key, is_moved}
-use Rattle.cyc_soundness.specs.Lives.{Life, OfRegion, OfObject, Never, Owned, Kept, heap_life, owned_life, RunTy, Pointer, Key, Reading, AsHeap, ByScope, AllOf}
-use Rattle.cyc_soundness.specs.Worlds.{Typing, IsKnownLife, IsKeyless, AtStart}
-use Rattle.cyc_soundness.specs.Classes.{IsCommon, IsShared, frees_of, FreesNone, HasFrees}
+use Rattle.cyc_types.specs.typing.Tests.{is_key, is_moved, is_unique}
+use Rattle.cyc_soundness.specs.Lives.{Life, OfRegion, OfObject, Never, Owned, Kept, heap_life, owned_life, RunTy, Pointer, Reading, AsHeap, ByScope, Lives, at}
+use Rattle.cyc_soundness.specs.Worlds.{Typing, IsKnownLife, IsKeyless, IsPlain, AtStart}
+use Rattle.cyc_soundness.specs.Classes.{IsSwappable, HasFrees}
 use Rattle.cyc_soundness.specs.Frames.{InScope, AreVariables, lives_in, life_named, frees_in, read, Stand}
 use Rattle.cyc_soundness.specs.Stacks.{KeepsUnique, IsCommonLife, IsByType}
 use Rattle.cyc_soundness.proofs.RegionLemmas.{name_known, heap_lives}
@@ -39,15 +37,6 @@ at_start (OfObject object) = tt
 at_start Never = tt
 at_start (Kept region) = tt
 at_start Owned = (refl, refl)
-
-pub frees_same : (m : Reading) (c : RegionContext) (bs : List InScope) → Stand m c bs → frees_in bs ≡ frees_of m
-frees_same AsHeap c bs stand = stand.0
-frees_same (ByScope lends frees) c bs stand = stand.0
-
--- where nothing is given back, all lives are common
-pub none_freed : (m : Reading) (c : RegionContext) (bs : List InScope) → FreesNone m → Stand m c bs → frees_in bs ≡ false
-none_freed AsHeap c bs none stand = stand.0
-none_freed (ByScope lends frees) c bs none stand = stand.0 ∙ none
 
 pub all_freed : (m : Reading) (c : RegionContext) (bs : List InScope) → HasFrees m → Stand m c bs → frees_in bs ≡ true
 all_freed AsHeap c bs frees stand = absurd frees
@@ -81,37 +70,47 @@ module _ (g : Typing) (bs : List InScope) (variables : AreVariables g bs) where
 
   -- ---- types
 
-  common_keyless : (k : PointerKind) (t : RunTy) (l : Life) → IsCommonLife l → IsKeyless (Pointer k t l)
-  common_keyless k t (OfRegion number ns us) common = tt
-  common_keyless k t (OfObject object) common = tt
-  common_keyless k t Never common = tt
-  common_keyless k t (Kept region) common = tt
-  common_keyless k t Owned common = absurd common
+  common_plain : (k : PointerKind) (t : RunTy) (l : Life) → IsCommonLife l → IsPlain (Pointer k t l)
+  common_plain k t (OfRegion number ns us) common = tt
+  common_plain k t (OfObject object) common = tt
+  common_plain k t Never common = tt
+  common_plain k t (Kept region) common = tt
+  common_plain k t Owned common = absurd common
 
   -- what is copied has nothing that only one may have
-  pub plain_read : (t : Ty) → is_moved t ≡ false → IsKeyless (read bs t)
+  pub plain_read : (t : Ty) → is_moved t ≡ false → IsPlain (read bs t)
   plain_read types.Int plain = tt
   plain_read (types.Pointer k t regions.Heap) plain = tt
   plain_read (types.Pointer k t regions.Unique) plain = absurd (let z : true ≡ false = plain in cc)
-  plain_read (types.Pointer k t (regions.Variable n)) plain = common_keyless k (read bs t) (life_named bs n) (name_common n)
+  plain_read (types.Pointer k t (regions.Variable n)) plain = common_plain k (read bs t) (life_named bs n) (name_common n)
   plain_read (types.Handle r) plain = tt
   plain_read (types.Key r) plain = absurd (let z : true ≡ false = plain in cc)
   plain_read (types.Struct n rs) plain = tt
 
-  shared_unique : (m : Reading) (c : RegionContext) (k : PointerKind) (t : Ty) → Stand m c bs → IsShared m (types.Pointer k t regions.Unique) → IsCommonLife (owned_life (frees_in bs))
-  shared_unique AsHeap c k t stand shared = heap_common (frees_in bs) stand.0
-  shared_unique (ByScope lends false) c k t stand shared = heap_common (frees_in bs) stand.0
-  shared_unique (ByScope lends true) c k t stand shared = absurd (let z : true ≡ false = shared in cc)
+  swappable_unique : (m : Reading) (c : RegionContext) (k : PointerKind) (t : Ty) → Stand m c bs → IsSwappable m (types.Pointer k t regions.Unique) → IsCommonLife (owned_life (frees_in bs))
+  swappable_unique AsHeap c k t stand shared = heap_common (frees_in bs) stand.0
+  swappable_unique (ByScope lends false) c k t stand shared = heap_common (frees_in bs) stand.0
+  swappable_unique (ByScope lends true) c k t stand shared = absurd (let z : true ≡ false = shared in cc)
 
-  -- nor has what others may reach
-  pub read_shared : (m : Reading) (c : RegionContext) (t : Ty) → Stand m c bs → IsShared m t → ((r : Region) → t ≡ types.Key r → IsKeyless (Key (lives_in bs r))) → IsKeyless (read bs t)
-  read_shared m c types.Int stand shared keys = tt
-  read_shared m c (types.Pointer k t regions.Heap) stand shared keys = tt
-  read_shared m c (types.Pointer k t regions.Unique) stand shared keys = common_keyless k (read bs t) (owned_life (frees_in bs)) (shared_unique m c k t stand shared)
-  read_shared m c (types.Pointer k t (regions.Variable n)) stand shared keys = common_keyless k (read bs t) (life_named bs n) (name_common n)
-  read_shared m c (types.Handle r) stand shared keys = tt
-  read_shared m c (types.Key r) stand shared keys = keys r refl
-  read_shared m c (types.Struct n rs) stand shared keys = tt
+  -- what is not unique claims what its type tells
+  pub unique_by_type : (t : Ty) → is_unique t ≡ false → IsByType (read bs t)
+  unique_by_type types.Int plain = tt
+  unique_by_type (types.Pointer k t regions.Heap) plain = tt
+  unique_by_type (types.Pointer k t regions.Unique) plain = absurd (let z : true ≡ false = plain in cc)
+  unique_by_type (types.Pointer k t (regions.Variable n)) plain = name_common n
+  unique_by_type (types.Handle r) plain = tt
+  unique_by_type (types.Key r) plain = tt
+  unique_by_type (types.Struct n rs) plain = tt
+
+  -- what may be swapped is told by its type
+  pub swappable_by_type : (m : Reading) (c : RegionContext) (t : Ty) → Stand m c bs → IsSwappable m t → IsByType (read bs t)
+  swappable_by_type m c types.Int stand shared = tt
+  swappable_by_type m c (types.Pointer k t regions.Heap) stand shared = tt
+  swappable_by_type m c (types.Pointer k t regions.Unique) stand shared = swappable_unique m c k t stand shared
+  swappable_by_type m c (types.Pointer k t (regions.Variable n)) stand shared = name_common n
+  swappable_by_type m c (types.Handle r) stand shared = tt
+  swappable_by_type m c (types.Key r) stand shared = tt
+  swappable_by_type m c (types.Struct n rs) stand shared = tt
 
   -- where nothing is given back, what values claim their types tell
   pub by_type_read : (t : Ty) → frees_in bs ≡ false → IsByType (read bs t)
@@ -121,48 +120,10 @@ module _ (g : Typing) (bs : List InScope) (variables : AreVariables g bs) where
   by_type_read (types.Key r) none = tt
   by_type_read (types.Struct n rs) none = tt
 
-pub no_key : (r : Region) (t : Ty) (P : Type 0) → is_key t ≡ false → t ≡ types.Key r → P
-no_key r t P plain same = let z : true ≡ false = ap is_key (sym same) ∙ plain in absurd (cc)
-
--- ---- fields
-
-common_at : (rs : List Region) (n : ℕ) (r : Region) → AllOf IsCommon rs → IsCommon r → IsCommon (slice_index_or rs n r)
-common_at [] n r are is = is
-common_at (s ∷ rs) zero r (one, are) is = one
-common_at (s ∷ rs) (suc n) r (one, are) is = common_at rs n r are is
-
-substituted_common : (rs : List Region) (r : Region) → AllOf IsCommon rs → IsCommon r → IsCommon (substituted_region rs r)
-substituted_common rs regions.Heap are is = tt
-substituted_common rs regions.Unique are is = absurd is
-substituted_common rs (regions.Variable n) are is = common_at rs n (regions.Variable n) are tt
-
-all_substituted : (rs ss : List Region) → AllOf IsCommon rs → AllOf IsCommon ss → AllOf IsCommon (map (substituted_region rs) ss)
-all_substituted rs [] are all = tt
-all_substituted rs (s ∷ ss) are (one, all) = (substituted_common rs s are one, all_substituted rs ss are all)
-
-common_shared : (lends : Bool) (k : PointerKind) (t : Ty) (r : Region) → IsCommon r → IsShared (ByScope lends true) (types.Pointer k t r)
-common_shared lends k t regions.Heap is = refl
-common_shared lends k t regions.Unique is = absurd is
-common_shared lends k t (regions.Variable n) is = refl
-
-shared_common : (lends : Bool) (k : PointerKind) (t : Ty) (r : Region) → IsShared (ByScope lends true) (types.Pointer k t r) → IsCommon r
-shared_common lends k t regions.Heap shared = tt
-shared_common lends k t regions.Unique shared = absurd (let z : true ≡ false = shared in cc)
-shared_common lends k t (regions.Variable n) shared = tt
-
--- the field of a struct is shared where its arguments are
-pub shared_field : (m : Reading) (n : ℕ) (rs : List Region) (t : Ty) → IsShared m (types.Struct n rs) → IsShared m t → IsShared m (substituted_ty rs t)
-shared_field AsHeap n rs t are is = tt
-shared_field (ByScope lends false) n rs t are is = tt
-shared_field (ByScope lends true) n rs types.Int are is = refl
-shared_field (ByScope lends true) n rs (types.Pointer k t r) are is = common_shared lends k (substituted_ty rs t) (substituted_region rs r) (substituted_common rs r are (shared_common lends k t r is))
-shared_field (ByScope lends true) n rs (types.Handle r) are is = refl
-shared_field (ByScope lends true) n rs (types.Key r) are is = refl
-shared_field (ByScope lends true) n rs (types.Struct s ss) are is = all_substituted rs ss are is
-
-pub key_field : (rs : List Region) (t : Ty) → is_key t ≡ false → is_key (substituted_ty rs t) ≡ false
-key_field rs types.Int plain = refl
-key_field rs (types.Pointer k t r) plain = refl
-key_field rs (types.Handle r) plain = refl
-key_field rs (types.Key r) plain = plain
-key_field rs (types.Struct s ss) plain = refl
+-- what is no key is read as none
+pub plain_keyless : (n : Lives) (t : Ty) → is_key t ≡ false → IsKeyless (at n t)
+plain_keyless n types.Int plain = tt
+plain_keyless n (types.Pointer k t r) plain = tt
+plain_keyless n (types.Handle r) plain = tt
+plain_keyless n (types.Key r) plain = absurd (let k : true ≡ false = plain in cc)
+plain_keyless n (types.Struct s rs) plain = tt

@@ -22,10 +22,10 @@ use Rattle.cyc_meaning.specs.Nesting.{ends_of, IsFound, AreOpen, IsHome, IsNeste
 use Rattle.cyc_meaning.specs.Nesting as nesting
 use Rattle.cyc_soundness.specs.Lives.{Life, OfRegion, OfObject, Never, Owned, Kept, heap_life, RunTy, RunValue, Void, Null, Value, Seen, Into, looked, Lives, at, value_at, Reading}
 use Rattle.cyc_soundness.specs.Lives as lives
-use Rattle.cyc_soundness.specs.Worlds.{OfLocal, KeyOf, IsHeld, Holder, Nobody, Hand, At, Lent, pointer_at, thing_of, Claims, ClaimsBy, IsSlot, IsHere, is_lent_by, Stays, IsOpenIn, AreOperands, ObjectType, Typing, IsTyped, IsFull, variable_type, IsEndOf, whole, behind, Outlasts, alike, heap as for_ever, globals as with_globals, stays, encloses, IsOpenLife, Grows, IsKnownOwner}
+use Rattle.cyc_soundness.specs.Worlds.{OfLocal, Settled, Thing, KeyOf, ClaimsPart, IsHeld, Holder, Nobody, Hand, At, Lent, pointer_at, thing_of, Claims, ClaimsBy, IsHad, IsSlot, IsHere, is_lent_by, Stays, IsOpenIn, AreOperands, ObjectType, Typing, IsTyped, IsFull, variable_type, IsEndOf, whole, behind, Outlasts, alike, heap as for_ever, globals as with_globals, stays, encloses, IsOpenLife, Grows, IsKnownOwner}
 use Rattle.cyc_soundness.specs.Frames.{IsAmong, first, later, Bound, InScope, Variable, Level, Home, lives_in, read, IsThere, home_of, IsHomed, IsScope, AreBelow, IsBound, AreVariables, IsLasting, AreLiveIn, home_in, LiveIn, IsInner, Within, itself, older, IsSet, AreSet, IsFullIn, Holds, IsFullAt, AreFullAt, Exits, relying, frees_in, life_named, read_value, local_type}
 use Rattle.cyc_soundness.specs.Classes.{is_full, Relied, only, and_looked, IsSparedBy, IsSpared, InOperations, Source}
-use Rattle.cyc_soundness.specs.Stacks.{IsAccepted, Part, Whole, PartOf, part, part_of_place, relied_by, relied_at, WaitsPlace, Want, Nothing, Val, PlaceOf, Go, held, Waits, place_operand, count_held, IsThrough, IsArray, IsArrayOf, AreClaimed, IsHeldPart, operands_in, Keeps, IsSpot, of_local, of_global, of_cell, KeepsPlace, AreSwapped, IsStack}
+use Rattle.cyc_soundness.specs.Stacks.{IsAccepted, Part, Whole, PartOf, part, part_of_place, relied_by, relied_at, WaitsPlace, Want, Nothing, Val, PlaceOf, Go, held, Waits, place_operand, count_held, count_place, IsThrough, IsArray, IsArrayOf, AreClaimed, IsHeldPart, operands_in, Keeps, IsSpot, of_local, of_global, of_cell, IsLeftSpot, left_variable, left_cell, KeepsPlace, AreSwapped, IsStack}
 use Rattle.cyc_soundness.specs.Stacks as stacks
 use Rattle.cyc_soundness.proofs.Numbers.{same_or_other, some_same}
 use Rattle.cyc_soundness.proofs.FlowLemmas.{other_set, other_full, full_put, reached_with}
@@ -44,19 +44,6 @@ module _ (p : Source) (g h : Typing) (grows : Grows g h) where
   pub array_grown : (t : RunTy) (l : Life) (object count index : ℕ) → IsArray g t l object count index → IsArray h t l object count index
   array_grown t l object count index (y, there, shown, life, cells, filled, few) = (y, grows.objects object y there, shown, life, cells, grows.filled object index filled, few)
 
-  pub spot_grown : (bs : List InScope) (t : Ty) (f : flow.State) (v : values.Value) → IsSpot p g bs t f v → IsSpot p h bs t f v
-  spot_grown bs t f v (of_local b among of_type is) = of_local b among of_type is
-  spot_grown bs t f v (of_global number there same) = of_global number there same
-  spot_grown bs t f v (of_cell place r alive common has) = of_cell place r alive common (type_grown g h grows (lives.Pointer marks.NonNull (read bs t) (lives_in bs r)) place has)
-
-  keeps_place_grown : (bs : List InScope) (a : AwaitingPlace) (r : RunTy) (f : flow.State) → KeepsPlace p g bs a r f → KeepsPlace p h bs a r f
-  keeps_place_grown bs (SwapRight kind peek is_cell left) r f (t, same, plain, spot) = (t, same, plain, spot_grown bs t f left spot)
-  keeps_place_grown bs a r f keeps = tt
-
-  pub swapped_grown : (bs : List InScope) (f : flow.State) (ws : List Write) → AreSwapped p g bs f ws → AreSwapped p h bs f ws
-  swapped_grown bs f [] are = tt
-  swapped_grown bs f (w ∷ ws) ((t, plain, by_type, spot, is), are) = ((t, plain, by_type, spot_grown bs t f w.place spot, result_grown g h grows (Value (read bs t)) w.operand is), swapped_grown bs f ws are)
-
   one_at_grown : (n object : ℕ) (b : InScope) → IsFullAt g n object b → IsFullAt h n object b
   one_at_grown n object (Variable b) is = λ same. (grows.filled b.object 1 (is same).0, (is same).1)
   one_at_grown n object b is = tt
@@ -71,7 +58,8 @@ module _ (p : Source) (g h : Typing) (grows : Grows g h) where
 abbrev pub IsAbove : Exits → Typing → List Entry → Holder → Type 0
 IsAbove x g k Nobody = Unit {0}
 IsAbove x g k (Hand i) = operands_in k ≤ i
-IsAbove x g k (At object) = (d n : ℕ) × IsSlot g d n object × (((d ≡ g.depth) × IsSpared (relied_at x.relied k) n) ⊎ (g.depth < d))
+IsAbove x g k (At object (suc i)) = Unit {0}
+IsAbove x g k (At object zero) = (d n : ℕ) × IsSlot g d n object × (((d ≡ g.depth) × IsSpared (relied_at x.relied k) n) ⊎ (g.depth < d))
 IsAbove x g k (Lent j) = g.loans ≤ j
 
 lent_same : (i j : ℕ) → Lent i ≡ Lent j → i ≡ j
@@ -89,32 +77,33 @@ slot_same g c d m n object (x, there, one) (y, stands, two) =
 hand_other : (x : Exits) (g : Typing) (k : List Entry) (i : ℕ) (old : Holder) → IsAbove x g k old → i < operands_in k → Hand i ≢ old
 hand_other x g k i Nobody above less = λ e. (let z : Hand i ≡ Nobody = e in absurd (cc))
 hand_other x g k i (Hand j) above less = λ e. (let same : i ≡ j = hand_same i j e in absurd (omega (arith, above, less, same)))
-hand_other x g k i (At object) above less = λ e. (let z : Hand i ≡ At object = e in absurd (cc))
+hand_other x g k i (At object offset) above less = λ e. (let z : Hand i ≡ At object offset = e in absurd (cc))
 hand_other x g k i (Lent j) above less = λ e. (let z : Hand i ≡ Lent j = e in absurd (cc))
 
 lent_other : (x : Exits) (g : Typing) (k : List Entry) (i : ℕ) (old : Holder) → IsAbove x g k old → i < g.loans → Lent i ≢ old
 lent_other x g k i Nobody above less = λ e. (let z : Lent i ≡ Nobody = e in absurd (cc))
 lent_other x g k i (Hand j) above less = λ e. (let z : Lent i ≡ Hand j = e in absurd (cc))
-lent_other x g k i (At object) above less = λ e. (let z : Lent i ≡ At object = e in absurd (cc))
+lent_other x g k i (At object offset) above less = λ e. (let z : Lent i ≡ At object offset = e in absurd (cc))
 lent_other x g k i (Lent j) above less = λ e. (let same : i ≡ j = lent_same i j e in absurd (omega (arith, above, less, same)))
 
 -- nor a local on which something relies
-variable_other : (x : Exits) (g : Typing) (k : List Entry) (n object : ℕ) (old : Holder) → IsAbove x g k old → IsSlot g g.depth n object → (IsSpared (relied_at x.relied k) n → ⊥) → At object ≢ old
-variable_other x g k n object Nobody above slot relied = at_some object
-variable_other x g k n object (Hand i) above slot relied = at_no_hand object i
-variable_other x g k n object (Lent j) above slot relied = at_not_lent object j
-variable_other x g k n object (At other) (d, m, its, inl (here, spared)) slot relied = λ e.
-    (let (depth, number) = slot_same g g.depth d n m other (subst (λ i. IsSlot g g.depth n i) (at_same object other e) slot) its in
+variable_other : (x : Exits) (g : Typing) (k : List Entry) (n object : ℕ) (old : Holder) → IsAbove x g k old → IsSlot g g.depth n object → (IsSpared (relied_at x.relied k) n → ⊥) → At object 0 ≢ old
+variable_other x g k n object Nobody above slot relied = at_some object 0
+variable_other x g k n object (Hand i) above slot relied = at_no_hand object 0 i
+variable_other x g k n object (Lent j) above slot relied = at_not_lent object 0 j
+variable_other x g k n object (At other (suc i)) above slot relied = λ e. (let z : 0 ≡ suc i = (at_same object 0 other (suc i) e).1 in absurd (omega (arith, z)))
+variable_other x g k n object (At other zero) (d, m, its, inl (here, spared)) slot relied = λ e.
+    (let (depth, number) = slot_same g g.depth d n m other (subst (λ i. IsSlot g g.depth n i) (at_same object 0 other 0 e).0 slot) its in
     relied (subst (λ i. IsSpared (relied_at x.relied k) i) (sym number) spared))
-variable_other x g k n object (At other) (d, m, its, inr deeper) slot relied = λ e.
-    (let (depth, number) = slot_same g g.depth d n m other (subst (λ i. IsSlot g g.depth n i) (at_same object other e) slot) its in
+variable_other x g k n object (At other zero) (d, m, its, inr deeper) slot relied = λ e.
+    (let (depth, number) = slot_same g g.depth d n m other (subst (λ i. IsSlot g g.depth n i) (at_same object 0 other 0 e).0 slot) its in
     absurd (omega (arith, depth, deeper)))
 
 -- what is lent stays so
 pub none_lent : (x : Exits) (g : Typing) (k : List Entry) (old : Holder) → IsAbove x g k old → is_lent_by g.loans old ≡ false
 none_lent x g k Nobody above = refl
 none_lent x g k (Hand i) above = refl
-none_lent x g k (At object) above = refl
+none_lent x g k (At object offset) above = refl
 none_lent x g k (Lent j) above = not_below j g.loans above
   where
     not_below : (j n : ℕ) → n ≤ j → nat_lt j n ≡ false
@@ -147,8 +136,8 @@ passed_kept g i callee before rest (t ∷ ts) (are, claims) = (are, claims)
 pub comes_alone : (g : Typing) (k : List Entry) (r : RunValue) (v : values.Value) → ClaimsBy g (0 + operands_in k) r v → ClaimsBy g (operands_in k) r v
 comes_alone g k r v is = let same : 0 + operands_in k ≡ operands_in k = omega arith in subst (λ i. ClaimsBy g i r v) same is
 
-pub comes_under : (g : Typing) (k : List Entry) (r : RunValue) (v : values.Value) → ClaimsBy g (operands_in k) r v → ClaimsBy g (0 + operands_in k) r v
-comes_under g k r v is = let same : operands_in k ≡ 0 + operands_in k = omega arith in subst (λ i. ClaimsBy g i r v) same is
+pub part_alone : (g : Typing) (k : List Entry) (peek : Option ℕ) (o : Option Thing) → ClaimsPart g (0 + operands_in k) peek o → ClaimsPart g (operands_in k) peek o
+part_alone g k peek o is = let same : 0 + operands_in k ≡ operands_in k = omega arith in subst (λ i. ClaimsPart g i peek o) same is
 
 -- one more, above these
 pub claimed_next : (g : Typing) (i : ℕ) (t : RunTy) (v : values.Value) (ts : List RunTy) (vs : List Operand) → AreOperands g ts vs → Claims g.own (Hand (length vs + i)) t v → Claims g.own (Hand (i + length ts)) t v
@@ -161,8 +150,9 @@ above_to : (x y : Exits) (g : Typing) (b : Entry) (k : List Entry) (old : Holder
     → IsAbove x g (b ∷ k) old → IsAbove y g k old
 above_to x y g b k Nobody fewer less above = tt
 above_to x y g b k (Hand i) fewer less above = let few : operands_in k ≤ i = omega (arith, above, fewer) in few
-above_to x y g b k (At object) fewer less (d, n, slot, inl (same, spared)) = (d, n, slot, inl (same, less n spared))
-above_to x y g b k (At object) fewer less (d, n, slot, inr deeper) = (d, n, slot, inr deeper)
+above_to x y g b k (At object (suc i)) fewer less above = tt
+above_to x y g b k (At object zero) fewer less (d, n, slot, inl (same, spared)) = (d, n, slot, inl (same, less n spared))
+above_to x y g b k (At object zero) fewer less (d, n, slot, inr deeper) = (d, n, slot, inr deeper)
 above_to x y g b k (Lent j) fewer less above = above
 
 -- where a statement ends, no expression is under way
@@ -240,11 +230,11 @@ waits_whole (stacks.opens_by cs c b r f h i loans within stands among number of_
 waits_whole (stacks.aliases cs c b u t f h i loans within stands among number same set spared full unique known of_type alive next continues again) peek e = (i, refl)
 
 place_whole : {p : Source} {x : Exits} {q : Relied} {bs : List InScope} {a : AwaitingPlace} {o : Option ℕ} {t : RunTy} {l : Life} {f : flow.State} {next : Want} → WaitsPlace p x q bs a o t l f next → (peek : Option ℕ) → part_of_place a ≡ Whole peek → (h : flow.State) × (next ≡ Go h)
-place_whole (stacks.loads_from seen t r f alive plain kind) peek e = part_whole None peek e
+place_whole (stacks.loads_from seen t r f alive by_type plain kind) peek e = part_whole None peek e
 place_whole (stacks.takes_address seen t l f common) peek e = part_whole None peek e
 place_whole (stacks.stores_to c v t r f h alive stands evaluates conv from to) peek e = part_whole None peek e
-place_whole (stacks.swaps_left through c t r f h alive none stands kind plain finds) peek e = (h, refl)
-place_whole (stacks.swaps_right through t r f alive none kind) peek e = (f, refl)
+place_whole (stacks.swaps_left c t r f h alive by_type stands kind plain finds) peek e = (h, refl)
+place_whole (stacks.swaps_right through t r f alive by_type kind) peek e = (f, refl)
 
 goes_relied : (p : Source) (g : Typing) (x : Exits) (bs : List InScope) (next : Want) (k : List Entry) (q : Relied) → (h : flow.State) × (next ≡ Go h) → IsStack p g x bs next k → relied_at q k ≡ q
 goes_relied p g x bs next k q (h, same) is = statement_relied p g x bs h k q (subst (λ z. IsStack p g x bs z k) same is)
@@ -252,14 +242,16 @@ goes_relied p g x bs next k q (h, same) is = statement_relied p g x bs h k q (su
 above_behind : (x : Exits) (g : Typing) (k : List Entry) (j : ℕ) (old : Holder) → g.loans ≡ suc j → IsAbove x g k old → IsAbove x (record g { loans = j }) k old
 above_behind x g k j Nobody same above = tt
 above_behind x g k j (Hand i) same above = above
-above_behind x g k j (At object) same above = above
+above_behind x g k j (At object (suc i)) same above = tt
+above_behind x g k j (At object zero) same above = above
 above_behind x g k j (Lent i) same above = let few : j ≤ i = omega (arith, above, same) in few
 
 above_outside : (x y : Exits) (g : Typing) (e : Environment) (k : List Entry) (d : ℕ) (old : Holder) → g.depth ≡ suc d → IsAbove x g (Caller e ∷ k) old → IsAbove y (record g { depth = d }) k old
 above_outside x y g caller k d Nobody same above = tt
 above_outside x y g caller k d (Hand i) same above = above
-above_outside x y g caller k d (At object) same (e, n, slot, inl (here, spared)) = (e, n, slot, inr (let less : d < e = omega (arith, here, same) in less))
-above_outside x y g caller k d (At object) same (e, n, slot, inr deeper) = (e, n, slot, inr (let less : d < e = omega (arith, deeper, same) in less))
+above_outside x y g caller k d (At object (suc i)) same above = tt
+above_outside x y g caller k d (At object zero) same (e, n, slot, inl (here, spared)) = (e, n, slot, inr (let less : d < e = omega (arith, here, same) in less))
+above_outside x y g caller k d (At object zero) same (e, n, slot, inr deeper) = (e, n, slot, inr (let less : d < e = omega (arith, deeper, same) in less))
 above_outside x y g caller k d (Lent j) same above = above
 
 not_full : (f : flow.State) (n : ℕ) → is_reached f ≡ true → IsSparedBy f n → is_full (fullness f n) ≡ false
@@ -267,23 +259,24 @@ not_full Unreached n reached one = absurd (let k : false ≡ true = reached in c
 not_full (Reached as') n reached one = one
 
 -- a variable that clauses rely on is another one
-relied_other : (x y : Exits) (g : Typing) (cs : Clauses) (k : List Entry) (f : flow.State) (old : Holder) (m object : ℕ) → x ≡ relying y f → is_reached f ≡ true → IsAbove x g (Handler cs ∷ k) old → IsFullIn f m → IsSlot g g.depth m object → At object ≢ old
+relied_other : (x y : Exits) (g : Typing) (cs : Clauses) (k : List Entry) (f : flow.State) (old : Holder) (m object : ℕ) → x ≡ relying y f → is_reached f ≡ true → IsAbove x g (Handler cs ∷ k) old → IsFullIn f m → IsSlot g g.depth m object → At object 0 ≢ old
 relied_other x y g cs k f old m object same reached above full slot = variable_other x g (Handler cs ∷ k) m object old above slot
     (λ spared. (let one : IsSparedBy f m = (subst (λ (z : Exits). IsSpared z.relied m) same spared).0 in let z : true ≡ false = sym full ∙ not_full f m reached one in absurd (cc)))
 
-outer_other : (x : Exits) (g : Typing) (caller : Environment) (k : List Entry) (d : ℕ) (old : Holder) (m object : ℕ) → g.depth ≡ suc d → IsAbove x g (Caller caller ∷ k) old → IsSlot g d m object → At object ≢ old
-outer_other x g caller k d Nobody m object same above slot = at_some object
-outer_other x g caller k d (Hand i) m object same above slot = at_no_hand object i
-outer_other x g caller k d (Lent j) m object same above slot = at_not_lent object j
-outer_other x g caller k d (At other) m object same (e, n, its, inl (here, spared)) slot = λ q.
-    (let (depth, number) = slot_same g d e m n other (subst (λ i. IsSlot g d m i) (at_same object other q) slot) its in absurd (omega (arith, depth, here, same)))
-outer_other x g caller k d (At other) m object same (e, n, its, inr deeper) slot = λ q.
-    (let (depth, number) = slot_same g d e m n other (subst (λ i. IsSlot g d m i) (at_same object other q) slot) its in absurd (omega (arith, depth, deeper, same)))
+outer_other : (x : Exits) (g : Typing) (caller : Environment) (k : List Entry) (d : ℕ) (old : Holder) (m object : ℕ) → g.depth ≡ suc d → IsAbove x g (Caller caller ∷ k) old → IsSlot g d m object → At object 0 ≢ old
+outer_other x g caller k d Nobody m object same above slot = at_some object 0
+outer_other x g caller k d (Hand i) m object same above slot = at_no_hand object 0 i
+outer_other x g caller k d (Lent j) m object same above slot = at_not_lent object 0 j
+outer_other x g caller k d (At other (suc i)) m object same above slot = λ e. (let z : 0 ≡ suc i = (at_same object 0 other (suc i) e).1 in absurd (omega (arith, z)))
+outer_other x g caller k d (At other zero) m object same (e, n, its, inl (here, spared)) slot = λ q.
+    (let (depth, number) = slot_same g d e m n other (subst (λ i. IsSlot g d m i) (at_same object 0 other 0 q).0 slot) its in absurd (omega (arith, depth, here, same)))
+outer_other x g caller k d (At other zero) m object same (e, n, its, inr deeper) slot = λ q.
+    (let (depth, number) = slot_same g d e m n other (subst (λ i. IsSlot g d m i) (at_same object 0 other 0 q).0 slot) its in absurd (omega (arith, depth, deeper, same)))
 
 -- a local that is not full is another one than those that are
-pub emptied_other : (g : Typing) (a : flow.Fullness) (f : flow.State) (n m object other : ℕ) → is_full a ≡ false → is_reached f ≡ true → IsFullIn (with_fullness a f n) m → IsSlot g g.depth n object → IsSlot g g.depth m other → At other ≢ At object
+pub emptied_other : (g : Typing) (a : flow.Fullness) (f : flow.State) (n m object other : ℕ) → is_full a ≡ false → is_reached f ≡ true → IsFullIn (with_fullness a f n) m → IsSlot g g.depth n object → IsSlot g g.depth m other → At other 0 ≢ At object 0
 emptied_other g a f n m object other empty reached full slot its e =
-    let (depth, same) = slot_same g g.depth g.depth m n object (subst (λ i. IsSlot g g.depth m i) (at_same other object e) its) slot in
+    let (depth, same) = slot_same g g.depth g.depth m n object (subst (λ i. IsSlot g g.depth m i) (at_same other 0 object 0 e).0 its) slot in
     let k : false ≡ true = sym empty ∙ full_put a f n reached (subst (λ i. IsFullIn (with_fullness a f n) i) same full) in
     absurd (cc)
 
@@ -295,6 +288,10 @@ held_peek (ApplyPointer peek operator left) = peek
 held_peek (StoreCell peek place) = peek
 held_peek (Advance peek target base) = peek
 held_peek a = None
+
+abbrev place_peek : AwaitingPlace → Option ℕ
+place_peek (SwapRight kind peek is_cell left) = peek
+place_peek a = None
 
 only_full : (n : ℕ) → get_or (only n) n Vacant ≡ Full
 only_full zero = refl
@@ -314,6 +311,10 @@ unspared (StoreCell peek place) q r n e spared = looked_unspared peek r n e spar
 unspared (Advance peek target base) q r n e spared = looked_unspared peek r n e spared
 unspared a q r n e spared = let k : None ≡ Some n = e in absurd (cc)
 
+unspared_place : (a : AwaitingPlace) (q r : Relied) (n : ℕ) → place_peek a ≡ Some n → IsSpared (relied_by (part_of_place a) q r) n → ⊥
+unspared_place (SwapRight kind peek is_cell left) q r n e spared = looked_unspared peek q n e spared
+unspared_place a q r n e spared = let k : None ≡ Some n = e in absurd (cc)
+
 counted : (a : Awaiting) → length (held a) ≤ count_held a
 counted (FillElement object count index level kind element) = omega arith
 counted a = let few : length (held a) ≤ length (held a) = omega arith in few
@@ -327,7 +328,7 @@ module _ (p : Source) (old : Holder) (g h : Typing) (changed : Changed old g h) 
     claimed_kept i ts vs (λ j less. other j (let more : j < i + suc (length ts) = omega (arith, less) in more)) are,
   )
 
-  held_kept : (i : ℕ) (peek : Option ℕ) (ts : List RunTy) (v : Operand) → Hand i ≢ old → ((n object : ℕ) → peek ≡ Some n → IsHere g g.depth n object → At object ≢ old) → IsHeldPart g i peek ts v → IsHeldPart h i peek ts v
+  held_kept : (i : ℕ) (peek : Option ℕ) (ts : List RunTy) (v : Operand) → Hand i ≢ old → ((n object : ℕ) → peek ≡ Some n → IsHere g g.depth n object → At object 0 ≢ old) → IsHeldPart g i peek ts v → IsHeldPart h i peek ts v
   held_kept i peek [] v apart other is = tt
   held_kept i peek (t ∷ ts) v apart other is = part_kept old g h changed i peek (thing_of t v.value) apart other is
 
@@ -335,7 +336,18 @@ module _ (p : Source) (old : Holder) (g h : Typing) (changed : Changed old g h) 
   array_kept i (lives.Pointer m t l ∷ []) object count index apart (less, array, is) = (less, array_grown p g h changed.grows t l object count index array, owns_kept old g h changed (Hand i) (pointer_at l object) apart is)
   array_kept i ts object count index apart is = absurd is
 
-  keeps_kept : (i : ℕ) (a : Awaiting) (ts : List RunTy) → ((j : ℕ) → j < count_held a + i → Hand j ≢ old) → ((n object : ℕ) → held_peek a ≡ Some n → IsHere g g.depth n object → At object ≢ old) → Keeps g i a ts → Keeps h i a ts
+  left_kept : (i : ℕ) (peek : Option ℕ) (bs : List InScope) (t : Ty) (f : flow.State) (v : values.Value) → Hand i ≢ old → ((n object : ℕ) → peek ≡ Some n → IsHere g g.depth n object → At object 0 ≢ old) → IsLeftSpot p g i peek bs t f v → IsLeftSpot p h i peek bs t f v
+  left_kept i peek bs t f v apart other (left_variable place is) = left_variable place is
+  left_kept i peek bs t f v apart other (left_cell place r alive has part) =
+      left_cell place r alive (type_grown g h changed.grows (lives.Pointer marks.NonNull (read bs t) (lives_in bs r)) place has)
+      (part_kept old g h changed i peek (thing_of (lives.Pointer marks.NonNull (read bs t) (lives_in bs r)) place) apart other part)
+
+  keeps_place_kept : (i : ℕ) (bs : List InScope) (a : AwaitingPlace) (r : RunTy) (f : flow.State) → ((j : ℕ) → j < count_place a + i → Hand j ≢ old) → ((n object : ℕ) → place_peek a ≡ Some n → IsHere g g.depth n object → At object 0 ≢ old)
+      → KeepsPlace p g i bs a r f → KeepsPlace p h i bs a r f
+  keeps_place_kept i bs (SwapRight kind peek is_cell left) r f hands other (t, same, plain, spot) = (t, same, plain, left_kept i peek bs t f left (hands i (let less : i < 1 + i = omega arith in less)) other spot)
+  keeps_place_kept i bs a r f hands other keeps = tt
+
+  keeps_kept : (i : ℕ) (a : Awaiting) (ts : List RunTy) → ((j : ℕ) → j < count_held a + i → Hand j ≢ old) → ((n object : ℕ) → held_peek a ≡ Some n → IsHere g g.depth n object → At object 0 ≢ old) → Keeps g i a ts → Keeps h i a ts
   keeps_kept i (FillElement object count index level kind element) ts hands other are = array_kept i ts object count index (hands i (let less : i < 1 + i = omega arith in less)) are
   keeps_kept i (ApplyPointer peek operator left) ts hands other (are, is) = (operands_grown g h changed.grows ts (left ∷ []) are, held_kept i peek ts left (hands i (let less : i < 1 + i = omega arith in less)) other is)
   keeps_kept i (StoreCell peek place) ts hands other (are, is) = (operands_grown g h changed.grows ts (place_operand place ∷ []) are, held_kept i peek ts (place_operand place) (hands i (let less : i < 1 + i = omega arith in less)) other is)
@@ -351,6 +363,7 @@ changed_behind old g h j changed = record {
   grows = record { objects = changed.grows.objects; filled = changed.grows.filled; fields = changed.grows.fields; kept = changed.grows.kept };
   own = changed.own;
   here = changed.here;
+  pending = changed.pending;
   depth = changed.depth;
   loans = refl;
 }
@@ -360,13 +373,14 @@ changed_outside old g h d changed = record {
   grows = record { objects = changed.grows.objects; filled = changed.grows.filled; fields = changed.grows.fields; kept = changed.grows.kept };
   own = changed.own;
   here = changed.here;
+  pending = changed.pending;
   depth = refl;
   loans = changed.loans;
 }
 
 -- A stack stays typed while a thing changes hands that nothing on it claims.
 pub stack_changed : (p : Source) (old : Holder) (g h : Typing) (x : Exits) (bs : List InScope) (w : Want) (k : List Entry) → Changed old g h → IsAbove x g k old → IsStack p g x bs w k → IsStack p h x bs w k
-stack_changed p old g h x bs Nothing [] changed above is = tt
+stack_changed p old g h x bs Nothing [] changed above is = changed.pending ∙ is
 stack_changed p old g h x bs (Val r f) (Needs a ∷ k) changed above (ts, cs, next, waits, are, rest) = (
   ts,
   cs,
@@ -379,9 +393,9 @@ stack_changed p old g h x bs (Val r f) (Needs a ∷ k) changed above (ts, cs, ne
 stack_changed p old g h x bs (PlaceOf peek u l f) (NeedsPlace a ∷ k) changed above (next, waits, keeps, rest) = (
   next,
   waits,
-  keeps_place_grown p g h changed.grows bs a u f keeps,
+  keeps_place_kept p old g h changed (operands_in k) bs a u f (λ j less. hand_other x g (NeedsPlace a ∷ k) j old above less) (λ n object same here. variable_other x g (NeedsPlace a ∷ k) n object old above here.1 (λ spared. unspared_place a x.relied (relied_at x.relied k) n same spared)) keeps,
   stack_changed p old g h x bs next k changed
-      (above_to x x g (NeedsPlace a) k old (fewer k) (λ n spared. part_spared (part_of_place a) x.relied (relied_at x.relied k) n (λ o same. goes_relied p g x bs next k x.relied (place_whole waits o same) rest) spared) above) rest,
+      (above_to x x g (NeedsPlace a) k old (let fewer : operands_in k ≤ count_place a + operands_in k = omega arith in fewer) (λ n spared. part_spared (part_of_place a) x.relied (relied_at x.relied k) n (λ o same. goes_relied p g x bs next k x.relied (place_whole waits o same) rest) spared) above) rest,
 )
 stack_changed p old g h x bs (Val r f) (Discard ∷ k) changed above is = stack_changed p old g h x bs (Go f) k changed (above_to x x g Discard k old (fewer k) (λ n spared. statement_spared p g x bs f k x.relied n is spared) above) is
 stack_changed p old g h x bs (Go f) (Discard ∷ k) changed above is = stack_changed p old g h x bs (Go f) k changed (above_to x x g Discard k old (fewer k) (λ n spared. statement_spared p g x bs f k x.relied n is spared) above) is
@@ -453,9 +467,43 @@ stack_changed p old g h x bs (Go f) (Main ∷ k) changed above (loop, int, gives
     (loop, int, gives, blocked, stack_changed p old g h x bs Nothing k changed (above_to x x g Main k old (fewer k) (λ n spared. ends_relied p g x bs k x.relied n rest spared) above) rest)
 stack_changed p old g h x bs w k changed above is = absurd is
 
+-- no swap is under way
+pub settled : (p : Source) (g : Typing) (x : Exits) (bs : List InScope) (w : Want) (k : List Entry) → IsStack p g x bs w k → g.pending ≡ Settled
+settled p g x bs Nothing [] is = is
+settled p g x bs (Val r f) (Needs a ∷ k) (ts, cs, next, waits, are, rest) = settled p g x cs next k rest
+settled p g x bs (PlaceOf peek u l f) (NeedsPlace a ∷ k) (next, waits, keeps, rest) = settled p g x bs next k rest
+settled p g x bs (Val r f) (Discard ∷ k) is = settled p g x bs (Go f) k is
+settled p g x bs (Go f) (Discard ∷ k) is = settled p g x bs (Go f) k is
+settled p g x bs (Go f) (Rest js ∷ k) (cs, c, end, within, stands, continues, rest) = settled p g x cs (Go end) k rest
+settled p g x bs (Go f) (Join ∷ k) (end, i, rest) = settled p g x bs (Go end) k rest
+settled p g x bs (Go f) (Loop condition body ∷ k) (y, l, v, u, end, same, loop, i, rest) = settled p g y bs (Go end) k rest
+settled p g x bs (Go f) (CloseRegion region home ∷ k) (cs, number, l, alive, end, same, i, live, rest) = settled p g x cs (Go end) k rest
+settled p g x bs (Go f) (CloseLexical region ∷ k) (end, i, live, rest) = settled p g x bs (Go end) k rest
+settled p g x bs (Go f) (EndLoan lent ∷ k) (y, end, j, t, object, same, loans, claims, i, full, variables, rest) = settled p (record g { loans = j }) y bs (Go end) k rest
+settled p g x bs (Go f) (Handler cs ∷ k) (y, c, start, end, same, stands, holds, catches, i, rest) = settled p g y bs (Go end) k rest
+settled p g x bs (Go f) (Caller e ∷ k) (y, cs, end, d, depth, loop, blocked, gives, bound, variables, live, holds, rest) = settled p (record g { depth = d }) y cs (Val x.gives end) k rest
+settled p g x bs (Go f) (Main ∷ k) (loop, int, gives, blocked, rest) = settled p g x bs Nothing k rest
+settled p g x bs w k is = absurd is
+
 -- nor where nothing does
 pub stack_grown : (p : Source) (g h : Typing) → Stays g h → (x : Exits) (bs : List InScope) (w : Want) (k : List Entry) → IsStack p g x bs w k → IsStack p h x bs w k
 stack_grown p g h same x bs w k is = stack_changed p Nobody g h x bs w k (stays_changed Nobody g h same) tt is
+
+-- what is known of the places of a swap stays so
+module _ (p : Source) (g h : Typing) (same : Stays g h) where
+  had_stays : (o : Option Thing) → IsHad g o → IsHad h o
+  had_stays None had = tt
+  had_stays (Some a) had = subst (λ own. IsHeld (own a)) (sym same.own) had
+
+  pub spot_grown : (bs : List InScope) (t : Ty) (f : flow.State) (v : values.Value) → IsSpot p g bs t f v → IsSpot p h bs t f v
+  spot_grown bs t f v (of_local b among of_type is) = of_local b among of_type is
+  spot_grown bs t f v (of_global number there means) = of_global number there means
+  spot_grown bs t f v (of_cell place r alive has had) =
+      of_cell place r alive (type_grown g h same.grows (lives.Pointer marks.NonNull (read bs t) (lives_in bs r)) place has) (had_stays (thing_of (lives.Pointer marks.NonNull (read bs t) (lives_in bs r)) place) had)
+
+  pub swapped_grown : (bs : List InScope) (f : flow.State) (ws : List Write) → AreSwapped p g bs f ws → AreSwapped p h bs f ws
+  swapped_grown bs f [] are = tt
+  swapped_grown bs f (w ∷ ws) ((t, plain, by_type, spot, is), are) = ((t, plain, by_type, spot_grown bs t f w.place spot, result_grown g h same.grows (Value (read bs t)) w.operand is), swapped_grown bs f ws are)
 
 -- ---- what has no value is only dropped
 
@@ -735,7 +783,7 @@ pub within_full_at : (g : Typing) (n object : ℕ) (cs bs : List InScope) → Wi
 within_full_at g n object cs bs (itself _) are = are
 within_full_at g n object cs bs (older b _ ds inner within) (is, are) = within_full_at g n object cs ds within are
 
-module _ (old : Holder) (g h : Typing) (changed : Changed old g h) (n object : ℕ) (none : (m : ℕ) → At m ≢ old) (now : IsHere h h.depth n object) where
+module _ (old : Holder) (g h : Typing) (changed : Changed old g h) (n object : ℕ) (none : (m : ℕ) → At m 0 ≢ old) (now : IsHere h h.depth n object) where
   refilled_set : (f : flow.State) (bs : List InScope) → AreFullAt g n object bs → AreSet g f bs → AreSet h (with_fullness Full f n) bs
   refilled_set f [] at are = tt
   refilled_set f (Variable b ∷ bs) (here, at) ((set, full), are) = ((go, goes), refilled_set f bs at are)
@@ -824,7 +872,7 @@ kept_open g regions objects (Kept number) typed known opens = dynamic_open (slic
     lent_held : (count : ℕ) (h : Holder) → is_lent_by count h ≡ true → IsHeld h
     lent_held count Nobody e = absurd (let k : false ≡ true = e in cc)
     lent_held count (Hand i) e = tt
-    lent_held count (At m) e = tt
+    lent_held count (At m i) e = tt
     lent_held count (Lent j) e = tt
 kept_open g regions objects (OfRegion number ns us) typed known opens = tt
 kept_open g regions objects (OfObject object) typed known opens = tt

@@ -1,5 +1,5 @@
 -- A VALUE COMES: what waits for it goes on, in a typed state.
-use Rattle.std.proofs.Common.{◌≡◌, ap, ℕ, zero, suc, ◌<◌, ◌≤◌, Bool, true, false, List, [], ◌∷◌, length, Option, Some, None, slice_get, refl, sym, subst, ◌∙◌, arith}
+use Rattle.std.proofs.Common.{◌≡◌, ap, ℕ, zero, suc, ◌<◌, ◌≤◌, Bool, true, false, List, [], ◌∷◌, length, Option, Some, None, slice_get, refl, sym, subst, ◌∙◌, arith, ◌+◌}
 use Rattle.std.specs.Prelude.{if◌then◌else◌}
 use Rattle.cyc_types.specs.declared.region.Region.{Region}
 use Rattle.cyc_types.specs.declared.region.Region.TheVariants as regions
@@ -31,7 +31,7 @@ use Rattle.cyc_meaning.proofs.ListLemmas.{slice_get-end}
 use Rattle.cyc_meaning.proofs.NestingLemmas.{home_found}
 use Rattle.cyc_soundness.specs.Lives.{Life, OfRegion, OfObject, Never, Kept, Reading, Lives, at, AsHeap, ByScope, RunTy, RunValue, Value, kind_at}
 use Rattle.cyc_soundness.specs.Lives as lives
-use Rattle.cyc_soundness.specs.Worlds.{OfLocal, Thing, Holder, Hand, At, pointer_at, thing_of, Owns, Claims, ClaimsBy, ClaimsAlone, IsHere, giving, marked, AreOwned, IsOpenIn, ObjectType, IsKnownLife, IsNumber, IsOwner, Typing, IsFilled, variable_type, HasType, IsResult, AreCells, IsObject, IsTyped, Grows}
+use Rattle.cyc_soundness.specs.Worlds.{OfLocal, Thing, Holder, Hand, At, pointer_at, thing_of, Owns, Claims, ClaimsBy, ClaimsAlone, IsHere, giving, marked, AreOwned, IsOpenIn, ObjectType, IsKnownLife, IsNumber, IsOwner, Typing, IsFilled, variable_type, HasType, IsResult, AreCells, IsObject, IsTyped, Grows, Slot}
 use Rattle.cyc_soundness.specs.Worlds.{given as given_to}
 use Rattle.cyc_soundness.specs.Frames.{later, Bound, InScope, Variable, Level, life_named, lives_in, read, read_value, IsThere, IsHomed, AreBelow, IsBound, AreVariables, IsLasting, home_in, LiveIn, Within, itself, older, Holds, Implies, LoopExit, Exits, IsHome, IsContext, KnowsProgram}
 use Rattle.cyc_soundness.specs.Stacks.{Executes, Continues, IsLoop, Repeats, IsArray, IsNew, Want, Val, Go, operands_in, Comes, Keeps, inside, Waits, IsReturn, IsStack, IsFocus, IsWell, relied_at}
@@ -45,8 +45,8 @@ use Rattle.cyc_soundness.proofs.Sharing.{plain_read}
 use Rattle.cyc_soundness.proofs.StackLemmas.{stack_changed, there_present, fields_kept, passed_kept, comes_alone, claimed_next, below_more, local_new, bound_more, set_more, home_is, home_lasting, found_is, within_bound, within_variables, within_live, within_holds}
 use Rattle.cyc_soundness.proofs.RegionLemmas.{region_known, there_open, there_lasting, known_local, owner_known}
 use Rattle.cyc_soundness.proofs.ValueLemmas.{negated, complemented, combined, zero_is}
-use Rattle.cyc_soundness.specs.Classes.{IsShared, InInitial, Source}
-use Rattle.cyc_soundness.proofs.Cells.{part_had, running}
+use Rattle.cyc_soundness.specs.Classes.{InInitial, Source}
+use Rattle.cyc_soundness.proofs.Cells.{part_had, running, plain_unkept}
 use Rattle.cyc_soundness.proofs.Loans.{opens_on, aliases_on, closes_on, frees_on}
 use Rattle.cyc_soundness.proofs.Objects.{plain_on, fields_on, array_on, fill_on, makes_on}
 use Rattle.cyc_soundness.proofs.Places.{looked_result, gives, follow_on, member_on, index_on, advance_on, count_on, cell_stored, point_on, null_point_on}
@@ -124,14 +124,14 @@ content_given own h new t None v is same = absurd (let k : None ≡ Some v = sam
 content_given own h new t (Some u) v is same = subst (λ z. Claims (given_to (thing_of t u) new own) new t z) (some_same u v same) (given_now own (thing_of t u) new, is.1)
 
 -- the one cell of a new variable is its own
-one_owned : (own : Thing → Holder) (object : ℕ) (t : RunTy) (c : Cell) → ((v : values.Value) → c.content ≡ Some v → Claims own (At object) t v) → AreOwned own object (t ∷ []) (c ∷ [])
-one_owned own object t c has zero u d v found at content =
-    subst (λ z. Claims own (At object) z v) (some_same t u found) (has v (ap (λ (z : Cell). z.content) (some_same c d at) ∙ content))
-one_owned own object t c has (suc i) u d v found at content = absurd (let k : None ≡ Some u = found in cc)
+one_owned : (g : Typing) (object : ℕ) (t : RunTy) (l : Life) (hidden : Bool) (s : Slot) (c : Cell) → ((v : values.Value) → c.content ≡ Some v → Claims g.own (At object 0) t v) → AreOwned g object (variable_type t l hidden s) (c ∷ [])
+one_owned g object t l hidden s c has zero u d v kept found at content =
+    subst (λ z. Claims g.own (At object 0) z v) (some_same t u found) (has v (ap (λ (z : Cell). z.content) (some_same c d at) ∙ content))
+one_owned g object t l hidden s c has (suc i) u d v kept found at content = absurd (let k : None ≡ Some u = found in cc)
 
 -- the typing of the world with it, where it has what is put into it
 abbrev new_typing : Typing → List InScope → (number : ℕ) → Ty → Life → (filled object : ℕ) → Option Thing → Typing
-new_typing g bs number t l n object o = with_variable (giving g o (At object)) (new_type g.depth number bs t l) n (marked object true g.here)
+new_typing g bs number t l n object o = with_variable (giving g o (At object 0)) (new_type g.depth number bs t l) n (marked object true g.here)
 
 module _ (p : Source) (g : Typing) (x : Exits) (bs : List InScope) (e : Environment) (w : World) (typed : IsTyped g w.regions w.objects) (globals : KnowsProgram g p) (bound : IsBound e.locals e.counters bs) (variables : AreVariables g bs) where
   abbrev pub made_typing : (number : ℕ) → Ty → Life → (filled : ℕ) → Option values.Value → Typing
@@ -146,22 +146,22 @@ module _ (p : Source) (g : Typing) (x : Exits) (bs : List InScope) (e : Environm
   declares number kind t content n i l focus stack nests live below numbered lasting (known, opens) claims cells goes =
       let m = length w.objects in
       let o = its_thing (read bs t) content in
-      let one = giving g o (At m) in
+      let one = giving g o (At m 0) in
       let y = new_type g.depth number bs t l in
       let h = made_typing number t l n content in
       let has : Owns g.own (Hand i) o = content_owns g.own (Hand i) (read bs t) content claims in
-      let raises : Raises one h = record { grows = variable_grows one y n (marked m true g.here); own = refl; here = λ object is. marked_keeps m g.here object is; depth = refl; loans = refl } in
-      let changed : Changed (Hand i) g h = changed_raised (Hand i) g one h (giving_changed g o (Hand i) (At m) has) raises in
-      let first' : IsTyped one w.regions w.objects = given_typed g o (Hand i) (At m) w.regions w.objects has tt (λ object. at_no_hand object i) typed in
+      let raises : Raises one h = record { grows = variable_grows one y n (marked m true g.here); own = refl; here = λ object is. marked_keeps m g.here object is; pending = refl; depth = refl; loans = refl } in
+      let changed : Changed (Hand i) g h = changed_raised (Hand i) g one h (giving_changed g o (Hand i) (At m 0) has) raises in
+      let first' : IsTyped one w.regions w.objects = given_typed g o (Hand i) (At m 0) w.regions w.objects has tt (λ object j. at_no_hand object j i) typed in
       let is : IsObject h n y (variable e.home kind content) =
-      record { owner = owner_is l e.home numbered; known = owner_grown g h changed.grows l (owner_known g l known); keyless = λ plain. (plain_read g bs variables t plain, tt); cells = cells changed.grows } in
+      record { owner = owner_is l e.home numbered; known = owner_grown g h changed.grows l (owner_known g l known); keyless = λ plain. (plain_unkept (read bs t) (plain_read g bs variables t plain), tt); cells = cells changed.grows } in
       let (r, found) = found_is (region_at w e.home) (home_found w.regions e.home stack nests.2 nests.0) in
       let there = subst (λ i. slice_get h.objects i ≡ Some y) (sym typed.count) (slice_get-end g.objects y) in
       let flag = subst (λ i. slice_get h.filled i ≡ Some n) (sym typed.counts) (slice_get-end g.filled n) in
       subst (λ a. IsWell p (declared a focus number kind content stack e w)) (sym found)
       (running p h x (Variable (new_local w bs number t l) ∷ bs) (state.with_local e number m) (made w (variable e.home kind content))
       (object_typed one w.regions w.objects y n (variable e.home kind content) (marked m true g.here) first' is (λ object apart now. marked_before m true g.here object apart now)
-      (one_owned one.own m (read bs t) (record { kind = kind; content = content }) (λ v same. content_given g.own (Hand i) (At m) (read bs t) content v claims same))) (globals_grown g h changed.grows p (λ n ls. refl) globals.keys globals)
+      (one_owned h m (read bs t) l (is_moved t) (OfLocal g.depth number) (record { kind = kind; content = content }) (λ v same. content_given g.own (Hand i) (At m 0) (read bs t) content v claims same))) (globals_grown g h changed.grows p (λ n ls. refl) globals.keys globals)
       (local_new e number m, bound_more e number m bs below bound) ((there, open_kept (Hand i) g h changed l refl opens), variables_kept (Hand i) g h changed bs refl variables)
       focus stack ((lasting, live.0), live.1)
       (goes changed (n, flag, (let most : n ≤ n = omega arith in most)) (marked_now m true g.here, (y, there, refl))))
@@ -181,7 +181,7 @@ module _ (p : Source) (g : Typing) (x : Exits) (bs : List InScope) (e : Environm
       let h1 = made_typing p g x bs e w typed globals bound variables number t l.life 1 (Some v) in
       declares p g x bs e w typed globals bound variables number kind t (Some v) 1 (operands_in k) l.life Proceeding (Rest js ∷ k) nests live below l.number l.lasting (l.known g variables) comes
       (λ grows. ((kind_is, type_grown g h1 grows (read bs t) v has), tt))
-      (λ changed full here. (let (reached, are) = holds_kept hand g h1 changed f bs (λ n object s its. at_no_hand object (operands_in k)) holds in (
+      (λ changed full here. (let (reached, are) = holds_kept hand g h1 changed f bs (λ n object s its. at_no_hand object 0 (operands_in k)) holds in (
         with_fullness Full f number,
         (reached_with Full f number reached, ((λ s. full, λ s. here), set_more h1 Full f number bs below are)),
         (
@@ -205,7 +205,7 @@ module _ (p : Source) (g : Typing) (x : Exits) (bs : List InScope) (e : Environm
       let hand = Hand (operands_in k) in
       let h0 = made_typing p g x bs e w typed globals bound variables number t l.life 0 None in
       declares p g x bs e w typed globals bound variables number kind t None 0 (operands_in k) l.life Proceeding (Rest js ∷ k) nests live below l.number l.lasting (l.known g variables) tt (λ grows. ((kind_is, refl), tt))
-      (λ changed full here. (let (reached, are) = holds_kept hand g h0 changed f bs (λ n object s its. at_no_hand object (operands_in k)) holds in (
+      (λ changed full here. (let (reached, are) = holds_kept hand g h0 changed f bs (λ n object s its. at_no_hand object 0 (operands_in k)) holds in (
         with_fullness Vacant f number,
         (
           reached_with Vacant f number reached,
@@ -265,22 +265,22 @@ module _ (p : Source) (g : Typing) (x : Exits) (bs : List InScope) (e : Environm
 
   -- by a handle
   placed_by : (i : Initial) (v : values.Value) (k : List Entry) (c : Context) (m : PointerKind) (t : Ty) (r : Region) (f h : flow.State) (q : List ℕ) → AreOpen w.regions (ends_of k) → LiveIn k bs → IsContext p x bs c → Holds g f bs
-      → IsThere bs r → IsMade c i m t → Derives (rule_initial q i f) h → InInitial p.reading (relied_at x.relied k) i → IsShared p.reading t → HasType g (lives.Handle (lives_in bs r)) v
+      → IsThere bs r → IsMade c i m t → Derives (rule_initial q i f) h → InInitial p.reading (relied_at x.relied k) i → HasType g (lives.Handle (lives_in bs r)) v
       → IsStack p g x bs (Val (Value (lives.Pointer m (read bs t) (lives_in bs r))) h) k → IsWell p (makes_by i v k e w)
-  placed_by i (values.Handle region) k c m t r f h q opens live stands holds alive made flows kept shared has stack =
-      makes_on p g x bs e w typed globals bound variables i (InRegion region) (Needs (BesideHandle region) ∷ k) c m t r f h q opens live stands holds alive (owner_is (lives_in bs r) region has) made flows kept shared
+  placed_by i (values.Handle region) k c m t r f h q opens live stands holds alive made flows kept has stack =
+      makes_on p g x bs e w typed globals bound variables i (InRegion region) (Needs (BesideHandle region) ∷ k) c m t r f h q opens live stands holds alive (owner_is (lives_in bs r) region has) made flows kept
       ([], bs, Val (Value (lives.Pointer m (read bs t) (lives_in bs r))) h, stacks.beside_handle (lives.Pointer m (read bs t) (lives_in bs r)) h, tt, stack)
-  placed_by i v k c m t r f h q opens live stands holds alive made flows kept shared has stack = absurd has
+  placed_by i v k c m t r f h q opens live stands holds alive made flows kept has stack = absurd has
 
   -- the next element of an array has its value, and the counter is out of scope
   filled_on : (object count index level : ℕ) (kind : Kind) (element : Expression) (v : Operand) (k : List Entry) (cs : List InScope) (c : Context) (t : Ty) (r : Region) (f h : flow.State) → bs ≡ Level level ∷ cs
       → AreOpen w.regions (ends_of k) → LiveIn k bs → IsThere cs r → IsContext p x cs c → Holds g h bs → Repeats p.reading (relied_at x.relied k) c level kind element t f → Implies h f → index < count
-      → IsArray g (read cs t) (lives_in cs r) object count index → Owns g.own (Hand (operands_in k)) (pointer_at (lives_in cs r) object) → IsResult g (Value (read cs t)) v → IsStack p g x cs (Val (Value (lives.Pointer marks.Fat (read cs t) (lives_in cs r))) f) k
+      → IsArray g (read cs t) (lives_in cs r) object count index → Owns g.own (Hand (operands_in k)) (pointer_at (lives_in cs r) object) → IsResult g (Value (read cs t)) v → Claims g.own (Hand (1 + operands_in k)) (read cs t) v.value → IsStack p g x cs (Val (Value (lives.Pointer marks.Fat (read cs t) (lives_in cs r))) f) k
       → IsWell p (fills_element object count index level kind element v k e w)
-  filled_on object count index level kind element v k cs c t r f h same opens live alive stands holds repeats back less array has is stack =
+  filled_on object count index level kind element v k cs c t r f h same opens live alive stands holds repeats back less array has is comes stack =
       let outer : Within cs bs = subst (λ z. Within cs z) (sym same) (older (Level level) cs cs tt (itself cs)) in
       fill_on p g x cs e w typed globals (within_bound e cs bs outer bound) (within_variables g cs bs outer variables) object count index level kind element v k c t r f h opens (within_live k cs bs outer live) alive stands
-      (within_holds g h cs bs outer holds) repeats back less array has is stack
+      (within_holds g h cs bs outer holds) repeats back less array has is comes stack
 
   -- ---- all that waits
 
@@ -301,13 +301,13 @@ module _ (p : Source) (g : Typing) (x : Exits) (bs : List InScope) (e : Environm
   given v k nests live holds is comes (stacks.stores_local b t f among same) are stack =
       writes_local p g x bs e w typed globals bound variables v k b t f nests.0 live among same holds is (comes_alone g k (Value (read bs t)) v.value comes) stack
   given v k nests live holds is comes (stacks.stores_global number t f there means) are stack =
-      writes_global p g x bs e w typed globals bound variables v k number t f nests.0 live there means holds is stack
+      writes_global p g x bs e w typed globals bound variables v k number t f nests.0 live there means holds is (comes_alone g k (Value (read bs t)) v.value comes) stack
   given v k nests live holds is comes (stacks.points {peek} {o} {left} also c t s u f stands op) ((left_is, unit), part) stack =
       point_on p g x bs e w typed globals bound variables also left v (operands_in (Needs (state.ApplyPointer peek o left) ∷ k)) k f nests.0 live holds stands op left_is (part_had g (operands_in k) peek (thing_of (read bs t) left.value) part) is comes stack
   given v k nests live holds is comes (stacks.null_points also c s u f op) are stack = null_point_on p g x bs e w typed globals bound variables also v k f live holds op is stack
   given v k nests live holds is comes (stacks.stores_cell {peek} {place} t r f alive) (((kind, to), unit), part) stack =
       cell_stored p g x bs e w typed globals bound variables place v t (lives_in bs r) k f nests.0 live (there_present g (ends_of k) bs r live.0 variables alive)
-      (part_had g (operands_in k) peek (thing_of (lives.Pointer marks.NonNull (read bs t) (lives_in bs r)) place) part) holds to is stack
+      (part_had g (operands_in k) peek (thing_of (lives.Pointer marks.NonNull (read bs t) (lives_in bs r)) place) part) holds to is (1 + operands_in k) (let le : operands_in k ≤ 1 + operands_in k = omega arith in le) comes stack
   given v k nests live holds is comes (stacks.follows {k = pk} {target} seen u m t r f through kind same alive) are stack =
       follow_on p g x bs e w typed globals bound variables seen u m pk target t (lives_in bs r) v k f live holds through kind same is (comes_alone g k u v.value comes) stack
   given v k nests live holds is comes (stacks.follows_member {k = pk} {fields} {field} seen m n ls s t u r f kind struct fields_are there means alive) are stack =
@@ -317,16 +317,16 @@ module _ (p : Source) (g : Typing) (x : Exits) (bs : List InScope) (e : Environm
       index_on p g x bs e w typed globals bound variables peek target index c t r v k f h live holds stands evaluates same alive is (comes_alone g k (lives.looked peek (Value (lives.Pointer marks.Fat (read bs t) (lives_in bs r)))) v.value comes) stack
   given v k nests live holds is comes (stacks.advances {peek} {target} {base} t r f same alive) ((base_is, unit), part) stack = advance_on p g x bs e w typed globals bound variables peek t r target base v k f live holds same alive base_is part is stack
   given v k nests live holds is comes (stacks.counts_elements seen t l f) are stack = count_on p g x bs e w typed globals bound variables seen t l v k f live holds is stack
-  given v k nests live holds is comes (stacks.places_by {i} c m t r f h stands makes alive) are stack = placed_by i v.value k c m t r f h makes.waiting nests.0 live stands holds alive makes.typed makes.flows makes.kept makes.shared is.1 stack
+  given v k nests live holds is comes (stacks.places_by {i} c m t r f h stands makes alive) are stack = placed_by i v.value k c m t r f h makes.waiting nests.0 live stands holds alive makes.typed makes.flows makes.kept is.1 stack
   given v k nests live holds is comes (stacks.beside_handle t f) are stack = on (Given v) k live (Value t, f, holds, is, comes_alone g k (Value t) v.value comes, stack)
-  given v k nests live holds is comes (stacks.makes_plain {owner} {kind} t r f plain alive owned kind_is) are stack = plain_on p g x bs e w typed globals bound variables owner kind v t r k f plain nests.0 live holds alive owned kind_is is stack
+  given v k nests live holds is comes (stacks.makes_plain {owner} {kind} t r f plain alive owned kind_is) are stack = plain_on p g x bs e w typed globals bound variables owner kind v t r k f plain nests.0 live holds alive owned kind_is is (comes_alone g k (Value (read bs t)) v.value comes) stack
   given v k nests live holds is comes (stacks.makes_fields {owner} {before} {rest} c done t ts n ls r f h alive owned stands passes fields) are stack =
       let (operands, claims) = fields_kept g (operands_in k) owner before rest done are in
       fields_on p g x bs e w typed globals bound variables k owner (v ∷ before) (read bs t ∷ done) rest ts c n ls r f h passes.waiting nests.0 live stands holds alive owned passes.typed passes.flows passes.kept (is, operands) (claimed_next g (operands_in k) (read bs t) v.value done before operands comes, claims) fields stack
   given v k nests live holds is comes (stacks.makes_array {owner} {level} {kind} {element} c t r f alive owned stands repeats) are stack =
       array_on p g x bs e w typed globals bound variables owner level kind element v.value k c t r f live stands holds alive owned repeats is.1 stack
   given v k nests live holds is comes (stacks.fills {object} {count} {index} {level} {kind} {element} cs c t r f h same alive stands repeats back) (less, array, has) stack =
-      filled_on object count index level kind element v k cs c t r f h same nests.0 live alive stands holds repeats back less array has is stack
+      filled_on object count index level kind element v k cs c t r f h same nests.0 live alive stands holds repeats back less array has is comes stack
   given v k nests live holds is comes (stacks.passes {callee} {before} {rest} c done t ts r f h stands passes called) are stack =
       let (operands, claims) = passed_kept g (operands_in k) callee before rest done are in
       pass_on p g x bs e w typed globals bound variables k callee (v ∷ before) (read bs t ∷ done) rest ts c r f h passes.waiting live stands holds passes.typed passes.flows passes.kept (is, operands) (claimed_next g (operands_in k) (read bs t) v.value done before operands comes, claims) called stack

@@ -21,20 +21,19 @@ use Rattle.cyc_meaning.specs.Nesting.{ends_of, AreOpen}
 use Rattle.cyc_soundness.proofs.Looking.{peeked_so}
 use Rattle.cyc_soundness.specs.Lives.{Life, RunTy, as_heap, kind_at}
 use Rattle.cyc_soundness.specs.Lives as lives
-use Rattle.cyc_soundness.specs.Worlds.{At, Claims, IsOpenObject, ObjectType, Typing, global_type, IsFilled, HasType, IsTyped}
-use Rattle.cyc_soundness.specs.Frames.{InScope, local_type, IsBound, AreVariables, LiveIn, IsSet, Holds, Exits, IsContext, KnowsProgram, frees_in, lives_in, read}
+use Rattle.cyc_soundness.specs.Worlds.{At, IsKept, thing_of, IsHad, Claims, IsOpenObject, ObjectType, Typing, global_type, IsFilled, HasType, IsTyped}
+use Rattle.cyc_soundness.specs.Frames.{InScope, local_type, IsBound, AreVariables, LiveIn, IsSet, Holds, Exits, IsContext, KnowsProgram, lives_in, read}
 use Rattle.cyc_soundness.specs.Classes.{InSide, Source, and_looked, frees_of}
-use Rattle.cyc_soundness.specs.Stacks.{IsCommonLife, IsByType, Finds, Go, IsSpot, of_local, of_global, of_cell, IsRead, AreSwapped, IsStack, IsWell}
+use Rattle.cyc_soundness.specs.Stacks.{IsByType, relied_at, operands_in, Finds, Go, IsSpot, of_local, of_global, of_cell, IsLeftSpot, left_variable, left_cell, IsRead, AreSwapped, IsStack, IsWell}
 use Rattle.cyc_soundness.specs.Stacks as stacks
 use Rattle.cyc_soundness.proofs.Numbers.{some_same}
 use Rattle.cyc_soundness.proofs.TypeLemmas.{is_kind_same, kind_meant, place_type}
 use Rattle.cyc_soundness.proofs.FlowLemmas.{not_vacant}
 use Rattle.cyc_soundness.proofs.WorldLemmas.{cell_there}
 use Rattle.cyc_soundness.proofs.Hands.{holds_grown}
-use Rattle.cyc_soundness.proofs.Sharing.{by_type_read}
 use Rattle.cyc_soundness.proofs.StackLemmas.{stack_grown, swapped_grown, bound_of, place_local, among_bound, among_variable, among_live, among_set, open_of, globals_among, lasting_open, kept_open, object_known, among_open, IsPresent, there_present}
 use Rattle.cyc_soundness.proofs.RegionLemmas.{there_of, cell_live, global_means}
-use Rattle.cyc_soundness.proofs.Cells.{running, life_of, lasting_common, open_object, common_had, by_type_claims, shared_claims, value_part, content_of, writes}
+use Rattle.cyc_soundness.proofs.Cells.{part_had, running, life_of, lasting_common, open_object, by_type_claims, shared_claims, value_part, content_of, writes}
 
 pub kept_both : (ds es : List Demand) → AllKept (ds ++ es) → AllKept ds × AllKept es
 kept_both [] es are = (tt, are)
@@ -50,16 +49,16 @@ pub record SpotAt (g : Typing) (w : World) (t : RunTy) (v : values.Value) : Type
   pub cell : slice_get of_type.cells offset ≡ Some t
   pub opens : IsOpenObject g w.regions number of_type.life
   pub full : IsFilled g number (suc offset)
-  pub claims : (value : values.Value) → IsByType t → g.here number ≡ true → Claims g.own (At number) t value
+  pub claims : (value : values.Value) → IsByType t → IsKept g number offset of_type.is_hidden → Claims g.own (At number offset) t value
 
 module _ (p : Source) (g : Typing) (x : Exits) (bs : List InScope) (e : Environment) (w : World) (typed : IsTyped g w.regions w.objects) (globals : KnowsProgram g p) (bound : IsBound e.locals e.counters bs) (variables : AreVariables g bs) where
-  cell_spot : (t : Ty) (l : Life) (place : values.Value) (k : List Entry) → AreOpen w.regions (ends_of k) → IsPresent g (ends_of k) l → IsCommonLife l → is_struct t ≡ false → HasType g (lives.Pointer marks.NonNull (read bs t) l) place
+  cell_spot : (t : Ty) (l : Life) (place : values.Value) (k : List Entry) → AreOpen w.regions (ends_of k) → IsPresent g (ends_of k) l → IsHad g (thing_of (lives.Pointer marks.NonNull (read bs t) l) place) → is_struct t ≡ false → HasType g (lives.Pointer marks.NonNull (read bs t) l) place
       → SpotAt g w (read bs t) place
-  cell_spot t l (values.Thin object offset) k opens lasting common plain (y, there, shown, outlasts, part) =
-      let open' = life_of g w typed k object y l there opens outlasts lasting (common_had g l object common) in
+  cell_spot t l (values.Thin object offset) k opens lasting had plain (y, there, shown, outlasts, part) =
+      let open' = life_of g w typed k object y l there opens outlasts lasting had in
       let (cell, full) = value_part (lives_in bs) g object y t offset plain part in
-      record { number = object; offset = offset; of_type = y; is = refl; there = there; cell = cell; opens = open'; full = full; claims = λ v by here. shared_claims g w object offset y (read bs t) typed there shown cell (At object) v }
-  cell_spot t l place k opens lasting common plain has = absurd has
+      record { number = object; offset = offset; of_type = y; is = refl; there = there; cell = cell; opens = open'; full = full; claims = λ v by kept. shared_claims g w object offset y (read bs t) typed there shown cell by (At object offset) v }
+  cell_spot t l place k opens lasting had plain has = absurd has
 
   spot_at : (t : Ty) (f : flow.State) (v : values.Value) (k : List Entry) → AreOpen w.regions (ends_of k) → LiveIn k bs → Holds g f bs → is_struct t ≡ false → IsSpot p g bs t f v → SpotAt g w (read bs t) v
   spot_at t f v k opens live holds plain (of_local b among of_type set) =
@@ -80,7 +79,7 @@ module _ (p : Source) (g : Typing) (x : Exits) (bs : List InScope) (e : Environm
         cell = cell;
         opens = opens';
         full = full;
-        claims = λ v by here. by_type_claims g.own (At b.object) (read bs t) c.value v by (typed.owned b.object y c.object here there c.there 0 (read bs t) c.cell c.value cell c.at c.content);
+        claims = λ v by kept. by_type_claims g.own (At b.object 0) (read bs t) c.value v by (typed.owned b.object y c.object there c.there 0 (read bs t) c.cell c.value kept cell c.at c.content);
       }
   spot_at t f v k opens live holds plain (of_global number there same) =
       let (at, full, closed) = globals.globals number t there in
@@ -93,9 +92,14 @@ module _ (p : Source) (g : Typing) (x : Exits) (bs : List InScope) (e : Environm
         cell = ap (λ u. Some u) (sym same);
         opens = open_of w.regions (globals_among k) opens;
         full = full;
-        claims = λ v by here. shared_claims g w number 0 (global_type (lives.at (as_heap (frees_of p.reading)) t)) (read bs t) typed at refl (ap (λ u. Some u) (sym same)) (At number) v;
+        claims = λ v by kept. shared_claims g w number 0 (global_type (lives.at (as_heap (frees_of p.reading)) t)) (read bs t) typed at refl (ap (λ u. Some u) (sym same)) by (At number 0) v;
       }
-  spot_at t f v k opens live holds plain (of_cell place r alive common has) = cell_spot t (lives_in bs r) place k opens (there_present g (ends_of k) bs r live.0 variables alive) common plain has
+  spot_at t f v k opens live holds plain (of_cell place r alive has had) = cell_spot t (lives_in bs r) place k opens (there_present g (ends_of k) bs r live.0 variables alive) had plain has
+
+  -- the left place, once the right one is found, too
+  pub left_spot : (i : ℕ) (peek : Option ℕ) (t : Ty) (f : flow.State) (v : values.Value) → IsLeftSpot p g i peek bs t f v → IsSpot p g bs t f v
+  left_spot i peek t f v (left_variable place is) = is g
+  left_spot i peek t f v (left_cell place r alive has part) = of_cell place r alive has (part_had g i peek (thing_of (lives.Pointer marks.NonNull (read bs t) (lives_in bs r)) place) part)
 
   -- ---- both places are found
 
@@ -104,25 +108,25 @@ module _ (p : Source) (g : Typing) (x : Exits) (bs : List InScope) (e : Environm
   both_on kind left right t k f live holds kind_is plain by here there stack =
       running p g x bs e w typed globals bound variables (Swapping kind left right None) k live (t, f, holds, kind_is, plain, by, here, there, tt, stack)
 
-  global_spot : (n : ℕ) (u t : Ty) (c : Context) (f : flow.State) → IsContext p x bs c → t ≡ u → slice_get c.globals n ≡ Some u → IsSpot p g bs t f (values.Thin n 0)
-  global_spot n u t c f stands same there =
+  global_spot : (n : ℕ) (u t : Ty) (c : Context) (f : flow.State) → IsContext p x bs c → t ≡ u → slice_get c.globals n ≡ Some u → (h : Typing) → IsSpot p h bs t f (values.Thin n 0)
+  global_spot n u t c f stands same there h =
       let found = ap (λ ts. slice_get ts n) (sym stands.globals) ∙ there ∙ ap (λ z. Some z) (sym same) in
       let (at, full, closed) = globals.globals n t found in
       of_global n found (global_means p.reading c.regions bs t stands.regions closed)
 
-  pub finds_right_on : (kind : Kind) (peek : Option ℕ) (is_cell : Bool) (left : values.Value) (right : Side) (c : Context) (t : Ty) (k : List Entry) (f h : flow.State) (q : List ℕ) → LiveIn k bs → IsContext p x bs c → Holds g f bs → frees_in bs ≡ false
-      → kind ≡ values.kind_of t → is_struct t ≡ false → (Unit {0} → IsSpot p g bs t h left) → IsSide c right t → Derives (rule_side q right f) h → AllKept (side_demanded q right h) → InSide p.reading (and_looked peek x.relied) right
+  pub finds_right_on : (kind : Kind) (peek : Option ℕ) (is_cell : Bool) (left : values.Value) (right : Side) (c : Context) (t : Ty) (k : List Entry) (f h : flow.State) (q : List ℕ) → LiveIn k bs → IsContext p x bs c → Holds g f bs → IsByType (read bs t)
+      → kind ≡ values.kind_of t → is_struct t ≡ false → IsLeftSpot p g (operands_in k) peek bs t h left → IsSide c right t → Derives (rule_side q right f) h → AllKept (side_demanded q right h) → InSide p.reading (and_looked peek x.relied) right
       → IsStack p g x bs (Go h) k → IsWell p (finds_right kind peek is_cell left right k e w)
-  finds_right_on kind peek is_cell left (VariableSide (Local place n) u) c t k f h q live stands holds none kind_is plain here (r, (m, has, region, there), same) (unit, known) used kept stack =
+  finds_right_on kind peek is_cell left (VariableSide (Local place n) u) c t k f h q live stands holds by kind_is plain here (r, (m, has, region, there), same) (unit, known) used kept stack =
       let (b, among, number, of_type) = bound_of p.reading (lives_in bs) c.locals bs n u m stands.scope (place_local c.locals n u m has) in
       let at : e.locals n ≡ Some b.object = ap e.locals (sym number) ∙ among_bound e among bound in
       let set : IsSet h b.number = subst (λ i. IsSet h i) (sym number) (not_vacant (is_vacant (fullness h n)) used.0) in
       subst (λ o. IsWell p (finds_right_object kind left o k e w)) (sym at)
-      (both_on kind left (values.Thin b.object 0) t k h live (subst (λ z. Holds g z bs) (sym known) holds) kind_is plain (by_type_read g bs variables t none) (here tt) (of_local b among (of_type ∙ ap (read bs) (sym same)) set) stack)
-  finds_right_on kind peek is_cell left (VariableSide (Global n) u) c t k f h q live stands holds none kind_is plain here (r, (region, there), same) (unit, known) used kept stack =
-      both_on kind left (values.Thin n 0) t k h live (subst (λ z. Holds g z bs) (sym known) holds) kind_is plain (by_type_read g bs variables t none) (here tt)
-      (global_spot n u t c h stands same there) stack
-  finds_right_on kind peek is_cell left (CellSide d) c t k f h q live stands holds none kind_is plain here (r, cell) flows used kept stack =
+      (both_on kind left (values.Thin b.object 0) t k h live (subst (λ z. Holds g z bs) (sym known) holds) kind_is plain by (left_spot (operands_in k) peek t h left here) (of_local b among (of_type ∙ ap (read bs) (sym same)) set) stack)
+  finds_right_on kind peek is_cell left (VariableSide (Global n) u) c t k f h q live stands holds by kind_is plain here (r, (region, there), same) (unit, known) used kept stack =
+      both_on kind left (values.Thin n 0) t k h live (subst (λ z. Holds g z bs) (sym known) holds) kind_is plain by (left_spot (operands_in k) peek t h left here)
+      (global_spot n u t c h stands same there g) stack
+  finds_right_on kind peek is_cell left (CellSide d) c t k f h q live stands holds by kind_is plain here (r, cell) flows used (shared, kept) stack =
       running p g x bs e w typed globals bound variables (Locating d) (NeedsPlace (SwapRight kind peek is_cell left) ∷ k) live (
         c,
         t,
@@ -132,24 +136,24 @@ module _ (p : Source) (g : Typing) (x : Exits) (bs : List InScope) (e : Environm
         stands,
         holds,
         record { waiting = q; typed = cell; flows = flows; kept = kept },
-        (Go h, stacks.swaps_right (peek_behind d) t r h (there_of p x bs c stands r (cell_live c d t r cell)) none kind_is, (t, refl, plain, here tt), stack),
+        (Go h, stacks.swaps_right (peek_behind d) t r h (there_of p x bs c stands r (cell_live c d t r cell)) by kind_is, (t, refl, plain, here), stack),
       )
 
-  pub swap_on : (y z : Side) (c : Context) (t : Ty) (k : List Entry) (f f1 h : flow.State) (q : List ℕ) → LiveIn k bs → IsContext p x bs c → Holds g f bs → frees_in bs ≡ false → is_struct t ≡ false
+  pub swap_on : (y z : Side) (c : Context) (t : Ty) (k : List Entry) (f f1 h : flow.State) (q : List ℕ) → LiveIn k bs → IsContext p x bs c → Holds g f bs → IsByType (read bs t) → is_struct t ≡ false
       → IsSide c y t → Derives (rule_side [] y f) f1 → AllKept (side_demanded [] y h) → InSide p.reading x.relied y → (is_reached f1 ≡ true → Finds p.reading (and_looked (peeked_side y) x.relied) c z f1 t h) → IsStack p g x bs (Go h) k → IsWell p (swaps y z k e w)
-  swap_on (VariableSide (Local place n) u) z c t k f f1 h q live stands holds none plain (r, (m, has, region, there), same) (unit, known) used kept later stack =
+  swap_on (VariableSide (Local place n) u) z c t k f f1 h q live stands holds by plain (r, (m, has, region, there), same) (unit, known) used kept later stack =
       let finds = later (ap is_reached known ∙ holds.0) in
       let (b, among, number, of_type) = bound_of p.reading (lives_in bs) c.locals bs n u m stands.scope (place_local c.locals n u m has) in
       let at : e.locals n ≡ Some b.object = ap e.locals (sym number) ∙ among_bound e among bound in
       let set : IsSet h b.number = subst (λ i. IsSet h i) (sym number) (not_vacant (is_vacant (fullness h n)) used.0) in
       subst (λ o. IsWell p (finds_left_object (values.kind_of u) o z k e w)) (sym at)
-      (finds_right_on (values.kind_of u) None false (values.Thin b.object 0) z c t k f1 h finds.waiting live stands (subst (λ i. Holds g i bs) (sym known) holds) none (ap values.kind_of (sym same)) plain
-      (λ i. of_local b among (of_type ∙ ap (read bs) (sym same)) set) finds.typed finds.flows finds.used finds.kept stack)
-  swap_on (VariableSide (Global n) u) z c t k f f1 h q live stands holds none plain (r, (region, there), same) (unit, known) used kept later stack =
+      (finds_right_on (values.kind_of u) None false (values.Thin b.object 0) z c t k f1 h finds.waiting live stands (subst (λ i. Holds g i bs) (sym known) holds) by (ap values.kind_of (sym same)) plain
+      (left_variable (values.Thin b.object 0) (λ z. of_local b among (of_type ∙ ap (read bs) (sym same)) set)) finds.typed finds.flows finds.used finds.kept stack)
+  swap_on (VariableSide (Global n) u) z c t k f f1 h q live stands holds by plain (r, (region, there), same) (unit, known) used kept later stack =
       let finds = later (ap is_reached known ∙ holds.0) in
-      finds_right_on (values.kind_of u) None false (values.Thin n 0) z c t k f1 h finds.waiting live stands (subst (λ i. Holds g i bs) (sym known) holds) none (ap values.kind_of (sym same)) plain
-      (λ i. global_spot n u t c h stands same there) finds.typed finds.flows finds.used finds.kept stack
-  swap_on (CellSide d) z c t k f f1 h q live stands holds none plain (r, cell) flows used kept finds stack =
+      finds_right_on (values.kind_of u) None false (values.Thin n 0) z c t k f1 h finds.waiting live stands (subst (λ i. Holds g i bs) (sym known) holds) by (ap values.kind_of (sym same)) plain
+      (left_variable (values.Thin n 0) (global_spot n u t c h stands same there)) finds.typed finds.flows finds.used finds.kept stack
+  swap_on (CellSide d) z c t k f f1 h q live stands holds by plain (r, cell) flows used (shared, kept) finds stack =
       running p g x bs e w typed globals bound variables (Locating d) (NeedsPlace (SwapLeft (values.kind_of (type_of_place d)) (peeked d) z) ∷ k) live (
         c,
         t,
@@ -159,7 +163,14 @@ module _ (p : Source) (g : Typing) (x : Exits) (bs : List InScope) (e : Environm
         stands,
         holds,
         record { waiting = []; typed = cell; flows = flows; kept = kept },
-        (Go h, stacks.swaps_left (peek_behind d) c t r f1 h (there_of p x bs c stands r (cell_live c d t r cell)) none stands (ap values.kind_of (sym (place_type c d t r cell))) plain (λ reached. subst (λ o. Finds p.reading (and_looked o x.relied) c z f1 t h) (sym (peeked_so d)) (finds reached)), tt, stack),
+        (
+          Go h,
+          subst (λ o. stacks.WaitsPlace p x (relied_at x.relied k) bs (SwapLeft (values.kind_of (type_of_place d)) (peeked d) z) o (read bs t) (lives_in bs r) f1 (Go h)) (peeked_so d)
+              (stacks.swaps_left c t r f1 h (there_of p x bs c stands r (cell_live c d t r cell)) by stands (ap values.kind_of (sym (place_type c d t r cell))) plain
+              (λ reached. subst (λ o. Finds p.reading (and_looked o x.relied) c z f1 t h) (sym (peeked_so d)) (finds reached))),
+          tt,
+          stack,
+        ),
       )
 
   -- ---- both are read
@@ -210,5 +221,5 @@ module _ (p : Source) (g : Typing) (x : Exits) (bs : List InScope) (e : Environm
       let (m, flag, enough) = s.full in
       subst (λ v. IsWell p (stored_at v one.operand (Writing ws None) k e w)) (sym s.is)
       (writes p g x bs e w typed globals bound variables one.operand (Writing ws None) k s.number s.offset m (read bs t) s.of_type live s.there s.cell s.opens flag
-      (let few : s.offset ≤ m = omega (arith, enough) in few) is (λ here. s.claims one.operand.value by here)
-      (λ grows now. (f, holds_grown g _ grows f bs holds, swapped_grown p g _ grows.grows bs f ws are, stack_grown p g _ grows x bs (Go f) k stack)))
+      (let few : s.offset ≤ m = omega (arith, enough) in few) is (λ kept. s.claims one.operand.value by kept)
+      (λ grows now. (f, holds_grown g _ grows f bs holds, swapped_grown p g _ grows bs f ws are, stack_grown p g _ grows x bs (Go f) k stack)))

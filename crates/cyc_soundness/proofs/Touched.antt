@@ -157,8 +157,8 @@ module _ (m : Reading) (q : Relied) (f : flow.State) where
     relied_expression (Assign l c t) ns spared kept = relied_converted c ns (λ n is. spared n (assigned_too n l t (touched_converted c ns) is)) kept
     relied_expression (Store d c t) ns spared (one, kept) =
         (relied_place d ns (λ n is. spared n (converted_too n c (touched_place d ns) is)) one, relied_converted c (touched_place d ns) spared kept)
-    relied_expression (New w i t) ns spared (shared, one, kept) =
-        (shared, relied_placement w ns (λ n is. spared n (initial_too n i (touched_placement w ns) is)) one, relied_initial i (touched_placement w ns) spared kept)
+    relied_expression (New w i t) ns spared (one, kept) =
+        (relied_placement w ns (λ n is. spared n (initial_too n i (touched_placement w ns) is)) one, relied_initial i (touched_placement w ns) spared kept)
 
     relied_place : (d : Dereference) (ns : List ℕ) → AreSpared f (touched_place d ns) → InPlace m q d → InPlace m (f ∷ q) d
     relied_place (Target k a t) ns spared kept = relied_expression a ns spared kept
@@ -192,7 +192,7 @@ module _ (m : Reading) (q : Relied) (f : flow.State) where
 
   relied_side : (y : Side) (ns : List ℕ) → AreSpared f (touched_side y ns) → InSide m q y → InSide m (f ∷ q) y
   relied_side (VariableSide l t) ns spared kept = kept
-  relied_side (CellSide d) ns spared kept = relied_place d ns spared kept
+  relied_side (CellSide d) ns spared (shared, kept) = (shared, relied_place d ns spared kept)
 
   relied_value : (v : Option Converted) (ns : List ℕ) → AreSpared f (touched_value v ns) → InValue m q v → InValue m (f ∷ q) v
   relied_value None ns spared kept = kept
@@ -211,7 +211,7 @@ module _ (m : Reading) (q : Relied) (f : flow.State) where
     relied_statement k (Block r js) ns spared kept = relied_items (suc k) js ns spared kept
     relied_statement k Empty ns spared kept = kept
     relied_statement k (Evaluate a) ns spared kept = relied_expression a ns spared kept
-    relied_statement k (Swap x y) ns spared (none, one, kept) = (none, relied_side x ns (λ n is. spared n (side_too n y (touched_side x ns) is)) one, relied_side y (touched_side x ns) spared kept)
+    relied_statement k (Swap x y) ns spared (one, kept) = (relied_side x ns (λ n is. spared n (side_too n y (touched_side x ns) is)) one, relied_side y (touched_side x ns) spared kept)
     relied_statement k (If a s t) ns spared (one, two, kept) = (
       relied_expression a ns (λ n is. spared n (statement_too n t (touched_statement s (touched a ns)) (statement_too n s (touched a ns) is))) one,
       relied_statement k s (touched a ns) (λ n is. spared n (statement_too n t (touched_statement s (touched a ns)) is)) two,

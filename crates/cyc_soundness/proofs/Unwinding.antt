@@ -14,7 +14,7 @@ use Rattle.cyc_meaning.specs.Nesting.{IsNested}
 use Rattle.cyc_meaning.specs.Step.{step_proceeding, step_breaking, step_continuing, returned, main_returned, step_returning, step_throwing}
 use Rattle.cyc_soundness.specs.Lives.{Life, RunTy, RunValue, Value}
 use Rattle.cyc_soundness.specs.Lives as lives
-use Rattle.cyc_soundness.specs.Worlds.{OfLocal, Thing, Holder, Hand, At, Lent, thing_of, IsStart, Claims, giving, given, marked, handing, AreOwned, variable_type, Typing, HasType, IsTyped}
+use Rattle.cyc_soundness.specs.Worlds.{OfLocal, Hand, At, Lent, thing_of, IsStart, Claims, giving, given, marked, handing, AreOwned, variable_type, Typing, HasType, IsTyped, Slot}
 use Rattle.cyc_soundness.specs.Frames.{InScope, Names, Home, IsBound, AreVariables, AreFullAt, LiveIn, Holds, Implies, LoopExit, Exits, HasResult, is_loop, KnowsProgram}
 use Rattle.cyc_soundness.specs.Stacks.{IsByType, IsLentOut, IsLoop, Want, Nothing, Val, PlaceOf, Go, operands_in, IsBlocked, IsReturn, IsStack, IsFocus, IsWell}
 use Rattle.cyc_soundness.specs.Stacks as stacks
@@ -65,7 +65,7 @@ module _ (p : Source) (g : Typing) (e : Environment) (w : World) (typed : IsType
 
     -- what was lent is its local's again
     abbrev ended_typing : (j : ℕ) → RunTy → (object : ℕ) → Typing
-    ended_typing j t object = handing (record g { loans = j }) (thing_of t values.Null) (At object) object true
+    ended_typing j t object = handing (record g { loans = j }) (thing_of t values.Null) (At object 0) object true
 
     record HasEnded (j : ℕ) (t : RunTy) (object : ℕ) (y : Exits) (h : flow.State) (k : List Entry) : Type 0 where
       objects : IsTyped (ended_typing j t object) w.regions w.objects
@@ -81,34 +81,34 @@ module _ (p : Source) (g : Typing) (e : Environment) (w : World) (typed : IsType
     null_start (lives.Struct n ls) = tt
 
     ended_changed : (lent j : ℕ) (t : RunTy) (object : ℕ) → IsLentOut g lent j t object → Changed (Lent j) (record g { loans = j }) (ended_typing j t object)
-    ended_changed lent j t object (l, hidden, there, by, owns) = handing_changed (record g { loans = j }) (thing_of t values.Null) (Lent j) (At object) object true owns (λ same. let z : true ≡ false = same in absurd (cc))
+    ended_changed lent j t object (l, hidden, there, by, owns) = handing_changed (record g { loans = j }) (thing_of t values.Null) (Lent j) (At object 0) object true owns (λ same. let z : true ≡ false = same in absurd (cc))
 
     ends : (lent j : ℕ) (t : RunTy) (object : ℕ) (y : Exits) (h : flow.State) (k : List Entry) → IsLentOut g lent j t object → AreVariables (record g { loans = j }) bs → IsStack p (record g { loans = j }) y bs (Go h) k → HasEnded j t object y h k
     ends lent j t object y h k (l, hidden, there, by, owns) scope stack =
         let m = record g { loans = j } in
         let o = thing_of t values.Null in
-        let its = At object in
+        let its = At object 0 in
         let z = ended_typing j t object in
         let le : j ≤ j = omega arith in
         let changed = ended_changed lent j t object (l, hidden, there, by, owns) in
         let given_back' = giving m o its in
-        let first' : IsTyped given_back' w.regions w.objects = given_typed m o (Lent j) its w.regions w.objects owns tt (λ n. at_not_lent n j) (moment_typed g g.depth j w.regions w.objects typed) in
+        let first' : IsTyped given_back' w.regions w.objects = given_typed m o (Lent j) its w.regions w.objects owns tt (λ n i. at_not_lent n i j) (moment_typed g g.depth j w.regions w.objects typed) in
         record {
-          objects = raised_typed given_back' object (variable_type t l hidden (OfLocal g.depth lent)) w.regions w.objects there (λ x stands. variable_owned given_back'.own object t x.cells by (given_now g.own o its, null_start t)) first';
+          objects = raised_typed given_back' object (variable_type t l hidden (OfLocal g.depth lent)) w.regions w.objects there (λ x stands. variable_owned (ended_typing j t object) object t l hidden (OfLocal g.depth lent) x.cells by (given_now g.own o its, null_start t)) first';
           knows = hands_globals p m (given o its g.own) (marked object true g.here) (moment_globals p g g.depth j globals);
           scope = variables_kept (Lent j) m z changed bs (none_lent y m k (Lent j) le) scope;
           stack = stack_changed p (Lent j) m z y bs (Go h) k changed le stack;
         }
       where
-        variable_owned : (own : Thing → Holder) (object : ℕ) (t : RunTy) (cs : List Cell) → IsByType t → Claims own (At object) t values.Null → AreOwned own object (t ∷ []) cs
-        variable_owned own object t cs by is zero u c v found at content = subst (λ e. Claims own (At object) e v) (some_same t u found) (by_type_claims own (At object) t values.Null v by is)
-        variable_owned own object t cs by is (suc i) u c v found at content = absurd (let e : None ≡ Some u = found in cc)
+        variable_owned : (h : Typing) (object : ℕ) (t : RunTy) (l : Life) (hidden : Bool) (s : Slot) (cs : List Cell) → IsByType t → Claims h.own (At object 0) t values.Null → AreOwned h object (variable_type t l hidden s) cs
+        variable_owned h object t l hidden s cs by is zero u c v kept found at content = subst (λ e. Claims h.own (At object 0) e v) (some_same t u found) (by_type_claims h.own (At object 0) t values.Null v by is)
+        variable_owned h object t l hidden s cs by is (suc i) u c v kept found at content = absurd (let e : None ≡ Some u = found in cc)
 
     -- and it is full
     ended_holds : (f : flow.State) (lent j : ℕ) (t : RunTy) (object : ℕ) → IsLentOut g lent j t object → AreFullAt g lent object bs → Holds g f bs → Holds (ended_typing j t object) (with_fullness Full f lent) bs
     ended_holds f lent j t object (l, hidden, there, by, owns) full holds =
         let m = record g { loans = j } in
-        given_back (Lent j) m (ended_typing j t object) (ended_changed lent j t object (l, hidden, there, by, owns)) lent object (λ i. at_not_lent i j) (marked_now object true g.here, (variable_type t l hidden (OfLocal g.depth lent), there, refl)) f bs
+        given_back (Lent j) m (ended_typing j t object) (ended_changed lent j t object (l, hidden, there, by, owns)) lent object (λ i. at_not_lent i 0 j) (marked_now object true g.here, (variable_type t l hidden (OfLocal g.depth lent), there, refl)) f bs
         (full_at_grown p g m (moment_grows g g.depth j) lent object bs full) (holds_lent g j f bs holds)
 
     -- a value that is returned is still who has it

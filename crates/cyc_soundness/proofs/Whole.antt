@@ -18,6 +18,7 @@ use Rattle.cyc_types.specs.typing.WellTyped.{signature_of, IsWellTypedProgram, A
 use Rattle.cyc_types.specs.flow.States as flow
 use Rattle.cyc_types.specs.flow.States.{is_reached}
 use Rattle.cyc_types.specs.flow.Programs.{end_demanded, rule_functions, IsAllowedProgram}
+use Rattle.cyc_meaning.specs.Values.{Cell}
 use Rattle.cyc_meaning.specs.Values as values
 use Rattle.cyc_meaning.specs.State.{World, Object, Environment, no_locals, first_world, global_object, constant_value, Entry, Needs, NeedsPlace, Discard, Main, Focus, Evaluating, Locating, Given, GivenPlace, Writing, Swapping, Beginning, Repeating, Executing, Proceeding, Calling, Entering, Binding, Naming, Breaking, Continuing, Returning, Throwing, Catching, State, Running, Ended, Dead, Wrong, GoesOn, HasEnded, IsDead, IsWrong, status_of}
 use Rattle.cyc_meaning.specs.Parts.{wrong}
@@ -29,9 +30,9 @@ use Rattle.cyc_meaning.proofs.Nested.{nests_step, nests_start}
 use Rattle.cyc_soundness.proofs.RegionLemmas.{contains_none}
 use Rattle.cyc_soundness.specs.Lives.{Life, RunTy, RunValue, at, heap_life, lives_of, as_heap, Reading, AsHeap, ByScope}
 use Rattle.cyc_soundness.specs.Lives as lives
-use Rattle.cyc_soundness.specs.Worlds.{Nobody, thing_of, ClaimsPart, IsKeyless, AreKeyless, ObjectType, Typing, Outlasts, heap as for_ever, global_type, HasType, IsResult, AreOperands, IsObject, IsTyped}
+use Rattle.cyc_soundness.specs.Worlds.{Nobody, thing_of, ClaimsPart, IsKeyless, ObjectType, Typing, Outlasts, heap as for_ever, global_type, HasType, IsResult, AreOperands, IsObject, IsTyped, Thing, Holder, At, Claims, AreOwned, Settled}
 use Rattle.cyc_soundness.specs.Frames.{InScope, Instance, read, read_value, IsThereBy, IsBound, AreVariables, LiveIn, Holds, Exits, StandBy, lives_among, KnowsProgram}
-use Rattle.cyc_soundness.specs.Classes.{IsDeclarable, InFunctions, InGlobals, InFields, InStructs, IsOfTheHeap, IsOfScopes, FreesNoObject, FreesLocals, HasLoans, IsShared, Source, IsInClass, frees_of}
+use Rattle.cyc_soundness.specs.Classes.{IsDeclarable, InFunctions, InGlobals, InFields, InStructs, IsOfTheHeap, IsOfScopes, FreesNoObject, FreesLocals, HasLoans, Source, IsInClass, frees_of}
 use Rattle.cyc_soundness.specs.Stacks.{IsAccepted, operands_in, Comes, AreGiven, Val, PlaceOf, regions_at_call, IsStack, IsFocus, IsWell}
 use Rattle.cyc_soundness.specs.Sound.{IsSound}
 use Rattle.cyc_soundness.proofs.Numbers.{some_same}
@@ -140,7 +141,7 @@ found_cells frees ls None = None
 found_cells frees ls (Some s) = cells_of frees ls s
 
 abbrev globals_typed : (frees : Bool) → List StructType → List GlobalVariable → Typing
-globals_typed frees ss vs = record { objects = map (global_of frees) vs; filled = ones vs; fields = λ n ls. found_cells frees ls (slice_get ss n); kept = []; own = λ a. Nobody; here = λ n. false; depth = 0; loans = 0 }
+globals_typed frees ss vs = record { objects = map (global_of frees) vs; filled = ones vs; fields = λ n ls. found_cells frees ls (slice_get ss n); kept = []; own = λ a. Nobody; here = λ n. false; pending = Settled; depth = 0; loans = 0 }
 
 null_typed : (frees : Bool) (g : Typing) (k : PointerKind) (t : Ty) (r : Region) → is_non_null (types.Pointer k t r) ≡ false → HasType g (at (as_heap frees) (types.Pointer k t r)) values.Null
 null_typed frees g marks.Nullable t r is = tt
@@ -154,29 +155,48 @@ value_typed frees g v (inr (k, t, r, pointer, null, is)) =
     subst (λ z. HasType g (at (as_heap frees) v.of_type) (constant_value z)) (sym is)
     (subst (λ u. HasType g (at (as_heap frees) u) values.Null) (sym pointer) (null_typed frees g k t r (subst (λ u. is_non_null u ≡ false) pointer null)))
 
--- the key of the heap is none, and where objects are given back no global is a unique pointer
-unique_keyless : (m : Reading) (k : PointerKind) (t : Ty) (r : Region) → IsShared m (types.Pointer k t r) → IsKeyless (at (as_heap (frees_of m)) (types.Pointer k t r))
-unique_keyless m k t regions.Heap shared = tt
-unique_keyless m k t (regions.Variable n) shared = tt
-unique_keyless AsHeap k t regions.Unique shared = tt
-unique_keyless (ByScope lends false) k t regions.Unique shared = tt
-unique_keyless (ByScope lends true) k t regions.Unique shared = absurd (let z : true ≡ false = shared in cc)
-
+-- the key of the heap is none
 key_keyless : (frees : Bool) (r : Region) → IsKeyless (at (as_heap frees) (types.Key r))
 key_keyless frees regions.Heap = tt
 key_keyless true regions.Unique = tt
 key_keyless false regions.Unique = tt
 key_keyless frees (regions.Variable n) = tt
 
-global_keyless : (m : Reading) (t : Ty) → IsShared m t → AreKeyless (at (as_heap (frees_of m)) t ∷ [])
-global_keyless m types.Int shared = (tt, tt)
-global_keyless m (types.Pointer k t r) shared = (unique_keyless m k t r shared, tt)
-global_keyless m (types.Handle r) shared = (tt, tt)
-global_keyless m (types.Key r) shared = (key_keyless (frees_of m) r, tt)
-global_keyless m (types.Struct n rs) shared = (tt, tt)
+global_keyless : (m : Reading) (t : Ty) → IsKeyless (at (as_heap (frees_of m)) t)
+global_keyless m types.Int = tt
+global_keyless m (types.Pointer k t r) = tt
+global_keyless m (types.Handle r) = tt
+global_keyless m (types.Key r) = key_keyless (frees_of m) r
+global_keyless m (types.Struct n rs) = tt
 
-global_is : (m : Reading) (g : Typing) (v : GlobalVariable) → IsWellTypedGlobal v → IsShared m v.of_type → IsObject g 1 (global_of (frees_of m) v) (global_object v)
-global_is m g v has shared = record { owner = refl; known = tt; keyless = λ shown. global_keyless m v.of_type shared; cells = ((sym (kind_meant (as_heap (frees_of m)) v.of_type), value_typed (frees_of m) g v has), tt) }
+global_is : (m : Reading) (g : Typing) (v : GlobalVariable) → IsWellTypedGlobal v → IsObject g 1 (global_of (frees_of m) v) (global_object v)
+global_is m g v has = record { owner = refl; known = tt; keyless = λ shown. (global_keyless m v.of_type, tt); cells = ((sym (kind_meant (as_heap (frees_of m)) v.of_type), value_typed (frees_of m) g v has), tt) }
+
+-- what globals hold first is no thing
+value_claims : (own : Thing → Holder) (h : Holder) (frees : Bool) (v : GlobalVariable) → IsWellTypedGlobal v → Claims own h (at (as_heap frees) v.of_type) (constant_value v.value)
+value_claims own h frees v (inl (int, (word, is))) = subst (λ t. Claims own h (at (as_heap frees) t) (constant_value v.value)) (sym int) (tt, tt)
+value_claims own h frees v (inr (k, t, r, pointer, null, is)) =
+    subst (λ z. Claims own h (at (as_heap frees) v.of_type) (constant_value z)) (sym is) (subst (λ u. Claims own h (at (as_heap frees) u) values.Null) (sym pointer) (tt, tt))
+
+abbrev content_of : Option Cell → Option values.Value
+content_of (Some c) = c.content
+content_of None = None
+
+global_owned : (own : Thing → Holder) (h : Holder) (frees : Bool) (v : GlobalVariable) → IsWellTypedGlobal v → (i : ℕ) (u : RunTy) (c : Cell) (z : values.Value) → slice_get (global_of frees v).cells i ≡ Some u → slice_get (global_object v).cells i ≡ Some c → c.content ≡ Some z
+    → Claims own h u z
+global_owned own h frees v has zero u c z found at' content =
+    let type_is : at (as_heap frees) v.of_type ≡ u = some_same (at (as_heap frees) v.of_type) u found in
+    let value_is : constant_value v.value ≡ z = some_same (constant_value v.value) z (ap content_of at' ∙ content) in
+    subst (λ t. Claims own h t z) type_is (subst (λ y. Claims own h (at (as_heap frees) v.of_type) y) value_is (value_claims own h frees v has))
+global_owned own h frees v has (suc i) u c z found at' content = absurd (let k : None ≡ Some u = found in cc)
+
+globals_owned : (g : Typing) (frees : Bool) (vs : List GlobalVariable) → AreWellTypedGlobals vs → (n : ℕ) (t : ObjectType) (x : Object) → slice_get (map (global_of frees) vs) n ≡ Some t → slice_get (map global_object vs) n ≡ Some x → (object : ℕ) → AreOwned g object t x.cells
+globals_owned g frees [] have n t x found stands object i u c z kept cell at' content = absurd (let k : None ≡ Some t = found in cc)
+globals_owned g frees (v ∷ vs) (has, have) zero t x found stands object i u c z kept cell at' content =
+    let type_is : global_of frees v ≡ t = some_same (global_of frees v) t found in
+    let object_is : global_object v ≡ x = some_same (global_object v) x stands in
+    global_owned g.own (At object i) frees v has i u c z (ap (λ (y : ObjectType). slice_get y.cells i) type_is ∙ cell) (ap (λ (y : Object). slice_get y.cells i) object_is ∙ at') content
+globals_owned g frees (v ∷ vs) (has, have) (suc n) t x found stands object i u c z kept cell at' content = globals_owned g frees vs have n t x found stands object i u c z kept cell at' content
 
 mapped_length : {A B C : Type 0} (f : A → B) (h : A → C) (xs : List A) → length (map f xs) ≡ length (map h xs)
 mapped_length f h [] = refl
@@ -185,36 +205,31 @@ mapped_length f h (x ∷ xs) = ap suc (mapped_length f h xs)
 globals_each : (m : Reading) (g : Typing) (vs : List GlobalVariable) → AreWellTypedGlobals vs → InGlobals m vs → (n : ℕ) (t : ObjectType) → slice_get (map (global_of (frees_of m)) vs) n ≡ Some t
     → (x : Object) × (filled : ℕ) × (slice_get (map global_object vs) n ≡ Some x) × (slice_get (ones vs) n ≡ Some filled) × IsObject g filled t x
 globals_each m g [] have kept n t found = absurd (let z : None ≡ Some t = found in cc)
-globals_each m g (v ∷ vs) (has, have) (known, shared, kept) zero t found =
+globals_each m g (v ∷ vs) (has, have) (known, kept) zero t found =
     let t_is : global_of (frees_of m) v ≡ t = some_same (global_of (frees_of m) v) t found in
-    (global_object v, 1, refl, refl, subst (λ z. IsObject g 1 z (global_object v)) t_is (global_is m g v has shared))
-globals_each m g (v ∷ vs) (has, have) (known, shared, kept) (suc n) t found = globals_each m g vs have kept n t found
+    (global_object v, 1, refl, refl, subst (λ z. IsObject g 1 z (global_object v)) t_is (global_is m g v has))
+globals_each m g (v ∷ vs) (has, have) (known, kept) (suc n) t found = globals_each m g vs have kept n t found
 
 all_globals : (m : Reading) (vs : List GlobalVariable) → InGlobals m vs → (n : ℕ) (t : Ty) → slice_get (map (λ (v : GlobalVariable). v.of_type) vs) n ≡ Some t
     → (slice_get (map (global_of (frees_of m)) vs) n ≡ Some (global_type (at (as_heap (frees_of m)) t))) × (slice_get (ones vs) n ≡ Some 1) × IsDeclarable m 0 t
 all_globals m [] kept n t found = absurd (let z : None ≡ Some t = found in cc)
-all_globals m (v ∷ vs) (one, shared, kept) zero t found =
+all_globals m (v ∷ vs) (one, kept) zero t found =
     let same : v.of_type ≡ t = some_same v.of_type t found in
     (ap (λ u. Some (global_type (at (as_heap (frees_of m)) u))) same, refl, subst (λ u. IsDeclarable m 0 u) same one)
-all_globals m (v ∷ vs) (one, shared, kept) (suc n) t found = all_globals m vs kept n t found
+all_globals m (v ∷ vs) (one, kept) (suc n) t found = all_globals m vs kept n t found
 
 all_fields : (m : Reading) (n : ℕ) (ts : List Ty) → InFields m n ts → (field : ℕ) (t : Ty) → slice_get ts field ≡ Some t → IsDeclarable m n t
 all_fields m n [] kept field t found = absurd (let z : None ≡ Some t = found in cc)
-all_fields m n (u ∷ ts) (one, usual, shared, kept) zero t found = subst (λ z. IsDeclarable m n z) (some_same u t found) one
-all_fields m n (u ∷ ts) (one, usual, shared, kept) (suc field) t found = all_fields m n ts kept field t found
-
-all_shared : (m : Reading) (n : ℕ) (ts : List Ty) → InFields m n ts → (field : ℕ) (t : Ty) → slice_get ts field ≡ Some t → IsShared m t
-all_shared m n [] kept field t found = absurd (let z : None ≡ Some t = found in cc)
-all_shared m n (u ∷ ts) (one, usual, shared, kept) zero t found = subst (λ z. IsShared m z) (some_same u t found) shared
-all_shared m n (u ∷ ts) (one, usual, shared, kept) (suc field) t found = all_shared m n ts kept field t found
+all_fields m n (u ∷ ts) (one, usual, kept) zero t found = subst (λ z. IsDeclarable m n z) (some_same u t found) one
+all_fields m n (u ∷ ts) (one, usual, kept) (suc field) t found = all_fields m n ts kept field t found
 
 -- where things are lent, none is a key
 all_usual : (m : Reading) (n : ℕ) (ts : List Ty) → HasLoans m → InFields m n ts → (field : ℕ) (t : Ty) → slice_get ts field ≡ Some t → is_key t ≡ false
 all_usual AsHeap n ts loans kept field t found = absurd loans
 all_usual (ByScope false frees) n ts loans kept field t found = absurd (let z : false ≡ true = loans in cc)
 all_usual (ByScope true frees) n [] loans kept field t found = absurd (let z : None ≡ Some t = found in cc)
-all_usual (ByScope true frees) n (u ∷ ts) loans (one, usual, shared, kept) zero t found = subst (λ z. is_key z ≡ false) (some_same u t found) usual
-all_usual (ByScope true frees) n (u ∷ ts) loans (one, usual, shared, kept) (suc field) t found = all_usual (ByScope true frees) n ts loans kept field t found
+all_usual (ByScope true frees) n (u ∷ ts) loans (one, usual, kept) zero t found = subst (λ z. is_key z ≡ false) (some_same u t found) usual
+all_usual (ByScope true frees) n (u ∷ ts) loans (one, usual, kept) (suc field) t found = all_usual (ByScope true frees) n ts loans kept field t found
 
 all_structs : (m : Reading) (ss : List StructType) → InStructs m ss → (n : ℕ) (s : StructType) → slice_get ss n ≡ Some s → InFields m s.parameters s.fields
 all_structs m [] kept n s found = absurd (let z : None ≡ Some s = found in cc)
@@ -277,7 +292,7 @@ well_start p input accepted well (in_functions, in_globals, in_structs) =
       kept = λ n is. none_among is;
       fresh = λ n less. refl;
       unique = λ n held. absurd held;
-      owned = λ n t x here. let z : false ≡ true = here in absurd (cc);
+      owned = λ n t x there stands. globals_owned g (frees_of p.reading) p.program.globals well.globals n t x there stands n;
     } in
     let knows : KnowsProgram g p = record {
       globals = λ n t there. (let (object, flag, closed) = all_globals p.reading p.program.globals in_globals n t there in (object, (1, flag, (let one : 1 ≤ 1 = omega arith in one)), closed));
@@ -286,7 +301,6 @@ well_start p input accepted well (in_functions, in_globals, in_structs) =
       keys = λ n is. none_among is;
       constraints = λ n h there. (let (end, ok) = accepted n h there in ok.typed.constraints);
       plain = λ loans n s there. all_usual p.reading s.parameters s.fields loans (all_structs p.reading p.program.structs in_structs n s there);
-      shared = λ n s there. all_shared p.reading s.parameters s.fields (all_structs p.reading p.program.structs in_structs n s there);
       fields = λ n s there. all_fields p.reading s.parameters s.fields (all_structs p.reading p.program.structs in_structs n s there);
     } in
     let count : 0 ≡ length h.parameters = sym (ap length none) in
@@ -302,7 +316,7 @@ well_start p input accepted well (in_functions, in_globals, in_structs) =
       stand_first p.reading (regions_at_call h) (λ a given. plain_given h a unmixed given) (λ b given. first_given h b unmixed given),
       subst (λ ts. AreOperands g (map (read bs) ts) []) (sym none) tt,
       subst (λ ts. AreGiven g.own 0 (map (read bs) ts) []) (sym none) tt,
-      (refl, int, ap (λ o. read_value bs (result_type o)) int, ok.ends types.Int int, tt),
+      (refl, int, ap (λ o. read_value bs (result_type o)) int, ok.ends types.Int int, refl),
     )))
 
 -- ---- the theorem
@@ -326,11 +340,11 @@ scopes_sound p well allowed kept = sound_by (record { program = p; reading = ByS
 
 globals_as_heap : (vs : List GlobalVariable) → InGlobals AsHeap vs
 globals_as_heap [] = tt
-globals_as_heap (v ∷ vs) = (tt, tt, globals_as_heap vs)
+globals_as_heap (v ∷ vs) = (tt, globals_as_heap vs)
 
 fields_as_heap : (n : ℕ) (ts : List Ty) → InFields AsHeap n ts
 fields_as_heap n [] = tt
-fields_as_heap n (t ∷ ts) = (tt, tt, tt, fields_as_heap n ts)
+fields_as_heap n (t ∷ ts) = (tt, tt, fields_as_heap n ts)
 
 structs_as_heap : (ss : List StructType) → InStructs AsHeap ss
 structs_as_heap [] = tt

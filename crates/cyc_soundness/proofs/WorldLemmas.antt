@@ -9,7 +9,7 @@ use Rattle.cyc_meaning.specs.State.{Region, Owner, InRegion, Unique, Object, Wor
 use Rattle.cyc_meaning.specs.Nesting.{IsScoped, IsFound}
 use Rattle.cyc_meaning.proofs.ListLemmas.{slice_get-append, slice_get-end, slice_get-set_other}
 use Rattle.cyc_soundness.specs.Lives.{Life, OfRegion, OfObject, Never, Owned, Kept, RunTy, Int, Pointer, Handle, Key, Struct, RunValue, Void, Null, Value, Seen, Into, kind_at, at}
-use Rattle.cyc_soundness.specs.Worlds.{IsAmong, Thing, KeyOf, PointerTo, Holder, At, ObjectType, Typing, IsHeld, Claims, AreOwned, IsUniqueObject, IsOpenObject, Stays, IsKnownLife, IsKnownOwner, IsDynamic, IsFilled, IsPart, IsTarget, HasType, IsResult, AreOperands, IsContent, AreCells, IsOwner, IsObject, IsTyped, Grows}
+use Rattle.cyc_soundness.specs.Worlds.{Pending, IsKept, IsAmong, KeyOf, PointerTo, At, ObjectType, Typing, IsHeld, Claims, AreOwned, IsUniqueObject, IsOpenObject, Stays, IsKnownLife, IsKnownOwner, IsDynamic, IsFilled, IsPart, IsTarget, HasType, IsResult, AreOperands, IsContent, AreCells, IsOwner, IsObject, IsTyped, Grows}
 use Rattle.cyc_soundness.specs.Frames.{lives_among, KnowsProgram}
 use Rattle.cyc_soundness.specs.Classes.{frees_of, HasLoans, Source}
 use Rattle.cyc_soundness.proofs.Numbers.{same_or_other, slice_get-set_same, appended, some_same}
@@ -86,7 +86,6 @@ module _ (g h : Typing) (grows : Grows g h) where
     counts = λ number s ls ts there is. knows.counts number s ls ts there (same number ls ∙ is);
     keys = keys;
     plain = knows.plain;
-    shared = knows.shared;
     constraints = knows.constraints;
     fields = knows.fields;
   }
@@ -105,7 +104,7 @@ object_grows g t n = record {
 }
 
 pub object_stays : (g : Typing) (t : ObjectType) (n : ℕ) → Stays g (with_object g t n)
-object_stays g t n = record { grows = object_grows g t n; own = refl; here = refl; depth = refl; loans = refl }
+object_stays g t n = record { grows = object_grows g t n; own = refl; here = refl; pending = refl; depth = refl; loans = refl }
 
 pub variable_grows : (g : Typing) (t : ObjectType) (n : ℕ) (here : ℕ → Bool) → Grows g (record (with_object g t n) { here = here })
 variable_grows g t n here = record {
@@ -131,7 +130,7 @@ beyond (y ∷ xs) zero x found same = absurd (omega (arith, same))
 beyond (y ∷ xs) (suc n) x found same = beyond xs n x found (let e : n ≡ length xs = omega (arith, same) in e)
 
 pub object_typed : (g : Typing) (regions : List Region) (objects : List Object) (t : ObjectType) (n : ℕ) (x : Object) (here : ℕ → Bool) → IsTyped g regions objects → IsObject (with_variable g t n here) n t x
-    → ((object : ℕ) → object ≢ length objects → here object ≡ true → g.here object ≡ true) → AreOwned g.own (length objects) t.cells x.cells → IsTyped (with_variable g t n here) regions (objects ++ x ∷ [])
+    → ((object : ℕ) → object ≢ length objects → here object ≡ true → g.here object ≡ true) → AreOwned (with_variable g t n here) (length objects) t x.cells → IsTyped (with_variable g t n here) regions (objects ++ x ∷ [])
 object_typed g regions objects t n x here typed is before own = record {
   count = longer objects g.objects x t typed.count;
   counts = longer objects g.filled x n typed.counts;
@@ -161,15 +160,15 @@ object_typed g regions objects t n x here typed is before own = record {
     same_object : (number : ℕ) (y z : Object) → slice_get (objects ++ x ∷ []) number ≡ Some y → slice_get objects number ≡ Some z → z ≡ y
     same_object number y z found before = some_same z y (sym (slice_get-append objects (x ∷ []) number z before) ∙ found)
 
-    owned : (object : ℕ) (u : ObjectType) (y : Object) → here object ≡ true → slice_get (g.objects ++ t ∷ []) object ≡ Some u → slice_get (objects ++ x ∷ []) object ≡ Some y → AreOwned g.own object u.cells y.cells
-    owned object u y now there stands = elim (appended g.objects t object u there) [
+    owned : (object : ℕ) (u : ObjectType) (y : Object) → slice_get (g.objects ++ t ∷ []) object ≡ Some u → slice_get (objects ++ x ∷ []) object ≡ Some y → AreOwned (with_variable g t n here) object u y.cells
+    owned object u y there stands = elim (appended g.objects t object u there) [
       | inl old ↦ (let (z, m, at, flag, was) = typed.each object u old in
           let apart : object ≢ length objects = (λ e. beyond objects object z at e) in
-          typed.owned object u y (before object apart now) old (at ∙ ap (λ z. Some z) (same_object object y z stands at)))
+          λ i r c v kept. typed.owned object u y old (at ∙ ap (λ z. Some z) (same_object object y z stands at)) i r c v ((λ hidden. before object apart (kept.0 hidden)), kept.1))
       | inr new ↦ (let here_is : object ≡ length objects = new.0 ∙ sym typed.count in
           let found : Some x ≡ Some y = sym (slice_get-end objects x) ∙ ap (λ i. slice_get (objects ++ x ∷ []) i) (sym here_is) ∙ stands in
           let same : x ≡ y = some_same x y found in
-          subst (λ i. AreOwned g.own i u.cells y.cells) (sym here_is) (subst (λ z. AreOwned g.own (length objects) u.cells z.cells) same (subst (λ z. AreOwned g.own (length objects) z.cells x.cells) new.1 own)))
+          subst (λ i. AreOwned (with_variable g t n here) i u y.cells) (sym here_is) (subst (λ (z : Object). AreOwned (with_variable g t n here) (length objects) u z.cells) same (subst (λ z. AreOwned (with_variable g t n here) (length objects) z x.cells) new.1 own)))
     ]
 
 -- ---- regions
@@ -362,15 +361,12 @@ module _ (g : Typing) (w : World) (number offset : ℕ) (x : ObjectType) (t : Ru
   pub written_grows : Grows g (with_filled g number (risen offset c.filled))
   written_grows = filled_grows g number c.filled (risen offset c.filled) c.flag (risen_keeps offset c.filled)
 
-  pub written_stays : Stays g (with_filled g number (risen offset c.filled))
-  written_stays = record { grows = written_grows; own = refl; here = refl; depth = refl; loans = refl }
-
   abbrev pub with_value : Object
   with_value = record c.object { cells = set c.object.cells offset (filled_with c.of.cell v) }
 
-  module _ (here : ℕ → Bool) (before : (object : ℕ) → object ≢ number → here object ≡ true → g.here object ≡ true) (own : here number ≡ true → AreOwned g.own number x.cells with_value.cells) where
-    abbrev now_typed : Typing
-    now_typed = record (with_filled g number (risen offset c.filled)) { here = here }
+  module _ (here : ℕ → Bool) (pending : Pending) where
+    abbrev pub now_typed : Typing
+    now_typed = record (with_filled g number (risen offset c.filled)) { here = here; pending = pending }
 
     now_grows : Grows g now_typed
     now_grows = record { objects = written_grows.objects; filled = written_grows.filled; fields = written_grows.fields; kept = written_grows.kept }
@@ -385,8 +381,11 @@ module _ (g : Typing) (w : World) (number offset : ℕ) (x : ObjectType) (t : Ru
           (type_grown g now_typed now_grows t v has);
     }
 
-    pub cell_written : IsTyped now_typed w.regions (written w number offset (record { object = c.object; cell = c.of.cell }) v).objects
-    cell_written = record {
+    -- what other cells have they had before, and this one has its value
+    pub cell_written : ((object i : ℕ) (hidden : Bool) → object ≢ number → IsKept now_typed object i hidden → IsKept g object i hidden)
+        → ((i : ℕ) (u : RunTy) → slice_get x.cells i ≡ Some u → i ≢ offset → IsKept now_typed number i x.is_hidden → IsKept g number i x.is_hidden) → (IsKept now_typed number offset x.is_hidden → Claims g.own (At number offset) t v)
+        → IsTyped now_typed w.regions (written w number offset (record { object = c.object; cell = c.of.cell }) v).objects
+    cell_written before beside claims = record {
       count = length-set w.objects number with_value ∙ typed.count;
       counts = length-set w.objects number with_value ∙ typed.counts ∙ sym (length-set g.filled number (risen offset c.filled));
       each = each;
@@ -434,22 +433,20 @@ module _ (g : Typing) (w : World) (number offset : ℕ) (x : ObjectType) (t : Ru
           | inr apart ↦ (u, y, there, life, slice_get-set_other w.objects number object with_value apart ∙ stands, live)
         ]
 
-        owned : (object : ℕ) (u : ObjectType) (y : Object) → here object ≡ true → slice_get g.objects object ≡ Some u → slice_get (set w.objects number with_value) object ≡ Some y → AreOwned g.own object u.cells y.cells
-        owned object u y now there stands = elim (same_or_other object number) [
-          | inl same ↦ (let type_is : x ≡ u = some_same x u (sym at ∙ ap (λ n. slice_get g.objects n) (sym same) ∙ there) in
-              let is : with_value ≡ y = some_same with_value y (sym now_there ∙ ap (λ n. slice_get (set w.objects number with_value) n) (sym same) ∙ stands) in
-              subst (λ n. AreOwned g.own n u.cells y.cells) (sym same) (subst (λ z. AreOwned g.own number u.cells z.cells) is (subst (λ z. AreOwned g.own number z.cells with_value.cells) type_is (own (subst (λ n. here n ≡ true) same now)))))
-          | inr apart ↦ typed.owned object u y (before object apart now) there (sym (slice_get-set_other w.objects number object with_value apart) ∙ stands)
+        its_own : AreOwned now_typed number x with_value.cells
+        its_own i u d z kept found there content = elim (same_or_other i offset) [
+          | inl same ↦ (let type_is : t ≡ u = some_same t u (sym cell ∙ ap (λ n. slice_get x.cells n) (sym same) ∙ found) in
+              let filled' = filled_with c.of.cell v in
+              let cell_is : filled' ≡ d = some_same filled' d (sym (slice_get-set_same c.object.cells offset c.of.cell filled' c.of.at) ∙ ap (λ n. slice_get (set c.object.cells offset filled') n) (sym same) ∙ there) in
+              let value_is : v ≡ z = some_same v z (ap (λ (e : Cell). e.content) cell_is ∙ content) in
+              subst (λ n. Claims g.own (At number n) u z) (sym same) (subst (λ e. Claims g.own (At number offset) u e) value_is (subst (λ e. Claims g.own (At number offset) e v) type_is (claims (subst (λ n. IsKept now_typed number n x.is_hidden) same kept)))))
+          | inr apart ↦ typed.owned number x c.object at c.there i u d z (beside i u found apart kept) found (sym (slice_get-set_other c.object.cells offset i (filled_with c.of.cell v) apart) ∙ there) content
         ]
 
--- what is in one object's cells is its own still, where a value comes that it claims
-pub cells_own : (own : Thing → Holder) (object : ℕ) (ts : List RunTy) (cs : List Cell) (i : ℕ) (t : RunTy) (c : Cell) (v : values.Value) → slice_get ts i ≡ Some t → slice_get cs i ≡ Some c → Claims own (At object) t v
-    → ((j : ℕ) → j ≢ i → (u : RunTy) (d : Cell) (z : values.Value) → slice_get ts j ≡ Some u → slice_get cs j ≡ Some d → d.content ≡ Some z → Claims own (At object) u z) → AreOwned own object ts (set cs i (record c { content = Some v }))
-cells_own own object ts cs i t c v is at has others j u d z found there content = elim (same_or_other j i) [
-  | inl same ↦ (let type_is : t ≡ u = some_same t u (sym is ∙ ap (λ n. slice_get ts n) (sym same) ∙ found) in
-      let now = record c { content = Some v } in
-      let cell_is : now ≡ d = some_same now d (sym (slice_get-set_same cs i c now at) ∙ ap (λ n. slice_get (set cs i now) n) (sym same) ∙ there) in
-      let value_is : v ≡ z = some_same v z (ap (λ (e : Cell). e.content) cell_is ∙ content) in
-      subst (λ e. Claims own (At object) u e) value_is (subst (λ e. Claims own (At object) e v) type_is has))
-  | inr apart ↦ others j apart u d z found (sym (slice_get-set_other cs i j (record c { content = Some v }) apart) ∙ there) content
-]
+        owned : (object : ℕ) (u : ObjectType) (y : Object) → slice_get g.objects object ≡ Some u → slice_get (set w.objects number with_value) object ≡ Some y → AreOwned now_typed object u y.cells
+        owned object u y there stands = elim (same_or_other object number) [
+          | inl same ↦ (let type_is : x ≡ u = some_same x u (sym at ∙ ap (λ n. slice_get g.objects n) (sym same) ∙ there) in
+              let is : with_value ≡ y = some_same with_value y (sym now_there ∙ ap (λ n. slice_get (set w.objects number with_value) n) (sym same) ∙ stands) in
+              subst (λ n. AreOwned now_typed n u y.cells) (sym same) (subst (λ (z : Object). AreOwned now_typed number u z.cells) is (subst (λ z. AreOwned now_typed number z with_value.cells) type_is its_own)))
+          | inr apart ↦ λ i r d z kept. typed.owned object u y there (sym (slice_get-set_other w.objects number object with_value apart) ∙ stands) i r d z (before object i u.is_hidden apart kept)
+        ]

@@ -1,14 +1,12 @@
 -- CLASSES OF PROGRAMS that a theorem speaks of. Each is a predicate on typed trees, empty for the nodes that are not in it yet.
 use Rattle.std.specs.Prelude.{◌≡◌, ℕ, zero, suc, ◌+◌, Bool, true, false, List, [], ◌∷◌, Option, Some, None, get_or}
-use Rattle.cyc_types.specs.declared.region.Region.{Region}
-use Rattle.cyc_types.specs.declared.region.Region.TheVariants.{Unique}
-use Rattle.cyc_types.specs.Types.{Ty, Pointer, Struct}
+use Rattle.cyc_types.specs.Types.{Ty}
 use Rattle.cyc_types.specs.Declarations.{declared_regions, item_regions}
-use Rattle.cyc_types.specs.TypedTrees.{Local, Global, Expression, Number, NullPointer, HeapRegion, Counter, Copy, Move, Peek, Load, AddressOf, AddressOfCell, NumberOfElements, FreeUnique, FreeKey, Call, Unary, Binary, Assign, Store, New, Dereference, Target, Member, Element, Placement, OnHeap, AsUnique, ByHandle, Initial, Plain, Fields, Array, Converted, Convert, Arguments, NoArguments, MoreArguments, Operations, NoOperations, ThenCompute, ThenTest, ThenPointer, ThenPointerPeek, Side, VariableSide, CellSide, Statement, Block, Empty, Evaluate, Swap, If, While, Return, Break, Continue, Throw, Try, Items, NoItems, MoreItems, Execute, Declare, DeclareRegion, OpenRegion, DeclareAlias, DeclareKey, Clauses, NoClauses, Default, Case, StructType, GlobalVariable, Function, Program}
+use Rattle.cyc_types.specs.TypedTrees.{type_of_place, Local, Global, Expression, Number, NullPointer, HeapRegion, Counter, Copy, Move, Peek, Load, AddressOf, AddressOfCell, NumberOfElements, FreeUnique, FreeKey, Call, Unary, Binary, Assign, Store, New, Dereference, Target, Member, Element, Placement, OnHeap, AsUnique, ByHandle, Initial, Plain, Fields, Array, Converted, Convert, Arguments, NoArguments, MoreArguments, Operations, NoOperations, ThenCompute, ThenTest, ThenPointer, ThenPointerPeek, Side, VariableSide, CellSide, Statement, Block, Empty, Evaluate, Swap, If, While, Return, Break, Continue, Throw, Try, Items, NoItems, MoreItems, Execute, Declare, DeclareRegion, OpenRegion, DeclareAlias, DeclareKey, Clauses, NoClauses, Default, Case, StructType, GlobalVariable, Function, Program}
 use Rattle.cyc_types.specs.typing.Tests.{is_key, is_unique}
 use Rattle.cyc_types.specs.flow.States as flow
 use Rattle.cyc_types.specs.flow.States.{Fullness, Vacant, Locked, Full, Unreached, Reached}
-use Rattle.cyc_soundness.specs.Lives.{Reading, AsHeap, ByScope, AllOf, AllIn, IsKnown}
+use Rattle.cyc_soundness.specs.Lives.{Reading, AsHeap, ByScope, AllIn, IsKnown}
 
 -- a form that makes what ends with a scope
 abbrev pub HasScopes : Reading → Type 0
@@ -30,27 +28,11 @@ abbrev pub HasFrees : Reading → Type 0
 HasFrees AsHeap = ⊥
 HasFrees (ByScope lends frees) = frees ≡ true
 
--- a form that is not there yet where objects are given back
-abbrev pub FreesNone : Reading → Type 0
-FreesNone AsHeap = Unit {0}
-FreesNone (ByScope lends frees) = frees ≡ false
-
--- a region that others may reach
-abbrev pub IsCommon : Region → Type 0
-IsCommon Unique = ⊥
-IsCommon r = Unit {0}
-
--- where objects are given back, no cell that others may reach is a unique pointer, and no struct has one for a field
-abbrev pub IsShared : Reading → Ty → Type 0
-IsShared AsHeap t = Unit {0}
-IsShared (ByScope lends false) t = Unit {0}
-IsShared (ByScope lends true) (Struct n rs) = AllOf IsCommon rs
-IsShared (ByScope lends true) t = is_unique t ≡ false
-
--- nor one that a pointer of this type leads to
-abbrev pub LeadsToShared : Reading → Ty → Type 0
-LeadsToShared m (Pointer k t r) = IsShared m t
-LeadsToShared m t = Unit {0}
+-- what may be swapped: where objects are given back, no unique pointer
+abbrev pub IsSwappable : Reading → Ty → Type 0
+IsSwappable AsHeap t = Unit {0}
+IsSwappable (ByScope lends false) t = Unit {0}
+IsSwappable (ByScope lends true) t = is_unique t ≡ false
 
 -- whether objects are given back
 abbrev pub frees_of : Reading → Bool
@@ -92,8 +74,8 @@ and_looked (Some n) q = Reached (only n) ∷ q
 
 -- Programs of a class. All types are there, objects in the heap, unique ones and those of regions, places behind pointers, swaps,
 -- functions with regions, conversions between all marks, loops and exceptions. Only where things are lent do they have dynamic regions,
--- keys and aliases, and only where objects are given back `ufree`: then unique pointers are in locals, arguments and results alone, and
--- there are no aliases and no swaps. Read as the heap, they have no lexical regions, and take the address of no local. What is consumed
+-- keys and aliases, and only where objects are given back `ufree`: then there are no aliases, nor swaps of
+-- unique pointers. Read as the heap, they have no lexical regions, and take the address of no local. What is consumed
 -- or lent is nothing that the clauses around rely on: at the start of a function there are none, and of the body of a `try` that is shown.
 abbrev mutual
   pub InExpression : Reading → Relied → Expression → Type 0
@@ -116,7 +98,7 @@ abbrev mutual
   InExpression m q (Binary a os t) = InExpression m q a × InOperations m q os
   InExpression m q (Assign l c t) = InConverted m q c
   InExpression m q (Store d c t) = InPlace m q d × InConverted m q c
-  InExpression m q (New w i t) = LeadsToShared m t × InPlacement m q w × InInitial m q i
+  InExpression m q (New w i t) = InPlacement m q w × InInitial m q i
 
   pub InPlace : Reading → Relied → Dereference → Type 0
   InPlace m q (Target k a t) = InExpression m q a
@@ -155,9 +137,10 @@ abbrev pub InThrown : Reading → Relied → Option Expression → Type 0
 InThrown m q None = Unit {0}
 InThrown m q (Some a) = InExpression m q a
 
+-- where objects are given back, no unique pointers are swapped
 abbrev pub InSide : Reading → Relied → Side → Type 0
-InSide m q (VariableSide l t) = Unit {0}
-InSide m q (CellSide d) = InPlace m q d
+InSide m q (VariableSide l t) = IsSwappable m t
+InSide m q (CellSide d) = IsSwappable m (type_of_place d) × InPlace m q d
 
 -- Statements where the next region gets this number: the types of locals name only regions that are declared before them.
 abbrev mutual
@@ -165,7 +148,7 @@ abbrev mutual
   InStatement m q n (Block r js) = InItems m q (suc n) js
   InStatement m q n Empty = Unit {0}
   InStatement m q n (Evaluate a) = InExpression m q a
-  InStatement m q n (Swap x y) = FreesNone m × InSide m q x × InSide m q y
+  InStatement m q n (Swap x y) = InSide m q x × InSide m q y
   InStatement m q n (If a s t) = InExpression m q a × InStatement m q n s × InStatement m q (n + declared_regions s) t
   InStatement m q n (While p a s) = InExpression m q a × InStatement m q n s
   InStatement m q n (Return v) = InValue m q v
@@ -195,7 +178,7 @@ InFunctions m (h ∷ hs) = InItems m [] (suc h.variables) h.body × InFunctions 
 -- the types of globals name no region variable
 abbrev pub InGlobals : Reading → List GlobalVariable → Type 0
 InGlobals m [] = Unit {0}
-InGlobals m (v ∷ vs) = IsDeclarable m 0 v.of_type × IsShared m v.of_type × InGlobals m vs
+InGlobals m (v ∷ vs) = IsDeclarable m 0 v.of_type × InGlobals m vs
 
 -- where things are lent, no field is a key
 abbrev pub IsUsual : Reading → Ty → Type 0
@@ -206,7 +189,7 @@ IsUsual (ByScope true frees) t = is_key t ≡ false
 -- the types of fields name only the parameters of their struct
 abbrev pub InFields : Reading → ℕ → List Ty → Type 0
 InFields m n [] = Unit {0}
-InFields m n (t ∷ ts) = IsDeclarable m n t × IsUsual m t × IsShared m t × InFields m n ts
+InFields m n (t ∷ ts) = IsDeclarable m n t × IsUsual m t × InFields m n ts
 
 abbrev pub InStructs : Reading → List StructType → Type 0
 InStructs m [] = Unit {0}

@@ -16,7 +16,7 @@ use Rattle.cyc_meaning.specs.Nesting.{ends_of}
 use Rattle.cyc_soundness.specs.Lives.{Life, OfRegion, Kept, RunTy, RunValue, Void, Lives, at, value_at, heap_life, lives_of, as_heap, Reading, AsHeap, ByScope, AllIn, AllInValue, IsKnown}
 pub use Rattle.cyc_soundness.specs.Worlds.{IsAmong, first, later}
 use Rattle.cyc_soundness.specs.Worlds.{OfLocal, ObjectType, Typing, IsHere, IsOpenIn, IsKnownLife, IsFull, variable_type, global_type, IsEndOf, Outlasts, IsNumber}
-use Rattle.cyc_soundness.specs.Classes.{is_full, Relied, frees_of, HasLoans, IsShared, IsDeclarable, Source}
+use Rattle.cyc_soundness.specs.Classes.{is_full, Relied, frees_of, HasLoans, IsDeclarable, Source}
 
 -- a local in scope, with its object and how long this is there
 pub record Bound : Type 0 where
@@ -342,7 +342,5 @@ pub record KnowsProgram (g : Typing) (p : Source) : Type 0 where
   pub plain : HasLoans p.reading → (number : ℕ) (s : StructType) → slice_get p.program.structs number ≡ Some s → (field : ℕ) (t : Ty) → slice_get s.fields field ≡ Some t → is_key t ≡ false
   -- no constraint names the region of unique pointers
   pub constraints : (number : ℕ) (h : Function) → slice_get p.program.functions number ≡ Some h → AreConstraints h.variables h.constraints
-  -- and where objects are given back, none is a unique pointer
-  pub shared : (number : ℕ) (s : StructType) → slice_get p.program.structs number ≡ Some s → (field : ℕ) (t : Ty) → slice_get s.fields field ≡ Some t → IsShared p.reading t
   -- its fields speak of no others
   pub fields : (number : ℕ) (s : StructType) → slice_get p.program.structs number ≡ Some s → (field : ℕ) (t : Ty) → slice_get s.fields field ≡ Some t → IsDeclarable p.reading s.parameters t

@@ -1,5 +1,5 @@
--- WHICH PROGRAMS GIVE BACK ONLY WHAT LOCALS HAVE: unique objects to which the pointers are in locals, arguments and results alone, with no
--- aliases and no swaps. It is computed for each program, and is the class `FreesLocals`, decided.
+-- WHICH PROGRAMS GIVE BACK ONLY WHAT LOCALS HAVE: unique objects, with no aliases, and no swaps of unique pointers, which alone take them out
+-- of cells. It is computed for each program, and is the class `FreesLocals`, decided.
 use Rattle.std.specs.Prelude.{ℕ, suc, ◌+◌, nat_lt, Bool, true, false, not, ◌&&◌, Option, None, Some}
 use Rattle.std.specs.List.{list_all}
 use Rattle.cyc_types.specs.declared.region.Region.{Region}
@@ -7,7 +7,7 @@ use Rattle.cyc_types.specs.declared.region.Region.TheVariants as regions
 use Rattle.cyc_types.specs.Types.{Ty}
 use Rattle.cyc_types.specs.Types as types
 use Rattle.cyc_types.specs.Declarations.{declared_regions, item_regions}
-use Rattle.cyc_types.specs.TypedTrees.{Expression, Load, AddressOfCell, NumberOfElements, FreeUnique, FreeKey, Call, Unary, Binary, Assign, Store, New, Dereference, Target, Member, Element, Placement, OnHeap, AsUnique, ByHandle, Initial, Plain, Fields, Array, Converted, Convert, Arguments, NoArguments, MoreArguments, Operations, NoOperations, ThenCompute, ThenTest, ThenPointer, ThenPointerPeek, Statement, Block, Empty, Evaluate, Swap, If, While, Return, Break, Continue, Throw, Try, Items, NoItems, MoreItems, Execute, Declare, DeclareRegion, OpenRegion, DeclareAlias, DeclareKey, Clauses, NoClauses, Default, Case, StructType, GlobalVariable, Function, Program}
+use Rattle.cyc_types.specs.TypedTrees.{type_of_place, Expression, Load, AddressOfCell, NumberOfElements, FreeUnique, FreeKey, Call, Unary, Binary, Assign, Store, New, Dereference, Target, Member, Element, Placement, OnHeap, AsUnique, ByHandle, Initial, Plain, Fields, Array, Converted, Convert, Arguments, NoArguments, MoreArguments, Operations, NoOperations, ThenCompute, ThenTest, ThenPointer, ThenPointerPeek, Side, VariableSide, CellSide, Statement, Block, Empty, Evaluate, Swap, If, While, Return, Break, Continue, Throw, Try, Items, NoItems, MoreItems, Execute, Declare, DeclareRegion, OpenRegion, DeclareAlias, DeclareKey, Clauses, NoClauses, Default, Case, StructType, GlobalVariable, Function, Program}
 use Rattle.cyc_types.specs.typing.Tests.{is_key, is_unique}
 
 -- ---- types
@@ -25,19 +25,6 @@ is_declarable n (types.Handle r) = is_known n r
 is_declarable n (types.Key r) = is_known n r
 is_declarable n (types.Struct s rs) = list_all (is_known n) rs
 
-abbrev pub is_common : Region → Bool
-is_common regions.Unique = false
-is_common r = true
-
--- no cell of this type, that others may reach, is a unique pointer or has one for a field
-abbrev pub is_shared : Ty → Bool
-is_shared (types.Struct n rs) = list_all is_common rs
-is_shared t = not (is_unique t)
-
-abbrev pub leads_to_shared : Ty → Bool
-leads_to_shared (types.Pointer k t r) = is_shared t
-leads_to_shared t = true
-
 -- ---- expressions
 
 abbrev mutual
@@ -52,7 +39,7 @@ abbrev mutual
   expression_is_in (Binary a os t) = expression_is_in a && operations_are_in os
   expression_is_in (Assign l c t) = converted_is_in c
   expression_is_in (Store d c t) = place_is_in d && converted_is_in c
-  expression_is_in (New w i t) = leads_to_shared t && (placement_is_in w && initial_is_in i)
+  expression_is_in (New w i t) = placement_is_in w && initial_is_in i
   expression_is_in a = true
 
   pub place_is_in : Dereference → Bool
@@ -92,6 +79,11 @@ abbrev pub thrown_is_in : Option Expression → Bool
 thrown_is_in None = true
 thrown_is_in (Some a) = expression_is_in a
 
+-- no unique pointer is swapped
+abbrev pub side_is_in : Side → Bool
+side_is_in (VariableSide l t) = not (is_unique t)
+side_is_in (CellSide d) = not (is_unique (type_of_place d)) && place_is_in d
+
 -- ---- statements, where the next region gets this number
 
 abbrev mutual
@@ -99,7 +91,7 @@ abbrev mutual
   statement_is_in n (Block r js) = items_are_in (suc n) js
   statement_is_in n Empty = true
   statement_is_in n (Evaluate a) = expression_is_in a
-  statement_is_in n (Swap x y) = false
+  statement_is_in n (Swap x y) = side_is_in x && side_is_in y
   statement_is_in n (If a s t) = expression_is_in a && (statement_is_in n s && statement_is_in (n + declared_regions s) t)
   statement_is_in n (While p a s) = expression_is_in a && statement_is_in n s
   statement_is_in n (Return v) = value_is_in v
@@ -127,13 +119,13 @@ abbrev mutual
 abbrev pub function_is_in : Function → Bool
 function_is_in h = items_are_in (suc h.variables) h.body
 
--- the types of globals name no region variable, and no global is a unique pointer
+-- the types of globals name no region variable
 abbrev pub global_is_in : GlobalVariable → Bool
-global_is_in v = is_declarable 0 v.of_type && is_shared v.of_type
+global_is_in v = is_declarable 0 v.of_type
 
--- the types of fields name only the parameters of their struct, and no field is a key or a unique pointer
+-- the types of fields name only the parameters of their struct, and no field is a key
 abbrev pub field_is_in : ℕ → Ty → Bool
-field_is_in n t = is_declarable n t && (not (is_key t) && is_shared t)
+field_is_in n t = is_declarable n t && not (is_key t)
 
 abbrev pub struct_is_in : StructType → Bool
 struct_is_in s = list_all (field_is_in s.parameters) s.fields

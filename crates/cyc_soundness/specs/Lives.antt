@@ -1,7 +1,7 @@
 -- TYPES AS A RUN READS THEM. Trees name regions, which mean something in their function alone. States speak of lives: the region of a
 -- number, or a unique object. A type of a tree becomes one of a state by what each region of its function stands for. (One language of
 -- types in two readings is this project's own choice.)
-use Rattle.std.specs.Prelude.{◌≢◌, ℕ, Bool, true, false, List, [], ◌∷◌, map, Option, Some, None}
+use Rattle.std.specs.Prelude.{◌≢◌, ℕ, Bool, true, false, List, [], map, Option, Some, None}
 use Rattle.cyc_syntax.specs.declared.tree.PointerKind.{PointerKind}
 use Rattle.cyc_types.specs.declared.region.Region.{Region}
 use Rattle.cyc_types.specs.declared.region.Region.TheVariants as regions

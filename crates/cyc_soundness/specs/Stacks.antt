@@ -35,8 +35,8 @@ use Rattle.cyc_meaning.specs.Allocation.{writes_from}
 use Rattle.cyc_meaning.specs.Parts.{target_of, target_of_value}
 use Rattle.cyc_soundness.specs.Lives.{Life, Owned, RunTy, RunValue, Value, Seen, Into, looked, at, value_at, heap_life, lives_of, as_heap, Reading, AllIn, IsKnown}
 use Rattle.cyc_soundness.specs.Lives as lives
-use Rattle.cyc_soundness.specs.Worlds.{OfLocal, Thing, Holder, Hand, Lent, pointer_at, thing_of, Owns, Claims, ClaimsPart, ClaimsBy, ClaimsAlone, IsHere, ObjectType, Typing, AgreesWith, variable_type, IsFilled, IsFull, HasType, IsResult, AreOperands, IsNewOwner, IsKeyless, AreKeyless, IsTyped}
-use Rattle.cyc_soundness.specs.Classes.{Relied, frees_of, and_looked, IsSpared, HasLoans, HasAliases, IsShared, InExpression, InPlace, InSide, InInitial, InArguments, InOperations, InStatement, InItems, InClauses, IsDeclarable, Source}
+use Rattle.cyc_soundness.specs.Worlds.{OfLocal, Settled, IsPlain, Thing, Holder, Hand, Lent, pointer_at, thing_of, Owns, Claims, ClaimsPart, ClaimsBy, ClaimsAlone, IsHad, IsHere, ObjectType, Typing, AgreesWith, variable_type, IsFilled, IsFull, HasType, IsResult, AreOperands, IsNewOwner, IsKeyless, AreKeyless, IsTyped}
+use Rattle.cyc_soundness.specs.Classes.{Relied, frees_of, and_looked, IsSpared, HasLoans, HasAliases, InExpression, InPlace, InSide, InInitial, InArguments, InOperations, InStatement, InItems, InClauses, IsDeclarable, Source}
 use Rattle.cyc_soundness.specs.Frames.{IsAmong, Bound, InScope, Variable, Level, Names, Instance, Home, frees_in, life_named, lives_in, read, read_value, IsThere, IsScope, AreBelow, IsBound, AreVariables, LiveIn, Within, IsSet, IsFullIn, Holds, Implies, LoopExit, Exits, HasResult, around, lending, relying, AreFullAt, AreBreaks, is_loop, Stand, IsHome, IsContext, lives_among, KnowsProgram}
 
 -- ---- trees, with what is known before and behind them
@@ -82,7 +82,6 @@ pub record Makes (m : Reading) (q : Relied) (c : Context) (i : Initial) (k : Poi
   pub typed : IsMade c i k t
   pub flows : Derives (rule_initial waiting i f) h
   pub kept : InInitial m q i
-  pub shared : IsShared m t
 
 -- a side of a swap, of this type; what is known is what is known once both places are found
 pub record Finds (m : Reading) (q : Relied) (c : Context) (y : Side) (f : flow.State) (t : Ty) (h : flow.State) : Type 0 where
@@ -158,6 +157,11 @@ held a = []
 abbrev pub count_held : Awaiting → ℕ
 count_held (FillElement object count index level kind element) = 1
 count_held a = length (held a)
+
+-- the left place of a swap is one, too
+abbrev pub count_place : AwaitingPlace → ℕ
+count_place (SwapRight kind peek is_cell left) = 1
+count_place a = 0
 
 -- How what waits in an entry stands to what is around: an expression begins under it, or is a part of one that goes on behind it; and
 -- the local that was looked at, where the value is still to be used.
@@ -253,7 +257,6 @@ pub record Repeats (m : Reading) (q : Relied) (c : Context) (level : ℕ) (kind 
   pub taken : seen_by element each.typed ≡ None
   pub back : Implies now f
   pub plain : is_key t ≡ false
-  pub shared : IsShared m t
 
 -- nothing but what is unique becomes unique
 abbrev pub KeepsUnique : RegionContext → (Region → Life) → Type 0
@@ -261,7 +264,7 @@ KeepsUnique c n = (a b : Region) → OutlivesIn c a b → n b ≡ Owned → n a 
 
 -- nothing that only one may have is given
 abbrev pub IsPlainValue : RunValue → Type 0
-IsPlainValue (Value t) = IsKeyless t
+IsPlainValue (Value t) = IsPlain t
 IsPlainValue r = Unit {0}
 
 -- What is left of a chain may stand behind a peek of this local where it is looked at.
@@ -353,14 +356,14 @@ pub data Waits (p : Source) (x : Exits) (q : Relied) (bs : List InScope) : Await
 
 -- what waits for a place, of this type and there so long, and what goes on then
 pub data WaitsPlace (p : Source) (x : Exits) (q : Relied) (bs : List InScope) : AwaitingPlace → Option ℕ → RunTy → Life → flow.State → Want → Type 0 where
-  loads_from : {kind : Kind} (peek : Option ℕ) (t : Ty) (r : Region) (f : flow.State) → IsThere bs r → is_struct t ≡ false → kind ≡ values.kind_of t
+  loads_from : {kind : Kind} (peek : Option ℕ) (t : Ty) (r : Region) (f : flow.State) → IsThere bs r → IsByType (read bs t) → is_struct t ≡ false → kind ≡ values.kind_of t
       → WaitsPlace p x q bs (LoadFrom kind) peek (read bs t) (lives_in bs r) f (Val (Value (read bs t)) f)
   takes_address : (peek : Option ℕ) (t : RunTy) (l : Life) (f : flow.State) → IsCommonLife l → WaitsPlace p x q bs TakeAddress peek t l f (Val (Value (lives.Pointer marks.NonNull t l)) f)
   stores_to : {peek : Option ℕ} {from to : Kind} {a : Expression} (c : Context) (v : ValueType) (t : Ty) (r : Region) (f h : flow.State) → IsThere bs r → IsContext p x bs c → (is_reached f ≡ true → EvaluatesWhole p.reading (and_looked peek q) c a f v h)
       → Converts c v t → from ≡ kind_of_value v → to ≡ kind_of t → WaitsPlace p x q bs (StoreTo peek (Convert from to a)) peek (read bs t) (lives_in bs r) f (Val (read_value bs (assigned_type t)) h)
-  swaps_left : {kind : Kind} {peek : Option ℕ} {right : Side} (through : Option ℕ) (c : Context) (t : Ty) (r : Region) (f h : flow.State) → IsThere bs r → frees_in bs ≡ false → IsContext p x bs c → kind ≡ values.kind_of t → is_struct t ≡ false
-      → (is_reached f ≡ true → Finds p.reading (and_looked peek x.relied) c right f t h) → WaitsPlace p x q bs (SwapLeft kind peek right) through (read bs t) (lives_in bs r) f (Go h)
-  swaps_right : {kind : Kind} {peek : Option ℕ} {is_cell : Bool} {left : values.Value} (through : Option ℕ) (t : Ty) (r : Region) (f : flow.State) → IsThere bs r → frees_in bs ≡ false → kind ≡ values.kind_of t
+  swaps_left : {kind : Kind} {peek : Option ℕ} {right : Side} (c : Context) (t : Ty) (r : Region) (f h : flow.State) → IsThere bs r → IsByType (read bs t) → IsContext p x bs c → kind ≡ values.kind_of t → is_struct t ≡ false
+      → (is_reached f ≡ true → Finds p.reading (and_looked peek x.relied) c right f t h) → WaitsPlace p x q bs (SwapLeft kind peek right) peek (read bs t) (lives_in bs r) f (Go h)
+  swaps_right : {kind : Kind} {peek : Option ℕ} {is_cell : Bool} {left : values.Value} (through : Option ℕ) (t : Ty) (r : Region) (f : flow.State) → IsThere bs r → IsByType (read bs t) → kind ≡ values.kind_of t
       → WaitsPlace p x q bs (SwapRight kind peek is_cell left) through (read bs t) (lives_in bs r) f (Go f)
 
 -- ---- arrays
@@ -396,6 +399,7 @@ IsHeldPart g i peek (t ∷ ts) v = ClaimsPart g i peek (thing_of t v.value)
 abbrev pub operands_in : List Entry → ℕ
 operands_in [] = 0
 operands_in (Needs a ∷ stack) = count_held a + operands_in stack
+operands_in (NeedsPlace a ∷ stack) = count_place a + operands_in stack
 operands_in (entry ∷ stack) = operands_in stack
 
 -- a value that comes to this stack
@@ -419,12 +423,19 @@ pub data IsSpot (p : Source) (g : Typing) (bs : List InScope) (t : Ty) (f : flow
   of_local : (b : Bound) → IsAmong (Variable b) bs → b.of_type ≡ read bs t → IsSet f b.number → IsSpot p g bs t f (values.Thin b.object 0)
   of_global : (number : ℕ) → slice_get (map (λ (v : GlobalVariable). v.of_type) p.program.globals) number ≡ Some t → read bs t ≡ at (as_heap (frees_of p.reading)) t
       → IsSpot p g bs t f (values.Thin number 0)
-  of_cell : (place : values.Value) (r : Region) → IsThere bs r → IsCommonLife (lives_in bs r) → HasType g (lives.Pointer marks.NonNull (read bs t) (lives_in bs r)) place → IsSpot p g bs t f place
+  of_cell : (place : values.Value) (r : Region) → IsThere bs r → HasType g (lives.Pointer marks.NonNull (read bs t) (lives_in bs r)) place → IsHad g (thing_of (lives.Pointer marks.NonNull (read bs t) (lives_in bs r)) place)
+      → IsSpot p g bs t f place
+
+-- The left place of a swap that waits for the right one, of this type: a variable's, or a cell behind what is looked at, or in hand.
+pub data IsLeftSpot (p : Source) (g : Typing) (hand : ℕ) (peek : Option ℕ) (bs : List InScope) (t : Ty) (f : flow.State) : values.Value → Type 0 where
+  left_variable : (place : values.Value) → ((h : Typing) → IsSpot p h bs t f place) → IsLeftSpot p g hand peek bs t f place
+  left_cell : (place : values.Value) (r : Region) → IsThere bs r → HasType g (lives.Pointer marks.NonNull (read bs t) (lives_in bs r)) place
+      → ClaimsPart g hand peek (thing_of (lives.Pointer marks.NonNull (read bs t) (lives_in bs r)) place) → IsLeftSpot p g hand peek bs t f place
 
 -- the left place of a swap that waits for the right one, of this type
-abbrev pub KeepsPlace : Source → Typing → List InScope → AwaitingPlace → RunTy → flow.State → Type 0
-KeepsPlace p g bs (SwapRight kind peek is_cell left) r f = (t : Ty) × (r ≡ read bs t) × (is_struct t ≡ false) × IsSpot p g bs t f left
-KeepsPlace p g bs a r f = Unit {0}
+abbrev pub KeepsPlace : Source → Typing → (hand : ℕ) → List InScope → AwaitingPlace → RunTy → flow.State → Type 0
+KeepsPlace p g i bs (SwapRight kind peek is_cell left) r f = (t : Ty) × (r ≡ read bs t) × (is_struct t ≡ false) × IsLeftSpot p g i peek bs t f left
+KeepsPlace p g i bs a r f = Unit {0}
 
 -- what was read of the left side
 abbrev pub IsRead : Typing → RunTy → Option Operand → Type 0
@@ -450,10 +461,10 @@ IsLentOut g lent j t object =
     (l : Life) × (hidden : Bool) × (slice_get g.objects object ≡ Some (variable_type t l hidden (OfLocal g.depth lent))) × IsByType t × Owns g.own (Lent j) (thing_of t values.Null)
 
 abbrev pub IsStack : Source → Typing → Exits → List InScope → Want → List Entry → Type 0
-IsStack p g x bs Nothing [] = Unit {0}
+IsStack p g x bs Nothing [] = g.pending ≡ Settled
 IsStack p g x bs (Val r f) (Needs a ∷ k) =
     (ts : List RunTy) × (cs : List InScope) × (next : Want) × Waits p x (relied_at x.relied k) bs a ts r f cs next × Keeps g (operands_in k) a ts × IsStack p g x cs next k
-IsStack p g x bs (PlaceOf peek t l f) (NeedsPlace a ∷ k) = (next : Want) × WaitsPlace p x (relied_at x.relied k) bs a peek t l f next × KeepsPlace p g bs a t f × IsStack p g x bs next k
+IsStack p g x bs (PlaceOf peek t l f) (NeedsPlace a ∷ k) = (next : Want) × WaitsPlace p x (relied_at x.relied k) bs a peek t l f next × KeepsPlace p g (operands_in k) bs a t f × IsStack p g x bs next k
 IsStack p g x bs (Val r f) (Discard ∷ k) = IsStack p g x bs (Go f) k
 IsStack p g x bs (Go f) (Discard ∷ k) = IsStack p g x bs (Go f) k
 -- the locals that a block declares are out of scope behind its items
@@ -488,6 +499,12 @@ AreNext g zero ts vs = AreOperands g ts vs
 AreNext g (suc i) [] vs = ⊥
 AreNext g (suc i) (t ∷ ts) vs = AreNext g i ts vs
 
+-- which are in hand, from this place on
+abbrev pub AreNextGiven : (own : Thing → Holder) → (place offset : ℕ) → List RunTy → List Operand → Type 0
+AreNextGiven own i zero ts vs = AreGiven own i ts vs
+AreNextGiven own i (suc o) [] vs = Unit {0}
+AreNextGiven own i (suc o) (t ∷ ts) vs = AreNextGiven own i o ts vs
+
 -- an object of this type is, as a whole, of that type
 abbrev pub IsWhole : Typing → ObjectType → RunTy → Type 0
 IsWhole g y (lives.Struct n ls) = g.fields n ls ≡ Some y.cells
@@ -507,8 +524,11 @@ pub record IsMaking (g : Typing) (hand : ℕ) (writes : List Write) (v : Operand
   pub filled : IsFilled g object offset
   pub rest : AreNext g offset of_type.cells operands
   pub whole : IsWhole g of_type t
-  -- and is in hand
-  pub owned : Owns g.own (Hand hand) (pointer_at l object)
+  -- they are in hand, and above them the pointer to it
+  pub place : ℕ
+  pub least : hand ≤ place
+  pub given : AreNextGiven g.own place offset of_type.cells operands
+  pub owned : Owns g.own (Hand (place + length operands)) (pointer_at l object)
 
 -- ---- states
 

@@ -1,6 +1,6 @@
 -- THE TYPING OF A WORLD: what is known of each object that was ever made, which nothing takes back. Values are typed against it, and never
 -- against what is open: a pointer keeps its type when its region closes, and that it may be followed is shown where it is followed.
-use Rattle.std.specs.Prelude.{◌≡◌, ℕ, zero, suc, ◌+◌, ◌<◌, ◌≤◌, Bool, true, false, List, [], ◌∷◌, length, Option, Some, None, slice_get, ◌==◌, nat_lt, if◌then◌else◌}
+use Rattle.std.specs.Prelude.{◌≡◌, ◌≢◌, ℕ, zero, suc, ◌+◌, ◌<◌, ◌≤◌, Bool, true, false, List, [], ◌∷◌, length, Option, Some, None, slice_get, ◌==◌, nat_lt, if◌then◌else◌}
 use Rattle.cyc_syntax.specs.declared.tree.PointerKind.TheVariants as marks
 use Rattle.cyc_types.specs.declared.region.Region.{Region as NamedRegion}
 use Rattle.cyc_types.specs.declared.typed.Kind.TheVariants as kinds
@@ -38,10 +38,15 @@ pub data Holder : Type 0 where
   Nobody : Holder
   -- an operand, above so many others on the stack
   Hand : ℕ → Holder
-  -- the variable that this object is
-  At : (object : ℕ) → Holder
+  -- this cell of an object
+  At : (object offset : ℕ) → Holder
   -- it is lent, behind so many other loans
   Lent : ℕ → Holder
+
+-- whether a swap is between its two writes, and which cell it has still to write
+pub data Pending : Type 0 where
+  Settled : Pending
+  Awaits : (object offset : ℕ) → Pending
 
 pub record Typing : Type 0 where
   -- by number
@@ -56,6 +61,7 @@ pub record Typing : Type 0 where
   -- loans there are
   pub own : Thing → Holder
   pub here : (object : ℕ) → Bool
+  pub pending : Pending
   pub depth : ℕ
   pub loans : ℕ
 
@@ -195,15 +201,20 @@ IsNewOwner l (Unique false) = ⊥
 IsNewOwner l (Unique true) = IsOwner l (Unique true)
 IsNewOwner l (InRegion number) = IsOwner l (InRegion number)
 
--- no cell that a pointer may lead to has what only one may have
+-- no cell that a pointer may lead to has a key
 abbrev pub IsKeyless : RunTy → Type 0
 IsKeyless (Key (Kept region)) = ⊥
-IsKeyless (Pointer k t Owned) = ⊥
 IsKeyless t = Unit {0}
 
 abbrev pub AreKeyless : List RunTy → Type 0
 AreKeyless [] = Unit {0}
 AreKeyless (t ∷ ts) = IsKeyless t × AreKeyless ts
+
+-- and no value of this type is what only one may have
+abbrev pub IsPlain : RunTy → Type 0
+IsPlain (Key (Kept region)) = ⊥
+IsPlain (Pointer k t Owned) = ⊥
+IsPlain t = Unit {0}
 
 pub record IsObject (g : Typing) (filled : ℕ) (t : ObjectType) (x : Object) : Type 0 where
   pub owner : IsOwner t.life x.owner
@@ -282,7 +293,7 @@ IsHere g d n object = (g.here object ≡ true) × IsSlot g d n object
 -- this local has it
 abbrev pub IsLookedAt : Typing → (number : ℕ) → Option Thing → Type 0
 IsLookedAt g n None = Unit {0}
-IsLookedAt g n (Some a) = (object : ℕ) × IsHere g g.depth n object × (g.own a ≡ At object)
+IsLookedAt g n (Some a) = (object : ℕ) × IsHere g g.depth n object × (g.own a ≡ At object 0)
 
 -- or it is in hand
 abbrev pub ClaimsPart : Typing → (hand : ℕ) → (peek : Option ℕ) → Option Thing → Type 0
@@ -305,9 +316,12 @@ ClaimsAlone own i (Value t) v = Claims own (Hand i) t v
 ClaimsAlone own i (Into peek t) v = ⊥
 ClaimsAlone own i r v = Unit {0}
 
--- each cell's value is this object's
-abbrev pub AreOwned : (own : Thing → Holder) → (object : ℕ) → List RunTy → List Cell → Type 0
-AreOwned own object ts cs = (i : ℕ) (t : RunTy) (c : Cell) (v : values.Value) → slice_get ts i ≡ Some t → slice_get cs i ≡ Some c → c.content ≡ Some v → Claims own (At object) t v
+-- what is in this cell of an object is its own: a hidden one has what is in it or not
+abbrev pub IsKept : Typing → (object offset : ℕ) → (is_hidden : Bool) → Type 0
+IsKept g object offset hidden = (hidden ≡ true → g.here object ≡ true) × (g.pending ≢ Awaits object offset)
+
+abbrev pub AreOwned : Typing → (object : ℕ) → ObjectType → List Cell → Type 0
+AreOwned g object y cs = (i : ℕ) (t : RunTy) (c : Cell) (v : values.Value) → IsKept g object i y.is_hidden → slice_get y.cells i ≡ Some t → slice_get cs i ≡ Some c → c.content ≡ Some v → Claims g.own (At object i) t v
 
 -- a dynamic region that is open
 abbrev pub IsDynamic : Option Region → Type 0
@@ -329,7 +343,7 @@ pub record IsTyped (g : Typing) (regions : List Region) (objects : List Object) 
   pub kept : (number : ℕ) → IsAmong number g.kept → (1 < number) × (IsHeld (g.own (KeyOf number)) → IsDynamic (slice_get regions number))
   pub fresh : (number : ℕ) → length regions ≤ number → g.own (KeyOf number) ≡ Nobody
   pub unique : (object : ℕ) → IsHeld (g.own (PointerTo object)) → IsUniqueObject g objects object
-  pub owned : (object : ℕ) (t : ObjectType) (x : Object) → g.here object ≡ true → slice_get g.objects object ≡ Some t → slice_get objects object ≡ Some x → AreOwned g.own object t.cells x.cells
+  pub owned : (object : ℕ) (t : ObjectType) (x : Object) → slice_get g.objects object ≡ Some t → slice_get objects object ≡ Some x → AreOwned g object t x.cells
 
 -- where what has this life is made, by which regions are open
 abbrev pub IsOpenLife : List Region → Life → Type 0
@@ -371,5 +385,6 @@ pub record Stays (g h : Typing) : Type 0 where
   pub grows : Grows g h
   pub own : h.own ≡ g.own
   pub here : h.here ≡ g.here
+  pub pending : h.pending ≡ g.pending
   pub depth : h.depth ≡ g.depth
   pub loans : h.loans ≡ g.loans

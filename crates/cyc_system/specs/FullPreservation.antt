@@ -3,7 +3,7 @@
 -- The program has one limited run for each input. The machine has many runs from an image, since its services may
 -- choose; each of them does what the program does. This project's own choice: the form of the promise, and its bound of
 -- so many instructions for each step of the program.
-use Rattle.std.specs.Prelude.{◌≡◌, ℕ, ◌+◌, ◌*◌, ◌/◌, ◌<◌, false, List, map, Some, Ok, sum_by, if◌then◌else◌}
+use Rattle.std.specs.Prelude.{◌≡◌, ℕ, ◌+◌, ◌*◌, ◌/◌, ◌<◌, false, List, length, map, Some, Ok, sum_by, if◌then◌else◌}
 use Rattle.std.specs.List.{AllByRecursion}
 use Rattle.cyc_words.specs.Ending.{Ending}
 use Rattle.cyc_words.specs.Prefix.{IsPrefix}
@@ -26,6 +26,7 @@ use Rattle.cyc_meaning.specs.FrameCount.{words_of_all}
 use Rattle.cyc_words.specs.Simulation.{Preserves}
 use Rattle.cyc_meaning.specs.SourceMachine.{source_machine}
 use Rattle.cyc_soundness.specs.Sound.{IsSound}
+use Rattle.cyc_lower.specs.Lowering.{scopes_of, scopes_words}
 use Rattle.cyc_machine.specs.WorldMachine.{world_machine}
 use Rattle.cyc_system.specs.ProgramImage.{HasForm}
 
@@ -33,9 +34,10 @@ use Rattle.cyc_system.specs.ProgramImage.{HasForm}
 abbrev pub text_words : ImageContents → ℕ
 text_words image = sum_by (λ s. if lies_in_text s then padded s.size / 4 else 0) image.segments
 
--- the words of all globals of a program
-abbrev pub global_words : Program → ℕ
-global_words p = words_of_all (map (λ (g : GlobalVariable). g.of_type) p.globals)
+-- The words of data of a program's image: those of all its globals, and where it may open lexical regions one more, which tells how many
+-- are open.
+abbrev pub data_words : Program → ℕ
+data_words p = words_of_all (map (λ (g : GlobalVariable). g.of_type) p.globals) + length (scopes_words (scopes_of p))
 
 -- the machine has a place for each segment of the image
 abbrev pub IsLoadable : ImageContents → Type 0
@@ -55,12 +57,12 @@ DoesTheSame p image =
     (start p input) (start_world image limits store input)
 
 -- A file is an image that the machine can load, and that does what the program means. The file is the one that is written of the
--- image, and the image has the form of the image of a program whose globals have so many words, so there is nothing else in either.
+-- image, and the image has the form of the image of a program with so many words of data, so there is nothing else in either.
 pub record IsImageOf (p : Program) (file : List ℕ) : Type 0 where
   pub image : ImageContents
   pub read : reading file ≡ Ok image
   pub written : file ≡ layout image
-  pub form : HasForm (global_words p) image
+  pub form : HasForm (data_words p) image
   pub loads : IsLoadable image
   pub does : DoesTheSame p image
 

@@ -56,7 +56,7 @@ AreOfProgram zero (text ∷ []) = IsText text
 AreOfProgram (suc globals) (text ∷ variables ∷ []) = IsText text × IsData (suc globals) variables
 AreOfProgram globals segments = ⊥
 
--- the form of the image of a program whose globals have so many words, which is entered where its text begins
+-- the form of the image of a program with so many words of data, which is entered where its text begins
 pub record HasForm (globals : ℕ) (image : ImageContents) : Type 0 where
   pub entry : image.entry ≡ TEXT_BASE
   pub segments : AreOfProgram globals image.segments
