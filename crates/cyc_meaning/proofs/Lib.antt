@@ -17,3 +17,7 @@ pub mod RegionExamples
 pub mod DeadExamples
 pub mod FrameExamples
 pub mod ValueExamples
+-- variables of blocks
+pub mod VariableLemmas
+pub mod VariableChanges
+pub mod VariableDeclared
