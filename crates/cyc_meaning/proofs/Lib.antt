@@ -21,3 +21,6 @@ pub mod ValueExamples
 pub mod VariableLemmas
 pub mod VariableChanges
 pub mod VariableDeclared
+pub mod VariableSteps
+pub mod Rising
+pub mod VariableRuns

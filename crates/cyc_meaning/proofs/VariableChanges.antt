@@ -161,8 +161,8 @@ low_opened m home stack locals w inside low number object is =
       | inr older ↦ less older
     ])
 
-pub named_entered : (home globals : ℕ) (stack : List Entry) (locals : Locals) (w : World) → AllNamed globals stack locals w → AllNamed globals (CloseRegion (length w.regions) home ∷ stack) locals w
-named_entered home globals stack locals w h =
+pub named_entered : (ending home globals : ℕ) (stack : List Entry) (locals : Locals) (w : World) → AllNamed globals stack locals w → AllNamed globals (CloseRegion ending home ∷ stack) locals w
+named_entered ending home globals stack locals w h =
     (h.0, (λ number object is. (let (region, lives, where_it_is) = h.1 number object is in (region, lives, elim where_it_is [ | inl here ↦ inl (inr here) | inr shut ↦ inr shut ]))), h.2, h.3, h.4, h.5, h.6)
 
 pub named_left : (ending home : ℕ) (globals : ℕ) (stack : List Entry) (locals : Locals) (w : World) → IsShut w.regions ending → AllNamed globals (CloseRegion ending home ∷ stack) locals w → AllNamed globals stack locals w
