@@ -99,7 +99,7 @@ module _ (number : ℕ) (locals : Locals) (x : Object) (objects : List Object) (
   later_around (Needs (Test condition body) ∷ stack) around (s, h) = (statement_around body stack around s, later_around stack around h)
   later_around (Rest items ∷ stack) around ((m, rises, low, here), h) = ((m, rises, low_around m stack around low, here), later_around stack around h)
   later_around (Loop condition body ∷ stack) around (s, h) = (statement_around body stack around s, later_around stack around h)
-  later_around (Handler clauses ∷ stack) around ((m, rises, low), h) = ((m, rises, low_around m stack around low), later_around stack around h)
+  later_around (Handler handler ∷ stack) around ((m, rises, low), h) = ((m, rises, low_around m stack around low), later_around stack around h)
   later_around (CloseRegion ending outer ∷ stack) around h = later_around stack (λ of_call. around (inr of_call)) h
   later_around (Caller outer ∷ stack) around h = later_passes objects then_objects (lives_more objects x) stack outer.locals h
   later_around (entry ∷ stack) around h = later_around stack around h

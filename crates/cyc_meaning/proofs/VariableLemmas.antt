@@ -111,7 +111,7 @@ module _ (objects more : List Object) (still : (object region : ℕ) → LivesIn
   later_passes (Needs (Test condition body) ∷ stack) locals (s, h) = (statement_passes body stack locals s, later_passes stack locals h)
   later_passes (Rest items ∷ stack) locals ((m, rises, low, here), h) = ((m, rises, low_passes m stack locals low, here), later_passes stack locals h)
   later_passes (Loop condition body ∷ stack) locals (s, h) = (statement_passes body stack locals s, later_passes stack locals h)
-  later_passes (Handler clauses ∷ stack) locals ((m, rises, low), h) = ((m, rises, low_passes m stack locals low), later_passes stack locals h)
+  later_passes (Handler handler ∷ stack) locals ((m, rises, low), h) = ((m, rises, low_passes m stack locals low), later_passes stack locals h)
   later_passes (Caller outer ∷ stack) locals h = later_passes stack outer.locals h
   later_passes (entry ∷ stack) locals h = later_passes stack locals h
 

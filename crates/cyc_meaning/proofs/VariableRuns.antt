@@ -37,7 +37,7 @@ stays program rise Breaking stack e w = sooner (breaking stack e w) (λ h. (h.0,
 stays program rise Continuing stack e w = sooner (continuing stack e w) (λ h. (h.0, h.1.1))
 stays program rise (Returning value) stack e w = sooner (returning value stack e w) (λ h. (h.0, h.1.1))
 stays program rise (Throwing tag value) stack e w = sooner (throwing tag value stack e w) (λ h. (h.0, h.1.1))
-stays program rise (Catching tag value clauses) stack e w = catching tag value clauses stack e w
+stays program rise (Catching tag value handler) stack e w = catching tag value handler stack e w
 
 comes : {globals : ℕ} {known : Type 0} {s : State} → Stays globals known s → known → HasNames globals s
 comes (Goes names) h = names h

@@ -1,6 +1,6 @@
 -- Variables of blocks have names in every state of a run: what each step makes of that.
 use Rattle.std.proofs.Common.{◌≡◌, ℕ, suc, Bool, true, false, List, [], ◌∷◌, length, reverse, Option, Some, None, refl, subst, arith}
-use Rattle.std.specs.Prelude.{◌≤◌, ◌+◌, ◌==◌, ◌*◌, ◌&&◌, nat_le, if◌then◌else◌, slice_get}
+use Rattle.std.specs.Prelude.{◌≤◌, ◌<◌, ◌+◌, ◌==◌, ◌*◌, ◌&&◌, nat_le, if◌then◌else◌, slice_get}
 use Rattle.cyc_words.specs.Ending.{Ending, Returned, Uncaught, Full}
 use Rattle.cyc_types.specs.declared.typed.Kind.{Kind}
 use Rattle.cyc_types.specs.declared.typed.Kind.TheVariants as kinds
@@ -345,28 +345,34 @@ throwing_value tag (Int word) stack e w = Goes (λ h. (tt, h.1))
 throwing_value tag value stack e w = Fails
 
 -- a block begins, of which these are the items
-opens_block : {globals : ℕ} (m : ℕ) (items : Items) (stack : List Entry) (e : Environment) (w : World) → ItemsRise m items → AreLow m stack e.locals w.objects
-    → Silent globals stack e w (Running Proceeding (Rest items ∷ region_end e w ∷ stack) (inside e w) (opened w))
-opens_block {globals} m items stack e w rises low = Goes (λ h.
-    let all = named_entered (length w.regions) e.home globals stack e.locals (opened w) (named_opened Stack globals stack e.locals w h.1) in
-    (tt, (((m, rises, low_opened m e.home stack e.locals w h.1.6 low, tt), all.0), all.1, all.2, all.3, all.4, all.5, all.6)))
+opens_block : {globals : ℕ} (region : ℕ) (items : Items) (stack : List Entry) (e : Environment) (w : World)
+    → Begins globals (Executing (Block region items)) stack e w (Running Proceeding (Rest items ∷ region_end e w ∷ stack) (inside e w) (opened w))
+opens_block {globals} region items stack e w = Goes (λ h.
+    let (m, rises, low) = h.1.0 in
+    let all = named_entered (length w.regions) e.home globals stack e.locals (opened w) (named_opened Stack globals stack e.locals w h.1.1) in
+    (tt, (((m, rises, low_opened m e.home stack e.locals w h.1.1.6 low, tt), all.0), all.1, all.2, all.3, all.4, all.5, all.6)))
 
-catching_in : {globals : ℕ} (m value : ℕ) (number : Option ℕ) (region tag : ℕ) (items : Items) (clauses : Clauses) (stack : List Entry) (e : Environment) (w : World) → ClausesRise m (Case tag number region items clauses) → AreLow m stack e.locals w.objects
-    → Silent globals stack e w (catches value number items stack e w)
-catching_in m value None region tag items clauses stack e w rises low = opens_block m items stack e w rises.0 low
-catching_in {globals} m value (Some number) region tag items clauses stack e w rises low = Goes (λ h. (
-  (rises.1, low_opened number e.home stack e.locals w h.1.6 (low_less m number stack e.locals w.objects rises.0 low), tt),
-  named_entered (length w.regions) e.home globals stack e.locals (opened w) (named_opened Stack globals stack e.locals w h.1)))
+catching_in : {globals : ℕ} (tag caught value : ℕ) (number : Option ℕ) (region : ℕ) (items : Items) (later : Clauses) (stack : List Entry) (e : Environment) (w : World)
+    → Begins globals (Catching tag value (Case caught number region items later)) stack e w (catches value number items stack e w)
+catching_in tag caught value None region items later stack e w = sooner (opens_block region items stack e w) (λ h.
+    let (m, rises, low) = h.1.0 in
+    (h.0, ((m, rises.0, low), h.1.1)))
+catching_in {globals} tag caught value (Some number) region items later stack e w = Goes (λ h.
+    let (m, rises, low) = h.1.0 in
+    ((rises.1, low_opened number e.home stack e.locals w h.1.1.6 (low_less m number stack e.locals w.objects rises.0 low), tt),
+    named_entered (length w.regions) e.home globals stack e.locals (opened w) (named_opened Stack globals stack e.locals w h.1.1)))
 
-later_rise : (m tag : ℕ) (number : Option ℕ) (region : ℕ) (items : Items) (clauses : Clauses) → ClausesRise m (Case tag number region items clauses) → ClausesRise m clauses
-later_rise m tag None region items clauses rises = rises.1
-later_rise m tag (Some number) region items clauses rises = rises.2
+later_rise : (m tag : ℕ) (number : Option ℕ) (region : ℕ) (items : Items) (later : Clauses) → ClausesRise m (Case tag number region items later) → ClausesRise m later
+later_rise m tag None region items later rises = rises.1
+later_rise m tag (Some number) region items later rises = rises.2
 
-pub catching : {globals : ℕ} (tag value : ℕ) (clauses : Clauses) (stack : List Entry) (e : Environment) (w : World) → ClausesDeclare clauses stack e.locals w.objects → Silent globals stack e w (step_catching tag value clauses stack e w)
-catching tag value NoClauses stack e w now = Goes (λ h. (tt, h.1))
-catching tag value (Default region items) stack e w (m, rises, low) = opens_block m items stack e w rises low
-catching tag value (Case caught number region items later) stack e w (m, rises, low) =
-    either (caught == tag) _ _ (catching_in m value number region caught items later stack e w rises low) (Goes (λ h. ((m, later_rise m caught number region items later rises, low), h.1)))
+pub catching : {globals : ℕ} (tag value : ℕ) (handler : Clauses) (stack : List Entry) (e : Environment) (w : World) → Begins globals (Catching tag value handler) stack e w (step_catching tag value handler stack e w)
+catching tag value NoClauses stack e w = Goes (λ h. (tt, h.1.1))
+catching tag value (Default region items) stack e w = opens_block region items stack e w
+catching tag value (Case caught number region items later) stack e w =
+    either (caught == tag) _ _ (catching_in tag caught value number region items later stack e w) (Goes (λ h.
+    let (m, rises, low) = h.1.0 in
+    ((m, later_rise m caught number region items later rises, low), h.1.1)))
 
 -- ---- evaluation
 
@@ -423,7 +429,7 @@ testing : {globals : ℕ} (o : Option Bool) (operator : LogicalOperator) (b : Ex
 testing (Some fails) operator b rest stack e w = deciding (decides operator fails) fails b rest stack e w
 testing None operator b rest stack e w = Fails
 
-awaiting_right : {globals : ℕ} (fits : Bool) (waiting : Awaiting) (b : Expression) (rest : Operations) (stack : List Entry) (e : Environment) (w : World) → Silent globals stack e w (awaits_right fits waiting b rest stack e w)
+awaiting_right : {globals : ℕ} (fits : Bool) (waiting : Awaiting) (b : Expression) (rest : Operations) (stack : List Entry) (e : Environment) (w : World) → Silent globals (Needs waiting ∷ Needs (Chain rest) ∷ stack) e w (awaits_right fits waiting b rest stack e w)
 awaiting_right true waiting b rest stack e w = Goes (λ h. (tt, h.1))
 awaiting_right false waiting b rest stack e w = Fails
 
@@ -511,10 +517,7 @@ returning_value None stack e w = Goes (λ h. (tt, h.1))
 returning_value (Some (Convert from to a)) stack e w = Goes (λ h. (tt, h.1))
 
 pub executing : {globals : ℕ} (s : Statement) (stack : List Entry) (e : Environment) (w : World) → Begins globals (Executing s) stack e w (step_executing s stack e w)
-executing {globals} (Block region items) stack e w = Goes (λ h.
-    let (m, rises, low) = h.1.0 in
-    let all = named_entered (length w.regions) e.home globals stack e.locals (opened w) (named_opened Stack globals stack e.locals w h.1.1) in
-    (tt, (((m, rises, low_opened m e.home stack e.locals w h.1.1.6 low, tt), all.0), all.1, all.2, all.3, all.4, all.5, all.6)))
+executing (Block region items) stack e w = opens_block region items stack e w
 executing Empty stack e w = Goes (λ h. (tt, h.1.1))
 executing (Evaluate a) stack e w = Goes (λ h. (tt, h.1.1))
 executing (Swap left right) stack e w = sooner (swapping left right stack e w) (λ h. (h.0, h.1.1))
@@ -539,7 +542,7 @@ declaring : {globals : ℕ} (number : ℕ) (t : Ty) (o : Option Converted) (item
 declaring number t None items stack e w = names_local (region_at w e.home) number (kind_of t) (kind_of t) None items stack e w refl
 declaring number t (Some (Convert from to a)) items stack e w = Goes (λ h. (tt, h.1))
 
-next_named : {globals : ℕ} (m number : ℕ) (items : Items) (stack : List Entry) (e : Environment) (w : World) → (m ≤ number) × ItemsRise (suc number) items → AreLow m stack e.locals w.objects → IsInBlock stack → Names number items stack e.locals w.objects
+next_named : (m number : ℕ) (items : Items) (stack : List Entry) (e : Environment) (w : World) → (m ≤ number) × ItemsRise (suc number) items → AreLow m stack e.locals w.objects → IsInBlock stack → Names number items stack e.locals w.objects
 next_named m number items stack e w rises low here = (rises.1, low_less m number stack e.locals w.objects rises.0 low, here)
 
 pub proceeding : {globals : ℕ} (stack : List Entry) (e : Environment) (w : World) → Silent globals stack e w (step_proceeding stack e w)
