@@ -1,19 +1,22 @@
 -- Variables of blocks have names in every state of a run of a program whose numbers of locals rise.
-use Rattle.std.proofs.Common.{◌≡◌, ℕ, zero, suc, ◌≤◌, Bool, true, false, List, [], ◌∷◌, length, map, Option, Some, None, refl, sym, ap, subst, ◌∙◌, inl, arith}
-use Rattle.std.specs.Prelude.{◌==◌, ◌<◌, if◌then◌else◌, slice_get}
+use Rattle.std.proofs.Common.{◌≡◌, ℕ, zero, suc, ◌≤◌, Bool, true, false, List, [], ◌∷◌, length, map, Option, Some, None, refl, sym, ap, subst, ◌∙◌, inl, inr, arith}
+use Rattle.std.specs.Prelude.{◌⊎◌, ◌==◌, ◌<◌, if◌then◌else◌, slice_get}
+use Rattle.std.proofs.lemmas.Bool.{cases_lt}
 use Rattle.std.proofs.lemmas.List.{length-map}
-use Rattle.cyc_types.specs.TypedTrees.{GlobalVariable, Function, Program}
+use Rattle.cyc_types.specs.TypedTrees.{MoreItems, Declare, GlobalVariable, Function, Program}
 use Rattle.cyc_types.specs.typing.WellTyped.{IsWellTypedProgram}
-use Rattle.cyc_meaning.specs.State.{World, first_world, globals_number, global_object, no_locals, Environment, Entry, Main, Focus, Evaluating, Locating, Given, GivenPlace, Executing, Proceeding, Calling, Entering, Binding, Naming, Writing, Beginning, Repeating, Swapping, Breaking, Continuing, Returning, Throwing, Catching, State, Running, Ended, Dead, Wrong}
-use Rattle.cyc_meaning.specs.Nesting.{IsNested, Nests}
+use Rattle.cyc_meaning.specs.State.{Region, Object, found_region, World, first_world, globals_number, global_object, no_locals, Environment, Initialise, Entry, Needs, Rest, CloseRegion, CloseLexical, Caller, Main, Focus, Evaluating, Locating, Given, GivenPlace, Executing, Proceeding, Calling, Entering, Binding, Naming, Writing, Beginning, Repeating, Swapping, Breaking, Continuing, Returning, Throwing, Catching, State, Running, Ended, Dead, Wrong}
+use Rattle.cyc_meaning.specs.Nesting.{ends_of, IsFound, AreBelow, IsNested, Nests}
 use Rattle.cyc_meaning.specs.Step.{wrong, called, step, stepped}
 use Rattle.cyc_meaning.specs.Run.{start, steps, run, limited_step}
-use Rattle.cyc_meaning.specs.Variables.{FunctionsRise, ItemsRise, LivesIn, Locals, IsLocal, AreNamed, DeclareNow, HasNames}
+use Rattle.cyc_meaning.specs.Variables.{FunctionsRise, LivesIn, IsShut, Locals, waiting, IsLocal, IsOfCall, AreLow, LiveInBlocks, WaitInBlocks, AreNamed, HasNames, declared_by}
+use Rattle.cyc_meaning.proofs.NestingLemmas.{globals_found}
 use Rattle.cyc_meaning.proofs.RunLaws.{limited_either}
 use Rattle.cyc_meaning.proofs.Nested.{nests_step, nests_start}
-use Rattle.cyc_meaning.proofs.VariableLemmas.{lives_below}
+use Rattle.cyc_meaning.proofs.VariableLemmas.{lives_once, lives_below}
 use Rattle.cyc_meaning.proofs.VariableChanges.{local_here}
-use Rattle.cyc_meaning.proofs.VariableSteps.{Stays, Goes, Ends, Dies, Fails, Begins, sooner, none_low, evaluating, locating, given, given_place, executing, proceeding, calling, entering, binding, naming, writing, beginning, repeating, swapping_values, breaking, continuing, returning, throwing, catching}
+use Rattle.cyc_meaning.proofs.VariableDeclared.{former_left}
+use Rattle.cyc_meaning.proofs.VariableSteps.{low_less, Stays, Goes, Ends, Dies, Fails, Begins, sooner, none_low, evaluating, locating, given, given_place, executing, proceeding, calling, entering, binding, naming, writing, beginning, repeating, swapping_values, breaking, continuing, returning, throwing, catching}
 use Rattle.cyc_meaning.proofs.Rising.{functions_rise}
 
 -- ---- a step
@@ -55,6 +58,16 @@ names_step globals program rise (Wrong output input) nests h = tt
 pub names_kept : (globals : ℕ) (program : Program) → FunctionsRise program → (pages calls : ℕ) (old new : State) → Nests old → HasNames globals old → new ≡ limited_step program pages calls old → HasNames globals new
 names_kept globals program rise pages calls old new nests h is =
     subst (HasNames globals) (sym is) (limited_either (HasNames globals) pages calls old (step program old) (λ within. names_step globals program rise old nests h) (λ full. tt))
+
+-- both that and what nests, as a relation between states keeps it
+abbrev pub NestsAndNames : (globals : ℕ) → State → Type 0
+NestsAndNames globals s = Nests s × HasNames globals s
+
+pub both_kept : (globals : ℕ) (program : Program) → FunctionsRise program → (pages calls : ℕ) (old new : State) → NestsAndNames globals old → new ≡ limited_step program pages calls old → NestsAndNames globals new
+both_kept globals program rise pages calls old new h is = (
+  subst Nests (sym is) (limited_either Nests pages calls old (step program old) (λ within. nests_step program old h.0) (λ full. tt)),
+  names_kept globals program rise pages calls old new h.0 h.1 is,
+)
 
 -- ---- the start
 
@@ -107,3 +120,76 @@ pub names_run : (program : Program) → IsWellTypedProgram program → (input : 
 names_run program typed input n =
     let rise = functions_rise program typed in
     names_steps (length program.globals) program rise n (start program input) (nests_start program input) (names_start program input rise)
+
+-- ---- a local is no global
+
+-- regions of blocks have numbers above that of the globals
+globals_least : (stack : List Entry) (bound : ℕ) → AreBelow bound (ends_of stack) → globals_number < bound
+globals_least [] bound below = below.0
+globals_least (CloseRegion ending home ∷ stack) bound (less, below) = let lower : globals_number < ending = globals_least stack ending below in omega (arith, less, lower)
+globals_least (CloseLexical ending ∷ stack) bound (less, below) = let lower : globals_number < ending = globals_least stack ending below in omega (arith, less, lower)
+globals_least (entry ∷ stack) bound below = globals_least stack bound below
+
+globals_of_none : (stack : List Entry) (bound : ℕ) → AreBelow bound (ends_of stack) → IsOfCall globals_number stack → ⊥
+globals_of_none [] bound below of_call = of_call
+globals_of_none (CloseRegion ending home ∷ stack) bound (less, below) of_call = elim of_call [
+  | inl same ↦ (let lower : globals_number < ending = globals_least stack ending below in let e : globals_number ≡ ending = same in absurd (omega (arith, lower, e)))
+  | inr older ↦ globals_of_none stack ending below older
+]
+globals_of_none (CloseLexical ending ∷ stack) bound (less, below) of_call = globals_of_none stack ending below of_call
+globals_of_none (Caller outer ∷ stack) bound below of_call = of_call
+globals_of_none (entry ∷ stack) bound below of_call = globals_of_none stack bound below of_call
+
+module _ (objects : List Object) (regions : List Region) (open_now : IsFound (found_region (slice_get regions globals_number))) where
+  in_blocks_alone : (stack : List Entry) (bound : ℕ) (locals : Locals) → AreBelow bound (ends_of stack) → LiveInBlocks stack locals objects regions → (number object : ℕ) → locals number ≡ Some object → LivesIn objects object globals_number → ⊥
+  in_blocks_alone stack bound locals below live number object is global =
+      let (region, lives, where_it_is) = live number object is in
+      let same : region ≡ globals_number = lives_once objects object region globals_number lives global in
+      elim where_it_is [
+        | inl here ↦ globals_of_none stack bound below (subst (λ (n : ℕ). IsOfCall n stack) same here)
+        | inr shut ↦ subst IsFound (subst (λ (n : ℕ). IsShut regions n) same shut) open_now
+      ]
+
+  waiting_alone : (stack : List Entry) (bound : ℕ) → AreBelow bound (ends_of stack) → WaitInBlocks stack objects regions → (call number object : ℕ) → IsLocal (waiting stack) call number object → LivesIn objects object globals_number → ⊥
+  waiting_alone [] bound below h call number object is global = absurd (let e : None ≡ Some is.0 = is.1 in cc)
+  waiting_alone (Caller outer ∷ stack) bound below h zero number object is global =
+      in_blocks_alone stack bound outer.locals below h.0 number object (local_here outer.locals (waiting stack) number object is) global
+  waiting_alone (Caller outer ∷ stack) bound below h (suc call) number object is global = waiting_alone stack bound below h.1 call number object is global
+  waiting_alone (CloseRegion ending home ∷ stack) bound (less, below) h call number object is global = waiting_alone stack ending below h call number object is global
+  waiting_alone (CloseLexical ending ∷ stack) bound (less, below) h call number object is global = waiting_alone stack ending below h call number object is global
+  waiting_alone (entry ∷ stack) bound below h call number object is global = waiting_alone stack bound below h call number object is global
+
+  call_alone : (stack : List Entry) (bound : ℕ) (locals : Locals) → AreBelow bound (ends_of stack) → LiveInBlocks stack locals objects regions → WaitInBlocks stack objects regions
+      → (call number object : ℕ) → IsLocal (locals ∷ waiting stack) call number object → LivesIn objects object globals_number → ⊥
+  call_alone stack bound locals below live h zero number object is global = in_blocks_alone stack bound locals below live number object (local_here locals (waiting stack) number object is) global
+  call_alone stack bound locals below live h (suc call) number object is global = waiting_alone stack bound below h call number object is global
+
+pub local_is_no_global : (globals : ℕ) (focus : Focus) (stack : List Entry) (e : Environment) (w : World) → IsNested stack e w → HasNames globals (Running focus stack e w)
+    → (call number object : ℕ) → IsLocal (e.locals ∷ waiting stack) call number object → globals ≤ object
+local_is_no_global globals focus stack e w nested h call number object is = elim (cases_lt object globals) [
+  | inl less ↦ absurd (call_alone w.objects w.regions (globals_found w.regions stack nested.0) stack (length w.regions) e.locals nested.1 h.1.1 h.1.2 call number object is (h.1.5 object less))
+  | inr above ↦ above
+]
+
+-- ---- a local that is declared again
+
+next_low : (globals : ℕ) (focus : Focus) (stack : List Entry) (e : Environment) (w : World) → HasNames globals (Running focus stack e w) → (number : ℕ) → declared_by focus stack ≡ Some number → AreLow number stack e.locals w.objects
+next_low globals (Naming n operand items) stack e w h number is =
+    let k : Some n ≡ Some number = is in
+    let same : n ≡ number = cc in subst (λ (m : ℕ). AreLow m stack e.locals w.objects) same h.0.1
+next_low globals (Binding n (t ∷ types) arguments body) stack e w h number is =
+    let k : Some n ≡ Some number = is in
+    let same : n ≡ number = cc in subst (λ (m : ℕ). AreLow m stack e.locals w.objects) same h.0.3
+next_low globals (Given value) (Needs (Initialise n kind items) ∷ stack) e w h number is =
+    let k : Some n ≡ Some number = is in
+    let same : n ≡ number = cc in subst (λ (m : ℕ). AreLow m stack e.locals w.objects) same h.1.0.0.1
+next_low globals Proceeding (Rest (MoreItems (Declare n t None) items) ∷ stack) e w h number is =
+    let (m, rises, low, here) = h.1.0.0 in
+    let k : Some n ≡ Some number = is in
+    let same : n ≡ number = cc in subst (λ (m : ℕ). AreLow m stack e.locals w.objects) same (low_less m n stack e.locals w.objects rises.0 low)
+next_low globals focus stack e w h number is = absurd (let k : None ≡ Some number = is in cc)
+
+pub former_shut : (globals : ℕ) (focus : Focus) (stack : List Entry) (e : Environment) (w : World) → HasNames globals (Running focus stack e w)
+    → (number object region : ℕ) → declared_by focus stack ≡ Some number → e.locals number ≡ Some object → LivesIn w.objects object region → IsShut w.regions region
+former_shut globals focus stack e w h number object region is local lives =
+    former_left number stack e.locals w.objects w.regions (next_low globals focus stack e w h number is) h.1.1 object region local lives

@@ -57,7 +57,7 @@ either : {globals : ℕ} {known : Type 0} (b : Bool) (s t : State) → Stays glo
 either true s t first second = first
 either false s t first second = second
 
-low_less : (m n : ℕ) (stack : List Entry) (locals : Locals) (objects : List Object) → m ≤ n → AreLow m stack locals objects → AreLow n stack locals objects
+pub low_less : (m n : ℕ) (stack : List Entry) (locals : Locals) (objects : List Object) → m ≤ n → AreLow m stack locals objects → AreLow n stack locals objects
 low_less m n stack locals objects less low number object is =
     let (region, lives, below) = low number object is in
     (region, lives, λ of_call. (let lower : number < m = below of_call in omega (arith, lower, less)))

@@ -2,7 +2,7 @@
 -- object in a block that was left. It follows from the numbers in the text: those of a block's locals are above those in scope around it.
 use Rattle.std.specs.Prelude.{◌≡◌, ◌⊎◌, ℕ, suc, ◌+◌, ◌<◌, ◌≤◌, Bool, true, false, List, [], ◌∷◌, length, Option, Some, None, slice_get}
 use Rattle.cyc_types.specs.TypedTrees.{Statement, Block, If, While, Try, Items, NoItems, MoreItems, Execute, Declare, DeclareRegion, OpenRegion, DeclareAlias, DeclareKey, Clauses, NoClauses, Default, Case, Function, Program}
-use Rattle.cyc_meaning.specs.State.{Sort, Globals, Stack, Region, Owner, InRegion, Unique, Object, World, Access, Closed, found_region, globals_number, Environment, Awaiting, Initialise, Choose, Test, OpenBy, AliasOf, Entry, Needs, Rest, Loop, CloseRegion, CloseLexical, EndLoan, Handler, Caller, Focus, Executing, Entering, Binding, Naming, Catching, State, Running, Ended, Dead, Wrong}
+use Rattle.cyc_meaning.specs.State.{Sort, Globals, Stack, Region, Owner, InRegion, Unique, Object, World, Access, Closed, found_region, globals_number, Environment, Awaiting, Initialise, Choose, Test, OpenBy, AliasOf, Entry, Needs, Rest, Loop, CloseRegion, CloseLexical, EndLoan, Handler, Caller, Focus, Executing, Entering, Binding, Naming, Catching, Given, Proceeding, State, Running, Ended, Dead, Wrong}
 
 -- ---- numbers in the text
 
@@ -175,3 +175,13 @@ HasNames globals (Running focus stack e w) = DeclareNow focus stack e.locals w.o
 HasNames globals (Ended ending output input) = Unit {0}
 HasNames globals (Dead output input) = Unit {0}
 HasNames globals (Wrong output input) = Unit {0}
+
+-- ---- declaring
+
+-- the local that the next step declares
+abbrev pub declared_by : Focus → List Entry → Option ℕ
+declared_by (Naming number operand items) stack = Some number
+declared_by (Binding number (t ∷ types) arguments body) stack = Some number
+declared_by (Given value) (Needs (Initialise number kind items) ∷ stack) = Some number
+declared_by Proceeding (Rest (MoreItems (Declare number t None) items) ∷ stack) = Some number
+declared_by focus stack = None
