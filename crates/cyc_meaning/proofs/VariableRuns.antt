@@ -9,10 +9,10 @@ use Rattle.cyc_meaning.specs.State.{Region, Object, found_region, World, first_w
 use Rattle.cyc_meaning.specs.Nesting.{ends_of, IsFound, AreBelow, IsNested, Nests}
 use Rattle.cyc_meaning.specs.Step.{wrong, called, step, stepped}
 use Rattle.cyc_meaning.specs.Run.{start, steps, run, limited_step}
-use Rattle.cyc_meaning.specs.Variables.{FunctionsRise, LivesIn, IsShut, Locals, waiting, IsLocal, IsOfCall, AreLow, LiveInBlocks, WaitInBlocks, AreNamed, HasNames, declared_by}
+use Rattle.cyc_meaning.specs.Variables.{FunctionsRise, LivesIn, IsShut, Locals, waiting, IsLocal, IsOfCall, AreLow, LiveInBlocks, WaitInBlocks, HaveNames, AreDistinct, AreNamed, HasNames, declared_by}
 use Rattle.cyc_meaning.proofs.NestingLemmas.{globals_found}
 use Rattle.cyc_meaning.proofs.RunLaws.{limited_either}
-use Rattle.cyc_meaning.proofs.Nested.{nests_step, nests_start}
+use Rattle.cyc_meaning.proofs.Nested.{nests_step, nests_start, nests_run}
 use Rattle.cyc_meaning.proofs.VariableLemmas.{lives_once, lives_below}
 use Rattle.cyc_meaning.proofs.VariableChanges.{local_here}
 use Rattle.cyc_meaning.proofs.VariableDeclared.{former_left}
@@ -193,3 +193,23 @@ pub former_shut : (globals : ℕ) (focus : Focus) (stack : List Entry) (e : Envi
     → (number object region : ℕ) → declared_by focus stack ≡ Some number → e.locals number ≡ Some object → LivesIn w.objects object region → IsShut w.regions region
 former_shut globals focus stack e w h number object region is local lives =
     former_left number stack e.locals w.objects w.regions (next_low globals focus stack e w h number is) h.1.1 object region local lives
+
+-- ---- in a run of a program that the rules accept
+
+module _ (program : Program) (input : List ℕ) (count : ℕ) (focus : Focus) (stack : List Entry) (e : Environment) (w : World) where
+  names_at : IsWellTypedProgram program → run program input count ≡ Running focus stack e w → HasNames (length program.globals) (Running focus stack e w)
+  names_at typed is = subst (HasNames (length program.globals)) is (names_run program typed input count)
+
+  pub named_at : IsWellTypedProgram program → run program input count ≡ Running focus stack e w → HaveNames (length program.globals) (e.locals ∷ waiting stack) w.objects w.regions
+  named_at typed is = (names_at typed is).1.3
+
+  pub distinct_at : IsWellTypedProgram program → run program input count ≡ Running focus stack e w → AreDistinct (e.locals ∷ waiting stack)
+  distinct_at typed is = (names_at typed is).1.4
+
+  pub apart_at : (call number object : ℕ) → IsWellTypedProgram program → run program input count ≡ Running focus stack e w → IsLocal (e.locals ∷ waiting stack) call number object → length program.globals ≤ object
+  apart_at call number object typed is =
+      local_is_no_global (length program.globals) focus stack e w (subst Nests is (nests_run program input count)) (names_at typed is) call number object
+
+  pub again_at : (number object region : ℕ) → IsWellTypedProgram program → run program input count ≡ Running focus stack e w → declared_by focus stack ≡ Some number → e.locals number ≡ Some object → LivesIn w.objects object region
+      → IsShut w.regions region
+  again_at number object region typed is = former_shut (length program.globals) focus stack e w (names_at typed is) number object region
