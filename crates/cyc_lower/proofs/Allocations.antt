@@ -57,7 +57,9 @@ use Rattle.cyc_lower.proofs.WideCells.{store_links, store_path, store_last, shar
 use Rattle.cyc_lower.proofs.CellWrites.{SameVariables, data_beside, cell_is_there, saves_there, shared_saved, data_saved}
 use Rattle.cyc_lower.proofs.Matched.{IsMatched, below, silently, by_places, by_one, shared_way, shared_within, place_in, known, Executes}
 use Rattle.cyc_lower.proofs.Evaluations.{IsStep, made_moved}
-use Rattle.cyc_objects.proofs.Inside.{inside-more, made-inside}
+use Rattle.cyc_objects.proofs.Inside.{made-inside}
+use Rattle.cyc_lower.proofs.Known.{known-more, row-made_there}
+use Rattle.cyc_lower.specs.Slots.{global_types}
 
 -- a sum that does not wrap
 add_is : (a b : ℕ) → a + b < 4294967296 → add_of a b ≡ a + b
@@ -205,7 +207,7 @@ module _ (source : Program) (pages calls : ℕ) where
       tables = grown;
       same_output = shared.same_output ∙ sym makes.output;
       same_input = shared.same_input ∙ sym makes.input;
-      inside = inside-more shared.tables (Placed choice.address (kinds_of cells)) shared.inside (made-inside shared.related handle cells choice free served.allowed);
+      inside = known-more (length (global_types source.globals)) shared.tables (Placed choice.address (kinds_of cells)) shared.inside (made-inside shared.related handle cells choice free served.allowed);
       same_pages = makes.pages choice ∙ shared.same_pages;
       related = related_made;
       globals = shared.globals;
@@ -233,8 +235,8 @@ module _ (source : Program) (pages calls : ℕ) where
           facts.1,
         )
       where
-        beside : SameVariables shared.tables w.objects new.objects
-        beside o row = ap (λ l. contents l o) makes.joined ∙ contents_made w.objects (record { owner = owner; cells = cells }) o (omega (arith, slice_get-below shared.tables.rows o Variable row, shared.related.rows))
+        beside : SameVariables shared.tables (global_types source.globals) w.objects new.objects
+        beside o row = ap (λ l. contents l o) makes.joined ∙ contents_made w.objects (record { owner = owner; cells = cells }) o (row-made_there shared.related (global_types source.globals) o row)
 
     holds_made : Holds grown after.active.slots (floor source c.active.function k) (held k)
     holds_made =
@@ -419,13 +421,13 @@ module _ (source : Program) (pages calls : ℕ) where
         let word = slots slot in
         let is_word : IsWord tables cell.cell.kind u.value word = subst (λ i. IsWord tables i u.value word) (sym same) (one_word tables u.kind u.value slots slot one is_u) in
         let (store, behind) = subst (λ n. StoresAt (code_of source g) (bounds_at source g) (types_on source g k) n address (4 * words_of_kinds done) slot c.active.next m) (let e : words_held us + words_of_kind u.kind ≡ suc (words_held us) = omega (arith, one) in e) stores in
-        let later = shared_saved source pages calls k e w c shared object (length done) place word cell u.value found points is_word (words.0 slot) in
+        let later = shared_saved source pages calls k e w c shared facts object (length done) place word cell u.value found points is_word (words.0 slot) in
         let wider : 4 * words_of_kinds (done ++ u.kind ∷ []) ≡ 4 * words_of_kinds done + 4 = omega (arith, words_joined done (u.kind ∷ []), one) in
         by_one source pages calls (does ∙ gives) shared store
         (λ choice. subst (Matches source pages calls (Running next_write k e (written w object (length done) cell u.value)))
-        (sym (saves_there source pages calls k e w c shared object (length done) place word cell u.value found points is_word (words.0 slot))) (
+        (sym (saves_there source pages calls k e w c shared facts object (length done) place word cell u.value found points is_word (words.0 slot))) (
           later,
-          data_saved source pages calls k e w c shared object (length done) place word cell u.value found points is_word (words.0 slot) facts,
+          data_saved source pages calls k e w c shared facts object (length done) place word cell u.value found points is_word (words.0 slot),
           (
             object,
             done ++ u.kind ∷ [],
@@ -473,13 +475,13 @@ module _ (source : Program) (pages calls : ℕ) where
         let third : add_of (slots address) (bytes + 4 + 4) ≡ place + 4 * 2 = ap (add_of (slots address)) (let e : bytes + 4 + 4 ≡ bytes + 4 * 2 = omega arith in e) ∙ unwrapped fat 2 (omega arith) in
         let wider : 4 * words_of_kinds (done ++ u.kind ∷ []) ≡ bytes + 4 + 4 + 4 = omega (arith, words_joined done (u.kind ∷ []), three) in
         by_path source pages calls (Writing (x ∷ writes) (Some pointer)) k e w c (Running next_write k e (written w object (length done) cell u.value))
-        (store_links source pages calls k e w c shared object (length done) place address bytes slot cell u.value found points wide fat_is words first second third)
+        (store_links source pages calls k e w c shared facts object (length done) place address bytes slot cell u.value found points wide fat_is words first second third)
         (instructions.Store (operands.Slot address) (bytes + 4 + 4) (operands.Slot (suc (suc slot)))) (does ∙ gives) shared
-        (store_path source pages calls k e w c shared object (length done) place address bytes slot cell u.value found points wide fat_is words first second third at_first at_second) at_third
+        (store_path source pages calls k e w c shared facts object (length done) place address bytes slot cell u.value found points wide fat_is words first second third at_first at_second) at_third
         (λ choice. subst (Matches source pages calls (Running next_write k e (written w object (length done) cell u.value)))
-        (sym (store_last source pages calls k e w c shared object (length done) place address bytes slot cell u.value found points wide fat_is words first second third choice)) (
-          shared_stored source pages calls k e w c shared object (length done) place address bytes slot cell u.value found points wide fat_is words first second third,
-          data_stored source pages calls k e w c shared object (length done) place address bytes slot cell u.value found points wide fat_is words first second third facts,
+        (sym (store_last source pages calls k e w c shared facts object (length done) place address bytes slot cell u.value found points wide fat_is words first second third choice)) (
+          shared_stored source pages calls k e w c shared facts object (length done) place address bytes slot cell u.value found points wide fat_is words first second third,
+          data_stored source pages calls k e w c shared facts object (length done) place address bytes slot cell u.value found points wide fat_is words first second third,
           (
             object,
             done ++ u.kind ∷ [],

@@ -48,11 +48,11 @@ use Rattle.cyc_objects.proofs.NumberLemmas.{slice_get-below}
 use Rattle.cyc_objects.proofs.Pointers.{pointer-word}
 use Rattle.cyc_objects.proofs.Cells.{element-found}
 use Rattle.cyc_objects.proofs.Making.{blanks-blank, part-made}
-use Rattle.cyc_lower.specs.Lowering.{is_in, most_elements, scale_of, lower_program}
+use Rattle.cyc_lower.specs.Lowering.{is_in, most_elements, scale_of, lower_program, scopes_of}
 use Rattle.cyc_lower.proofs.Widths.{Outside, same_kind, wide_kind}
 use Rattle.cyc_lower.proofs.Stands.{CopyBy, BegunAt, ElementsAt, StoresAt}
 use Rattle.cyc_lower.proofs.Handles.{has_handle}
-use Rattle.cyc_lower.proofs.Relation.{IsWord, IsIn, height, Holds, held, callers, counters_of, arrays_in, IsHandleOf, homes, silent, DataIn, SharedAt, in_temporary, into_slot, LandsMade, ValueStack, Related, Matches, code_of, bounds_at, types_on, base_of, floor, top, contents}
+use Rattle.cyc_lower.proofs.Relation.{IsWord, IsIn, height, Holds, held, callers, counters_of, arrays_in, IsHandleOf, homes, silent, DataIn, SharedAt, in_temporary, into_slot, LandsMade, ValueStack, Related, Matches, code_of, bounds_at, types_on, base_of, floor, top, contents, IsTold, scopes_in}
 use Rattle.cyc_lower.proofs.Data.{Is-same, height-least, one_word, Holds-same, Holds-grows, data_written, data_grows, variables_grow, contents_made}
 use Rattle.cyc_lower.proofs.Accesses.{IsWell, is_fitting}
 use Rattle.cyc_lower.proofs.Counters.{counters-many, counter_same, counted_before}
@@ -61,7 +61,7 @@ use Rattle.cyc_lower.proofs.PlaceWords.{add_is, shifted_is, multiplied_is, stays
 use Rattle.cyc_lower.proofs.Paths.{Link, IsQuiet, is_quiet, end_of, IsPath, end_joined, path_joined, by_path}
 use Rattle.cyc_lower.proofs.WideCells.{stored, all_links, all_path, shared_stored, data_stored}
 use Rattle.cyc_lower.proofs.Elements.{scaled}
-use Rattle.cyc_lower.proofs.CellWrites.{SameVariables, data_beside, cell_is_there, saves_there, saved_there, shared_saved, data_saved}
+use Rattle.cyc_lower.proofs.CellWrites.{SameVariables, data_beside, cell_is_there, with_word, saves_there, demand_there, shared_saved, data_saved}
 use Rattle.cyc_lower.proofs.Levels.{lands_arrays}
 use Rattle.cyc_lower.proofs.Matched.{IsMatched, above, below, Executes, executes, by_places, by_one, by_two, by_three, shared_way, shared_within, output_way, place_in, apart, known}
 use Rattle.cyc_lower.proofs.Evaluations.{IsStep, landed_made, made_moved}
@@ -69,8 +69,10 @@ use Rattle.cyc_lower.proofs.Handling.{raised}
 use Rattle.cyc_lower.proofs.Allocations.{Makes, made_for}
 use Rattle.cyc_lower.proofs.Asking.{past_pages, by_asking, by_full}
 use Rattle.cyc_words.proofs.WordLemmas.{IsWord-add_of, IsWord-mul_of, IsWord-shl_of}
-use Rattle.cyc_objects.proofs.Inside.{inside-more, made-inside}
+use Rattle.cyc_objects.proofs.Inside.{made-inside}
+use Rattle.cyc_lower.proofs.Known.{known-more, row-made_there}
 use Rattle.cyc_lower.proofs.StoredWords.{with_saved}
+use Rattle.cyc_lower.specs.Slots.{global_types}
 
 -- ---- words
 
@@ -320,7 +322,7 @@ module _ (source : Program) (pages calls : ℕ) where
       tables = grown;
       same_output = shared.same_output ∙ sym makes.output;
       same_input = shared.same_input ∙ sym makes.input;
-      inside = inside-more shared.tables (Placed choice.address (kinds_of cells)) shared.inside (made-inside shared.related handle cells choice free served.allowed);
+      inside = known-more (length (global_types source.globals)) shared.tables (Placed choice.address (kinds_of cells)) shared.inside (made-inside shared.related handle cells choice free served.allowed);
       same_pages = makes.pages choice ∙ shared.same_pages;
       related = makes.related choice free served.allowed;
       globals = shared.globals;
@@ -348,8 +350,8 @@ module _ (source : Program) (pages calls : ℕ) where
           facts.1,
         )
       where
-        beside : SameVariables shared.tables w.objects new.objects
-        beside o row = ap (λ l. contents l o) makes.joined ∙ contents_made w.objects (record { owner = owner; cells = cells }) o (omega (arith, slice_get-below shared.tables.rows o Variable row, shared.related.rows))
+        beside : SameVariables shared.tables (global_types source.globals) w.objects new.objects
+        beside o row = ap (λ l. contents l o) makes.joined ∙ contents_made w.objects (record { owner = owner; cells = cells }) o (row-made_there shared.related (global_types source.globals) o row)
 
     holds_made : Holds grown after.active.slots (floor source c.active.function k) (held k)
     holds_made =
@@ -619,25 +621,26 @@ module _ (source : Program) (pages calls : ℕ) where
     facts_there : DataIn source shared.tables s2 k e w c2
     facts_there = data_written source shared.tables g w.objects e.locals k slots s2 c.active.handlers c.globals c.frames z 1 (omega (arith, height-least (floor source g k) (held k))) outside_both facts
 
-    -- the store changes, and the code goes on at this place
-    abbrev reached : StoreState → (m : ℕ) → Configuration
-    reached store m = record c2 { store = store; active = record c2.active { next = m } }
+    -- the store changes, or the globals do, and the code goes on at this place
+    abbrev reached : StoreState → (globals : Words) → (m : ℕ) → Configuration
+    reached store globals m = record c2 { store = store; globals = globals; active = record c2.active { next = m } }
 
     -- The words of the element come to its cell on a path, and behind it the index goes to the next one.
-    goes_on : (m : ℕ) (store : StoreState) (links : List Link) → end_of c2 links ≡ reached store m → IsPath source c2 links
+    goes_on : (m : ℕ) (store : StoreState) (globals : Words) (links : List Link) → end_of c2 links ≡ reached store globals m → IsPath source c2 links
         → At (code_of source g) m (instructions.Binary plain_binary.Add (free + 2) (operands.Slot (free + 2)) (operands.Word 1)) → At (code_of source g) (m + 1) (instructions.Jump h)
-        → objects.Related shared.tables (silent new) store → store.pages ≡ pages → demand store ≤ pages → DataIn source shared.tables s2 k e new (reached store m)
+        → objects.Related shared.tables (silent new) store → store.pages ≡ pages → demand store ≤ pages → IsTold (scopes_of source) globals (scopes_in k)
+        → DataIn source shared.tables s2 k e new (reached store globals m)
         → IsMatched source pages calls (Running (Given v) (entry ∷ k) e w) (plain.Running c)
-    goes_on m store links ends path count_up jump related same_pages few_pages facts_later =
+    goes_on m store globals links ends path count_up jump related same_pages few_pages told facts_later =
         let (branch, before, at_element, (p, scale, sum, stores, next_up, next_jump, end), restart, copy) = elements in
         let s3 = put s2 (free + 2) (add_of (s2 (free + 2)) 1) in
-        let c3 = reached store m in
+        let c3 = reached store globals m in
         let c4 = advanced (with_slots c3 s3) in
         let next = Running (Repeating object count (suc index) level wanted element) k e new in
         let up : (x : ℕ) → Outside (free + 2) 1 x → s3 x ≡ s2 x = λ x out. outside_one s2 (free + 2) x (add_of (s2 (free + 2)) 1) out in
         let index_is : s3 (free + 2) ≡ suc index
         = put-same s2 (free + 2) (add_of (s2 (free + 2)) 1) ∙ ap (λ n. add_of n 1) (early (free + 2) (omega arith) ∙ now) ∙ add_is index 1 (omega (arith, inside, elements_few wanted count few, most_is wanted)) ∙ one_more index in
-        let later : SharedAt source pages calls k e new (reached store m)
+        let later : SharedAt source pages calls k e new (reached store globals m)
         = record {
           tables = shared.tables;
           same_output = shared.same_output;
@@ -649,11 +652,11 @@ module _ (source : Program) (pages calls : ℕ) where
           variables = shared.variables;
           few_pages = few_pages;
           fits = shared.fits;
-          counters = shared.counters;
+          counters = (shared.counters.0, told);
         } in
         let matches : Matches source pages calls next (plain.Running (at c4 h)) = (
           later,
-          data_written source shared.tables g new.objects e.locals k s2 s3 c.active.handlers c.globals c.frames (free + 2) 1 (omega (arith, height-least (floor source g k) (held k))) up facts_later,
+          data_written source shared.tables g new.objects e.locals k s2 s3 c.active.handlers globals c.frames (free + 2) 1 (omega (arith, height-least (floor source g k) (held k))) up facts_later,
           (
             d,
             c.active.next,
@@ -708,20 +711,27 @@ module _ (source : Program) (pages calls : ℕ) where
         = subst (λ i. IsWord shared.tables i v.value word) (fits ∙ sym same)
         (subst (IsWord shared.tables v.kind v.value) (sym word_is) (one_word shared.tables v.kind v.value slots (free + 3) (ap words_of_kind fits ∙ one) is)) in
         let machine : IsMachineWord word = subst IsMachineWord (sym word_is) (words.0 (free + 3)) in
-        let kept : SharedAt source pages calls k e new (advanced (with_saved c2 address word)) = shared_saved source pages calls k e w c2 shared object index address word cell v.value found there value machine in
-        let saves_it = saves_there source pages calls k e w c2 shared object index address word cell v.value found there value machine in
-        goes_on m (saved c2.store address word) (record { instruction = instructions.Store (operands.Slot z) 0 (operands.Slot (free + 3)); behind = advanced (with_saved c2 address word) } ∷ [])
-        (ap (reached (saved c2.store address word)) last)
-        (store, (λ choice. saves_it), omega arith, record { output = refl; demand = ap demand (saved_there source pages calls k e w c2 shared object index address word cell v.value found there value machine); frames = refl }, tt)
-        count_up jump (shared_saved source pages calls k e w c2 shared object index address word cell v.value found there value machine).related kept.same_pages kept.few_pages
-        (data_saved source pages calls k e w c2 shared object index address word cell v.value found there value machine facts_there)
+        let after = with_word source pages calls k e w c2 shared facts_there object index address word cell v.value found there value machine in
+        let kept : SharedAt source pages calls k e new (advanced after) = shared_saved source pages calls k e w c2 shared facts_there object index address word cell v.value found there value machine in
+        let saves_it = saves_there source pages calls k e w c2 shared facts_there object index address word cell v.value found there value machine in
+        goes_on m after.store after.globals (record { instruction = instructions.Store (operands.Slot z) 0 (operands.Slot (free + 3)); behind = advanced after } ∷ [])
+        (ap (reached after.store after.globals) last)
+        (
+          store,
+          (λ choice. saves_it),
+          omega arith,
+          record { output = refl; demand = demand_there source pages calls k e w c2 shared facts_there object index address word cell v.value found there value machine; frames = refl },
+          tt,
+        )
+        count_up jump (shared_saved source pages calls k e w c2 shared facts_there object index address word cell v.value found there value machine).related kept.same_pages kept.few_pages kept.counters.1
+        (data_saved source pages calls k e w c2 shared facts_there object index address word cell v.value found there value machine)
 
     -- slots hold words also with the address of the cell
     words_there : plain.HoldsWords (plain.Running c2)
-    words_there = (with_word s1 (add_of (s1 free) (s1 z)) (with_word slots bytes words.0 (shifted_word wanted (slots (free + 2)))) (IsWord-add_of (s1 free) (s1 z)), words.1, words.2, words.3, words.4)
+    words_there = (with_slot s1 (add_of (s1 free) (s1 z)) (with_slot slots bytes words.0 (shifted_word wanted (slots (free + 2)))) (IsWord-add_of (s1 free) (s1 z)), words.1, words.2, words.3, words.4)
       where
-        with_word : (slots : Words) (x : ℕ) → ((m : ℕ) → IsMachineWord (slots m)) → IsMachineWord x → (m : ℕ) → IsMachineWord (put slots z x m)
-        with_word slots x are is m = elim (cases_eq m z) [
+        with_slot : (slots : Words) (x : ℕ) → ((m : ℕ) → IsMachineWord (slots m)) → IsMachineWord x → (m : ℕ) → IsMachineWord (put slots z x m)
+        with_slot slots x are is m = elim (cases_eq m z) [
           | inl same ↦ subst (λ n. IsMachineWord (put slots z x n)) (sym same) (subst IsMachineWord (sym (put-same slots z x)) is)
           | inr other ↦ subst IsMachineWord (sym (put-other slots z m x other)) (are m)
         ]
@@ -740,11 +750,12 @@ module _ (source : Program) (pages calls : ℕ) where
         let first = behind 0 (omega arith) in
         let second = behind 1 (omega arith) in
         let third = behind 2 (omega arith) in
-        let after = stored source pages calls k e w c2 shared object index (s2 z) z 0 (free + 3) cell v.value found here wide fat_is words_there first second third in
-        goes_on m after.store (all_links source pages calls k e w c2 shared object index (s2 z) z 0 (free + 3) cell v.value found here wide fat_is words_there first second third) (ap (reached after.store) last)
-        (all_path source pages calls k e w c2 shared object index (s2 z) z 0 (free + 3) cell v.value found here wide fat_is words_there first second third at_first at_second at_third)
-        count_up jump (shared_stored source pages calls k e w c2 shared object index (s2 z) z 0 (free + 3) cell v.value found here wide fat_is words_there first second third).related shared.same_pages shared.few_pages
-        (data_stored source pages calls k e w c2 shared object index (s2 z) z 0 (free + 3) cell v.value found here wide fat_is words_there first second third facts_there)
+        let after = stored source pages calls k e w c2 shared facts_there object index (s2 z) z 0 (free + 3) cell v.value found here wide fat_is words_there first second third in
+        let kept : SharedAt source pages calls k e new after = shared_stored source pages calls k e w c2 shared facts_there object index (s2 z) z 0 (free + 3) cell v.value found here wide fat_is words_there first second third in
+        goes_on m after.store after.globals (all_links source pages calls k e w c2 shared facts_there object index (s2 z) z 0 (free + 3) cell v.value found here wide fat_is words_there first second third) (ap (reached after.store after.globals) last)
+        (all_path source pages calls k e w c2 shared facts_there object index (s2 z) z 0 (free + 3) cell v.value found here wide fat_is words_there first second third at_first at_second at_third)
+        count_up jump (shared_stored source pages calls k e w c2 shared facts_there object index (s2 z) z 0 (free + 3) cell v.value found here wide fat_is words_there first second third).related kept.same_pages kept.few_pages kept.counters.1
+        (data_stored source pages calls k e w c2 shared facts_there object index (s2 z) z 0 (free + 3) cell v.value found here wide fat_is words_there first second third)
 
     fills : (narrow : Bool) → (own == 1) ≡ narrow → Is shared.tables v.kind v.value slots (free + 3) → IsMatched source pages calls (Running (Given v) (entry ∷ k) e w) (plain.Running c)
     fills true narrow is = fills_word (eqb-true own 1 narrow) is

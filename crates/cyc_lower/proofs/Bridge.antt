@@ -12,7 +12,7 @@ use Rattle.cyc_types.specs.declared.typed.Operator.TheVariants as operators
 use Rattle.cyc_types.specs.declared.typed.PointerOperator.{PointerOperator}
 use Rattle.cyc_types.specs.declared.typed.PointerOperator.TheVariants as pointers
 use Rattle.cyc_types.specs.Types.{Ty, words_of}
-use Rattle.cyc_types.specs.TypedTrees.{Array, Counter, Load, New, OnHeap, AsUnique, ByHandle, Initial, Plain, Fields, Dereference, Target, Lvalue, Local, Global, Expression, Number, NullPointer, Copy, Call, Unary, Binary, Assign, Converted, Convert, Arguments, NoArguments, MoreArguments, Operations, NoOperations, ThenCompute, ThenTest, ThenPointer, Statement, Block, Empty, Evaluate, If, While, Return, Break, Continue, Items, NoItems, MoreItems, Execute, Declare, Signature, StructType, Function, Program, Move, Peek, ThenPointerPeek, type_of, AddressOfCell, Store, Member, type_of_place, FreeUnique, Side, VariableSide, CellSide, Swap, Throw, Try, Clauses, NoClauses, Default, Case, GlobalVariable, NumberOfElements, Element, FreeKey, HeapRegion, DeclareRegion, OpenRegion, DeclareAlias, DeclareKey}
+use Rattle.cyc_types.specs.TypedTrees.{Array, Counter, Load, New, OnHeap, AsUnique, ByHandle, Initial, Plain, Fields, Dereference, Target, Lvalue, Local, Global, Expression, Number, NullPointer, Copy, Call, Unary, Binary, Assign, Converted, Convert, Arguments, NoArguments, MoreArguments, Operations, NoOperations, ThenCompute, ThenTest, ThenPointer, Statement, Block, Empty, Evaluate, If, While, Return, Break, Continue, Items, NoItems, MoreItems, Execute, Declare, Signature, StructType, Function, Program, Move, Peek, ThenPointerPeek, type_of, AddressOfCell, Store, Member, type_of_place, FreeUnique, Side, VariableSide, CellSide, Swap, Throw, Try, Clauses, NoClauses, Default, Case, GlobalVariable, NumberOfElements, Element, FreeKey, HeapRegion, DeclareRegion, OpenRegion, DeclareAlias, DeclareKey, AddressOf}
 use Rattle.cyc_types.specs.Numbered.{Numbering, argument_count, numbering_of, signatures_of}
 use Rattle.cyc_plain.specs.declared.instruction.UnaryOperator.TheVariants as plain_unary
 use Rattle.cyc_plain.specs.declared.instruction.BinaryOperator.TheVariants as plain_binary
@@ -463,6 +463,9 @@ module _ (code : List Instruction) (b : Numbering) where
           place_stands types raised x t p r numbered refl (has_front code p front back has),
           loaded_stands code b types raised (words_of (type_of_place x) == 1) o (place_offset (starts_of types) x) d t r q (cut p q front back end) (has_back code p front back has),
         )
+    expression_stands types raised (AddressOf (Local w n) ty) d t p q (few, (v, there, words)) end (here, none) =
+        (v, there, subst (λ (count : ℕ). At code p (instructions.AddressOf d (slot_of (starts_of types) n) count)) words here, end)
+    expression_stands types raised (AddressOf (Global n) ty) d t p q (v, there, words) end (here, none) = (v, there, here, end)
     expression_stands types raised (AddressOfCell x ty) d t p q numbered end has =
         let o = place_operand (starts_of types) x t in
         let front = place_code (starts_of types) x p t in
@@ -526,7 +529,6 @@ module _ (code : List Instruction) (b : Numbering) where
         let m = p + length front in
         let (here, none) = has_back code p front _ has in
         (o, m, operand_by code b types raised (operand_of (starts_of types) a) _ inner (value_slot (starts_of types) a t) p m refl (has_front code p front _ has) (λ e h. expression_stands types raised a (value_slot (starts_of types) a t) t p m numbered e h), here, cut p q front _ end)
-    expression_stands types raised a d t p q numbered end has = absurd numbered
 
     place_stands : (types : Types) (raised : BlocksStand code types.raises) → (x : Dereference) (t p q : ℕ) → FitsCell b types x → p + length (place_code (starts_of types) x p t) ≡ q → HasAt code p (place_code (starts_of types) x p t)
         → PlaceAt code b types x (place_operand (starts_of types) x t) (place_offset (starts_of types) x) t p q

@@ -1,8 +1,9 @@
--- Objects that are no variables are made, and their cells are written: what is said of variables stays, and what is shared does.
-use Rattle.std.proofs.Common.{◌≡◌, ℕ, ◌+◌, ◌*◌, ◌≤◌, List, [], ◌∷◌, length, set, Option, Some, slice_get, refl, sym, ap, subst, ◌∙◌, arith, length-set}
+-- Objects that are no variables are made, and cells are written: what is said of variables stays, or follows, and what is shared does.
+use Rattle.std.proofs.Common.{◌≡◌, ℕ, ◌+◌, ◌*◌, ◌≤◌, ◌<◌, List, [], ◌∷◌, length, set, Option, Some, slice_get, refl, sym, ap, subst, ◌∙◌, arith, length-set, inl, inr}
 use Rattle.std.specs.Prelude.{if◌then◌else◌}
 use Rattle.cyc_words.specs.Word as words
-use Rattle.cyc_lower.specs.Slots.{Types}
+use Rattle.cyc_lower.specs.Slots.{Types, global_types}
+use Rattle.cyc_types.specs.Types.{Ty}
 use Rattle.cyc_types.specs.TypedTrees.{Program}
 use Rattle.cyc_store.specs.State.{Memory, put, StoreState, demand, saved}
 use Rattle.cyc_store.proofs.LookupLemmas.{when_equal, when_other}
@@ -10,68 +11,78 @@ use Rattle.cyc_store.proofs.WordLemmas.{words-put}
 use Rattle.cyc_plain.specs.State as plain
 use Rattle.cyc_plain.specs.State.{Words, Frame, Configuration}
 use Rattle.cyc_plain.specs.Step.{advanced, saves}
-use Rattle.cyc_meaning.specs.Values.{Value, Operand as Kinded, is_kind}
+use Rattle.cyc_plain.proofs.SlotLaws.{put-same}
+use Rattle.cyc_meaning.specs.Values.{Value, Operand as Kinded, is_kind, words_of_kind}
 use Rattle.cyc_meaning.specs.State.{Object, World, Access, Found, Closed, Missing, Located, cell_at, written, Environment, Entry, Focus, Running}
 use Rattle.cyc_meaning.specs.Step.{wrong, stored}
-use Rattle.cyc_objects.specs.Tables.{Variable, Tables}
+use Rattle.cyc_meaning.proofs.WorldLaws.{cell_found}
+use Rattle.cyc_objects.specs.Tables.{Tables}
 use Rattle.cyc_objects.specs.Words.{words_from, Points}
 use Rattle.cyc_objects.specs.Related as objects
-use Rattle.cyc_objects.proofs.Cells.{not-placed, related-written, saved-is}
-use Rattle.cyc_lower.proofs.Widths.{same_kind, kind_positive}
-use Rattle.cyc_lower.proofs.Relation.{IsWord, content_of, contents, Waiting, LocalsHold, GlobalsHold, FramesHold, DataAt, DataIn, SharedAt, callers, silent, types_at}
-use Rattle.cyc_lower.proofs.Data.{IsWord-is, get_set_other, locals_raised}
-use Rattle.cyc_lower.proofs.Accesses.{IsWell, is_fitting}
+use Rattle.cyc_objects.proofs.Cells.{related-written, saved-is}
+use Rattle.cyc_objects.proofs.Variables.{assigned-away}
+use Rattle.cyc_lower.proofs.Widths.{same_kind, kind_positive, words_in, HasGlobal, Outside}
+use Rattle.cyc_lower.proofs.Slots.{global-room}
+use Rattle.cyc_lower.proofs.Moves.{put_elsewhere}
+use Rattle.cyc_lower.proofs.Known.{IsVariableRow, row-away, found-known, global-first, global_kind, first_word}
+use Rattle.cyc_lower.proofs.Relation.{IsWord, content_of, contents, Waiting, LocalsHold, GlobalsHold, FramesHold, DataAt, DataIn, SharedAt, callers, silent, types_at, IsTold, scopes_in}
+use Rattle.cyc_lower.proofs.Data.{IsWord-is, get_set_other, locals_raised, told_beside, data_assigned_global}
+use Rattle.cyc_lower.proofs.Accesses.{IsWell, is_fitting, written_here, written_elsewhere, written_length}
+use Rattle.cyc_lower.proofs.PlaceWords.{cell_kind}
+use Rattle.cyc_lower.proofs.CellReads.{globals_long}
 use Rattle.cyc_plain.specs.Memory.{memory_at}
 use Rattle.cyc_plain.proofs.MemoryLaws.{store_word, stored-word}
-use Rattle.cyc_objects.proofs.Inside.{found-alive}
-use Rattle.cyc_lower.specs.Lowering.{lower_program}
-use Rattle.cyc_lower.proofs.StoredWords.{cell-stored, with_saved, saves-stored}
+use Rattle.cyc_lower.specs.Lowering.{lower_program, scopes_of}
+use Rattle.cyc_lower.proofs.StoredWords.{cell-stored, saves-stored, saves-global}
 
 -- ---- variables
 
-module _ (t : Tables) where
+module _ (t : Tables) (types : List Ty) where
   -- variables hold the same
   abbrev pub SameVariables : (objects others : List Object) → Type 0
-  SameVariables objects others = (o : ℕ) → slice_get t.rows o ≡ Some Variable → contents others o ≡ contents objects o
+  SameVariables objects others = (o : ℕ) → IsVariableRow t types o → contents others o ≡ contents objects o
 
-  locals_beside : (types : Types) (objects others : List Object) (locals : ℕ → Option ℕ) (low high : ℕ) (slots : Words) → SameVariables objects others
+module _ (t : Tables) (source : Program) where
+  abbrev Same : (objects others : List Object) → Type 0
+  Same objects others = SameVariables t (global_types source.globals) objects others
+
+  locals_beside : (types : Types) (objects others : List Object) (locals : ℕ → Option ℕ) (low high : ℕ) (slots : Words) → Same objects others
       → LocalsHold t types objects locals low high slots → LocalsHold t types others locals low high slots
   locals_beside types objects others locals low high slots same hold = record {
     within = hold.within;
     apart = hold.apart;
     rows = hold.rows;
-    holds = λ number object v at has. hold.holds number object v at (sym (same object (hold.rows number object at)) ∙ has);
+    holds = λ number object v at has. hold.holds number object v at (sym (same object (inl (hold.rows number object at))) ∙ has);
   }
 
-  module _ (source : Program) where
-    frames_beside : (objects others : List Object) (high : ℕ) (frames : List Frame) (outer : List Waiting) → SameVariables objects others
-        → FramesHold source t objects high frames outer → FramesHold source t others high frames outer
-    frames_beside objects others high [] [] same hold = hold
-    frames_beside objects others high [] (x ∷ outer) same hold = absurd hold
-    frames_beside objects others high (f ∷ frames) [] same hold = absurd hold
-    frames_beside objects others high (f ∷ frames) (x ∷ outer) same (low, below, (hold, values), rest) = (
-      low,
-      below,
-      (locals_beside (types_at source f.caller.function) objects others x.locals low high f.caller.slots same hold, values),
-      frames_beside objects others low frames outer same rest,
-    )
+  frames_beside : (objects others : List Object) (high : ℕ) (frames : List Frame) (outer : List Waiting) → Same objects others
+      → FramesHold source t objects high frames outer → FramesHold source t others high frames outer
+  frames_beside objects others high [] [] same hold = hold
+  frames_beside objects others high [] (x ∷ outer) same hold = absurd hold
+  frames_beside objects others high (f ∷ frames) [] same hold = absurd hold
+  frames_beside objects others high (f ∷ frames) (x ∷ outer) same (low, below, (hold, values), rest) = (
+    low,
+    below,
+    (locals_beside (types_at source f.caller.function) objects others x.locals low high f.caller.slots same hold, values),
+    frames_beside objects others low frames outer same rest,
+  )
 
-    globals_beside : (g : ℕ) (objects others : List Object) (globals : Words) → SameVariables objects others → GlobalsHold t (types_at source g) objects globals
-        → GlobalsHold t (types_at source g) others globals
-    globals_beside g objects others globals same hold number below =
-        let (row, is) = hold number below in
-        (row, λ v has. is v (sym (same number row) ∙ has))
+  globals_beside : (g : ℕ) (objects others : List Object) (globals : Words) → Same objects others → GlobalsHold t (types_at source g) objects globals
+      → GlobalsHold t (types_at source g) others globals
+  globals_beside g objects others globals same hold number below =
+      let (row, is) = hold number below in
+      (row, λ v has. is v (sym (same number (inr row)) ∙ has))
 
-    -- all data stay, with as many objects or more
-    pub data_beside : (g : ℕ) (objects others : List Object) (locals : ℕ → Option ℕ) (outer : List Waiting) (slots globals : Words) (frames : List Frame) → length objects ≤ length others
-        → SameVariables objects others → DataAt source t g objects locals outer slots globals frames → DataAt source t g others locals outer slots globals frames
-    data_beside g objects others locals outer slots globals frames many same (low, below, hold, waiting, words) = (
-      low,
-      omega (arith, below, many),
-      locals_raised t (types_at source g) others locals low (length objects) (length others) slots many (locals_beside (types_at source g) objects others locals low (length objects) slots same hold),
-      frames_beside objects others low frames outer same waiting,
-      globals_beside g objects others globals same words,
-    )
+  -- all data stay, with as many objects or more
+  pub data_beside : (g : ℕ) (objects others : List Object) (locals : ℕ → Option ℕ) (outer : List Waiting) (slots globals : Words) (frames : List Frame) → length objects ≤ length others
+      → Same objects others → DataAt source t g objects locals outer slots globals frames → DataAt source t g others locals outer slots globals frames
+  data_beside g objects others locals outer slots globals frames many same (low, below, hold, waiting, words) = (
+    low,
+    omega (arith, below, many),
+    locals_raised t (types_at source g) others locals low (length objects) (length others) slots many (locals_beside (types_at source g) objects others locals low (length objects) slots same hold),
+    frames_beside objects others low frames outer same waiting,
+    globals_beside g objects others globals same words,
+  )
 
 -- ---- a cell is written
 
@@ -85,62 +96,116 @@ cell_is_there (Found at) number offset v focus k e w well =
 cell_is_there Closed number offset v focus k e w well = absurd (well refl)
 cell_is_there Missing number offset v focus k e w well = absurd (well refl)
 
--- The word of a cell is written that tells its value: what is shared stays, with the same tables.
+-- The word of a cell is written that tells its value. The cell is one of the store's, or a global's: the store changes, or the globals do.
 module _ (source : Program) (pages calls : ℕ) (k : List Entry) (e : Environment) (w : World) (c : Configuration) (shared : SharedAt source pages calls k e w c)
-    (object offset address word : ℕ) (at : Located) (v : Value) (found : cell_at w object offset ≡ Found at) (points : Points shared.tables object offset address)
-    (is : IsWord shared.tables at.cell.kind v word) (fits : words.IsWord word) where
-  there : store_word c.store address ≡ Some (c.store.memory address)
-  there =
-      let (h, alive, cell) = found-alive shared.related shared.inside object offset address at found points in
-      subst (λ n. store_word c.store n ≡ Some (c.store.memory n)) (let e : address + 4 * 0 ≡ address = omega arith in e)
-      (cell-stored shared.related alive points cell 0 (kind_positive at.cell.kind))
+    (facts : DataIn source shared.tables c.active.slots k e w c) (object offset address word : ℕ) (at : Located) (v : Value) (found : cell_at w object offset ≡ Found at)
+    (points : Points shared.tables object offset address) (is : IsWord shared.tables at.cell.kind v word) (fits : words.IsWord word) where
+  abbrev pub next : World
+  next = written w object offset at v
+
+  abbrev now : Object
+  now = record at.object { cells = set at.object.cells offset (record at.cell { content = Some v }) }
+
+  objects_many : length next.objects ≡ length w.objects
+  objects_many = length-set w.objects object now
+
+  -- what the instruction leads to, and what stays
+  pub record IsSaved : Type 0 where
+    pub store : StoreState
+    pub globals : Words
+    pub goes : saves (lower_program source) c address word (memory_at (lower_program source) c address) ≡ plain.Running (advanced (record c { store = store; globals = globals }))
+    pub related : objects.Related shared.tables (silent next) store
+    pub same_pages : store.pages ≡ c.store.pages
+    pub same_demand : demand store ≡ demand c.store
+    pub told : IsTold (scopes_of source) globals (scopes_in k)
+    pub stays : DataAt source shared.tables c.active.function next.objects e.locals (callers k) c.active.slots globals c.frames
+
+  in_store : (h : ℕ) → objects.Alive shared.tables (silent w) object h at.object → slice_get at.object.cells offset ≡ Some at.cell → IsSaved
+  in_store h alive cell =
+      let zero_far : address + 4 * 0 ≡ address = omega arith in
+      let there : store_word c.store address ≡ Some (c.store.memory address)
+      = subst (λ n. store_word c.store n ≡ Some (c.store.memory n)) zero_far (cell-stored shared.related alive points cell 0 (kind_positive at.cell.kind)) in
+      let m : Memory = put c.store.memory address word in
+      let saved_is : saved c.store address word ≡ record c.store { memory = m } = saved-is c.store address word (c.store.memory address) (stored-word c.store address (c.store.memory address) there) in
+      record {
+        store = record c.store { memory = m };
+        globals = c.globals;
+        goes = saves-stored source c address word (c.store.memory address) there ∙ ap (λ (s : StoreState). plain.Running (advanced (record c { store = s }))) saved_is;
+        related = related-written shared.related alive points cell m v (words-put c.store.memory address word shared.related.sound.words fits)
+            (λ y other. when_other y address word (c.store.memory y) (λ same. other 0 (kind_positive at.cell.kind) (same ∙ sym zero_far)))
+            (IsWord-is shared.tables at.cell.kind v word (words_from m address) 0 (ap m zero_far ∙ when_equal address address word (c.store.memory address) refl) is);
+        same_pages = refl;
+        same_demand = refl;
+        told = shared.counters.1;
+        stays = data_beside shared.tables source c.active.function w.objects next.objects e.locals (callers k) c.active.slots c.globals c.frames (omega (arith, objects_many))
+            (λ o row. ap content_of (get_set_other w.objects object o now (λ same. row-away shared.related (global_types source.globals) o h at.object row (subst (λ n. objects.Alive shared.tables (silent w) n h at.object) (sym same) alive))))
+            facts.0;
+      }
+
+  in_globals : object < length (global_types source.globals) → slice_get at.object.cells offset ≡ Some at.cell → IsSaved
+  in_globals few cell =
+      let g = c.active.function in
+      let (row, holds) = facts.0.4 object few in
+      let first = first_word (global_types source.globals) object in
+      let (start, place) = global-first (global_types source.globals) object offset address row points in
+      let there = (cell_found w object offset at found).0 in
+      let cell_there : slice_get at.object.cells 0 ≡ Some at.cell = ap (slice_get at.object.cells) (sym start) ∙ cell in
+      let kind = global_kind row points (cell_kind shared.related at points found) in
+      let room : HasGlobal (types_at source g) object at.cell.kind = subst (λ i. words_of_kind i ≤ words_in (global_types source.globals) object) kind row.room in
+      let written_is : written w object offset at v ≡ written w object 0 at v = ap (λ (n : ℕ). written w object n at v) start in
+      let u : Kinded = record { kind = at.cell.kind; value = v } in
+      let globals = put c.globals first word in
+      let elsewhere : (m : ℕ) → Outside first (words_of_kind at.cell.kind) m → globals m ≡ c.globals m = λ m out. put_elsewhere c.globals first word (words_of_kind at.cell.kind) m (kind_positive at.cell.kind) out in
+      record {
+        store = c.store;
+        globals = globals;
+        goes = ap (λ a. saves (lower_program source) c a word (memory_at (lower_program source) c a)) place
+            ∙ saves-global source c first (globals_long source first (omega (arith, global-room (types_at source g) object few, row.room, kind_positive row.kind))) (omega (arith, row.low, kind_positive row.kind)) word;
+        related = assigned-away shared.related object offset at.object at.cell v there cell (λ h alive. row-away shared.related (global_types source.globals) object h at.object (inr row) alive);
+        same_pages = refl;
+        same_demand = refl;
+        told = told_beside source g object at.cell.kind c.globals globals (scopes_in k) room elsewhere shared.counters.1;
+        stays = subst (λ (x : World). DataAt source shared.tables g x.objects e.locals (callers k) c.active.slots globals c.frames) (sym written_is)
+            (data_assigned_global shared.tables source g w.objects (written w object 0 at v).objects e.locals (callers k) c.active.slots c.globals globals c.frames object u room
+            (written_here w object at v there cell_there at.cell.kind refl) (written_elsewhere w object at v there cell_there) (written_length w object at v there cell_there)
+            (IsWord-is shared.tables at.cell.kind v word globals first (put-same c.globals first word) is) elsewhere facts.0);
+      }
+
+  pub is_saved : IsSaved
+  is_saved =
+      let (lies, cell) = found-known shared.related (global_types source.globals) (length (global_types source.globals)) shared.inside object offset address at found points in
+      elim lies [
+        | inl (h, alive) ↦ in_store h alive cell
+        | inr few ↦ in_globals few cell
+      ]
+
+  -- the state with the word written
+  abbrev pub with_word : Configuration
+  with_word = record c { store = is_saved.store; globals = is_saved.globals }
 
   -- the instruction goes on
-  pub saves_there : saves (lower_program source) c address word (memory_at (lower_program source) c address) ≡ plain.Running (advanced (with_saved c address word))
-  saves_there = saves-stored source c address word (c.store.memory address) there
+  pub saves_there : saves (lower_program source) c address word (memory_at (lower_program source) c address) ≡ plain.Running (advanced with_word)
+  saves_there = is_saved.goes
 
-  pub saved_there : saved c.store address word ≡ record c.store { memory = put c.store.memory address word }
-  saved_there = saved-is c.store address word (c.store.memory address) (stored-word c.store address (c.store.memory address) there)
+  pub demand_there : demand with_word.store ≡ demand c.store
+  demand_there = is_saved.same_demand
 
-  pub related_saved : objects.Related shared.tables (silent (written w object offset at v)) (saved c.store address word)
-  related_saved =
-      let (h, alive, cell) = found-alive shared.related shared.inside object offset address at found points in
-      let m : Memory = put c.store.memory address word in
-      let zero_far : address + 4 * 0 ≡ address = omega arith in
-      subst (objects.Related shared.tables (silent (written w object offset at v))) (sym saved_there)
-      (related-written shared.related alive points cell m v (words-put c.store.memory address word shared.related.sound.words fits)
-      (λ y other. when_other y address word (c.store.memory y) (λ same. other 0 (kind_positive at.cell.kind) (same ∙ sym zero_far)))
-      (IsWord-is shared.tables at.cell.kind v word (words_from m address) 0 (ap m zero_far ∙ when_equal address address word (c.store.memory address) refl) is))
-
-  abbrev pub shared_saved : SharedAt source pages calls k e (written w object offset at v) (advanced (with_saved c address word))
+  -- what is shared stays, with the same tables
+  abbrev pub shared_saved : SharedAt source pages calls k e next (advanced with_word)
   shared_saved = record {
     tables = shared.tables;
     same_output = shared.same_output;
     same_input = shared.same_input;
     inside = shared.inside;
-    same_pages = ap (λ (s : StoreState). s.pages) saved_there ∙ shared.same_pages;
-    related = related_saved;
+    same_pages = is_saved.same_pages ∙ shared.same_pages;
+    related = is_saved.related;
     globals = shared.globals;
     variables = shared.variables;
-    few_pages = subst (λ (s : StoreState). demand s ≤ pages) (sym saved_there) shared.few_pages;
+    few_pages = subst (λ n. n ≤ pages) (sym is_saved.same_demand) shared.few_pages;
     fits = shared.fits;
-    counters = shared.counters;
+    counters = (shared.counters.0, is_saved.told);
   }
 
-  -- and so do the data of all calls, whose objects are variables
-  pub data_saved : DataIn source shared.tables c.active.slots k e w c → DataIn source shared.tables c.active.slots k e (written w object offset at v) (advanced (with_saved c address word))
-  data_saved (facts, handlers) =
-      let more : length w.objects ≡ length (written w object offset at v).objects = sym (objects_many) in (
-        data_beside shared.tables source c.active.function w.objects (written w object offset at v).objects e.locals (callers k) c.active.slots c.globals c.frames
-            (omega (arith, more)) beside facts,
-        handlers,
-      )
-    where
-      now : Object
-      now = record at.object { cells = set at.object.cells offset (record at.cell { content = Some v }) }
-
-      objects_many : length (written w object offset at v).objects ≡ length w.objects
-      objects_many = length-set w.objects object now
-
-      beside : SameVariables shared.tables w.objects (written w object offset at v).objects
-      beside o row = ap content_of (get_set_other w.objects object o now (λ same. not-placed (sym (ap (slice_get shared.tables.rows) same) ∙ row) points.row))
+  -- and so do the data of all calls
+  pub data_saved : DataIn source shared.tables c.active.slots k e next (advanced with_word)
+  data_saved = (is_saved.stays, facts.1)

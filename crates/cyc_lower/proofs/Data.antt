@@ -24,6 +24,7 @@ use Rattle.cyc_plain.specs.declared.instruction.Operand.TheVariants as operands
 use Rattle.cyc_objects.specs.Tables.{Variable, Tables, Grows}
 use Rattle.cyc_objects.specs.Words.{Points, Is}
 use Rattle.cyc_objects.proofs.Values.{Is-grows, Is-same as words_same}
+use Rattle.cyc_lower.proofs.Known.{global-row_grows}
 use Rattle.cyc_lower.proofs.Relation.{behind_records, scopes_in, IsKept, IsTold, floor, HandlersStand, callers, IsWord, IsIn, Waiting, AreOfVariables, words_held, height, Holds, HoldsFrom, content_of, contents, LocalsHold, GlobalsHold, FramesHold, DataAt, types_at, starts_at, base_of, left_by}
 
 -- ---- values in slots
@@ -664,7 +665,7 @@ module _ (t u : Tables) (grows : Grows t u) where
     below,
     locals_grow (types_at source g) objects locals low (length objects) slots hold,
     frames_grow source objects low frames outer waiting,
-    λ number few. let (row, holds) = words number few in (grows.rows number Variable row, λ v has. let (is, room) = holds v has in (Is-grows grows v.kind v.value globals (global_of (starts_at source g) number) is, room)),
+    λ number few. let (row, holds) = words number few in (global-row_grows t u grows (global_types source.globals) number row, λ v has. let (is, room) = holds v has in (Is-grows grows v.kind v.value globals (global_of (starts_at source g) number) is, room)),
   )
 
   pub variables_grow : (regions : List ℕ) → AreOfVariables t regions → AreOfVariables u regions

@@ -487,6 +487,8 @@ module _ (source : Program) (pages calls : ℕ) where
       silently source pages calls (Running (Evaluating (typed.Load x)) k e w) (Running (Locating x) (NeedsPlace (LoadFrom kind) ∷ k) e w) (plain.Running c) refl
       (shared, facts, (o, offset, r, at, holds, (d, q, subst (λ n. LoadedAt (code_of source g) n o offset d (top source g k) r q) (sym (type_words (type_of_place x))) load, lands)))
       (omega arith)
+  comes (typed.AddressOf (Local p n) t) k e w c d q (well, shared, facts, holds) (v, there, at, end) lands = ?
+  comes (typed.AddressOf (Global n) t) k e w c d q (well, shared, facts, holds) (v, there, at, end) lands = ?
   comes (typed.AddressOfCell x t) k e w c d q (well, shared, facts, holds) (o, offset, r, at, address) lands =
       silently source pages calls (Running (Evaluating (typed.AddressOfCell x t)) k e w) (Running (Locating x) (NeedsPlace TakeAddress ∷ k) e w) (plain.Running c) refl
       (shared, facts, (o, offset, r, at, holds, (d, q, address, lands)))
@@ -508,7 +510,6 @@ module _ (source : Program) (pages calls : ℕ) where
       silently source pages calls (Running (Evaluating (typed.New (typed.ByHandle a) i t)) k e w) (Running (Evaluating a) (Needs (PlaceBy i) ∷ k) e w) (plain.Running c) refl
       (shared, facts, into_slot (top source c.active.function k) m at_a holds (in_temporary (omega arith) (d, q, refl, at, lands)))
       (omega arith)
-  comes a k e w c d q known at lands = absurd at
 
   -- a value that is in its slot is not copied
   copy_none : (code : List Instruction) (words n p q : ℕ) → CopyAt code words (operands.Slot n) n p q → p ≡ q
@@ -555,9 +556,9 @@ module _ (source : Program) (pages calls : ℕ) where
   operand (typed.FreeUnique a) k e w c o q known at stack = in_top (typed.FreeUnique a) k e w c o q known at stack
   operand (typed.FreeKey a) k e w c o q known at stack = in_top (typed.FreeKey a) k e w c o q known at stack
   operand (typed.New x i t) k e w c o q known at stack = in_top (typed.New x i t) k e w c o q known at stack
+  operand (typed.AddressOf l t) k e w c o q known at stack = in_top (typed.AddressOf l t) k e w c o q known at stack
   operand (typed.AddressOfCell x t) k e w c o q known at stack = in_top (typed.AddressOfCell x t) k e w c o q known at stack
   operand (typed.Store x v t) k e w c o q known at stack = in_top (typed.Store x v t) k e w c o q known at stack
-  operand a k e w c o q known (is, at) stack = absurd at
 
   for_its_effect : (a : Expression) (k : List Entry) (e : Environment) (w : World) (c : Configuration) (q : ℕ) → At_step a k e w c
       → DiscardedAt (code_of source c.active.function) (bounds_at source c.active.function) (types_on source c.active.function k) a (top source c.active.function k) c.active.next q
@@ -578,7 +579,7 @@ module _ (source : Program) (pages calls : ℕ) where
   for_its_effect (typed.Move p n t) k e w c q known (o, at) stack = operand (typed.Move p n t) k e w c o q known at (dropped_value c.active.function e.locals (given_at source c.active.function (typed.Move p n t)) o q c.frames k stack)
   for_its_effect (typed.Peek p n t) k e w c q known (o, at) stack = operand (typed.Peek p n t) k e w c o q known at (dropped_value c.active.function e.locals (given_at source c.active.function (typed.Peek p n t)) o q c.frames k stack)
   for_its_effect (typed.Load x) k e w c q known (o, at) stack = in_top (typed.Load x) k e w c o q known at (dropped_value c.active.function e.locals (given_at source c.active.function (typed.Load x)) o q c.frames k stack)
-  for_its_effect (typed.AddressOf l t) k e w c q known (o, (is, at)) stack = absurd at
+  for_its_effect (typed.AddressOf l t) k e w c q known (o, at) stack = in_top (typed.AddressOf l t) k e w c o q known at (dropped_value c.active.function e.locals (given_at source c.active.function (typed.AddressOf l t)) o q c.frames k stack)
   for_its_effect (typed.AddressOfCell x t) k e w c q known (o, at) stack = in_top (typed.AddressOfCell x t) k e w c o q known at (dropped_value c.active.function e.locals (given_at source c.active.function (typed.AddressOfCell x t)) o q c.frames k stack)
   for_its_effect (typed.NumberOfElements a) k e w c q known (o, at) stack = in_top (typed.NumberOfElements a) k e w c o q known at (dropped_value c.active.function e.locals (given_at source c.active.function (typed.NumberOfElements a)) o q c.frames k stack)
   for_its_effect (typed.FreeUnique a) k e w c q known (o, at) stack = in_top (typed.FreeUnique a) k e w c o q known at (dropped_value c.active.function e.locals (given_at source c.active.function (typed.FreeUnique a)) o q c.frames k stack)

@@ -8,6 +8,9 @@ pub mod Lowerings
 pub mod Routines
 pub mod Lengths
 -- a run of the plain program is one of the source
+pub mod Known
+pub mod Moving
+pub mod GlobalRows
 pub mod Relation
 pub mod Matched
 pub mod Closings
@@ -53,6 +56,7 @@ pub mod WaysOut
 pub mod StatementSteps
 pub mod Keeping
 pub mod Levels
+pub mod Pinned
 pub mod Whole
 -- the rest of the promise: it is well formed, of words, and small
 pub mod WellFormed

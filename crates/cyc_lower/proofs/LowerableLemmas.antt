@@ -19,7 +19,7 @@ use Rattle.cyc_types.specs.declared.typed.UnaryOperator.TheVariants as unary
 use Rattle.cyc_syntax.specs.declared.tree.PointerKind.{PointerKind}
 use Rattle.cyc_syntax.specs.declared.tree.PointerKind.TheVariants as marks
 use Rattle.cyc_types.specs.Types.{Ty, Int, Pointer, Handle, Key, Struct, ValueType, Null, Value, substituted_ty}
-use Rattle.cyc_types.specs.TypedTrees.{Lvalue, Local, Global, Expression, Number, NullPointer, HeapRegion, Counter, NumberOfElements, Copy, Move, Peek, FreeUnique, FreeKey, Load, AddressOfCell, Call, Unary, Binary, Assign, Store, New, Dereference, Target, Member, Element, OnHeap, AsUnique, ByHandle, Initial, Plain, Fields, Converted, Convert, Arguments, NoArguments, MoreArguments, Operations, NoOperations, ThenCompute, ThenTest, ThenPointer, ThenPointerPeek, Side, VariableSide, CellSide, Statement, Block, Empty, Evaluate, Swap, If, While, Return, Break, Continue, Items, NoItems, MoreItems, Execute, Declare, DeclareRegion, OpenRegion, DeclareAlias, DeclareKey, GlobalVariable, Signature, Function, Program, Throw, Try, Clauses, NoClauses, Default, Case, Array}
+use Rattle.cyc_types.specs.TypedTrees.{Lvalue, Local, Global, Expression, Number, NullPointer, HeapRegion, Counter, NumberOfElements, Copy, Move, Peek, FreeUnique, FreeKey, Load, AddressOfCell, Call, Unary, Binary, Assign, Store, New, Dereference, Target, Member, Element, OnHeap, AsUnique, ByHandle, Initial, Plain, Fields, Converted, Convert, Arguments, NoArguments, MoreArguments, Operations, NoOperations, ThenCompute, ThenTest, ThenPointer, ThenPointerPeek, Side, VariableSide, CellSide, Statement, Block, Empty, Evaluate, Swap, If, While, Return, Break, Continue, Items, NoItems, MoreItems, Execute, Declare, DeclareRegion, OpenRegion, DeclareAlias, DeclareKey, GlobalVariable, Signature, Function, Program, Throw, Try, Clauses, NoClauses, Default, Case, Array, AddressOf}
 use Rattle.cyc_types.specs.Built.{is_built_operator, is_built_expression, is_built_place, is_built_size, is_built_initial, is_built_converted, are_built_arguments, are_built_operations, is_built_value, is_built_side, is_built_statement, are_built_items, is_built_function, is_built, is_built_tag, is_built_thrown, are_built_clauses}
 use Rattle.cyc_types.specs.Numbered.{signatures_of, Numbering, IsSignature, argument_count, IsWithin, numbering_of}
 use Rattle.cyc_types.specs.typing.Tests.{is_thin_mark, is_pointer, is_int, kind_of_mark, kind_of, kind_of_value}
@@ -202,6 +202,7 @@ module _ (b : Numbering) where
     lowerable c k (Move p n u) t i (v, moved, eq) = within c k (Local p n) u v
     lowerable c k (Peek p n u) t i w = absurd w
     lowerable c k (Load d) t i (u, r, cell, whole, shared, eq) = cell_lowerable c k d u r i cell
+    lowerable c k (AddressOf l u) t i (v, r, place, moved, is, eq) = placed c k l v r place
     lowerable c k (AddressOfCell d u) t i (v, r, cell, moved, shared, is, eq) = cell_lowerable c k d v r i cell
     lowerable c k (NumberOfElements a) t i (u, r, w, eq) = let v = Value (Pointer marks.Fat u r) in seen c k a v (λ h. lowerable c k a v i h) w
     lowerable c k (FreeUnique a) t i (m, u, w, eq) = lowerable c k a _ i w
@@ -221,7 +222,6 @@ module _ (b : Numbering) where
     lowerable c k (New AsUnique m u) t i (l, v, r, there, made, is, eq) = made_lowerable c k m l v i made
     lowerable c k (New (ByHandle a) m u) t i (l, v, r, (there, live), made, is, eq) =
         let (handle, values) = and_parts (is_built_expression a) (is_built_initial m) i in (lowerable c k a (Value (Handle r)) handle there, made_lowerable c k m l v values made)
-    lowerable c k a t i w = absurd (cc)
 
     cell_lowerable : (c : Context) → Agrees b c → (d : Dereference) (t : Ty) (r : Region) → is_built_place d ≡ true → IsCell c d t r → IsLowerableCell b d
     cell_lowerable c k (Target l a u) t r i (m, w, live, mark, eq) =

@@ -35,7 +35,7 @@ is_lowered source well fit = record {
   functions = functions_lowered source.structs (globals_of source) (scopes_of source) source.functions;
   globals = omega (arith, all_counted source);
   follows = λ pages calls base store input new some_page few_pages some_call bytes below.
-      follows source (is_fitting_program source fit.lowerable well) (has_words source fit.of_words) pages calls base store input new some_page few_pages some_call bytes;
+      follows source (is_fitting_program source fit.lowerable well) (omega (arith, fit.few_globals)) (has_words source fit.of_words) pages calls base store input new some_page few_pages some_call bytes;
 }
 
 functions_small : (structs : List StructType) (globals : List ℕ) (scopes : Option ℕ) (hs : List Function) → sum_by size (map (lower_function structs globals scopes) hs) ≤ size_per_weight * sum_of function_weight hs

@@ -13,7 +13,7 @@ use Rattle.cyc_plain.specs.declared.instruction.Operand.TheVariants as operands
 use Rattle.cyc_plain.specs.declared.instruction.Instruction.{Instruction}
 use Rattle.cyc_plain.specs.declared.instruction.Instruction.TheVariants as instructions
 use Rattle.cyc_plain.specs.State as plain
-use Rattle.cyc_plain.specs.State.{put, Frame, Configuration}
+use Rattle.cyc_plain.specs.State.{put, Frame, Configuration, Words}
 use Rattle.cyc_plain.specs.Step.{Choice, operand_word, with_slots, at, advanced, loads, performed}
 use Rattle.cyc_plain.specs.Straight.{At}
 use Rattle.cyc_plain.proofs.SlotLaws.{put-same}
@@ -29,7 +29,7 @@ use Rattle.cyc_lower.proofs.Moves.{put_elsewhere}
 use Rattle.cyc_lower.proofs.Relation.{types_on, starts_on, Matches, held, callers, types_at, starts_at, Holds, DataIn, SharedAt, in_temporary, in_local, LandsStack, HandsOnStack, Related, code_of, bounds_at, base_of, top, floor}
 use Rattle.cyc_lower.proofs.Data.{Is-same, height-least, floor-least, Holds-same, data_above, data_written}
 use Rattle.cyc_lower.proofs.Stands.{CopyBy, AddressAt, OperandBy, ExpressionAt, ConvertedOperandAt, LoadedBy, SavedAt}
-use Rattle.cyc_lower.proofs.CellReads.{word_read, wide_read}
+use Rattle.cyc_lower.proofs.CellReads.{cell_reads, read_there, one_there, one_is}
 use Rattle.cyc_lower.proofs.AddressSteps.{Brought, in_slot, by_word, brought}
 use Rattle.cyc_lower.proofs.SwapSteps.{left_found, right_found}
 use Rattle.cyc_lower.proofs.WideCells.{all_in, load_links, load_path, load_last, loaded_is, loaded_elsewhere}
@@ -39,6 +39,7 @@ use Rattle.cyc_lower.proofs.Paths.{is_quiet, by_path}
 use Rattle.cyc_lower.proofs.Evaluations.{IsStep, sources, landed}
 use Rattle.cyc_lower.proofs.Values.{of_kind, landed_there}
 use Rattle.cyc_plain.proofs.MemoryLaws.{memory-stored}
+use Rattle.cyc_plain.specs.Memory.{memory_at}
 
 -- ---- a cell is read
 
@@ -155,19 +156,22 @@ module _ (source : Program) (pages calls : ℕ) where
       let found = is_read kind (cell_at w object offset) k e w well in
       let v : Kinded = record { kind = kind; value = found.value } in
       let wide = found.same ∙ fat in
-      let content = wide_read shared.related shared.inside object offset (c.active.slots t) found.at found.value found.there points wide found.has in
-      let after = all_in source shared.tables w c shared.related shared.inside object offset d t apart found.at found.value found.there points wide content in
-      by_path source pages calls (GivenPlace (Thin object offset)) (NeedsPlace (LoadFrom kind) ∷ k) e w c (Running (Given v) k e w) (load_links source shared.tables w c shared.related shared.inside object offset d t apart found.at found.value found.there points wide content) (instructions.Load d (operands.Slot t) 0)
+      let reads = cell_reads source g c shared.related shared.inside facts.0.4 object offset (c.active.slots t) found.at found.there points in
+      let content = subst (λ i. Is shared.tables i found.value reads.word 0) wide (reads.is found.value found.has) in
+      let there : (slots : Words) (next j : ℕ) → j < 3 → memory_at (lower_program source) (at (with_slots c slots) next) (add_of (c.active.slots t) (4 * j)) ≡ Some (reads.word j)
+      = λ slots next j below. read_there source c shared.related found.at found.there points reads slots next j (omega (arith, below, ap words_of_kind wide)) in
+      let after = all_in source shared.tables c d t apart found.value reads.word there content in
+      by_path source pages calls (GivenPlace (Thin object offset)) (NeedsPlace (LoadFrom kind) ∷ k) e w c (Running (Given v) k e w) (load_links source shared.tables c d t apart found.value reads.word there content) (instructions.Load d (operands.Slot t) 0)
       found.gives shared
-      (load_path source shared.tables w c shared.related shared.inside object offset d t apart found.at found.value found.there points wide content
+      (load_path source shared.tables c d t apart found.value reads.word there content
       (subst (λ n. At (code_of source g) n (instructions.Load (d + 2) (operands.Slot t) 8)) (sym same) at_first)
       (subst (λ n. At (code_of source g) (n + 1) (instructions.Load (d + 1) (operands.Slot t) 4)) (sym same) at_second))
       (subst (λ n. At (code_of source g) (n + 1 + 1) (instructions.Load d (operands.Slot t) 0)) (sym same) at_third)
       (λ choice. subst (Matches source pages calls (Running (Given v) k e w))
-      (sym (load_last source shared.tables w c shared.related shared.inside object offset d t apart found.at found.value found.there points wide content choice))
+      (sym (load_last source shared.tables c d t apart found.value reads.word there content choice))
       (landed source pages calls v after d k e w (at c (c.active.next + 1 + 1)) q shared
-      (subst (λ i. Is shared.tables i found.value after d) (sym fat) (loaded_is source shared.tables w c shared.related shared.inside object offset d t apart found.at found.value found.there points wide content))
-      (λ m out. loaded_elsewhere source shared.tables w c shared.related shared.inside object offset d t apart found.at found.value found.there points wide content m (subst (λ i. Outside d (words_of_kind i) m) fat out))
+      (subst (λ i. Is shared.tables i found.value after d) (sym fat) (loaded_is source shared.tables c d t apart found.value reads.word there content))
+      (λ m out. loaded_elsewhere source shared.tables c d t apart found.value reads.word there content m (subst (λ i. Outside d (words_of_kind i) m) fat out))
       facts holds (ap (λ n. n + 1 + 1 + 1) same ∙ end) lands))
   loads_wide object offset d r q kind k e w c fat well shared facts holds (by_word i word here goes same points) at_first at_second at_third end lands =
       let g = c.active.function in
@@ -180,25 +184,28 @@ module _ (source : Program) (pages calls : ℕ) where
       let v : Kinded = record { kind = kind; value = found.value } in
       let wide = found.same ∙ fat in
       let points_there = subst (Points shared.tables object offset) (sym (put-same c.active.slots t word)) points in
-      let content = wide_read shared.related shared.inside object offset (b.active.slots t) found.at found.value found.there points_there wide found.has in
-      let after = all_in source shared.tables w b shared.related shared.inside object offset d t apart found.at found.value found.there points_there wide content in
+      let reads = cell_reads source g b shared.related shared.inside facts.0.4 object offset (b.active.slots t) found.at found.there points_there in
+      let content = subst (λ i. Is shared.tables i found.value reads.word 0) wide (reads.is found.value found.has) in
+      let there : (slots : Words) (next j : ℕ) → j < 3 → memory_at (lower_program source) (at (with_slots b slots) next) (add_of (b.active.slots t) (4 * j)) ≡ Some (reads.word j)
+      = λ slots next j below. read_there source b shared.related found.at found.there points_there reads slots next j (omega (arith, below, ap words_of_kind wide)) in
+      let after = all_in source shared.tables b d t apart found.value reads.word there content in
       by_path source pages calls (GivenPlace (Thin object offset)) (NeedsPlace (LoadFrom kind) ∷ k) e w c (Running (Given v) k e w)
-      (record { instruction = i; behind = b } ∷ load_links source shared.tables w b shared.related shared.inside object offset d t apart found.at found.value found.there points_there wide content) (instructions.Load d (operands.Slot t) 0)
+      (record { instruction = i; behind = b } ∷ load_links source shared.tables b d t apart found.value reads.word there content) (instructions.Load d (operands.Slot t) 0)
       found.gives shared (
         here,
         goes,
         omega arith,
         is_quiet c b.active,
-        load_path source shared.tables w b shared.related shared.inside object offset d t apart found.at found.value found.there points_there wide content
+        load_path source shared.tables b d t apart found.value reads.word there content
             (subst (λ n. At (code_of source g) n (instructions.Load (d + 2) (operands.Slot t) 8)) (sym same) at_first)
             (subst (λ n. At (code_of source g) (n + 1) (instructions.Load (d + 1) (operands.Slot t) 4)) (sym same) at_second),
       )
       (subst (λ n. At (code_of source g) (n + 1 + 1) (instructions.Load d (operands.Slot t) 0)) (sym same) at_third)
       (λ choice. subst (Matches source pages calls (Running (Given v) k e w))
-      (sym (load_last source shared.tables w b shared.related shared.inside object offset d t apart found.at found.value found.there points_there wide content choice))
+      (sym (load_last source shared.tables b d t apart found.value reads.word there content choice))
       (landed source pages calls v after d k e w (at b (b.active.next + 1 + 1)) q shared
-      (subst (λ i. Is shared.tables i found.value after d) (sym fat) (loaded_is source shared.tables w b shared.related shared.inside object offset d t apart found.at found.value found.there points_there wide content))
-      (λ m out. loaded_elsewhere source shared.tables w b shared.related shared.inside object offset d t apart found.at found.value found.there points_there wide content m (subst (λ i. Outside d (words_of_kind i) m) fat out))
+      (subst (λ i. Is shared.tables i found.value after d) (sym fat) (loaded_is source shared.tables b d t apart found.value reads.word there content))
+      (λ m out. loaded_elsewhere source shared.tables b d t apart found.value reads.word there content m (subst (λ i. Outside d (words_of_kind i) m) fat out))
       (data_written source shared.tables g w.objects e.locals k c.active.slots brings c.active.handlers c.globals c.frames t 1 (height-least base (held k)) (λ m out. put_elsewhere c.active.slots t word 1 m (omega arith) out) facts)
       (Holds-same shared.tables c.active.slots brings base (held k) (λ m below. put_elsewhere c.active.slots t word 1 m (omega arith) (inl below)) holds)
       (ap (λ n. n + 1 + 1 + 1) same ∙ end) lands))
@@ -213,13 +220,14 @@ module _ (source : Program) (pages calls : ℕ) where
       let found = is_read kind (cell_at w object offset) k e w well in
       let v : Kinded = record { kind = kind; value = found.value } in
       let word = add_of (operand_word c.active.slots o) more in
-      let (there, stands) = word_read shared.related shared.inside object offset word found.at found.value found.there points (ap words_of_kind found.same ∙ eqb-true (words_of_kind kind) 1 narrow) found.has in
-      let after = put c.active.slots d (c.store.memory word) in
+      let reads = cell_reads source c.active.function c shared.related shared.inside facts.0.4 object offset word found.at found.there points in
+      let one = ap words_of_kind found.same ∙ eqb-true (words_of_kind kind) 1 narrow in
+      let after = put c.active.slots d (reads.word 0) in
       by_one source pages calls found.gives shared load
-      (λ choice. subst (λ x. Matches source pages calls (Running (Given v) k e w) (loads c d x)) (sym (memory-stored (lower_program source) c word (c.store.memory word) there))
+      (λ choice. subst (λ x. Matches source pages calls (Running (Given v) k e w) (loads c d x)) (sym (one_there reads one))
       (landed source pages calls v after d k e w c q shared
-      (subst (λ i. Is shared.tables i found.value after d) found.same (stands after d (put-same c.active.slots d (c.store.memory word))))
-      (λ m out. put_elsewhere c.active.slots d (c.store.memory word) (words_of_kind kind) m (kind_positive kind) out) facts holds end lands))
+      (subst (λ i. Is shared.tables i found.value after d) found.same (one_is reads one found.value found.has after d (put-same c.active.slots d (reads.word 0))))
+      (λ m out. put_elsewhere c.active.slots d (reads.word 0) (words_of_kind kind) m (kind_positive kind) out) facts holds end lands))
   loads_cell false object offset more o d q kind k e w c wide well shared facts holds small points (r, address, first, second, third, end) lands =
       loads_wide object offset d r q kind k e w c (wide_kind kind wide) well shared facts holds (brought source shared.tables object offset more o (top source c.active.function k) r c small points address) first second third end lands
 

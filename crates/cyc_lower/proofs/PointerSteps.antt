@@ -39,7 +39,9 @@ use Rattle.cyc_lower.proofs.Data.{height-least, in_words, floor-least}
 use Rattle.cyc_lower.proofs.Accesses.{IsWell}
 use Rattle.cyc_lower.proofs.Matched.{IsMatched, by_one, by_two}
 use Rattle.cyc_lower.proofs.Evaluations.{landed, landed_word}
-use Rattle.cyc_objects.proofs.Inside.{AreInside, none-apart}
+use Rattle.cyc_objects.specs.Related.{AreApart}
+use Rattle.cyc_lower.specs.Slots.{global_types}
+use Rattle.cyc_lower.proofs.Known.{globals-apart}
 
 -- ---- the words of a left operand
 
@@ -186,7 +188,7 @@ module _ (k : List Entry) (e : Environment) (w : World) where
 
   -- ---- all comparisons
 
-  module _ (t : Tables) (s : StoreState) (related : objects.Related t (silent w) s) (inside : AreInside t) where
+  module _ (t : Tables) (s : StoreState) (related : objects.Related t (silent w) s) (apart : AreApart t (silent w)) where
     compares_thin : (negated : Bool) (i j : Kind) (left v : Value) (words others : Words) (p q : ℕ) → Is t i left words p → Is t j v others q
         → IsWell (tells negated (compared w left v) k e w) → tells negated (compared w left v) k e w ≡ gives_told negated (words p) (others q)
     compares_thin negated i j left v words others p q is_left is well =
@@ -194,7 +196,7 @@ module _ (k : List Entry) (e : Environment) (w : World) where
         let (left_thin, thin) = are_thin w left v equal found in
         ap (λ x. tells negated x k e w) found
         ∙ tells_found negated equal (words p) (others q)
-        (thin-compared related (none-apart related inside) kinds.Nullable kinds.Nullable left v (words p) (others q) equal (thin_is t i left words p is_left left_thin) (thin_is t j v others q is thin) (same_compared w left v ∙ found))
+        (thin-compared related apart kinds.Nullable kinds.Nullable left v (words p) (others q) equal (thin_is t i left words p is_left left_thin) (thin_is t j v others q is thin) (same_compared w left v ∙ found))
 
     -- what is tested for null is a pointer
     is_pointer : (negated : Bool) (v : Value) → IsWell (computed kinds.Int (null_test negated v) k e w) → IsPointer v
@@ -305,7 +307,7 @@ module _ (source : Program) (pages calls : ℕ) where
       let free = top source c.active.function k in
       let (others, p, same, is_right) = in_words shared.tables v slots o is in
       let n = told (is_negated u) (slots free) (operand_word slots o) in
-      let does = applies_told k e w shared.tables c.store shared.related shared.inside u left.kind v.kind left.value v.value slots others free p test is_left is_right well ∙ ap (λ x. gives_told k e w (is_negated u) (slots free) x) same in
+      let does = applies_told k e w shared.tables c.store shared.related (globals-apart shared.related (global_types source.globals) shared.inside (λ number few. (facts.0.4 number few).0)) u left.kind v.kind left.value v.value slots others free p test is_left is_right well ∙ ap (λ x. gives_told k e w (is_negated u) (slots free) x) same in
       by_one source pages calls does shared here
       (λ choice. subst (Matches source pages calls (Running (Given (record { kind = kinds.Int; value = Int n })) k e w)) (sym (compares_words u (operands.Slot free) o d choice c test))
       (landed_word source pages calls n n d k e w c q refl shared facts holds end lands))

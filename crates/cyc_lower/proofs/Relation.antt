@@ -47,7 +47,7 @@ use Rattle.cyc_lower.specs.Slots.{Types, Starts, starts_of, slot_of, global_of, 
 use Rattle.cyc_lower.specs.Lowering.{unary_operator, failing_comparison, operand_of, move_of, low_byte, converts_there, all_passed, compared_of, break_target, continue_target, results_of, lower_program, outside_loops, slot_types, raises_of, right_slot, tag_operand, followed_operand, reached_operand, globals_of, scopes_of, nothing_opened, with_handler, with_mark, inside_try, inside_region, behind_record_in}
 use Rattle.cyc_lower.proofs.Widths.{kind_of_result, given, called_kind, HasRoom, Outside, chain_kind, HasGlobal, made_kind}
 use Rattle.cyc_lower.proofs.Stands.{BegunAt, ElementsAt, CheckAt, ConversionAt, PlaceAt, OperatorAt, TruthAt, CopyAt, ExpressionAt, ArgumentsAt, OperationsAt, ValueAt, ConditionAt, FailingAt, ComparesAt, DiscardedAt, StatementAt, ItemsAt, PointerAt, StoresAt, ObjectAt, AddressAt, ConvertedOperandAt, FreedAt, HasSide, SideAt, ReadAt, WriteAt, ExchangeAt, LeaveAt, ClausesAt, CountAt, SavedAt, LoadedAt, FollowedAt, ReachedAt, GlobalAt, ClosedAt, MarksAt, RestoredAt, MadeAt, NamedAt}
-use Rattle.cyc_objects.proofs.Inside.{AreInside}
+use Rattle.cyc_lower.proofs.Known.{AreKnown, IsGlobalRow}
 
 -- ---- values in slots
 
@@ -225,11 +225,11 @@ pub record LocalsHold (t : Tables) (types : Types) (objects : List Object) (loca
   pub holds : (number object : ℕ) (v : Kinded) → locals number ≡ Some object → contents objects object ≡ Some v
       → Is t v.kind v.value slots (slot_of (starts_of types) number) × HasRoom types number v.kind
 
--- the words of each global, which has one of these types, have what it holds, and there is room for it
+-- the words of each global, which has one of these types, have what it holds, and there is room for it; they are its object's
 abbrev pub GlobalsHold : Tables → Types → List Object → Words → Type 0
 GlobalsHold t types objects words =
     (number : ℕ) → number < length types.globals
-    → (slice_get t.rows number ≡ Some Variable)
+    → IsGlobalRow t types.globals number
     × ((v : Kinded) → contents objects number ≡ Some v → Is t v.kind v.value words (global_of (starts_of types) number) × HasGlobal types number v.kind)
 
 -- The first temporary of the running call, whose locals end at a slot: what is kept of the handlers that it has open and of its lexical
@@ -313,13 +313,13 @@ silent w = record w { output = []; input = [] }
 
 -- What all calls share, but for the globals: what is printed and read, the tables by which objects and regions stand in the store, and
 -- the calls that wait. Demand and calls are within limits. What is said of the counters of arrays and of lexical regions goes with it.
-pub record Shared (pages calls : ℕ) (w : World) (regions : List ℕ) (counting : Type 0) (plain_output plain_input : List ℕ) (store : StoreState) (waiting : ℕ) : Type 0 where
+pub record Shared (pages calls global_count : ℕ) (w : World) (regions : List ℕ) (counting : Type 0) (plain_output plain_input : List ℕ) (store : StoreState) (waiting : ℕ) : Type 0 where
   pub tables : Tables
   pub same_output : plain_output ≡ w.output
   pub same_input : plain_input ≡ w.input
   pub related : objects.Related tables (silent w) store
-  -- no variable stands anywhere
-  pub inside : AreInside tables
+  -- of variables only so many globals stand anywhere
+  pub inside : AreKnown global_count tables
   pub same_pages : store.pages ≡ pages
   -- the region of the globals is of variables, and so are these
   pub globals : slice_get tables.handles globals_number ≡ Some None
@@ -891,7 +891,7 @@ module _ (source : Program) where
   -- what is shared while lexical regions are left, or not
   abbrev pub SharedBy : (closing : Option ℕ) → (pages calls : ℕ) → List Entry → Environment → World → Configuration → Type 0
   SharedBy closing pages calls k e w c =
-      Shared pages calls w (e.home ∷ homes k) (CountsBy closing e k c.globals c.store (scopes w.regions)) c.output c.input (store_by closing c.store (scopes w.regions)) (length c.frames)
+      Shared pages calls (length (global_types source.globals)) w (e.home ∷ homes k) (CountsBy closing e k c.globals c.store (scopes w.regions)) c.output c.input (store_by closing c.store (scopes w.regions)) (length c.frames)
 
   abbrev pub SharedAt : (pages calls : ℕ) → List Entry → Environment → World → Configuration → Type 0
   SharedAt pages calls k e w c = SharedBy None pages calls k e w c

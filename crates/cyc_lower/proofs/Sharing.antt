@@ -14,12 +14,13 @@ use Rattle.cyc_store.specs.State.{demand}
 use Rattle.cyc_store.proofs.CountLemmas.{demand-part}
 use Rattle.cyc_store.proofs.HolderLemmas.{IsPart-down_to}
 use Rattle.cyc_objects.proofs.Values.{Grows-row, Grows-handle}
-use Rattle.cyc_objects.proofs.Variables.{declared, assigned, opened-variables, closed-variables, handle-made}
+use Rattle.cyc_objects.proofs.Variables.{declared, assigned-away, opened-variables, closed-variables, handle-made}
 use Rattle.cyc_lower.proofs.Relation.{homes, IsTold, HasScopes, SharedAt, SharedBy, ScopesBy, store_by, scopes_in, silent}
 use Rattle.cyc_lower.specs.Lowering.{scopes_of}
 use Rattle.cyc_lower.proofs.Counters.{counted_less}
 use Rattle.cyc_lower.proofs.Data.{append_seam, variables_grow}
-use Rattle.cyc_objects.proofs.Inside.{inside-more}
+use Rattle.cyc_lower.proofs.Known.{known-more, IsVariableRow, row-away}
+use Rattle.cyc_lower.specs.Slots.{global_types}
 
 module _ (source : Program) (pages calls : ℕ) (k : List Entry) (e : Environment) (w : World) (c : Configuration) (s : SharedAt source pages calls k e w c) where
   -- a variable is declared
@@ -29,7 +30,7 @@ module _ (source : Program) (pages calls : ℕ) (k : List Entry) (e : Environmen
     tables = with_row s.tables Variable;
     same_output = s.same_output;
     same_input = s.same_input;
-    inside = inside-more s.tables Variable s.inside tt;
+    inside = known-more (length (global_types source.globals)) s.tables Variable s.inside tt;
     same_pages = s.same_pages;
     related = declared s.related e.home r kind content Variable there s.variables.0 tt tt;
     globals = s.globals;
@@ -45,14 +46,14 @@ module _ (source : Program) (pages calls : ℕ) (k : List Entry) (e : Environmen
 
   -- a variable is assigned
   abbrev pub shared_written : (object : ℕ) (at : Located) (v : Value) → slice_get w.objects object ≡ Some at.object → slice_get at.object.cells 0 ≡ Some at.cell
-      → slice_get s.tables.rows object ≡ Some Variable → SharedAt source pages calls k e (written w object 0 at v) c
+      → IsVariableRow s.tables (global_types source.globals) object → SharedAt source pages calls k e (written w object 0 at v) c
   shared_written object at v there cell row = record {
     tables = s.tables;
     same_output = s.same_output;
     same_input = s.same_input;
     inside = s.inside;
     same_pages = s.same_pages;
-    related = assigned s.related object 0 at.object at.cell v there cell row;
+    related = assigned-away s.related object 0 at.object at.cell v there cell (λ h alive. row-away s.related (global_types source.globals) object h at.object row alive);
     globals = s.globals;
     variables = s.variables;
     few_pages = s.few_pages;

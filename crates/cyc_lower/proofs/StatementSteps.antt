@@ -26,7 +26,7 @@ use Rattle.cyc_meaning.specs.Nesting.{IsNested}
 use Rattle.cyc_meaning.specs.Regions.{closing_lexical}
 use Rattle.cyc_meaning.specs.Step.{target_by, inside, region_end, step}
 use Rattle.cyc_lower.specs.declared.statements.Exits.{Exits}
-use Rattle.cyc_lower.specs.Slots.{slot_of}
+use Rattle.cyc_lower.specs.Slots.{slot_of, global_types}
 use Rattle.cyc_lower.proofs.Slots.{slot-room, room-inside}
 use Rattle.cyc_lower.proofs.Widths.{HasRoom, Outside}
 use Rattle.cyc_lower.proofs.Moves.{copied_is, copied_elsewhere}
@@ -55,7 +55,8 @@ module _ (source : Program) (pages calls : ℕ) where
   -- ---- calls
 
   -- one call less waits
-  abbrev pub shared_returned : (w : World) (regions : List ℕ) (counting : Type 0) (output input : List ℕ) (store : StoreState) (home waiting : ℕ) → Shared pages calls w (home ∷ regions) counting output input store (suc waiting) → Shared pages calls w regions counting output input store waiting
+  abbrev pub shared_returned : (w : World) (regions : List ℕ) (counting : Type 0) (output input : List ℕ) (store : StoreState) (home waiting : ℕ) → Shared pages calls (length (global_types source.globals)) w (home ∷ regions) counting output input store (suc waiting)
+      → Shared pages calls (length (global_types source.globals)) w regions counting output input store waiting
   shared_returned w regions counting output input store home waiting s = record {
     tables = s.tables;
     same_output = s.same_output;

@@ -25,7 +25,7 @@ use Rattle.cyc_objects.specs.Tables.{Tables}
 use Rattle.cyc_objects.specs.Words.{words_from, Points, Is}
 use Rattle.cyc_lower.specs.declared.statements.Exits.{Exits}
 use Rattle.cyc_lower.specs.Lowering.{right_slot, move_of, load_word, load_at, lower_program}
-use Rattle.cyc_lower.specs.Slots.{slot_of, global_of}
+use Rattle.cyc_lower.specs.Slots.{slot_of, global_of, global_types}
 use Rattle.cyc_lower.proofs.Widths.{same_kind, kind_positive, wide_kind, HasRoom, Outside}
 use Rattle.cyc_lower.proofs.Slots.{slot-room, global-inside}
 use Rattle.cyc_lower.proofs.Moves.{put_elsewhere, moved_slots, moves, moved_elsewhere, moved_is}
@@ -36,7 +36,7 @@ use Rattle.cyc_lower.proofs.Data.{Is-same, one_word, IsWord-is, data_written, da
 use Rattle.cyc_lower.proofs.Sharing.{shared_written, shared_beside}
 use Rattle.cyc_lower.proofs.Accesses.{IsWell, is_fitting, is_stored, written_here, written_elsewhere, written_length}
 use Rattle.cyc_lower.proofs.CellWrites.{cell_is_there, saves_there, shared_saved, data_saved}
-use Rattle.cyc_lower.proofs.PlaceWords.{stays, cell_kind, word_is, word_there}
+use Rattle.cyc_lower.proofs.PlaceWords.{stays, cell_kind, word_is}
 use Rattle.cyc_lower.proofs.Paths.{Link, is_quiet, end_of, IsPath}
 use Rattle.cyc_lower.proofs.GlobalSteps.{each_put, each-outside, each_is, load_links, load_end, load_path, stored_globals, stored_elsewhere, stored_is, global_links, is_stored_by, by_links}
 use Rattle.cyc_lower.proofs.CellLoads.{word_links, word_end, word_path}
@@ -44,8 +44,9 @@ use Rattle.cyc_lower.proofs.WideCells.{all_links, all_path, shared_stored, data_
 use Rattle.cyc_lower.proofs.AddressSteps.{Brought, in_slot, by_word}
 use Rattle.cyc_lower.proofs.Matched.{IsMatched, silently, by_one}
 use Rattle.cyc_lower.proofs.Evaluations.{IsStep, object_of_same}
-use Rattle.cyc_lower.proofs.CellReads.{cell_words}
-use Rattle.cyc_plain.proofs.MemoryLaws.{store_word}
+use Rattle.cyc_lower.proofs.CellReads.{held_there, cell_reads, read_there}
+use Rattle.cyc_plain.specs.Memory.{memory_at}
+use Rattle.cyc_lower.proofs.Known.{IsGlobalRow}
 
 -- ---- what is read
 
@@ -71,13 +72,6 @@ is_swapped kind (Found at) left right before k e w well =
     by false content told well = absurd (well refl)
     by true None told well = absurd (well refl)
     by true (Some v) told well = (same_kind at.cell.kind kind told, v, refl, refl)
-
--- a variable that is found holds it
-held_there : (w : World) (object : ℕ) (at : Located) (kind : Kind) (v : Value) → cell_at w object 0 ≡ Found at → at.cell.kind ≡ kind → at.cell.content ≡ Some v
-    → contents w.objects object ≡ Some (record { kind = kind; value = v })
-held_there w object at kind v found same has =
-    let (object_there, cell_there) = cell_found w object 0 at found in
-    ap content_of object_there ∙ ap content_of_cell cell_there ∙ ap (with_kind at.cell.kind) has ∙ ap (λ (i : Kind). with_kind i (Some v)) same
 
 module _ (source : Program) (pages calls : ℕ) where
   -- ---- sides stay where they are
@@ -138,22 +132,21 @@ module _ (source : Program) (pages calls : ℕ) where
 
   -- those of a cell, whose address is in slot s
   reads_cell : (t : Tables) (kind : Kind) (v : Value) (address s d q words : ℕ) (c : Configuration) → 1 ≤ words → words_of_kind kind ≡ words → c.active.slots s ≡ address → s < d
-      → ((j : ℕ) → j < words → store_word c.store (add_of address (4 * j)) ≡ Some (words_from c.store.memory address j)) → Is t kind v (words_from c.store.memory address) 0
+      → (word : ℕ → ℕ) → ((slots : Words) (next j : ℕ) → j < words → memory_at (lower_program source) (at (with_slots c slots) next) (add_of address (4 * j)) ≡ Some (word j)) → Is t kind v word 0
       → EachAt (code_of source c.active.function) (load_at s) words 0 d c.active.next q → IsSideRead t kind v d q c
-  reads_cell t kind v address s d q zero c some wide same before there is here = absurd (omega (arith, some))
-  reads_cell t kind v address s d q (suc words) c some wide same before there is here =
-      let (path, end) = word_path source c address (suc words) 0 s d q same before (λ j below. there j (omega (arith, below))) here in
-      let from = words_from c.store.memory address in
-      let slots = each_put from c.active.slots (suc words) 0 d in
+  reads_cell t kind v address s d q zero c some wide same before word there is here = absurd (omega (arith, some))
+  reads_cell t kind v address s d q (suc words) c some wide same before word there is here =
+      let (path, end) = word_path source word c address (suc words) 0 s d q same before (λ slots next j below. there slots next j (omega (arith, below))) here in
+      let slots = each_put word c.active.slots (suc words) 0 d in
       let last : c.active.next + words + 1 ≡ q = omega (arith, end) in
       record {
-        links = word_links c address (suc words) 0 s d;
+        links = word_links word c (suc words) 0 s d;
         some = omega arith;
         path = path;
         slots = slots;
-        leads = word_end c address words 0 s d ∙ ap (λ (n : ℕ). at (with_slots c slots) n) last;
-        is = each_is t (record { kind = kind; value = v }) from c.active.slots (suc words) 0 d wide is;
-        elsewhere = λ m out. each-outside from c.active.slots (suc words) 0 d m (subst (λ n. Outside d n m) wide out);
+        leads = word_end word c words 0 s d ∙ ap (λ (n : ℕ). at (with_slots c slots) n) last;
+        is = each_is t (record { kind = kind; value = v }) word c.active.slots (suc words) 0 d wide is;
+        elsewhere = λ m out. each-outside word c.active.slots (suc words) 0 d m (subst (λ n. Outside d n m) wide out);
       }
 
   reads_side : (a : Side) (s d q object offset : ℕ) (kind : Kind) (v : Value) (k : List Entry) (e : Environment) (w : World) (c : Configuration) (shared : SharedAt source pages calls k e w c)
@@ -184,9 +177,10 @@ module _ (source : Program) (pages calls : ℕ) where
   reads_side (CellSide x) s d q object offset kind v k e w c shared facts found there same has before points tt here =
       let g = c.active.function in
       let address = c.active.slots s in
-      reads_cell shared.tables kind v address s d q (words_of_kind kind) c (kind_positive kind) refl refl before
-      (λ j below. word_there shared.related shared.inside found points j there (omega (arith, below, ap words_of_kind same)))
-      (subst (λ i. Is shared.tables i v (words_from c.store.memory address) 0) same (cell_words shared.related shared.inside object offset address found v there points has)) here
+      let reads = cell_reads source g c shared.related shared.inside facts.0.4 object offset address found there points in
+      reads_cell shared.tables kind v address s d q (words_of_kind kind) c (kind_positive kind) refl refl before reads.word
+      (λ slots next j below. read_there source c shared.related found there points reads slots next j (omega (arith, below, ap words_of_kind same)))
+      (subst (λ i. Is shared.tables i v reads.word 0) same (reads.is v has)) here
 
   -- ---- both sides are read
 
@@ -298,9 +292,9 @@ module _ (source : Program) (pages calls : ℕ) where
         let is_word = subst (λ i. IsWord shared.tables i x.operand.value (c.active.slots v)) (sym same) (one_word shared.tables x.operand.kind x.operand.value c.active.slots v one value) in
         by_one source pages calls (does ∙ gives) shared store
         (λ choice. subst (Matches source pages calls (Running (Writing writes None) k e (written w object offset cell x.operand.value)))
-        (sym (saves_there source pages calls k e w c shared object offset address (c.active.slots v) cell x.operand.value found (stays points) is_word (words.0 v))) (
-          shared_saved source pages calls k e w c shared object offset address (c.active.slots v) cell x.operand.value found (stays points) is_word (words.0 v),
-          data_saved source pages calls k e w c shared object offset address (c.active.slots v) cell x.operand.value found (stays points) is_word (words.0 v) facts,
+        (sym (saves_there source pages calls k e w c shared facts object offset address (c.active.slots v) cell x.operand.value found (stays points) is_word (words.0 v))) (
+          shared_saved source pages calls k e w c shared facts object offset address (c.active.slots v) cell x.operand.value found (stays points) is_word (words.0 v),
+          data_saved source pages calls k e w c shared facts object offset address (c.active.slots v) cell x.operand.value found (stays points) is_word (words.0 v),
           (exits, q, subst (λ m. WritesAt source shared.tables e.locals g c.active.slots writes m q) (sym end) rest, stack),
         ))
 
@@ -319,10 +313,10 @@ module _ (source : Program) (pages calls : ℕ) where
         let third = behind 2 (omega arith) in
         let next = Running (Writing writes None) k e (written w object offset cell x.operand.value) in
         by_links source pages calls (Writing (x ∷ writes) None) k e w c next
-        (all_links source pages calls k e w c shared object offset address s 0 v cell x.operand.value found points wide fat_is words first second third) (omega arith) (does ∙ gives) shared
-        (all_path source pages calls k e w c shared object offset address s 0 v cell x.operand.value found points wide fat_is words first second third at_first at_second at_third) (
-          shared_stored source pages calls k e w c shared object offset address s 0 v cell x.operand.value found points wide fat_is words first second third,
-          data_stored source pages calls k e w c shared object offset address s 0 v cell x.operand.value found points wide fat_is words first second third facts,
+        (all_links source pages calls k e w c shared facts object offset address s 0 v cell x.operand.value found points wide fat_is words first second third) (omega arith) (does ∙ gives) shared
+        (all_path source pages calls k e w c shared facts object offset address s 0 v cell x.operand.value found points wide fat_is words first second third at_first at_second at_third) (
+          shared_stored source pages calls k e w c shared facts object offset address s 0 v cell x.operand.value found points wide fat_is words first second third,
+          data_stored source pages calls k e w c shared facts object offset address s 0 v cell x.operand.value found points wide fat_is words first second third,
           (exits, q, subst (λ m. WritesAt source shared.tables e.locals g c.active.slots writes m q) (sym end) rest, stack),
         )
 
@@ -351,7 +345,7 @@ module _ (source : Program) (pages calls : ℕ) where
       let next = written w object 0 stored.at x.operand.value in
       by_one source pages calls (does ∙ stored.gives) shared here
       (λ choice. subst (Matches source pages calls (Running (Writing writes None) k e next)) (sym (moves (lower_program source) choice c own slot (operands.Slot v))) (
-        shared_written source pages calls k e w after shared object stored.at x.operand.value stored.object_there stored.cell_there (facts.0.2.rows n object found),
+        shared_written source pages calls k e w after shared object stored.at x.operand.value stored.object_there stored.cell_there (inl (facts.0.2.rows n object found)),
         (
           data_assigned shared.tables source g w.objects next.objects e.locals (callers k) c.active.slots slots c.globals c.frames n object x.operand found
               (written_here w object stored.at x.operand.value stored.object_there stored.cell_there x.operand.kind stored.same) (written_elsewhere w object stored.at x.operand.value stored.object_there stored.cell_there)
@@ -383,7 +377,7 @@ module _ (source : Program) (pages calls : ℕ) where
       (subst (λ (y : Configuration). Matches source pages calls (Running (Writing writes None) k e next) (plain.Running y)) (sym by.leads) (
         shared_written source pages calls k e w after
             (shared_beside source pages calls k e w c shared globals (told_beside source g n x.operand.kind c.globals globals (scopes_in k) room (λ m out. stored_elsewhere c.active.slots c.globals own place_of (operands.Slot v) m (kind_positive x.operand.kind) out) shared.counters.1))
-            object stored.at x.operand.value stored.object_there stored.cell_there (ap (slice_get shared.tables.rows) (sym same) ∙ (facts.0.4 n few).0),
+            object stored.at x.operand.value stored.object_there stored.cell_there (inr (subst (IsGlobalRow shared.tables (global_types source.globals)) same (facts.0.4 n few).0)),
         (
           data_assigned_global shared.tables source g w.objects next.objects e.locals (callers k) c.active.slots c.globals globals c.frames n x.operand room
               (ap (contents next.objects) same ∙ written_here w object stored.at x.operand.value stored.object_there stored.cell_there x.operand.kind stored.same)

@@ -447,6 +447,7 @@ mutual
   built_words (typed.Move p n t) i w = tt
   built_words (typed.Peek p n t) i w = tt
   built_words (typed.Load d) i w = built_cell d i w
+  built_words (typed.AddressOf l t) i w = tt
   built_words (typed.AddressOfCell d t) i w = built_cell d i w
   built_words (typed.NumberOfElements a) i w = built_words a i w
   built_words (typed.FreeUnique a) i w = built_words a i w
@@ -462,7 +463,6 @@ mutual
   built_words (typed.New typed.AsUnique m t) i (placed, w) = built_initial m i w
   built_words (typed.New (typed.ByHandle a) m t) i (placed, w) =
       let (handle, values) = and_parts (is_built_expression a) (is_built_initial m) i in (built_words a handle placed, built_initial m values w)
-  built_words a i w = absurd (cc)
 
   built_cell : (d : typed.Dereference) → is_built_place d ≡ true → CellHasWords d → IsOfWordsCell d
   built_cell (typed.Target k a t) i w = built_words a i w

@@ -39,6 +39,10 @@ use Rattle.cyc_lower.proofs.Data.{calls_counted, in_words, get_set_other, null_i
 use Rattle.cyc_lower.proofs.Accesses.{IsWell, is_fitting}
 use Rattle.cyc_lower.proofs.CellWrites.{SameVariables, data_beside}
 use Rattle.cyc_lower.proofs.Matched.{IsMatched, by_places, by_one, executes, shared_way, shared_within, place_in, known, apart, Executes}
+use Rattle.cyc_lower.specs.Slots.{global_types}
+use Rattle.cyc_lower.proofs.Known.{row-away}
+use Rattle.cyc_objects.specs.Related.{lies_in}
+use Rattle.cyc_store.specs.declared.range.TheConstants.{UNIQUE}
 
 -- ---- what is freed
 
@@ -151,8 +155,11 @@ module _ (source : Program) (pages calls : ℕ) where
         let many : length (set w.objects number gone) ≡ length w.objects = length-set w.objects number gone in
         (data_beside shared.tables source c.active.function w.objects (set w.objects number gone) e.locals (callers k) c.active.slots c.globals c.frames (omega (arith, many)) beside facts.0, facts.1)
       where
-        beside : SameVariables shared.tables w.objects (set w.objects number gone)
-        beside o variable = ap content_of (get_set_other w.objects number o gone (λ same. not-placed (sym (ap (slice_get shared.tables.rows) same) ∙ variable) row))
+        beside : SameVariables shared.tables (global_types source.globals) w.objects (set w.objects number gone)
+        beside o variable =
+            ap content_of
+            (get_set_other w.objects number o gone
+            (λ same. row-away shared.related (global_types source.globals) o UNIQUE x variable (record { at = ap (slice_get w.objects) same ∙ there; lies = ap (lies_in shared.tables.handles w.regions) owned })))
 
   -- a live object is freed
   frees_object_at : (v : Kinded) (o : Operand) (k : List Entry) (e : Environment) (w : World) (c : Configuration) → (shared : SharedAt source pages calls k e w c) → DataIn source shared.tables c.active.slots k e w c

@@ -49,7 +49,7 @@ use Rattle.cyc_meaning.specs.Allocation.{makes_by}
 use Rattle.cyc_meaning.specs.State.{status_of}
 use Rattle.cyc_meaning.specs.SourceMachine.{status_in}
 use Rattle.cyc_lower.specs.declared.statements.Exits.{Exits}
-use Rattle.cyc_lower.specs.Slots.{slot_of, Types, global_of}
+use Rattle.cyc_lower.specs.Slots.{slot_of, Types, global_of, global_types}
 use Rattle.cyc_lower.proofs.Slots.{slot-room, room-inside, global-inside}
 use Rattle.cyc_lower.proofs.Widths.{kind_positive, same_kind, HasRoom, Outside, chain_kind, wide_kind, made_kind}
 use Rattle.cyc_lower.proofs.Moves.{moved_slots, moves, put_elsewhere, moved_elsewhere, moved_is}
@@ -66,7 +66,7 @@ use Rattle.cyc_lower.proofs.Handles.{kept_holds}
 use Rattle.cyc_lower.proofs.Data.{in_words, IsWord-is, one_word, height-least, Holds-same, Holds-above, data_above, data_assigned, data_assigned_global, data_declared, data_grows, null_is, points_in, null_at, points_at, floor-least, handlers_beside, data_written, told_beside}
 use Rattle.cyc_lower.proofs.Accesses.{IsWell, is_fitting, is_stored, written_here, written_elsewhere, written_length, is_declared, home_there, is_member}
 use Rattle.cyc_lower.proofs.PlaceWords.{stays, member_there, cell_kind, word_is}
-use Rattle.cyc_lower.proofs.CellWrites.{cell_is_there, saves_there, shared_saved, data_saved}
+use Rattle.cyc_lower.proofs.CellWrites.{cell_is_there, with_word, saves_there, shared_saved, data_saved}
 use Rattle.cyc_lower.proofs.Weights.{weight}
 use Rattle.cyc_lower.proofs.Relation.{types_on, starts_on, StatementStack}
 use Rattle.cyc_lower.proofs.Matched.{IsMatched, silently, by_one, by_two, by_three, shared_way, shared_within, by_two_known, output_way}
@@ -78,14 +78,14 @@ use Rattle.cyc_lower.proofs.FatSteps.{counts, widens}
 use Rattle.cyc_lower.proofs.ThinSteps.{narrows}
 use Rattle.cyc_lower.proofs.Elements.{follows_parts, follows_fat, indexes_pointer, advances_pointer}
 use Rattle.cyc_lower.proofs.Paths.{Link, IsPath, end_of, by_path}
-use Rattle.cyc_lower.proofs.WideCells.{stage_quiet, two_put, store_links, stored, store_path, store_last, shared_stored, data_stored}
+use Rattle.cyc_lower.proofs.WideCells.{store_links, stored, store_path, all_path, store_last, shared_stored, data_stored}
 use Rattle.cyc_lower.proofs.Allocations.{plain_made, fields_made}
 use Rattle.cyc_lower.proofs.Arrays.{array_sized, array_filled}
 use Rattle.cyc_lower.proofs.Evaluations.{IsStep, landed_word, landed_moved, lands_at, passes_related, passes_weight, object_of_same, made_of, lands_made}
 use Rattle.cyc_lower.proofs.Paths.{Link, IsPath, end_of, by_path}
 use Rattle.cyc_lower.proofs.GlobalSteps.{stored_globals, stored_elsewhere, stored_is, global_links, is_stored_by, by_links}
 use Rattle.cyc_lower.proofs.RegionSteps.{opened_given, aliased_given}
-use Rattle.cyc_lower.proofs.StoredWords.{with_saved}
+use Rattle.cyc_lower.proofs.Known.{IsGlobalRow}
 
 -- an operand of a kind, and an int
 abbrev pub of_kind : Kind → Value → Kinded
@@ -852,7 +852,7 @@ module _ (source : Program) (pages calls : ℕ) where
       let next = written w object 0 stored.at v.value in
       hands_behind v k e next c after stored.gives shared shared here (λ choice. moves (lower_program source) choice c words slot o) (λ same. omega (arith, same))
       (handed v to k e next after q end (
-        shared_written source pages calls k e w after shared object stored.at v.value stored.object_there stored.cell_there (facts.0.2.rows n object found),
+        shared_written source pages calls k e w after shared object stored.at v.value stored.object_there stored.cell_there (inl (facts.0.2.rows n object found)),
         (
           data_assigned shared.tables source g w.objects next.objects e.locals (callers k) c.active.slots slots c.globals c.frames n object v found
               (written_here w object stored.at v.value stored.object_there stored.cell_there v.kind stored.same) (written_elsewhere w object stored.at v.value stored.object_there stored.cell_there)
@@ -877,7 +877,7 @@ module _ (source : Program) (pages calls : ℕ) where
       (handed v to k e next after q by.end (
         shared_written source pages calls k e w after
             (shared_beside source pages calls k e w c shared globals (told_beside source g n v.kind c.globals globals (scopes_in k) room (λ m out. stored_elsewhere c.active.slots c.globals words first o m (kind_positive v.kind) out) shared.counters.1))
-            object stored.at v.value stored.object_there stored.cell_there (ap (slice_get shared.tables.rows) (sym same) ∙ (facts.0.4 n few).0),
+            object stored.at v.value stored.object_there stored.cell_there (inr (subst (IsGlobalRow shared.tables (global_types source.globals)) same (facts.0.4 n few).0)),
         (
           data_assigned_global shared.tables source g w.objects next.objects e.locals (callers k) c.active.slots c.globals globals c.frames n v room
               (ap (contents next.objects) same ∙ written_here w object stored.at v.value stored.object_there stored.cell_there v.kind stored.same)
@@ -921,11 +921,11 @@ module _ (source : Program) (pages calls : ℕ) where
       let (at, found, same, gives) = cell_is_there (cell_at w object offset) object offset v (Given v) k e w well in
       let is_word = subst (λ i. IsWord shared.tables i v.value word) (sym same) (tells shared.tables is) in
       let fits = stored_word c of_words words c.active.next (operands.Slot free) 0 o here in
-      let after : Configuration = advanced (with_saved c address word) in
+      let after : Configuration = advanced (with_word source pages calls k e w c shared facts object offset address word at v.value found points is_word fits) in
       let next = written w object offset at v.value in
-      let saved = saves_there source pages calls k e w c shared object offset address word at v.value found points is_word fits in
-      let kept : SharedAt source pages calls k e next after = shared_saved source pages calls k e w c shared object offset address word at v.value found points is_word fits in
-      let facts_kept : DataIn source shared.tables c.active.slots k e next after = data_saved source pages calls k e w c shared object offset address word at v.value found points is_word fits facts in
+      let saved = saves_there source pages calls k e w c shared facts object offset address word at v.value found points is_word fits in
+      let kept : SharedAt source pages calls k e next after = shared_saved source pages calls k e w c shared facts object offset address word at v.value found points is_word fits in
+      let facts_kept : DataIn source shared.tables c.active.slots k e next after = data_saved source pages calls k e w c shared facts object offset address word at v.value found points is_word fits in
       hands_saved v (Needs (StoreCell peek (Thin object offset)) ∷ k) k e w next c after gives shared (shared_within source pages calls k e next after kept) shared.same_output here (λ choice. saved)
       (λ equal. omega (arith, equal)) (handed v o k e next after q end (kept, facts_kept, is, holds) hands)
 
@@ -946,34 +946,16 @@ module _ (source : Program) (pages calls : ℕ) where
       let first = behind 0 (omega arith) in
       let second = behind 1 (omega arith) in
       let third = behind 2 (omega arith) in
-      let after = stored source pages calls k e w c shared object offset place free 0 n cell v.value found is_place wide fat_is words first second third in
+      let after = stored source pages calls k e w c shared facts object offset place free 0 n cell v.value found is_place wide fat_is words first second third in
       let next = written w object offset cell v.value in
-      let kept : SharedAt source pages calls k e next after = shared_stored source pages calls k e w c shared object offset place free 0 n cell v.value found is_place wide fat_is words first second third in
-      let facts_kept : DataIn source shared.tables c.active.slots k e next after = data_stored source pages calls k e w c shared object offset place free 0 n cell v.value found is_place wide fat_is words first second third facts in
+      let kept : SharedAt source pages calls k e next after = shared_stored source pages calls k e w c shared facts object offset place free 0 n cell v.value found is_place wide fat_is words first second third in
+      let facts_kept : DataIn source shared.tables c.active.slots k e next after = data_stored source pages calls k e w c shared facts object offset place free 0 n cell v.value found is_place wide fat_is words first second third in
       hands_stored v (Needs (StoreCell peek (Thin object offset)) ∷ k) k e w next c after
-      (store_links source pages calls k e w c shared object offset place free 0 n cell v.value found is_place wide fat_is words first second third)
+      (store_links source pages calls k e w c shared facts object offset place free 0 n cell v.value found is_place wide fat_is words first second third)
       gives shared
-      (store_path source pages calls k e w c shared object offset place free 0 n cell v.value found is_place wide fat_is words first second third at_first at_second)
-      at_third (store_last source pages calls k e w c shared object offset place free 0 n cell v.value found is_place wide fat_is words first second third)
-      (λ path. (
-        path.0,
-        path.1,
-        path.2,
-        path.3,
-        (
-          path.4.0,
-          path.4.1,
-          path.4.2,
-          path.4.3,
-          (
-            at_third,
-            store_last source pages calls k e w c shared object offset place free 0 n cell v.value found is_place wide fat_is words first second third,
-            omega arith,
-            stage_quiet c (two_put source pages calls k e w c shared object offset place free 0 n cell v.value found is_place wide fat_is words first second third) after.store.memory (c.active.next + 1 + 1) (c.active.next + 1 + 1 + 1),
-            tt,
-          ),
-        ),
-      )) refl
+      (store_path source pages calls k e w c shared facts object offset place free 0 n cell v.value found is_place wide fat_is words first second third at_first at_second)
+      at_third (store_last source pages calls k e w c shared facts object offset place free 0 n cell v.value found is_place wide fat_is words first second third)
+      (λ path. all_path source pages calls k e w c shared facts object offset place free 0 n cell v.value found is_place wide fat_is words first second third at_first at_second at_third) refl
       (handed v (operands.Slot n) k e next after q end (kept, facts_kept, is, holds) hands)
 
   stores_cell : (peek : Option ℕ) (place : Value) (v : Kinded) (o : Operand) (k : List Entry) (e : Environment) (w : World) (c : Configuration) → HasWords (lower_program source) → plain.HoldsWords (plain.Running c)
@@ -1010,7 +992,7 @@ module _ (source : Program) (pages calls : ℕ) where
       let inside = slot-room (types_on source g k) n (facts.0.2.within n object found).0 in
       hands_at_once v (Needs (Store (Thin object 0)) ∷ k) k e w next c stored.gives shared (omega arith)
       (handed v (operands.Slot (slot_of (starts_on source g k) n)) k e next c c.active.next refl (
-        shared_written source pages calls k e w c shared object stored.at v.value stored.object_there stored.cell_there (facts.0.2.rows n object found),
+        shared_written source pages calls k e w c shared object stored.at v.value stored.object_there stored.cell_there (inl (facts.0.2.rows n object found)),
         (
           data_assigned shared.tables source g w.objects next.objects e.locals (callers k) old c.active.slots c.globals c.frames n object v found
               (written_here w object stored.at v.value stored.object_there stored.cell_there v.kind stored.same) (written_elsewhere w object stored.at v.value stored.object_there stored.cell_there)

@@ -35,9 +35,9 @@ use Rattle.cyc_meaning.specs.SourceMachine.{status_in}
 use Rattle.cyc_meaning.specs.Nesting.{IsNested, Nests}
 use Rattle.cyc_meaning.proofs.Nested.{nests_start}
 use Rattle.cyc_lower.proofs.Scoped.{nests_kept}
-use Rattle.cyc_objects.specs.Tables.{Variable, Tables, first_tables, without_addresses}
+use Rattle.cyc_objects.specs.Tables.{Tables, first_tables}
 use Rattle.cyc_objects.specs.Related as objects
-use Rattle.cyc_objects.proofs.Start.{start-related, none-placed}
+use Rattle.cyc_objects.proofs.Start.{start-related}
 use Rattle.cyc_lower.proofs.Relation.{IsWord, silent, contents, Related, Matches, types_at, starts_at, IsTold}
 use Rattle.cyc_lower.proofs.Fitting.{IsFitting}
 use Rattle.cyc_lower.proofs.Data.{no_locals_hold, IsWord-is}
@@ -59,7 +59,8 @@ use Rattle.cyc_lower.proofs.Widths.{words_in, type_words, kind_positive}
 use Rattle.cyc_lower.proofs.Slots.{words_positive, globals-are, global-room, globals_counted}
 use Rattle.std.proofs.lemmas.List.{length-replicate, get_or-append_right, get_or_append_left}
 use Rattle.cyc_meaning.specs.FrameCount.{words_of_all}
-use Rattle.cyc_objects.proofs.Inside.{start-inside}
+use Rattle.cyc_lower.proofs.GlobalRows.{global_rows, are_globals, start-known, start-rows}
+use Rattle.cyc_plain.specs.declared.limits.TheConstants.{MOST_GLOBALS}
 
 -- ---- the globals at the start
 
@@ -116,17 +117,11 @@ none_open source = by (list_any may_open source.functions)
     by true = get_or-append_right xs (0 ∷ []) (length xs) (length xs) 0 refl (omega arith) ∙ ap (slice_index (0 ∷ [])) (let e : length xs - length xs ≡ 0 = omega arith in e)
     by false = refl
 
--- each global is a variable
-globals_rows : (gs : List GlobalVariable) (number : ℕ) → number < length (global_types gs) → slice_get (map (λ (g : GlobalVariable). Variable) gs) number ≡ Some Variable
-globals_rows [] number few = absurd (omega (arith, few))
-globals_rows (g ∷ gs) zero few = refl
-globals_rows (g ∷ gs) (suc number) few = globals_rows gs number (omega (arith, few))
-
 globals_many : (gs : List GlobalVariable) → length (global_types gs) ≤ length (map global_object gs)
 globals_many [] = omega arith
 globals_many (g ∷ gs) = omega (arith, globals_many gs)
 
-module _ (source : Program) (pages calls : ℕ) (well_typed : AreWellTypedGlobals source.globals) (stand : FunctionsStand source pages calls) (of_words : HasWords (lower_program source)) where
+module _ (source : Program) (pages calls : ℕ) (well_typed : AreWellTypedGlobals source.globals) (few_globals : words_of_all (global_types source.globals) ≤ MOST_GLOBALS) (stand : FunctionsStand source pages calls) (of_words : HasWords (lower_program source)) where
   -- ---- all steps
 
   stepping : (focus : Focus) (k : List Entry) (e : Environment) (w : World) (c : Configuration) → IsWell (step source (Running focus k e w)) → IsNested k e w → plain.HoldsWords (plain.Running c) → Related source pages calls focus k e w c
@@ -191,7 +186,7 @@ module _ (source : Program) (pages calls : ℕ) (well_typed : AreWellTypedGlobal
   start_related : (h : Function) (base : ℕ) (store : StoreState) (input : List ℕ) → slice_get source.functions source.main ≡ Some h → IsNew pages store → 1 ≤ pages → pages ≤ MOST_PAGES → 1 ≤ calls
       → Matches source pages calls (Running (Entering h []) (Main ∷ []) no_locals (first_world source input)) (plain_step.start (lower_program source) base store input)
   start_related h base store input there new some_page few_pages some_call =
-      let t = first_tables (without_addresses source) in
+      let t = first_tables (global_rows source few_globals) in
       let w = first_world source input in
       let words : ℕ → ℕ = λ global. slice_index (lower_program source).globals global in
       let slots : ℕ → ℕ = λ slot. 0 in
@@ -200,9 +195,9 @@ module _ (source : Program) (pages calls : ℕ) (well_typed : AreWellTypedGlobal
         tables = t;
         same_output = refl;
         same_input = refl;
-        inside = start-inside source;
+        inside = start-known source few_globals;
         same_pages = ap (λ (s : StoreState). s.pages) new.2;
-        related = subst (objects.Related t (silent w)) (sym new.2) (start-related source (without_addresses source) (none-placed source) [] pages new.0 new.1 some_page few_pages);
+        related = subst (objects.Related t (silent w)) (sym new.2) (start-related source (global_rows source few_globals) (are_globals source few_globals) [] pages new.0 new.1 some_page few_pages);
         globals = refl;
         variables = (refl, tt);
         few_pages = omega (arith, new_demand pages store new, some_page);
@@ -215,7 +210,7 @@ module _ (source : Program) (pages calls : ℕ) (well_typed : AreWellTypedGlobal
           no_locals_hold t _ w.objects (length w.objects) (length w.objects) slots,
           globals_many source.globals,
           λ number few. (
-            globals_rows source.globals number few,
+            start-rows source few_globals number few,
             λ v has.
                 let (is, room) = globals_start t source.globals number v well_typed has in
                 let first = global_of (starts_at source source.main) number in
@@ -257,7 +252,7 @@ module _ (source : Program) (pages calls : ℕ) (well_typed : AreWellTypedGlobal
       )
 
 -- The lowered program of one that fits does what that does.
-pub follows : (source : Program) → IsFitting source → HasWords (lower_program source) → (pages calls base : ℕ) (store : StoreState) (input : List ℕ) → IsNew pages store → 1 ≤ pages → pages ≤ MOST_PAGES → 1 ≤ calls → AllByRecursion (λ b. b < 256) input
+pub follows : (source : Program) → IsFitting source → words_of_all (global_types source.globals) ≤ MOST_GLOBALS → HasWords (lower_program source) → (pages calls base : ℕ) (store : StoreState) (input : List ℕ) → IsNew pages store → 1 ≤ pages → pages ≤ MOST_PAGES → 1 ≤ calls → AllByRecursion (λ b. b < 256) input
     → FollowsSource source (lower_program source) pages calls base store input
-follows source fitting of_words pages calls base store input new some_page few_pages some_call bytes =
-    follows_source source pages calls fitting.globals (functions_stand source pages calls fitting) of_words base store input new some_page few_pages some_call bytes
+follows source fitting few_globals of_words pages calls base store input new some_page few_pages some_call bytes =
+    follows_source source pages calls fitting.globals few_globals (functions_stand source pages calls fitting) of_words base store input new some_page few_pages some_call bytes

@@ -4,7 +4,7 @@ use Rattle.std.specs.Prelude.{◌≡◌, ℕ, ◌<◌, Bool, true, false, not, �
 use Rattle.cyc_types.specs.declared.typed.PointerOperator.{PointerOperator}
 use Rattle.cyc_types.specs.declared.typed.PointerOperator.TheVariants as pointers
 use Rattle.cyc_types.specs.Types.{Ty}
-use Rattle.cyc_types.specs.TypedTrees.{Array, Counter, Load, New, OnHeap, ByHandle, Initial, Plain, Fields, Dereference, Target, Local, Expression, Number, NullPointer, HeapRegion, FreeKey, Copy, Call, Unary, Binary, Assign, Converted, Convert, Arguments, NoArguments, MoreArguments, Operations, NoOperations, ThenCompute, ThenTest, ThenPointer, Statement, Block, Empty, Evaluate, If, While, Return, Break, Continue, Items, NoItems, MoreItems, Execute, Declare, DeclareRegion, OpenRegion, DeclareAlias, DeclareKey, Signature, Function, Program, Move, Peek, ThenPointerPeek, AddressOfCell, Store, Member, AsUnique, FreeUnique, Side, VariableSide, CellSide, Swap, Throw, Try, Clauses, NoClauses, Default, Case, NumberOfElements, Element}
+use Rattle.cyc_types.specs.TypedTrees.{Array, Counter, Load, New, OnHeap, ByHandle, Initial, Plain, Fields, Dereference, Target, Local, Expression, Number, NullPointer, HeapRegion, FreeKey, Copy, Call, Unary, Binary, Assign, Converted, Convert, Arguments, NoArguments, MoreArguments, Operations, NoOperations, ThenCompute, ThenTest, ThenPointer, Statement, Block, Empty, Evaluate, If, While, Return, Break, Continue, Items, NoItems, MoreItems, Execute, Declare, DeclareRegion, OpenRegion, DeclareAlias, DeclareKey, Signature, Function, Program, Move, Peek, ThenPointerPeek, AddressOfCell, Store, Member, AsUnique, FreeUnique, Side, VariableSide, CellSide, Swap, Throw, Try, Clauses, NoClauses, Default, Case, NumberOfElements, Element, AddressOf}
 use Rattle.cyc_words.specs.Word.{IsWord}
 use Rattle.cyc_types.specs.declared.typed.Kind.{Kind}
 use Rattle.cyc_types.specs.declared.typed.Kind.TheVariants as kinds
@@ -60,9 +60,9 @@ abbrev mutual
   IsLowerable b (New OnHeap i t) = IsLowerableObject b i
   IsLowerable b (New AsUnique i t) = IsLowerableObject b i
   IsLowerable b (New (ByHandle a) i t) = IsLowerable b a × IsLowerableObject b i
+  IsLowerable b (AddressOf l t) = IsWithin b l
   IsLowerable b (AddressOfCell x t) = IsLowerableCell b x
   IsLowerable b (Store x c t) = IsLowerableCell b x × IsLowerableConverted b c
-  IsLowerable b a = ⊥
 
   pub IsLowerableCell : Numbering → Dereference → Type 0
   IsLowerableCell b (Target k a t) = IsLowerable b a
