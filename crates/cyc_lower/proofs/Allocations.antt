@@ -47,7 +47,7 @@ use Rattle.cyc_objects.proofs.Making.{open-home, allocated, allocated-unique, re
 use Rattle.cyc_lower.specs.Lowering.{lower_program}
 use Rattle.cyc_lower.proofs.Widths.{kind_positive, wide_kind, Outside}
 use Rattle.cyc_lower.proofs.Stands.{StoresAt, ObjectAt}
-use Rattle.cyc_lower.proofs.Relation.{types_on, starts_on, IsWord, IsIn, IsObject, words_held, height, Holds, HoldsFrom, held, callers, homes, silent, DataIn, SharedAt, in_temporary, into_slot, LandsMade, ValueStack, Matches, code_of, bounds_at, types_at, base_of, top, IsHandleOf, HasHandle, contents, floor}
+use Rattle.cyc_lower.proofs.Relation.{types_on, starts_on, IsWord, IsIn, IsObject, words_held, height, Holds, HoldsFrom, held, callers, homes, silent, DataIn, SharedAt, in_temporary, into_slot, LandsMade, ValueStack, Matches, code_of, bounds_at, types_at, base_of, top, IsHandleOf, HasHandle, contents, floor, AreBare}
 use Rattle.cyc_lower.proofs.Handles.{has_handle}
 use Rattle.cyc_lower.proofs.Data.{Is-same, height-least, one_word, Holds-same, Holds-rest, Holds-grows, HoldsFrom-grows, in_order, words-reverse, data_above, data_grows, variables_grow, contents_made, data_written}
 use Rattle.cyc_lower.proofs.Accesses.{IsWell, is_fitting}
@@ -57,9 +57,9 @@ use Rattle.cyc_lower.proofs.WideCells.{store_links, store_path, store_last, shar
 use Rattle.cyc_lower.proofs.CellWrites.{SameVariables, data_beside, cell_is_there, saves_there, shared_saved, data_saved}
 use Rattle.cyc_lower.proofs.Matched.{IsMatched, below, silently, by_places, by_one, shared_way, shared_within, place_in, known, Executes}
 use Rattle.cyc_lower.proofs.Evaluations.{IsStep, made_moved}
-use Rattle.cyc_objects.proofs.Inside.{made-inside}
-use Rattle.cyc_lower.proofs.Known.{known-more, row-made_there}
+use Rattle.cyc_lower.proofs.Known.{row-made_there}
 use Rattle.cyc_lower.specs.Slots.{global_types}
+use Rattle.cyc_lower.proofs.Bare.{bare-made}
 
 -- a sum that does not wrap
 add_is : (a b : ℕ) → a + b < 4294967296 → add_of a b ≡ a + b
@@ -113,6 +113,7 @@ pub record Makes (t : Tables) (w : World) (s : StoreState) (owner : Owner) (hand
   pub input : new.input ≡ w.input
   pub pages : (choice : services.Choice) → (served s (Allocate handle (block_size cells)) choice).pages ≡ s.pages
   pub refuses : refusal s (Allocate handle (block_size cells)) ≡ full_at (nat_lt s.pages (pages_of new))
+  pub bare : AreBare t w → AreBare t new
   pub related : (choice : services.Choice) → refusal s (Allocate handle (block_size cells)) ≡ None → IsAllowed s (Allocate handle (block_size cells)) choice
       → objects.Related (with_row t (Placed choice.address (kinds_of cells))) (silent new) (served s (Allocate handle (block_size cells)) choice)
 
@@ -144,6 +145,7 @@ module _ {t : Tables} {w : World} {s : StoreState} (related : objects.Related t 
         input = refl;
         pages = λ choice. asked_pages s handle (block_size cells) choice;
         refuses = refusal-allocate related region handle r cells there kept entry (cells_sized cells few);
+        bare = λ bare. bare-made t w region handle r cells there entry bare;
         related = λ choice free allowed. allocated related region handle r cells there kept entry choice blank free allowed;
       }
 
@@ -156,6 +158,7 @@ module _ {t : Tables} {w : World} {s : StoreState} (related : objects.Related t 
     input = refl;
     pages = λ choice. refl;
     refuses = refusal-unique related cells (cells_sized cells few);
+    bare = λ bare. bare;
     related = λ choice free allowed. allocated-unique related cells choice blank (omega (arith, few)) free allowed;
   }
 
@@ -207,7 +210,7 @@ module _ (source : Program) (pages calls : ℕ) where
       tables = grown;
       same_output = shared.same_output ∙ sym makes.output;
       same_input = shared.same_input ∙ sym makes.input;
-      inside = known-more (length (global_types source.globals)) shared.tables (Placed choice.address (kinds_of cells)) shared.inside (made-inside shared.related handle cells choice free served.allowed);
+      bare = makes.bare shared.bare;
       same_pages = makes.pages choice ∙ shared.same_pages;
       related = related_made;
       globals = shared.globals;
@@ -229,9 +232,9 @@ module _ (source : Program) (pages calls : ℕ) where
     data_made =
         let g = c.active.function in
         let many : length new.objects ≡ length w.objects + 1 = ap length makes.joined ∙ length-append w.objects (record { owner = owner; cells = cells } ∷ []) in
-        data_written source grown g new.objects e.locals k c.active.slots after.active.slots c.active.handlers c.globals c.frames (t + words_held vs) 1 (omega (arith, height-least (floor source g k) (held k))) same_slots (
-          data_grows shared.tables grown grows source g new.objects e.locals (callers k) c.active.slots c.globals c.frames
-              (data_beside shared.tables source g w.objects new.objects e.locals (callers k) c.active.slots c.globals c.frames (omega (arith, many)) beside facts.0),
+        data_written source grown g c.active.base new.objects e.locals k c.active.slots after.active.slots c.active.handlers c.globals c.frames (t + words_held vs) 1 (omega (arith, height-least (floor source g k) (held k))) same_slots (
+          data_grows shared.tables grown grows source g c.active.base new.objects e.locals (callers k) c.active.slots c.globals c.frames
+              (data_beside shared.tables source g c.active.base w.objects new.objects e.locals (callers k) c.active.slots c.globals c.frames (omega (arith, many)) beside facts.0),
           facts.1,
         )
       where

@@ -69,8 +69,7 @@ use Rattle.cyc_lower.proofs.Handling.{raised}
 use Rattle.cyc_lower.proofs.Allocations.{Makes, made_for}
 use Rattle.cyc_lower.proofs.Asking.{past_pages, by_asking, by_full}
 use Rattle.cyc_words.proofs.WordLemmas.{IsWord-add_of, IsWord-mul_of, IsWord-shl_of}
-use Rattle.cyc_objects.proofs.Inside.{made-inside}
-use Rattle.cyc_lower.proofs.Known.{known-more, row-made_there}
+use Rattle.cyc_lower.proofs.Known.{row-made_there}
 use Rattle.cyc_lower.proofs.StoredWords.{with_saved}
 use Rattle.cyc_lower.specs.Slots.{global_types}
 
@@ -201,7 +200,7 @@ module _ (source : Program) (pages calls : ℕ) where
         ∙ put-other s1 (t + 2) x 0 (apart_from x t 4 (t + 2) out (omega arith) (omega arith)) ∙ put-other slots (t + 1) x (slots t) (apart_from x t 4 (t + 1) out (omega arith) (omega arith)) in
         let matches : Matches source pages calls next (plain.Running c5) = (
           shared,
-          data_written source shared.tables g w.objects e.locals k slots s5 c.active.handlers c.globals c.frames t 4 (height-least base (held k)) kept facts,
+          data_written source shared.tables g c.active.base w.objects e.locals k slots s5 c.active.handlers c.globals c.frames t 4 (height-least base (held k)) kept facts,
           (
             handle,
             d,
@@ -322,7 +321,7 @@ module _ (source : Program) (pages calls : ℕ) where
       tables = grown;
       same_output = shared.same_output ∙ sym makes.output;
       same_input = shared.same_input ∙ sym makes.input;
-      inside = known-more (length (global_types source.globals)) shared.tables (Placed choice.address (kinds_of cells)) shared.inside (made-inside shared.related handle cells choice free served.allowed);
+      bare = makes.bare shared.bare;
       same_pages = makes.pages choice ∙ shared.same_pages;
       related = makes.related choice free served.allowed;
       globals = shared.globals;
@@ -344,9 +343,9 @@ module _ (source : Program) (pages calls : ℕ) where
     data_made =
         let g = c.active.function in
         let many : length new.objects ≡ length w.objects + 1 = ap length makes.joined ∙ length-append w.objects (record { owner = owner; cells = cells } ∷ []) in
-        data_written source grown g new.objects e.locals k c.active.slots after.active.slots c.active.handlers c.globals c.frames first 1 (omega (arith, height-least (floor source g k) (held k))) same_slots (
-          data_grows shared.tables grown grows source g new.objects e.locals (callers k) c.active.slots c.globals c.frames
-              (data_beside shared.tables source g w.objects new.objects e.locals (callers k) c.active.slots c.globals c.frames (omega (arith, many)) beside facts.0),
+        data_written source grown g c.active.base new.objects e.locals k c.active.slots after.active.slots c.active.handlers c.globals c.frames first 1 (omega (arith, height-least (floor source g k) (held k))) same_slots (
+          data_grows shared.tables grown grows source g c.active.base new.objects e.locals (callers k) c.active.slots c.globals c.frames
+              (data_beside shared.tables source g c.active.base w.objects new.objects e.locals (callers k) c.active.slots c.globals c.frames (omega (arith, many)) beside facts.0),
           facts.1,
         )
       where
@@ -477,7 +476,7 @@ module _ (source : Program) (pages calls : ℕ) where
           (shared_within source pages calls k e w c1 shared) (shared_way source pages calls (Repeating object count index level wanted element) k e w c1 shared)
           branch jumps restart (λ choice. refl) move (λ same. omega (arith, same, before)) (λ same. omega (arith, same, before)) (λ same. omega (arith, same))
           (λ choice. made_moved source pages calls v (operands.Slot t) d k e w c1 q choice shared pointer
-          (data_written source shared.tables g w.objects e.locals k c.active.slots s1 c.active.handlers c.globals c.frames t 3 (omega (arith, height-least (floor source g k) (held k))) elsewhere facts)
+          (data_written source shared.tables g c.active.base w.objects e.locals k c.active.slots s1 c.active.handlers c.globals c.frames t 3 (omega (arith, height-least (floor source g k) (held k))) elsewhere facts)
           (Holds-same shared.tables c.active.slots s1 (floor source g k) (held k) (λ m short. elsewhere m (inl (omega (arith, short)))) holds) end lands)
 
   -- the next one is evaluated, or all are written
@@ -508,7 +507,7 @@ module _ (source : Program) (pages calls : ℕ) where
             tables = shared.tables;
             same_output = shared.same_output;
             same_input = shared.same_input;
-            inside = shared.inside;
+            bare = shared.bare;
             same_pages = shared.same_pages;
             related = shared.related;
             globals = shared.globals;
@@ -619,7 +618,7 @@ module _ (source : Program) (pages calls : ℕ) where
     scales false choice = refl
 
     facts_there : DataIn source shared.tables s2 k e w c2
-    facts_there = data_written source shared.tables g w.objects e.locals k slots s2 c.active.handlers c.globals c.frames z 1 (omega (arith, height-least (floor source g k) (held k))) outside_both facts
+    facts_there = data_written source shared.tables g c.active.base w.objects e.locals k slots s2 c.active.handlers c.globals c.frames z 1 (omega (arith, height-least (floor source g k) (held k))) outside_both facts
 
     -- the store changes, or the globals do, and the code goes on at this place
     abbrev reached : StoreState → (globals : Words) → (m : ℕ) → Configuration
@@ -645,7 +644,7 @@ module _ (source : Program) (pages calls : ℕ) where
           tables = shared.tables;
           same_output = shared.same_output;
           same_input = shared.same_input;
-          inside = shared.inside;
+          bare = shared.bare;
           related = related;
           same_pages = same_pages;
           globals = shared.globals;
@@ -656,7 +655,7 @@ module _ (source : Program) (pages calls : ℕ) where
         } in
         let matches : Matches source pages calls next (plain.Running (at c4 h)) = (
           later,
-          data_written source shared.tables g new.objects e.locals k s2 s3 c.active.handlers globals c.frames (free + 2) 1 (omega (arith, height-least (floor source g k) (held k))) up facts_later,
+          data_written source shared.tables g c.active.base new.objects e.locals k s2 s3 c.active.handlers globals c.frames (free + 2) 1 (omega (arith, height-least (floor source g k) (held k))) up facts_later,
           (
             d,
             c.active.next,

@@ -1104,10 +1104,10 @@ module _ (code : List Instruction) (b : Numbering) (types : Types) (raised : Blo
         let front = statement_code (starts_of types) s p exits d in
         let back = items_code (starts_of types) js (p + length front) exits d in
         (p + length front, statement_stands s in_loop exits d p (p + length front) numbered refl (has_front code p front back has), items_stand js in_loop exits d (p + length front) q rest (cut p q front back end) (has_back code p front back has))
-    items_stand (MoreItems (Declare n t v) js) in_loop exits d p q (few, numbered, rest) end has =
+    items_stand (MoreItems (Declare n t v) js) in_loop exits d p q (few, room, numbered, rest) end has =
         let front = declaration_code (starts_of types) n v p d in
         let back = items_code (starts_of types) js (p + length front) exits d in
-        (p + length front, declaration_stands n v d p (p + length front) few numbered refl (has_front code p front back has), items_stand js in_loop exits d (p + length front) q rest (cut p q front back end) (has_back code p front back has))
+        (p + length front, room, declaration_stands n v d p (p + length front) few numbered refl (has_front code p front back has), items_stand js in_loop exits d (p + length front) q rest (cut p q front back end) (has_back code p front back has))
     items_stand (MoreItems (DeclareRegion r n) js) in_loop exits d p q ((global, counts), few, room, numbered) end has =
         let front = opened_code (starts_of types) n d in
         let m = p + length front in

@@ -25,7 +25,7 @@ use Rattle.cyc_lower.proofs.Widths.{same_kind, kind_positive, words_in, HasGloba
 use Rattle.cyc_lower.proofs.Slots.{global-room}
 use Rattle.cyc_lower.proofs.Moves.{put_elsewhere}
 use Rattle.cyc_lower.proofs.Known.{IsVariableRow, row-away, found-known, global-first, global_kind, first_word}
-use Rattle.cyc_lower.proofs.Relation.{IsWord, content_of, contents, Waiting, LocalsHold, GlobalsHold, FramesHold, DataAt, DataIn, SharedAt, callers, silent, types_at, IsTold, scopes_in}
+use Rattle.cyc_lower.proofs.Relation.{IsWord, content_of, contents, Waiting, LocalsHold, GlobalsHold, FramesHold, DataAt, DataIn, SharedAt, callers, silent, types_at, IsTold, scopes_in, CallSlots, call_slots}
 use Rattle.cyc_lower.proofs.Data.{IsWord-is, get_set_other, locals_raised, told_beside, data_assigned_global}
 use Rattle.cyc_lower.proofs.Accesses.{IsWell, is_fitting, written_here, written_elsewhere, written_length}
 use Rattle.cyc_lower.proofs.PlaceWords.{cell_kind}
@@ -34,6 +34,7 @@ use Rattle.cyc_plain.specs.Memory.{memory_at}
 use Rattle.cyc_plain.proofs.MemoryLaws.{store_word, stored-word}
 use Rattle.cyc_lower.specs.Lowering.{lower_program, scopes_of}
 use Rattle.cyc_lower.proofs.StoredWords.{cell-stored, saves-stored, saves-global}
+use Rattle.cyc_lower.proofs.Rows.{local-row}
 
 -- ---- variables
 
@@ -46,13 +47,13 @@ module _ (t : Tables) (source : Program) where
   abbrev Same : (objects others : List Object) → Type 0
   Same objects others = SameVariables t (global_types source.globals) objects others
 
-  locals_beside : (types : Types) (objects others : List Object) (locals : ℕ → Option ℕ) (low high : ℕ) (slots : Words) → Same objects others
-      → LocalsHold t types objects locals low high slots → LocalsHold t types others locals low high slots
-  locals_beside types objects others locals low high slots same hold = record {
+  locals_beside : (types : Types) (s : CallSlots) (objects others : List Object) (locals : ℕ → Option ℕ) (low high : ℕ) (slots : Words) → Same objects others
+      → LocalsHold t types s objects locals low high slots → LocalsHold t types s others locals low high slots
+  locals_beside types s objects others locals low high slots same hold = record {
     within = hold.within;
     apart = hold.apart;
     rows = hold.rows;
-    holds = λ number object v at has. hold.holds number object v at (sym (same object (inl (hold.rows number object at))) ∙ has);
+    holds = λ number object v at has. hold.holds number object v at (sym (same object (local-row (global_types source.globals) (hold.rows number object at))) ∙ has);
   }
 
   frames_beside : (objects others : List Object) (high : ℕ) (frames : List Frame) (outer : List Waiting) → Same objects others
@@ -63,7 +64,7 @@ module _ (t : Tables) (source : Program) where
   frames_beside objects others high (f ∷ frames) (x ∷ outer) same (low, below, (hold, values), rest) = (
     low,
     below,
-    (locals_beside (types_at source f.caller.function) objects others x.locals low high f.caller.slots same hold, values),
+    (locals_beside (types_at source f.caller.function) (call_slots source f.caller.function f.caller.base) objects others x.locals low high f.caller.slots same hold, values),
     frames_beside objects others low frames outer same rest,
   )
 
@@ -71,15 +72,15 @@ module _ (t : Tables) (source : Program) where
       → GlobalsHold t (types_at source g) others globals
   globals_beside g objects others globals same hold number below =
       let (row, is) = hold number below in
-      (row, λ v has. is v (sym (same number (inr row)) ∙ has))
+      (row, λ v has. is v (sym (same number (inr (inl row))) ∙ has))
 
   -- all data stay, with as many objects or more
-  pub data_beside : (g : ℕ) (objects others : List Object) (locals : ℕ → Option ℕ) (outer : List Waiting) (slots globals : Words) (frames : List Frame) → length objects ≤ length others
-      → Same objects others → DataAt source t g objects locals outer slots globals frames → DataAt source t g others locals outer slots globals frames
-  data_beside g objects others locals outer slots globals frames many same (low, below, hold, waiting, words) = (
+  pub data_beside : (g base : ℕ) (objects others : List Object) (locals : ℕ → Option ℕ) (outer : List Waiting) (slots globals : Words) (frames : List Frame) → length objects ≤ length others
+      → Same objects others → DataAt source t g base objects locals outer slots globals frames → DataAt source t g base others locals outer slots globals frames
+  data_beside g base objects others locals outer slots globals frames many same (low, below, hold, waiting, words) = (
     low,
     omega (arith, below, many),
-    locals_raised t (types_at source g) others locals low (length objects) (length others) slots many (locals_beside (types_at source g) objects others locals low (length objects) slots same hold),
+    locals_raised t (types_at source g) (call_slots source g base) others locals low (length objects) (length others) slots many (locals_beside (types_at source g) (call_slots source g base) objects others locals low (length objects) slots same hold),
     frames_beside objects others low frames outer same waiting,
     globals_beside g objects others globals same words,
   )
@@ -118,7 +119,7 @@ module _ (source : Program) (pages calls : ℕ) (k : List Entry) (e : Environmen
     pub same_pages : store.pages ≡ c.store.pages
     pub same_demand : demand store ≡ demand c.store
     pub told : IsTold (scopes_of source) globals (scopes_in k)
-    pub stays : DataAt source shared.tables c.active.function next.objects e.locals (callers k) c.active.slots globals c.frames
+    pub stays : DataAt source shared.tables c.active.function c.active.base next.objects e.locals (callers k) c.active.slots globals c.frames
 
   in_store : (h : ℕ) → objects.Alive shared.tables (silent w) object h at.object → slice_get at.object.cells offset ≡ Some at.cell → IsSaved
   in_store h alive cell =
@@ -137,7 +138,7 @@ module _ (source : Program) (pages calls : ℕ) (k : List Entry) (e : Environmen
         same_pages = refl;
         same_demand = refl;
         told = shared.counters.1;
-        stays = data_beside shared.tables source c.active.function w.objects next.objects e.locals (callers k) c.active.slots c.globals c.frames (omega (arith, objects_many))
+        stays = data_beside shared.tables source c.active.function c.active.base w.objects next.objects e.locals (callers k) c.active.slots c.globals c.frames (omega (arith, objects_many))
             (λ o row. ap content_of (get_set_other w.objects object o now (λ same. row-away shared.related (global_types source.globals) o h at.object row (subst (λ n. objects.Alive shared.tables (silent w) n h at.object) (sym same) alive))))
             facts.0;
       }
@@ -165,8 +166,8 @@ module _ (source : Program) (pages calls : ℕ) (k : List Entry) (e : Environmen
         same_pages = refl;
         same_demand = refl;
         told = told_beside source g object at.cell.kind c.globals globals (scopes_in k) room elsewhere shared.counters.1;
-        stays = subst (λ (x : World). DataAt source shared.tables g x.objects e.locals (callers k) c.active.slots globals c.frames) (sym written_is)
-            (data_assigned_global shared.tables source g w.objects (written w object 0 at v).objects e.locals (callers k) c.active.slots c.globals globals c.frames object u room
+        stays = subst (λ (x : World). DataAt source shared.tables g c.active.base x.objects e.locals (callers k) c.active.slots globals c.frames) (sym written_is)
+            (data_assigned_global shared.tables source g c.active.base w.objects (written w object 0 at v).objects e.locals (callers k) c.active.slots c.globals globals c.frames object u room
             (written_here w object at v there cell_there at.cell.kind refl) (written_elsewhere w object at v there cell_there) (written_length w object at v there cell_there)
             (IsWord-is shared.tables at.cell.kind v word globals first (put-same c.globals first word) is) elsewhere facts.0);
       }
@@ -196,7 +197,7 @@ module _ (source : Program) (pages calls : ℕ) (k : List Entry) (e : Environmen
     tables = shared.tables;
     same_output = shared.same_output;
     same_input = shared.same_input;
-    inside = shared.inside;
+    bare = shared.bare;
     same_pages = is_saved.same_pages ∙ shared.same_pages;
     related = is_saved.related;
     globals = shared.globals;

@@ -32,17 +32,17 @@ use Rattle.cyc_meaning.specs.State.{status_of, InRegion, World, heap_number, Env
 use Rattle.cyc_lower.proofs.Counters.{CountersHold, counters_hold, counters_low}
 use Rattle.cyc_meaning.specs.Step.{counts, target_of, target_by, object_of, assigned, passes, step, loaded_from}
 use Rattle.cyc_meaning.specs.Allocation.{makes}
-use Rattle.cyc_lower.specs.Slots.{slot_of, field_in, global_of, Types, starts_of}
+use Rattle.cyc_lower.specs.Slots.{slot_of, field_in, global_of, Types, starts_of, global_types}
 use Rattle.cyc_meaning.specs.Places.{locates_member}
 use Rattle.cyc_lower.proofs.PlaceWords.{field_bytes}
 use Rattle.cyc_lower.proofs.Slots.{slot-room, slot-low}
 use Rattle.cyc_lower.proofs.Widths.{kind_positive, type_words, made_kind, HasRoom, Outside}
 use Rattle.cyc_lower.proofs.Moves.{moved_slots, moves, put_elsewhere, moved_elsewhere, moved_is}
-use Rattle.cyc_lower.specs.Lowering.{counter_operand, failing_comparison, operand_of, value_slot, source_of, source_slot, are_as_wide, converts_there, all_passed, move_of, left_with, slot_with, compared_or, compared_of, lower_program, null_of, followed_operand, span_in, operand_or, reached_operand, pointer_of, load_word}
+use Rattle.cyc_lower.specs.Lowering.{counter_operand, failing_comparison, operand_of, value_slot, source_of, source_slot, are_as_wide, converts_there, all_passed, move_of, left_with, slot_with, compared_or, compared_of, lower_program, null_of, followed_operand, span_in, operand_or, reached_operand, pointer_of, load_word, address_of_global}
 use Rattle.cyc_lower.proofs.Weights.{weight, stack_weight, expression_weight, arguments_weight, object_weight}
 use Rattle.cyc_lower.proofs.Stands.{CopyBy, CopyAt, OperandBy, InitialBy, ExpressionAt, ArgumentsAt, ObjectAt, MadeAt, ValueAt, PairAt, ConditionAt, AssignmentAt, PrintedAt, DiscardedAt, StoredAt, CountAt, LoadedAt, ReturnedAt, ReachedAt, EachAt}
 use Rattle.cyc_objects.specs.Tables.{Tables}
-use Rattle.cyc_objects.specs.Words.{Is}
+use Rattle.cyc_objects.specs.Words.{Is, Points}
 use Rattle.cyc_lower.proofs.Relation.{counters_of, types_on, starts_on, IsIn, types_at, starts_at, given_at, called_at, words_held, height, Holds, held, kept, contents, callers, in_temporary, in_local, drops, leaves, copies, prints_only, gives_byte, DataIn, SharedAt, CallAt, to_slot, to_jump, ValueStack, PlaceStack, ConditionStack, DroppedStack, AheadStack, LandsStack, LandsMade, HandsOnStack, PrintsStack, RightAt, EvaluatingAt, as_operand, into_slot, for_effect, as_right, as_condition, in_operand, ahead, with_left, Related, Matches, code_of, bounds_in, bounds_at, base_of, top, IsHandleOf, floor, IsLow}
 use Rattle.cyc_lower.proofs.Handles.{kept_holds, kept_low}
 use Rattle.cyc_lower.proofs.Data.{IsWord-is, height-least, Holds-same, Holds-above, data_above, floor-least, data_written}
@@ -51,6 +51,9 @@ use Rattle.cyc_meaning.specs.FrameCount.{words_of_all}
 use Rattle.cyc_lower.proofs.Accesses.{IsWell, is_loaded}
 use Rattle.cyc_lower.proofs.Matched.{IsMatched, silently, by_one}
 use Rattle.cyc_lower.proofs.GlobalSteps.{each_put, each-outside, each_is, load_links, load_end, load_path, by_links}
+use Rattle.cyc_lower.proofs.Known.{global_points, global_address, first_word}
+use Rattle.cyc_objects.proofs.NumberLemmas.{slice_get-below}
+use Rattle.cyc_plain.specs.declared.instruction.Instruction.{Instruction}
 
 -- an object is found in the same way, wherever new variables live
 pub object_of_same : (l : Lvalue) (e : Environment) → object_of (record { locals = e.locals; home = 0; counters = λ level. None }) l ≡ object_of e l
@@ -72,7 +75,7 @@ module _ (source : Program) (pages calls : ℕ) where
       let base = floor source c.active.function k in (
         shared,
         in_operand (operands.Slot d)
-            (data_written source shared.tables c.active.function w.objects e.locals k c.active.slots after c.active.handlers c.globals c.frames d (words_of_kind v.kind) (omega (arith, least, height-least base (kept k))) same facts)
+            (data_written source shared.tables c.active.function c.active.base w.objects e.locals k c.active.slots after c.active.handlers c.globals c.frames d (words_of_kind v.kind) (omega (arith, least, height-least base (kept k))) same facts)
             is
             (Holds-same shared.tables c.active.slots after base (kept k) (λ m below. same m (inl (omega (arith, below, least)))) (kept_holds shared.tables c.active.slots base k holds))
             (subst (λ r. ValueStack source c.active.function e.locals v.kind (operands.Slot d) r c.frames k) (sym end) stack),
@@ -432,6 +435,20 @@ module _ (source : Program) (pages calls : ℕ) where
       (landed v after d k e w (at c (c.active.next + words)) q shared (each_is shared.tables v c.globals c.active.slots (suc words) first d wide is)
       (λ m out. each-outside c.globals c.active.slots (suc words) first d m (subst (λ many. Outside d many m) wide out)) facts holds (omega (arith, end)) lands))
 
+  -- the address of a variable comes to a slot
+  addresses : (object word d : ℕ) (a : Expression) (i : Instruction) (k : List Entry) (e : Environment) (w : World) (c : Configuration) (q : ℕ)
+      → step source (Running (Evaluating a) k e w) ≡ Running (Given (record { kind = kinds.NonNull; value = Thin object 0 })) k e w → At (code_of source c.active.function) c.active.next i
+      → ((choice : Choice) → performed (lower_program source) choice c i ≡ plain.Running (advanced (with_slots c (put c.active.slots d word))))
+      → (shared : SharedAt source pages calls k e w c) → DataIn source shared.tables c.active.slots k e w c → Holds shared.tables c.active.slots (floor source c.active.function k) (held k)
+      → Points shared.tables object 0 word → c.active.next + 1 ≡ q → LandsStack source c.active.function e.locals kinds.NonNull d q c.frames k
+      → IsMatched source pages calls (Running (Evaluating a) k e w) (plain.Running c)
+  addresses object word d a i k e w c q does here goes shared facts holds points end lands =
+      let v : Kinded = record { kind = kinds.NonNull; value = Thin object 0 } in
+      by_one source pages calls does shared here
+      (λ choice. subst (Matches source pages calls (Running (Given v) k e w)) (sym (goes choice))
+      (landed v (put c.active.slots d word) d k e w c q shared (subst (Points shared.tables object 0) (sym (put-same c.active.slots d word)) points)
+      (λ m out. put_elsewhere c.active.slots d word 1 m (omega arith) out) facts holds end lands))
+
   comes : (a : Expression) (k : List Entry) (e : Environment) (w : World) (c : Configuration) (d q : ℕ) → At_step a k e w c
       → ExpressionAt (code_of source c.active.function) (bounds_at source c.active.function) (types_on source c.active.function k) a d (top source c.active.function k) c.active.next q
       → LandsStack source c.active.function e.locals (given_at source c.active.function a) d q c.frames k → IsBegun a k e w c
@@ -488,7 +505,11 @@ module _ (source : Program) (pages calls : ℕ) where
       (shared, facts, (o, offset, r, at, holds, (d, q, subst (λ n. LoadedAt (code_of source g) n o offset d (top source g k) r q) (sym (type_words (type_of_place x))) load, lands)))
       (omega arith)
   comes (typed.AddressOf (Local p n) t) k e w c d q (well, shared, facts, holds) (v, there, at, end) lands = ?
-  comes (typed.AddressOf (Global n) t) k e w c d q (well, shared, facts, holds) (v, there, at, end) lands = ?
+  comes (typed.AddressOf (Global n) t) k e w c d q (well, shared, facts, holds) (v, there, at, end) lands =
+      let row = (facts.0.4 n (slice_get-below (global_types source.globals) n v there)).0 in
+      let word = address_of_global (first_word (global_types source.globals) n) in
+      addresses n word d (typed.AddressOf (Global n) t) (instructions.Move d (operands.Word word)) k e w c q refl at (λ choice. refl) shared facts holds
+      (subst (Points shared.tables n 0) (sym (global_address (global_types source.globals) n row)) (global_points (global_types source.globals) n row)) end lands
   comes (typed.AddressOfCell x t) k e w c d q (well, shared, facts, holds) (o, offset, r, at, address) lands =
       silently source pages calls (Running (Evaluating (typed.AddressOfCell x t)) k e w) (Running (Locating x) (NeedsPlace TakeAddress ∷ k) e w) (plain.Running c) refl
       (shared, facts, (o, offset, r, at, holds, (d, q, address, lands)))

@@ -129,7 +129,7 @@ module _ (source : Program) (pages calls : ℕ) where
       by_one source pages calls refl shared here
       (λ choice. subst (Matches source pages calls (Running (Evaluating a) (right_side from to a peek (Thin object offset) k) e w)) (sym (goes choice))
       (right_begins from to a peek object offset k e w (advanced (with_slots c after)) s shared
-      (data_written source shared.tables g w.objects e.locals k c.active.slots after c.active.handlers c.globals c.frames free 1 (height-least base (held k)) (λ m out. put_elsewhere c.active.slots free word 1 m (omega arith) out) facts)
+      (data_written source shared.tables g c.active.base w.objects e.locals k c.active.slots after c.active.handlers c.globals c.frames free 1 (height-least base (held k)) (λ m out. put_elsewhere c.active.slots free word 1 m (omega arith) out) facts)
       (Holds-same shared.tables c.active.slots after base (held k) (λ m below. put_elsewhere c.active.slots free word 1 m (omega arith) (inl below)) holds)
       (subst (Points shared.tables object offset) (sym (put-same c.active.slots free word)) points) end behind))
 
@@ -206,7 +206,7 @@ module _ (source : Program) (pages calls : ℕ) where
       (landed source pages calls v after d k e w (at b (b.active.next + 1 + 1)) q shared
       (subst (λ i. Is shared.tables i found.value after d) (sym fat) (loaded_is source shared.tables b d t apart found.value reads.word there content))
       (λ m out. loaded_elsewhere source shared.tables b d t apart found.value reads.word there content m (subst (λ i. Outside d (words_of_kind i) m) fat out))
-      (data_written source shared.tables g w.objects e.locals k c.active.slots brings c.active.handlers c.globals c.frames t 1 (height-least base (held k)) (λ m out. put_elsewhere c.active.slots t word 1 m (omega arith) out) facts)
+      (data_written source shared.tables g c.active.base w.objects e.locals k c.active.slots brings c.active.handlers c.globals c.frames t 1 (height-least base (held k)) (λ m out. put_elsewhere c.active.slots t word 1 m (omega arith) out) facts)
       (Holds-same shared.tables c.active.slots brings base (held k) (λ m below. put_elsewhere c.active.slots t word 1 m (omega arith) (inl below)) holds)
       (ap (λ n. n + 1 + 1 + 1) same ∙ end) lands))
 

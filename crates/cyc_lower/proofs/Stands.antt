@@ -550,7 +550,7 @@ module _ (code : List Instruction) (bounds : Numbering) (types : Types) where
     pub ItemsAt : Items → Exits → (t p q : ℕ) → Type 0
     ItemsAt NoItems exits t p q = p ≡ q
     ItemsAt (MoreItems (Execute s) js) exits t p q = (m : ℕ) × StatementAt s exits t p m × ItemsAt js exits t m q
-    ItemsAt (MoreItems (Declare n ty v) js) exits t p q = (m : ℕ) × DeclarationAt n v t p m × ItemsAt js exits t m q
+    ItemsAt (MoreItems (Declare n ty v) js) exits t p q = (m : ℕ) × HasRoom types n (kind_of ty) × DeclarationAt n v t p m × ItemsAt js exits t m q
     ItemsAt (MoreItems (DeclareRegion r n) js) exits t p q =
         (m : ℕ) × (u : ℕ) × OpenedAt n t p m × ItemsAt js (inside_region exits t) (t + 1) m u × ClosedAt t u q
     ItemsAt (MoreItems (OpenRegion r n w key) js) exits t p q =

@@ -47,6 +47,7 @@ use Rattle.cyc_lower.proofs.Evaluations.{IsStep, object_of_same}
 use Rattle.cyc_lower.proofs.CellReads.{held_there, cell_reads, read_there}
 use Rattle.cyc_plain.specs.Memory.{memory_at}
 use Rattle.cyc_lower.proofs.Known.{IsGlobalRow}
+use Rattle.cyc_lower.proofs.Rows.{local-row}
 
 -- ---- what is read
 
@@ -204,7 +205,7 @@ module _ (source : Program) (pages calls : ℕ) where
       by_links source pages calls (Swapping kind (Thin object offset) (Thin other beside) None) k e w c behind reads.links reads.some found.gives shared reads.path
       (subst (λ (x : Configuration). Matches source pages calls behind (plain.Running x)) (sym reads.leads) (
         shared,
-        data_written source shared.tables g w.objects e.locals k c.active.slots reads.slots c.active.handlers c.globals c.frames d words (omega arith) reads.elsewhere facts,
+        data_written source shared.tables g c.active.base w.objects e.locals k c.active.slots reads.slots c.active.handlers c.globals c.frames d words (omega arith) reads.elsewhere facts,
         (
           exits,
           q,
@@ -233,7 +234,7 @@ module _ (source : Program) (pages calls : ℕ) where
       by_links source pages calls (Swapping kind (Thin object offset) (Thin other beside) (Some before)) k e w c (Running (Writing writes None) k e w) reads.links reads.some found.gives shared reads.path
       (subst (λ (x : Configuration). Matches source pages calls (Running (Writing writes None) k e w) (plain.Running x)) (sym reads.leads) (
         shared,
-        data_written source shared.tables g w.objects e.locals k c.active.slots reads.slots c.active.handlers c.globals c.frames d words (omega arith) reads.elsewhere facts,
+        data_written source shared.tables g c.active.base w.objects e.locals k c.active.slots reads.slots c.active.handlers c.globals c.frames d words (omega arith) reads.elsewhere facts,
         (
           exits,
           q,
@@ -345,9 +346,9 @@ module _ (source : Program) (pages calls : ℕ) where
       let next = written w object 0 stored.at x.operand.value in
       by_one source pages calls (does ∙ stored.gives) shared here
       (λ choice. subst (Matches source pages calls (Running (Writing writes None) k e next)) (sym (moves (lower_program source) choice c own slot (operands.Slot v))) (
-        shared_written source pages calls k e w after shared object stored.at x.operand.value stored.object_there stored.cell_there (inl (facts.0.2.rows n object found)),
+        shared_written source pages calls k e w after shared object stored.at x.operand.value stored.object_there stored.cell_there (local-row (global_types source.globals) (facts.0.2.rows n object found)),
         (
-          data_assigned shared.tables source g w.objects next.objects e.locals (callers k) c.active.slots slots c.globals c.frames n object x.operand found
+          data_assigned shared.tables source g c.active.base w.objects next.objects e.locals (callers k) c.active.slots slots c.globals c.frames n object x.operand found
               (written_here w object stored.at x.operand.value stored.object_there stored.cell_there x.operand.kind stored.same) (written_elsewhere w object stored.at x.operand.value stored.object_there stored.cell_there)
               (written_length w object stored.at x.operand.value stored.object_there stored.cell_there) room
               (moved_is shared.tables x.operand c.active.slots slot (operands.Slot v) value) elsewhere facts.0,
@@ -377,9 +378,9 @@ module _ (source : Program) (pages calls : ℕ) where
       (subst (λ (y : Configuration). Matches source pages calls (Running (Writing writes None) k e next) (plain.Running y)) (sym by.leads) (
         shared_written source pages calls k e w after
             (shared_beside source pages calls k e w c shared globals (told_beside source g n x.operand.kind c.globals globals (scopes_in k) room (λ m out. stored_elsewhere c.active.slots c.globals own place_of (operands.Slot v) m (kind_positive x.operand.kind) out) shared.counters.1))
-            object stored.at x.operand.value stored.object_there stored.cell_there (inr (subst (IsGlobalRow shared.tables (global_types source.globals)) same (facts.0.4 n few).0)),
+            object stored.at x.operand.value stored.object_there stored.cell_there (inr (inl (subst (IsGlobalRow shared.tables (global_types source.globals)) same (facts.0.4 n few).0))),
         (
-          data_assigned_global shared.tables source g w.objects next.objects e.locals (callers k) c.active.slots c.globals globals c.frames n x.operand room
+          data_assigned_global shared.tables source g c.active.base w.objects next.objects e.locals (callers k) c.active.slots c.globals globals c.frames n x.operand room
               (ap (contents next.objects) same ∙ written_here w object stored.at x.operand.value stored.object_there stored.cell_there x.operand.kind stored.same)
               (λ i other. written_elsewhere w object stored.at x.operand.value stored.object_there stored.cell_there i (λ equal. other (equal ∙ sym same)))
               (written_length w object stored.at x.operand.value stored.object_there stored.cell_there) (stored_is shared.tables x.operand c.active.slots c.globals place_of (operands.Slot v) value)
@@ -420,7 +421,7 @@ module _ (source : Program) (pages calls : ℕ) where
 
   slots_above : (t : Tables) (d q : ℕ) (slots : Words) (k : List Entry) (e : Environment) (w : World) (c : Configuration) → floor source c.active.function k ≤ d → ((m : ℕ) → Outside d 1 m → slots m ≡ c.active.slots m)
       → DataIn source t c.active.slots k e w c → DataIn source t slots k e w (at (with_slots c slots) q)
-  slots_above t d q slots k e w c above same facts = data_written source t c.active.function w.objects e.locals k c.active.slots slots c.active.handlers c.globals c.frames d 1 above same facts
+  slots_above t d q slots k e w c above same facts = data_written source t c.active.function c.active.base w.objects e.locals k c.active.slots slots c.active.handlers c.globals c.frames d 1 above same facts
 
   -- the left one is a cell, and the right one is sought
   pub left_found : (object offset : ℕ) (kind : Kind) (peek : Option ℕ) (right : Side) (k : List Entry) (e : Environment) (w : World) (c : Configuration) {m : ℕ}

@@ -61,7 +61,7 @@ use Rattle.cyc_objects.proofs.Pointers.{not-null, part-not-null, pointer-word}
 use Rattle.cyc_objects.specs.Tables.{Variable, with_row}
 use Rattle.cyc_objects.proofs.Values.{Grows-row, Is-grows}
 use Rattle.cyc_lower.proofs.Sharing.{shared_declared, row_declared, shared_written, shared_beside}
-use Rattle.cyc_lower.proofs.Relation.{types_on, starts_on, IsWord, IsIn, with_kind, types_at, starts_at, Holds, held, kept, contents, callers, in_place, by_jump, in_temporary, in_local, drops, leaves, copies, DataIn, SharedAt, StoreAt, to_slot, to_jump, ValueStack, ConditionStack, DroppedStack, AheadStack, LandsStack, HandsOnStack, AppliedStack, ReadyAt, as_operand, into_slot, as_right, in_operand, nowhere, ahead, compared, with_left, behind_statement, Related, Matches, code_of, bounds_at, base_of, top, floor, PlaceStack, scopes_in}
+use Rattle.cyc_lower.proofs.Relation.{types_on, starts_on, IsWord, IsIn, with_kind, types_at, starts_at, Holds, held, kept, contents, callers, in_place, by_jump, in_temporary, in_local, drops, leaves, copies, DataIn, SharedAt, StoreAt, to_slot, to_jump, ValueStack, ConditionStack, DroppedStack, AheadStack, LandsStack, HandsOnStack, AppliedStack, ReadyAt, as_operand, into_slot, as_right, in_operand, nowhere, ahead, compared, with_left, behind_statement, Related, Matches, code_of, bounds_at, base_of, top, floor, PlaceStack, scopes_in, row_of, call_slots}
 use Rattle.cyc_lower.proofs.Handles.{kept_holds}
 use Rattle.cyc_lower.proofs.Data.{in_words, IsWord-is, one_word, height-least, Holds-same, Holds-above, data_above, data_assigned, data_assigned_global, data_declared, data_grows, null_is, points_in, null_at, points_at, floor-least, handlers_beside, data_written, told_beside}
 use Rattle.cyc_lower.proofs.Accesses.{IsWell, is_fitting, is_stored, written_here, written_elsewhere, written_length, is_declared, home_there, is_member}
@@ -86,6 +86,7 @@ use Rattle.cyc_lower.proofs.Paths.{Link, IsPath, end_of, by_path}
 use Rattle.cyc_lower.proofs.GlobalSteps.{stored_globals, stored_elsewhere, stored_is, global_links, is_stored_by, by_links}
 use Rattle.cyc_lower.proofs.RegionSteps.{opened_given, aliased_given}
 use Rattle.cyc_lower.proofs.Known.{IsGlobalRow}
+use Rattle.cyc_lower.proofs.Rows.{row-fits, row-variable, local-row}
 
 -- an operand of a kind, and an int
 abbrev pub of_kind : Kind → Value → Kinded
@@ -585,7 +586,7 @@ module _ (source : Program) (pages calls : ℕ) where
       let slots = put c.active.slots free x in
       landed_word source pages calls t (truth (slots free == 0)) d k e w (negated c k) q
       (ap (λ y. truth (y == 0)) (put-same c.active.slots free x) ∙ truth_twice (c.active.slots free == 0) ∙ sym t_is)
-      shared (data_written source shared.tables c.active.function w.objects e.locals k c.active.slots slots c.active.handlers c.globals c.frames free 1 (height-least base (held k)) (λ m out. put_elsewhere c.active.slots free x 1 m (omega arith) out) facts)
+      shared (data_written source shared.tables c.active.function c.active.base w.objects e.locals k c.active.slots slots c.active.handlers c.globals c.frames free 1 (height-least base (held k)) (λ m out. put_elsewhere c.active.slots free x 1 m (omega arith) out) facts)
       (Holds-same shared.tables c.active.slots slots base (held k) (λ m below. put_elsewhere c.active.slots free x 1 m (omega arith) (inl below)) holds) end lands
 
   decides_truth : (v : Kinded) (o : Operand) (k : List Entry) (e : Environment) (w : World) (c : Configuration) → IsWell (step source (Running (Given v) (Needs Decide ∷ k) e w)) → Stands v o k e w c
@@ -852,9 +853,9 @@ module _ (source : Program) (pages calls : ℕ) where
       let next = written w object 0 stored.at v.value in
       hands_behind v k e next c after stored.gives shared shared here (λ choice. moves (lower_program source) choice c words slot o) (λ same. omega (arith, same))
       (handed v to k e next after q end (
-        shared_written source pages calls k e w after shared object stored.at v.value stored.object_there stored.cell_there (inl (facts.0.2.rows n object found)),
+        shared_written source pages calls k e w after shared object stored.at v.value stored.object_there stored.cell_there (local-row (global_types source.globals) (facts.0.2.rows n object found)),
         (
-          data_assigned shared.tables source g w.objects next.objects e.locals (callers k) c.active.slots slots c.globals c.frames n object v found
+          data_assigned shared.tables source g c.active.base w.objects next.objects e.locals (callers k) c.active.slots slots c.globals c.frames n object v found
               (written_here w object stored.at v.value stored.object_there stored.cell_there v.kind stored.same) (written_elsewhere w object stored.at v.value stored.object_there stored.cell_there)
               (written_length w object stored.at v.value stored.object_there stored.cell_there) room moved elsewhere facts.0,
           handlers_beside source g c.active.slots slots c.active.handlers c.frames k slot words (omega (arith, inside, room)) elsewhere facts.1,
@@ -877,9 +878,9 @@ module _ (source : Program) (pages calls : ℕ) where
       (handed v to k e next after q by.end (
         shared_written source pages calls k e w after
             (shared_beside source pages calls k e w c shared globals (told_beside source g n v.kind c.globals globals (scopes_in k) room (λ m out. stored_elsewhere c.active.slots c.globals words first o m (kind_positive v.kind) out) shared.counters.1))
-            object stored.at v.value stored.object_there stored.cell_there (inr (subst (IsGlobalRow shared.tables (global_types source.globals)) same (facts.0.4 n few).0)),
+            object stored.at v.value stored.object_there stored.cell_there (inr (inl (subst (IsGlobalRow shared.tables (global_types source.globals)) same (facts.0.4 n few).0))),
         (
-          data_assigned_global shared.tables source g w.objects next.objects e.locals (callers k) c.active.slots c.globals globals c.frames n v room
+          data_assigned_global shared.tables source g c.active.base w.objects next.objects e.locals (callers k) c.active.slots c.globals globals c.frames n v room
               (ap (contents next.objects) same ∙ written_here w object stored.at v.value stored.object_there stored.cell_there v.kind stored.same)
               (λ i other. written_elsewhere w object stored.at v.value stored.object_there stored.cell_there i (λ equal. other (equal ∙ sym same)))
               (written_length w object stored.at v.value stored.object_there stored.cell_there) (stored_is shared.tables v c.active.slots c.globals first o is)
@@ -992,9 +993,9 @@ module _ (source : Program) (pages calls : ℕ) where
       let inside = slot-room (types_on source g k) n (facts.0.2.within n object found).0 in
       hands_at_once v (Needs (Store (Thin object 0)) ∷ k) k e w next c stored.gives shared (omega arith)
       (handed v (operands.Slot (slot_of (starts_on source g k) n)) k e next c c.active.next refl (
-        shared_written source pages calls k e w c shared object stored.at v.value stored.object_there stored.cell_there (inl (facts.0.2.rows n object found)),
+        shared_written source pages calls k e w c shared object stored.at v.value stored.object_there stored.cell_there (local-row (global_types source.globals) (facts.0.2.rows n object found)),
         (
-          data_assigned shared.tables source g w.objects next.objects e.locals (callers k) old c.active.slots c.globals c.frames n object v found
+          data_assigned shared.tables source g c.active.base w.objects next.objects e.locals (callers k) old c.active.slots c.globals c.frames n object v found
               (written_here w object stored.at v.value stored.object_there stored.cell_there v.kind stored.same) (written_elsewhere w object stored.at v.value stored.object_there stored.cell_there)
               (written_length w object stored.at v.value stored.object_there stored.cell_there) room is (λ m out. sym (same m out)) facts.0,
           handlers_beside source g old c.active.slots c.active.handlers c.frames k (slot_of (starts_on source g k) n) (words_of_kind v.kind) (omega (arith, inside, room)) (λ m out. sym (same m out)) facts.1,
@@ -1035,6 +1036,11 @@ module _ (source : Program) (pages calls : ℕ) where
       ap (λ (b : Bool). if b then made_it else wrong w) (is_fitting (is_kind v.kind kind) made_it w well) in
       does ∙ is_declared (region_at w e.home) Proceeding n kind (Some v.value) (Rest js ∷ k) e w (subst IsWell does well)
 
+  -- of the kind of the value
+  local_kind : (n : ℕ) (kind : Kind) (js : Items) (v : Kinded) (k : List Entry) (e : Environment) (w : World) → IsWell (step source (Running (Given v) (Needs (Initialise n kind js) ∷ k) e w)) → v.kind ≡ kind
+  local_kind n kind js v k e w well =
+      same_kind v.kind kind (is_fitting (is_kind v.kind kind) (declared (region_at w e.home) Proceeding n kind (Some v.value) (Rest js ∷ k) e w) w well)
+
   -- in a region that is there
   makes_home : (n : ℕ) (kind : Kind) (js : Items) (v : Kinded) (k : List Entry) (e : Environment) (w : World) → IsWell (step source (Running (Given v) (Needs (Initialise n kind js) ∷ k) e w))
       → (r : Region) × (slice_get w.regions e.home ≡ Some r)
@@ -1062,18 +1068,19 @@ module _ (source : Program) (pages calls : ℕ) where
       let words = words_of_kind v.kind in
       let slot = slot_of (starts_on source g k) n in
       let (r, home) = makes_home n kind js v k e w well in
-      let grown = with_row shared.tables Variable in
-      let grows = Grows-row shared.tables Variable in
+      let row = row_of (call_slots source g c.active.base) (slot_of (starts_at source g) n) kind in
+      let grown = with_row shared.tables row in
+      let grows = Grows-row shared.tables row in
       let slots = moved_slots c.active.slots words slot o in
       let local = room-inside (types_at source g) n v.kind room in
       let elsewhere : (m : ℕ) → Outside slot words m → slots m ≡ c.active.slots m = λ m out. moved_elsewhere c.active.slots words slot o m (kind_positive v.kind) out in
       by_one source pages calls (makes_local n kind js v k e w well) shared here
       (λ choice. subst (Matches source pages calls (Running Proceeding (Rest js ∷ k) (with_local e n (length w.objects)) (made w (variable e.home kind (Some v.value))))) (sym (moves (lower_program source) choice c words slot o)) (
-        shared_declared source pages calls k e w (advanced (with_slots c slots)) shared n r kind (Some v.value) home,
+        shared_declared source pages calls k e w (advanced (with_slots c slots)) shared n r kind (Some v.value) row home (row-fits (call_slots source g c.active.base) (slot_of (starts_at source g) n) kind e.home (Some v.value)) (row-variable (call_slots source g c.active.base) (slot_of (starts_at source g) n) kind),
         behind_statement exits (
-          data_declared grown source g w.objects e (callers k) c.active.slots slots c.globals c.frames n words (variable e.home kind (Some v.value)) local room (row_declared source pages calls k e w c shared) elsewhere
+          data_declared grown source g c.active.base w.objects e (callers k) c.active.slots slots c.globals c.frames n words (variable e.home kind (Some v.value)) local room (record { kind = kind; room = subst (HasRoom (types_at source g) n) (local_kind n kind js v k e w well) room; row = row_declared source pages calls k e w c shared row }) elsewhere
               (made_value grown n kind js v k e w slots slot (types_at source g) well room (Is-grows grows v.kind v.value slots slot (moved_is shared.tables v c.active.slots slot o is)))
-              (data_grows shared.tables grown grows source g w.objects e.locals (callers k) c.active.slots c.globals c.frames facts.0),
+              (data_grows shared.tables grown grows source g c.active.base w.objects e.locals (callers k) c.active.slots c.globals c.frames facts.0),
           handlers_beside source g c.active.slots slots c.active.handlers c.frames k slot words (omega (arith, slot-room (types_on source g k) n local, room)) elsewhere facts.1,
         )
             (q, items, stack),
@@ -1088,18 +1095,19 @@ module _ (source : Program) (pages calls : ℕ) where
   initialises_ahead n old kind js v k e w c exits shared well same facts room is stack =
       let g = c.active.function in
       let (r, home) = makes_home n kind js v k e w well in
-      let grown = with_row shared.tables Variable in
-      let grows = Grows-row shared.tables Variable in
+      let row = row_of (call_slots source g c.active.base) (slot_of (starts_at source g) n) kind in
+      let grown = with_row shared.tables row in
+      let grows = Grows-row shared.tables row in
       let slot = slot_of (starts_on source g k) n in
       let local = room-inside (types_at source g) n v.kind room in
       silently source pages calls (Running (Given v) (Needs (Initialise n kind js) ∷ k) e w)
       (Running Proceeding (Rest js ∷ k) (with_local e n (length w.objects)) (made w (variable e.home kind (Some v.value)))) (plain.Running c)
       (makes_local n kind js v k e w well) (
-        shared_declared source pages calls k e w c shared n r kind (Some v.value) home,
+        shared_declared source pages calls k e w c shared n r kind (Some v.value) row home (row-fits (call_slots source g c.active.base) (slot_of (starts_at source g) n) kind e.home (Some v.value)) (row-variable (call_slots source g c.active.base) (slot_of (starts_at source g) n) kind),
         behind_statement exits (
-          data_declared grown source g w.objects e (callers k) old c.active.slots c.globals c.frames n (words_of_kind v.kind) (variable e.home kind (Some v.value)) local room (row_declared source pages calls k e w c shared)
+          data_declared grown source g c.active.base w.objects e (callers k) old c.active.slots c.globals c.frames n (words_of_kind v.kind) (variable e.home kind (Some v.value)) local room (record { kind = kind; room = subst (HasRoom (types_at source g) n) (local_kind n kind js v k e w well) room; row = row_declared source pages calls k e w c shared row })
               (λ m out. sym (same m out)) (made_value grown n kind js v k e w c.active.slots slot (types_at source g) well room (Is-grows grows v.kind v.value c.active.slots slot is))
-              (data_grows shared.tables grown grows source g w.objects e.locals (callers k) old c.globals c.frames facts.0),
+              (data_grows shared.tables grown grows source g c.active.base w.objects e.locals (callers k) old c.globals c.frames facts.0),
           handlers_beside source g old c.active.slots c.active.handlers c.frames k slot (words_of_kind v.kind) (omega (arith, slot-room (types_on source g k) n local, room)) (λ m out. sym (same m out)) facts.1,
         )
             stack,

@@ -91,7 +91,7 @@ module _ (source : Program) (pages calls : ℕ) (k : List Entry) (e : Environmen
     pub same_pages : store.pages ≡ c.store.pages
     pub related : objects.Related shared.tables (silent next) store
     pub told : IsTold (scopes_of source) globals (scopes_in k)
-    pub stays : DataAt source shared.tables c.active.function next.objects e.locals (callers k) c.active.slots globals c.frames
+    pub stays : DataAt source shared.tables c.active.function c.active.base next.objects e.locals (callers k) c.active.slots globals c.frames
 
   module _ (h : ℕ) (alive : objects.Alive shared.tables (silent w) object h cell.object) (at_cell : slice_get cell.object.cells offset ≡ Some cell.cell) where
     abbrev one_put : Memory
@@ -150,7 +150,7 @@ module _ (source : Program) (pages calls : ℕ) (k : List Entry) (e : Environmen
           (λ y other. three_elsewhere c.store.memory address (slots n) (slots (suc n)) (slots (suc (suc n))) y (λ j below same. other j (omega (arith, below, ap words_of_kind fat)) same))
           (subst (λ kind. Is shared.tables kind v (words_from all_put address) 0) (sym fat) (three_written shared.tables v c.store.memory address (slots n) (slots (suc n)) (slots (suc (suc n))) in_slots));
       told = shared.counters.1;
-      stays = data_beside shared.tables source c.active.function w.objects next.objects e.locals (callers k) c.active.slots c.globals c.frames (omega (arith, length-set w.objects object now))
+      stays = data_beside shared.tables source c.active.function c.active.base w.objects next.objects e.locals (callers k) c.active.slots c.globals c.frames (omega (arith, length-set w.objects object now))
           (λ o row. ap content_of (get_set_other w.objects object o now (λ same. row-away shared.related (global_types source.globals) o h cell.object row (subst (λ n. objects.Alive shared.tables (silent w) n h cell.object) (sym same) alive))))
           facts.0;
     }
@@ -211,8 +211,8 @@ module _ (source : Program) (pages calls : ℕ) (k : List Entry) (e : Environmen
           same_pages = refl;
           related = assigned-away shared.related object offset cell.object cell.cell v object_there at_cell (λ h alive. row-away shared.related (global_types source.globals) object h cell.object (inr row) alive);
           told = told_beside source g object cell.cell.kind c.globals (after 3) (scopes_in k) room elsewhere shared.counters.1;
-          stays = subst (λ (x : World). DataAt source shared.tables g x.objects e.locals (callers k) c.active.slots (after 3) c.frames) (sym written_is)
-              (data_assigned_global shared.tables source g w.objects (written w object 0 cell v).objects e.locals (callers k) c.active.slots c.globals (after 3) c.frames object u room
+          stays = subst (λ (x : World). DataAt source shared.tables g c.active.base x.objects e.locals (callers k) c.active.slots (after 3) c.frames) (sym written_is)
+              (data_assigned_global shared.tables source g c.active.base w.objects (written w object 0 cell v).objects e.locals (callers k) c.active.slots c.globals (after 3) c.frames object u room
               (written_here w object cell v object_there cell_there cell.cell.kind refl) (written_elsewhere w object cell v object_there cell_there) (written_length w object cell v object_there cell_there)
               (each_is shared.tables u slots c.globals 3 n start three (subst (λ i. Is shared.tables i v slots n) (sym fat) is)) elsewhere facts.0);
         }
@@ -292,7 +292,7 @@ module _ (source : Program) (pages calls : ℕ) (k : List Entry) (e : Environmen
     tables = shared.tables;
     same_output = shared.same_output;
     same_input = shared.same_input;
-    inside = shared.inside;
+    bare = shared.bare;
     same_pages = is_saved.same_pages ∙ shared.same_pages;
     related = is_saved.related;
     globals = shared.globals;
