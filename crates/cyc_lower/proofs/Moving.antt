@@ -72,6 +72,21 @@ module _ (source : Program) where
       )
   like_set (h ∷ frames) (suc i) f slot word at below = ((h.caller.slots, refl, (λ n least. refl)), like_set frames i f slot word at below)
 
+  -- several words of a local are written
+  pub like_slots : (frames : List Frame) (i : ℕ) (f : Frame) (slots : Words) → slice_get frames i ≡ Some f → ((n : ℕ) → base_of source f.caller.function ≤ n → slots n ≡ f.caller.slots n)
+      → Like frames (set frames i (record f { caller = record f.caller { slots = slots } }))
+  like_slots [] i f slots at same = absurd (none-some f at)
+  like_slots (h ∷ frames) zero f slots at same =
+      let equal = same_Some h f at in (
+        (
+          slots,
+          ap (λ (x : Frame). let z : Frame = record x { caller = record x.caller { slots = slots } } in z) (sym equal),
+          subst (λ (x : Frame). (n : ℕ) → base_of source x.caller.function ≤ n → slots n ≡ x.caller.slots n) (sym equal) same,
+        ),
+        like_same frames,
+      )
+  like_slots (h ∷ frames) (suc i) f slots at same = ((h.caller.slots, refl, (λ n least. refl)), like_slots frames i f slots at same)
+
   pub like_long : (frames others : List Frame) → Like frames others → length others ≡ length frames
   like_long [] [] like = refl
   like_long [] (h ∷ others) like = absurd like

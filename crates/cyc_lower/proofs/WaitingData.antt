@@ -2,6 +2,7 @@
 use Rattle.std.proofs.Common.{◌≡◌, ◌≢◌, ℕ, zero, suc, ◌+◌, ◌≤◌, ◌<◌, List, [], ◌∷◌, length, set, Option, None, Some, slice_get, refl, sym, ap, subst, ◌∙◌, arith, inr}
 use Rattle.std.proofs.lemmas.Option.{same_Some, none-some}
 use Rattle.cyc_types.specs.TypedTrees.{Program}
+use Rattle.cyc_plain.specs.Program.{Program as PlainProgram}
 use Rattle.cyc_plain.specs.State.{Words, Frame}
 use Rattle.cyc_meaning.specs.Values.{Operand, words_of_kind}
 use Rattle.cyc_meaning.specs.State.{Object, Entry, Caller, Handler, CloseLexical, Main}
@@ -13,6 +14,7 @@ use Rattle.cyc_lower.proofs.Widths.{HasRoom, Outside}
 use Rattle.cyc_lower.proofs.Slots.{slot-room}
 use Rattle.cyc_lower.proofs.Relation.{Waiting, LocalsHold, FramesHold, DataAt, Holds, contents, call_slots, types_at, starts_at, base_of, callers}
 use Rattle.cyc_lower.proofs.Data.{locals_assigned, locals_kept, frames_kept, globals_kept, globals_below, Holds-above, behind-least}
+use Rattle.cyc_plain.specs.Memory.{IsBelow, AreBelow}
 
 -- the call with other slots
 abbrev pub with_slots_of : Frame → Words → Frame
@@ -24,6 +26,28 @@ callers_least [] scopes i x at base = absurd (none-some x at)
 callers_least (Caller e ∷ k) scopes zero x at base = subst (λ (y : Waiting). base ≤ y.temporaries scopes base) (same_Some _ x at) (behind-least k scopes base)
 callers_least (Caller e ∷ k) scopes (suc i) x at base = callers_least k scopes i x at base
 callers_least (entry ∷ k) scopes i x at base = callers_least k scopes i x at base
+
+-- calls lie where they did
+pub below_set : (program : PlainProgram) (function base : ℕ) (frames : List Frame) (i : ℕ) (f : Frame) (slots : Words) → slice_get frames i ≡ Some f → AreBelow program function base frames
+    → AreBelow program function base (set frames i (with_slots_of f slots))
+below_set program function base [] i f slots at below = absurd (none-some f at)
+below_set program function base (h ∷ frames) zero f slots at (first, rest) =
+    let same = same_Some h f at in
+    (
+      subst (λ (x : Frame). IsBelow program function base x.caller.base) same first,
+      subst (λ (x : Frame). AreBelow program x.caller.function x.caller.base frames) same rest,
+    )
+below_set program function base (h ∷ frames) (suc i) f slots at (first, rest) = (first, below_set program h.caller.function h.caller.base frames i f slots at rest)
+
+pub set_at : (frames : List Frame) (i : ℕ) (f h : Frame) → slice_get frames i ≡ Some f → slice_get (set frames i h) i ≡ Some h
+set_at [] i f h at = absurd (none-some f at)
+set_at (x ∷ frames) zero f h at = refl
+set_at (x ∷ frames) (suc i) f h at = set_at frames i f h at
+
+pub set_again : (frames : List Frame) (i : ℕ) (f h : Frame) → set (set frames i f) i h ≡ set frames i h
+set_again [] i f h = refl
+set_again (x ∷ frames) zero f h = refl
+set_again (x ∷ frames) (suc i) f h = ap (λ (fs : List Frame). x ∷ fs) (set_again frames i f h)
 
 module _ (t : Tables) (source : Program) where
   abbrev Locals : (objects : List Object) → Waiting → Frame → (low high : ℕ) → Type 0
