@@ -390,7 +390,8 @@ module _ (source : Program) (pages calls : ℕ) where
   -- the next cell is written, by its word or by its three words
   module _ (x : Write) (writes : List Write) (pointer : Kinded) (object : ℕ) (done : List Kind) (u : Kinded) (us : List Kinded) (address slot d m q : ℕ) (k : List Entry) (e : Environment) (w : World) (c : Configuration)
       (does : step source (Running (Writing (x ∷ writes) (Some pointer)) k e w) ≡ stored (cell_at w object (length done)) object (length done) u (Writing (writes_from object (suc (length done)) us) (Some pointer)) k e w)
-      (words : plain.HoldsWords (plain.Running c)) (well : IsWell (step source (Running (Writing (x ∷ writes) (Some pointer)) k e w)))
+      (words : plain.HoldsWords (plain.Running c)) (names : AreNamed source e.locals (callers k) w c.active.function c.active.base c.frames c.store) (well : IsWell (step source (Running (Writing (x ∷ writes) (Some pointer)) k e w)))
+      (high : base_of source c.active.function ≤ address) (above : base_of source c.active.function ≤ slot)
       (shared : SharedAt source pages calls k e w c) (facts : DataIn source shared.tables c.active.slots k e w c) (is : pointer ≡ record { kind = kinds.NonNull; value = Thin object 0 })
       (there : IsObject shared.tables object (c.active.slots address) (done ++ kinds_of (blanks_of (u ∷ us)))) (is_u : Is shared.tables u.kind u.value c.active.slots slot)
       (held_in : HoldsFrom shared.tables c.active.slots (slot + words_of_kind u.kind) us)
@@ -424,13 +425,13 @@ module _ (source : Program) (pages calls : ℕ) where
         let word = slots slot in
         let is_word : IsWord tables cell.cell.kind u.value word = subst (λ i. IsWord tables i u.value word) (sym same) (one_word tables u.kind u.value slots slot one is_u) in
         let (store, behind) = subst (λ n. StoresAt (code_of source g) (bounds_at source g) (types_on source g k) n address (4 * words_of_kinds done) slot c.active.next m) (let e : words_held us + words_of_kind u.kind ≡ suc (words_held us) = omega (arith, one) in e) stores in
-        let later = shared_saved source pages calls k e w c shared facts object (length done) place word cell u.value found points is_word (words.0 slot) in
+        let later = shared_saved source pages calls k e w c shared names facts object (length done) place word cell u.value found points is_word (words.0 slot) in
         let wider : 4 * words_of_kinds (done ++ u.kind ∷ []) ≡ 4 * words_of_kinds done + 4 = omega (arith, words_joined done (u.kind ∷ []), one) in
         by_one source pages calls (does ∙ gives) shared store
         (λ choice. subst (Matches source pages calls (Running next_write k e (written w object (length done) cell u.value)))
-        (sym (saves_there source pages calls k e w c shared facts object (length done) place word cell u.value found points is_word (words.0 slot))) (
+        (sym (saves_there source pages calls k e w c shared names facts object (length done) place word cell u.value found points is_word (words.0 slot))) (
           later,
-          data_saved source pages calls k e w c shared facts object (length done) place word cell u.value found points is_word (words.0 slot),
+          data_saved source pages calls k e w c shared names facts object (length done) place word cell u.value found points is_word (words.0 slot),
           (
             object,
             done ++ u.kind ∷ [],
@@ -478,13 +479,13 @@ module _ (source : Program) (pages calls : ℕ) where
         let third : add_of (slots address) (bytes + 4 + 4) ≡ place + 4 * 2 = ap (add_of (slots address)) (let e : bytes + 4 + 4 ≡ bytes + 4 * 2 = omega arith in e) ∙ unwrapped fat 2 (omega arith) in
         let wider : 4 * words_of_kinds (done ++ u.kind ∷ []) ≡ bytes + 4 + 4 + 4 = omega (arith, words_joined done (u.kind ∷ []), three) in
         by_path source pages calls (Writing (x ∷ writes) (Some pointer)) k e w c (Running next_write k e (written w object (length done) cell u.value))
-        (store_links source pages calls k e w c shared facts object (length done) place address bytes slot cell u.value found points wide fat_is words first second third)
+        (store_links source pages calls k e w c shared names facts object (length done) place address bytes slot high (inl above) cell u.value found points wide fat_is words first second third)
         (instructions.Store (operands.Slot address) (bytes + 4 + 4) (operands.Slot (suc (suc slot)))) (does ∙ gives) shared
-        (store_path source pages calls k e w c shared facts object (length done) place address bytes slot cell u.value found points wide fat_is words first second third at_first at_second) at_third
+        (store_path source pages calls k e w c shared names facts object (length done) place address bytes slot high (inl above) cell u.value found points wide fat_is words first second third at_first at_second) at_third
         (λ choice. subst (Matches source pages calls (Running next_write k e (written w object (length done) cell u.value)))
-        (sym (store_last source pages calls k e w c shared facts object (length done) place address bytes slot cell u.value found points wide fat_is words first second third choice)) (
-          shared_stored source pages calls k e w c shared facts object (length done) place address bytes slot cell u.value found points wide fat_is words first second third,
-          data_stored source pages calls k e w c shared facts object (length done) place address bytes slot cell u.value found points wide fat_is words first second third,
+        (sym (store_last source pages calls k e w c shared names facts object (length done) place address bytes slot high (inl above) cell u.value found points wide fat_is words first second third choice)) (
+          shared_stored source pages calls k e w c shared names facts object (length done) place address bytes slot high (inl above) cell u.value found points wide fat_is words first second third,
+          data_stored source pages calls k e w c shared names facts object (length done) place address bytes slot high (inl above) cell u.value found points wide fat_is words first second third,
           (
             object,
             done ++ u.kind ∷ [],

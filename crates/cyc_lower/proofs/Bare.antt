@@ -6,13 +6,14 @@ use Rattle.cyc_store.proofs.LookupLemmas.{same_some}
 use Rattle.cyc_meaning.specs.Values.{Cell, block_size}
 use Rattle.cyc_meaning.specs.State.{Sort, Region, World, new_region, opened_as, closed}
 use Rattle.cyc_meaning.specs.Objects.{made_in}
+use Rattle.cyc_meaning.proofs.ListLemmas.{slice_get-append}
 use Rattle.cyc_objects.specs.Tables.{Tables, with_handle}
 use Rattle.cyc_objects.specs.Related.{Related}
-use Rattle.cyc_objects.proofs.NumberLemmas.{slice_get-there, slice_get-last, slice_get-append, slice_get-below, slice_get-set_cases}
+use Rattle.cyc_objects.proofs.NumberLemmas.{slice_get-there, slice_get-last, slice_get-below, slice_get-set_cases}
 use Rattle.cyc_objects.proofs.RegionLemmas.{regions-length}
 use Rattle.cyc_lower.proofs.Relation.{AreBare, silent}
 
-module _ {t : Tables} {w : World} {s : StoreState} (related : Related t (silent w) s) (bare : AreBare t w) where
+module _ {t : Tables} (w : World) {s : StoreState} (related : Related t (silent w) s) (bare : AreBare t w) where
   pub bare-opened : (handle : Option ℕ) (sort : Sort) → AreBare (with_handle t handle) (opened_as sort w)
   bare-opened handle sort number r entry there = elim (slice_get-last w.regions (new_region sort) number r there) [
     | inl old ↦

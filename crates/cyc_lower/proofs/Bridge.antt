@@ -47,6 +47,7 @@ use Rattle.cyc_lower.proofs.Values.{as_wide}
 use Rattle.cyc_lower.proofs.Relation.{bounds_in, types_in}
 use Rattle.cyc_lower.proofs.Calls.{FunctionsStand}
 use Rattle.cyc_lower.proofs.Slots.{global-inside}
+use Rattle.cyc_lower.proofs.Sources.{IsApart, stored_apart}
 
 -- the end of the second part
 cut : (p q : ℕ) (a b : List Instruction) → p + length (a ++ b) ≡ q → p + length a + length b ≡ q
@@ -316,9 +317,9 @@ module _ (code : List Instruction) (b : Numbering) (types : Types) (raised : Blo
   stores_stand zero address offset slot p q end has = omega (arith, end)
   stores_stand (suc many) address offset slot p q end (here, rest) = (here, stores_stand many address (offset + 4) (suc slot) (p + 1) q (omega (arith, end)) rest)
 
-  saved_stands : (words address : ℕ) (o : Operand) (p q : ℕ) → p + length (saved_code words address o) ≡ q → HasAt code p (saved_code words address o) → SavedAt code b types words address o p q
-  saved_stands words address (operands.Slot n) p q end has = stores_stand words address 0 n p q end has
-  saved_stands words address (operands.Word n) p q end (here, none) = (here, end)
+  saved_stands : (words address : ℕ) (o : Operand) (p q : ℕ) → IsApart types words address o → p + length (saved_code words address o) ≡ q → HasAt code p (saved_code words address o) → SavedAt code b types words address o p q
+  saved_stands words address (operands.Slot n) p q apart end has = (stores_stand words address 0 n p q end has, apart)
+  saved_stands words address (operands.Word n) p q apart end (here, none) = (here, end)
 
   -- each value that is passed has a word or more
   passed_least : (cs : Arguments) → argument_count cs ≤ all_passed cs
@@ -501,7 +502,7 @@ module _ (code : List Instruction) (b : Numbering) where
             place_stands types raised x t p r place refl (has_front code p front bring has_address),
             address_stands code b types raised a bytes t r s (cut p s front bring refl) (has_back code p front bring has_address),
             converted_operand_stands types raised c (t + 1) s u numbered refl (has_front code s value write has_value),
-            saved_stands code b types raised (passed_words c) t o u m (cut s m value write (cut p m address (value ++ write) refl)) (has_back code s value write has_value),
+            saved_stands code b types raised (passed_words c) t o u m (stored_apart types b c t numbered) (cut s m value write (cut p m address (value ++ write) refl)) (has_back code s value write has_value),
           ),
           copy_by code b types raised (is_in o d) (passed_words c) o d m q (cut p q both back end) (has_back code p both back has),
         )
@@ -787,7 +788,7 @@ module _ (code : List Instruction) (b : Numbering) (types : Types) (raised : Blo
           place_stands code b types raised x t p r place refl (has_front code p front bring has_address),
           address_stands code b types raised a bytes t r s (cut p s front bring refl) (has_back code p front bring has_address),
           converted_operand_stands code b types raised c (t + 1) s u numbered refl (has_front code s value write has_value),
-          saved_stands code b types raised (passed_words c) t o u q (cut s q value write (cut p q address (value ++ write) end)) (has_back code s value write has_value),
+          saved_stands code b types raised (passed_words c) t o u q (stored_apart types b c t numbered) (cut s q value write (cut p q address (value ++ write) end)) (has_back code s value write has_value),
         ),
       )
   discarded_stands a t p q numbered end has =

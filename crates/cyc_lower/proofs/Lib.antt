@@ -14,6 +14,8 @@ pub mod Rows
 pub mod Bare
 pub mod WaitingData
 pub mod Leads
+pub mod Apart
+pub mod Sources
 pub mod GlobalRows
 pub mod Relation
 pub mod Matched

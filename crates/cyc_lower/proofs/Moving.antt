@@ -214,8 +214,8 @@ module _ (source : Program) where
     dropped_moves g p frames others like k stack = absurd stack
 
     pub ahead_moves : (g : ℕ) (locals : ℕ → Option ℕ) (kind : Kind) (n p : ℕ) (frames others : List Frame) → Like frames others → (k : List Entry) → AheadStack source g locals kind n p frames k → AheadStack source g locals kind n p others k
-    ahead_moves g locals kind n p frames others like (Needs (ConvertTo from to target) ∷ k) (quiet, stack) =
-        (quiet, ahead_moves g locals to n p frames others like k stack)
+    ahead_moves g locals kind n p frames others like (Needs (ConvertTo from to target) ∷ k) (quiet, wide, stack) =
+        (quiet, wide, ahead_moves g locals to n p frames others like k stack)
     ahead_moves g locals kind n p frames others like (Needs (Chain NoOperations) ∷ k) stack = ahead_moves g locals kind n p frames others like k stack
     ahead_moves g locals kind n p frames others like (Needs (BesideHandle region) ∷ k) stack = ahead_moves g locals kind n p frames others like k stack
     ahead_moves g locals kind n p frames others like (Needs (Store place) ∷ k) (number, object, is, found, same, room, hands) =

@@ -134,7 +134,7 @@ module _ (source : Program) (pages calls : ℕ) where
       tables = grown;
       same_output = shared.same_output;
       same_input = shared.same_input;
-      bare = bare-opened shared.related shared.bare (Some choice.handle) Lexical;
+      bare = bare-opened w shared.related shared.bare (Some choice.handle) Lexical;
       same_pages = shared.same_pages;
       related = opened-lexical shared.related choice free served_it.allowed;
       globals = grows.handles globals_number None shared.globals;
@@ -279,7 +279,7 @@ module _ (source : Program) (pages calls : ℕ) where
               tables = grown;
               same_output = shared.same_output;
               same_input = shared.same_input;
-              bare = bare-opened shared.related shared.bare (Some choice.handle) Dynamic;
+              bare = bare-opened w shared.related shared.bare (Some choice.handle) Dynamic;
               same_pages = shared.same_pages;
               related = opened-dynamic shared.related choice free served_it.allowed;
               globals = grows.handles globals_number None shared.globals;

@@ -727,7 +727,7 @@ module _ (source : Program) where
 
     -- the same for a value that stands already in the slot n of a local, which is about to get it
     pub AheadStack : (g : ℕ) → (ℕ → Option ℕ) → Kind → (n p : ℕ) → List Frame → List Entry → Type 0
-    AheadStack g locals kind n p frames (Needs (ConvertTo from to target) ∷ k) = (converts_there from to ≡ true) × AheadStack g locals to n p frames k
+    AheadStack g locals kind n p frames (Needs (ConvertTo from to target) ∷ k) = (converts_there from to ≡ true) × (words_of_kind kind ≡ words_of_kind to) × AheadStack g locals to n p frames k
     AheadStack g locals kind n p frames (Needs (Chain NoOperations) ∷ k) = AheadStack g locals kind n p frames k
     AheadStack g locals kind n p frames (Needs (BesideHandle region) ∷ k) = AheadStack g locals kind n p frames k
     AheadStack g locals kind n p frames (Needs (Store place) ∷ k) =

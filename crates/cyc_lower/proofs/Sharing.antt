@@ -84,7 +84,7 @@ module _ (source : Program) (pages calls : ℕ) (k : List Entry) (e : Environmen
     tables = with_handle s.tables None;
     same_output = s.same_output;
     same_input = s.same_input;
-    bare = bare-opened s.related s.bare None Stack;
+    bare = bare-opened w s.related s.bare None Stack;
     same_pages = s.same_pages;
     related = opened-variables s.related Stack refl;
     globals = (Grows-handle s.tables None).handles globals_number None s.globals;

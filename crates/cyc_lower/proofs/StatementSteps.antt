@@ -181,7 +181,7 @@ module _ (source : Program) (pages calls : ℕ) where
   leaves_call : (focus : Focus) (active : Activation) (frames : List Frame) (globals : Words) (store : StoreState) (output input : List ℕ) (k : List Entry) (e outer : Environment) (w : World) (s : ℕ)
       → step source (Running focus (Caller outer ∷ k) e w) ≡ Running Proceeding k outer w
       → (shared : SharedAt source pages calls (Caller outer ∷ k) e w (record { active = active; frames = frames; globals = globals; store = store; output = output; input = input }))
-      → DataAt source shared.tables active.function w.objects e.locals (callers (Caller outer ∷ k)) active.slots globals frames × HandlersStand source active.function active.slots active.handlers frames (Caller outer ∷ k)
+      → DataAt source shared.tables active.function active.base w.objects e.locals (callers (Caller outer ∷ k)) active.slots globals frames × HandlersStand source active.function active.slots active.handlers frames (Caller outer ∷ k)
       → At (code_of source active.function) active.next (instructions.Finish s)
       → Below source frames (Waits (returned_at source active.function) outer k)
       → IsMatched source pages calls (Running focus (Caller outer ∷ k) e w) (plain.Running (record { active = active; frames = frames; globals = globals; store = store; output = output; input = input }))
@@ -202,7 +202,7 @@ module _ (source : Program) (pages calls : ℕ) where
   -- with a value
   hands_back : (v : Kinded) (active : Activation) (frames : List Frame) (globals : Words) (store : StoreState) (output input : List ℕ) (k : List Entry) (e outer : Environment) (w : World) (s : ℕ)
       → (shared : SharedAt source pages calls (Caller outer ∷ k) e w (record { active = active; frames = frames; globals = globals; store = store; output = output; input = input }))
-      → DataAt source shared.tables active.function w.objects e.locals (callers (Caller outer ∷ k)) active.slots globals frames × HandlersStand source active.function active.slots active.handlers frames (Caller outer ∷ k)
+      → DataAt source shared.tables active.function active.base w.objects e.locals (callers (Caller outer ∷ k)) active.slots globals frames × HandlersStand source active.function active.slots active.handlers frames (Caller outer ∷ k)
       → At (code_of source active.function) active.next (instructions.Finish s) → Is shared.tables v.kind v.value active.slots s → (routine_at (lower_program source) active.function).results ≡ words_of_kind v.kind
       → Below source frames (Waits v.kind outer k)
       → IsMatched source pages calls (Running (Returning (Some v)) (Caller outer ∷ k) e w) (plain.Running (record { active = active; frames = frames; globals = globals; store = store; output = output; input = input }))
@@ -303,7 +303,7 @@ module _ (source : Program) (pages calls : ℕ) where
   initial_by true n ty from to a js k e w c exits m q lands shared facts room (wide, at_a) items stack =
       let g = c.active.function in
       let inside = slot-room (types_at source g) n (room-inside (types_at source g) n to room) in
-      (shared, facts, into_slot (slot_of (starts_at source g) n) m at_a tt (in_local (omega (arith, inside, room, wide)) (lands, (exits, q, refl, room, items, stack))))
+      (shared, facts, into_slot (slot_of (starts_at source g) n) m at_a tt (in_local (omega (arith, inside, room, wide)) (lands, wide, (exits, q, refl, room, items, stack))))
   initial_by false n ty from to a js k e w c exits m q lands shared facts room (o, s, r, at_a, at_to, move, end) items stack =
       let g = c.active.function in
       let rest = subst (λ p. ItemsAt (code_of source g) (bounds_at source g) (types_at source g) js exits (floor source g k) p q) (sym end) items in

@@ -36,7 +36,7 @@ use Rattle.cyc_lower.proofs.PlaceWords.{stored_still, three_put, three_words, th
 use Rattle.cyc_lower.proofs.Relation.{content_of, SharedAt, DataAt, DataIn, callers, silent, code_of, types_at, IsTold, scopes_in, Waiting, base_of, starts_at, contents}
 use Rattle.cyc_lower.proofs.Data.{Is-same, get_set_other, told_beside, data_assigned_global, data_assigned, handlers_same}
 use Rattle.cyc_lower.proofs.Accesses.{written_here, written_elsewhere, written_length}
-use Rattle.cyc_lower.proofs.CellReads.{globals_long}
+use Rattle.cyc_lower.proofs.CellReads.{globals_long, IsOwn, AreSame}
 use Rattle.cyc_lower.proofs.CellWrites.{data_beside}
 use Rattle.cyc_lower.proofs.GlobalSteps.{each_put, each-outside, each_is, each-inside}
 use Rattle.cyc_lower.proofs.Paths.{Link, IsQuiet, is_quiet, IsPath}
@@ -247,7 +247,7 @@ module _ (source : Program) (pages calls : ℕ) (k : List Entry) (e : Environmen
       let goes : (globals : Words) (i more from j x : ℕ) (choice : Choice) → j < 3 → add_of (slots a) more ≡ address + 4 * j → start + j ≡ x
           → performed lowered choice (stage c (with_globals globals) i) (instructions.Store (operands.Slot a) more (operands.Slot from)) ≡ plain.Running (stage c (with_globals (plain.put globals x (slots from))) (i + 1))
       = λ globals i more from j x choice below same at_x.
-          ap (λ y. saves lowered (stage c (with_globals globals) i) y (slots from) (memory_at lowered (stage c (with_globals globals) i) y)) (same ∙ omega (arith, place, at_x))
+          ap (λ y. saves lowered (stage c (with_globals globals) i) y (slots from) (memory_at lowered (stage c (with_globals globals) i) y)) (same ∙ (let z : address + 4 * j ≡ GLOBALS_BASE + 4 * x = omega (arith, place, at_x) in z))
           ∙ saves-global source (stage c (with_globals globals) i) x (globals_long source x (omega (arith, at_x, global-room (types_at source g) object few, row.room, wide, below))) (omega (arith, at_x, row.low, wide, below)) (slots from) in
       record {
         one = with_globals (after c.globals start 1);
@@ -316,7 +316,7 @@ module _ (source : Program) (pages calls : ℕ) (k : List Entry) (e : Environmen
           let pinned = names.whole g number j inside (omega (arith, room, below)) place.pinned in
           ap (λ y. saves lowered d (add_of y more) (after slots start many (n + j)) (memory_at lowered d (add_of y more))) (high_still number inside room many few a temporary)
           ∙ (ap (λ y. saves lowered d (add_of (slots a) more) y (memory_at lowered d (add_of (slots a) more))) (still number inside room many few j below)
-          ∙ (ap (λ y. saves lowered d y (slots (n + j)) (memory_at lowered d y)) (same ∙ omega (arith, place.at))
+          ∙ (ap (λ y. saves lowered d y (slots (n + j)) (memory_at lowered d y)) (same ∙ (let z : address + 4 * j ≡ c.active.base + 4 * (start + j) = omega (arith, place.at) in z))
           ∙ (ap (saves lowered d (c.active.base + 4 * (start + j)) (slots (n + j))) (memory-active lowered names.well d names.lie (start + j) pinned)
           ∙ ap (λ (x : Configuration). plain.Running (advanced x)) (written-active lowered names.well d names.lie (start + j) (slots (n + j)) pinned)))) in
       let step_to : (many i more j from x : ℕ) (choice : Choice) → many ≤ 3 → j < 3 → add_of (slots a) more ≡ address + 4 * j → n + j ≡ from → start + j ≡ x
@@ -373,13 +373,13 @@ module _ (source : Program) (pages calls : ℕ) (k : List Entry) (e : Environmen
           let lie = below_set lowered g c.active.base c.frames i f now frame.at names.lie in
           let at_d = set_at c.frames i f fd frame.at in
           let pinned = subst (λ z. is_pinned (code_of source h) z ≡ true) y_is (names.whole h number j inside (omega (arith, room, below)) place.pinned) in
-          ap (λ z. saves lowered d z (slots from) (memory_at lowered d z)) (same ∙ omega (arith, place.at, y_is))
+          ap (λ z. saves lowered d z (slots from) (memory_at lowered d z)) (same ∙ (let z : address + 4 * j ≡ f.caller.base + 4 * y = omega (arith, place.at, y_is) in z))
           ∙ (ap (saves lowered d (f.caller.base + 4 * y) (slots from)) (memory-waiting lowered names.well d lie i fd at_d y pinned)
           ∙ (ap (λ (z : Configuration). plain.Running (advanced z)) (written-waiting_at lowered names.well d lie i fd at_d y (slots from) pinned)
           ∙ ap (λ (fs : List Frame). plain.Running (stage c (record { store = c.store; globals = c.globals; slots = c.active.slots; frames = fs }) (q + 1))) (set_again c.frames i fd (with_slots_of f (plain.put now y (slots from)))))) in
       let begins : Goes (parts_of c) (written_in (after old start 1)) bytes n
       = λ q choice.
-          ap (λ z. saves lowered (stage c (parts_of c) q) z (slots n) (memory_at lowered (stage c (parts_of c) q) z)) (first ∙ omega (arith, place.at))
+          ap (λ z. saves lowered (stage c (parts_of c) q) z (slots n) (memory_at lowered (stage c (parts_of c) q) z)) (first ∙ (let z : address + 4 * 0 ≡ f.caller.base + 4 * start = omega (arith, place.at) in z))
           ∙ (ap (saves lowered (stage c (parts_of c) q) (f.caller.base + 4 * start) (slots n)) (memory-waiting lowered names.well (stage c (parts_of c) q) names.lie i f frame.at start place.pinned)
           ∙ ap (λ (z : Configuration). plain.Running (advanced z)) (written-waiting_at lowered names.well (stage c (parts_of c) q) names.lie i f frame.at start (slots n) place.pinned)) in
       let far : (now : Words) → length (set c.frames i (with_slots_of f now)) ≡ length c.frames = λ now. length-set c.frames i (with_slots_of f now) in
@@ -501,9 +501,35 @@ module _ (source : Program) (pages calls : ℕ) (k : List Entry) (e : Environmen
 
 -- ---- three loads
 
+-- where a value of three words comes: to temporaries, or to a local
+abbrev pub ComesTo : Program → (g d : ℕ) → Type 0
+ComesTo source g d = (base_of source g ≤ d) ⊎ ((number : ℕ) × (number < length (types_at source g).locals) × (slot_of (starts_at source g) number ≡ d) × HasRoom (types_at source g) number kinds.Fat)
+
 -- some of three words have come to slots
 abbrev pub AreMixed : (d : ℕ) → (word : ℕ → ℕ) → (old new : Words) → Type 0
 AreMixed d word old new = (m : ℕ) → (new m ≡ old m) ⊎ ((j : ℕ) × (j < 3) × (m ≡ d + j) × (new m ≡ word j))
+
+-- they change no word that is still to be read: what is read from the slots of a local comes to other slots, or to the very ones
+pub mixed_same : (source : Program) (g d : ℕ) (word : ℕ → ℕ) (here : Option ℕ) (old new : Words) → IsOwn source g kinds.Fat here → ((slot j : ℕ) → here ≡ Some slot → word j ≡ old (slot + j)) → ComesTo source g d
+    → AreMixed d word old new → AreSame here 3 old new
+mixed_same source g d word here old new own stays comes mixed slot j is below = elim (mixed (slot + j)) [
+  | inl same ↦ same
+  | inr (i, few, there, new_is) ↦
+      let (number, first, inside, room) = own slot is in
+      elim comes [
+        | inl high ↦ absurd (omega (arith, high, there, below, first, slot-room (types_at source g) number inside, room))
+        | inr (other, around, start, wide) ↦ elim (cases_eq other number) [
+          | inl same ↦
+              let begins : d ≡ slot = sym start ∙ (ap (slot_of (starts_at source g)) same ∙ first) in
+              let at : i ≡ j = omega (arith, there, begins) in
+              new_is ∙ (ap word at ∙ stays slot j is)
+          | inr apart ↦ absurd (elim (slot-apart (types_at source g) other number around inside apart) [
+            | inl before ↦ omega (arith, before, start, wide, there, first, few)
+            | inr behind ↦ omega (arith, behind, start, room, there, first, below)
+          ])
+        ]
+      ]
+]
 
 -- into the slots from d on, by the address in slot s, which may be the first of them
 module _ (source : Program) (t : Tables) (c : Configuration) (d s : ℕ) (apart : (s ≤ d) ⊎ (d + 3 ≤ s)) (v : Value) (word : ℕ → ℕ)
