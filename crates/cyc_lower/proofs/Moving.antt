@@ -19,7 +19,7 @@ use Rattle.cyc_lower.specs.declared.statements.Exits.{Exits}
 use Rattle.cyc_lower.specs.Lowering.{reached_operand, followed_operand}
 use Rattle.cyc_meaning.specs.Pointers.{result_kind as operator_kind}
 use Rattle.cyc_lower.proofs.Widths.{chain_kind, made_kind}
-use Rattle.cyc_lower.proofs.Relation.{base_of, Lands, in_temporary, in_local, HandsOn, drops, leaves, copies, Prints, prints_only, gives_byte, to_slot, to_jump, ValueStack, PlaceStack, ConditionStack, DroppedStack, AheadStack, StatementStack, ahead, called_at, returned_at, top, LandsStack, HandsOnStack, HandlersStand, CatchesAt}
+use Rattle.cyc_lower.proofs.Relation.{base_of, Lands, in_temporary, in_local, HandsOn, drops, leaves, copies, Prints, prints_only, gives_byte, to_slot, to_jump, ValueStack, PlaceStack, ConditionStack, DroppedStack, AheadStack, StatementStack, ahead, called_at, returned_at, top, LandsStack, LandsMade, HandsOnStack, HandlersStand, CatchesAt}
 use Rattle.cyc_lower.proofs.Data.{handlers_same}
 use Rattle.cyc_plain.proofs.MemoryLaws.{with_slot_of}
 use Rattle.cyc_plain.proofs.SlotLaws.{put-other}
@@ -257,6 +257,10 @@ module _ (source : Program) where
 
   pub lands_moves : (g : ℕ) (locals : ℕ → Option ℕ) (kind : Kind) (d p : ℕ) (frames others : List Frame) → Like frames others → (k : List Entry) → LandsStack source g locals kind d p frames k → LandsStack source g locals kind d p others k
   lands_moves g locals kind d p frames others like k lands =
+      lands_move (λ stack. value_moves g locals kind (operands.Slot d) p frames others like k stack) (λ stack. ahead_moves g locals kind d p frames others like k stack) lands
+
+  pub made_moves : (g : ℕ) (locals : ℕ → Option ℕ) (kind : Kind) (d p : ℕ) (frames others : List Frame) → Like frames others → (k : List Entry) → LandsMade source g locals kind d p frames k → LandsMade source g locals kind d p others k
+  made_moves g locals kind d p frames others like k lands =
       lands_move (λ stack. value_moves g locals kind (operands.Slot d) p frames others like k stack) (λ stack. ahead_moves g locals kind d p frames others like k stack) lands
 
   pub hands_moves : (g : ℕ) (locals : ℕ → Option ℕ) (kind : Kind) (o : Operand) (p : ℕ) (frames others : List Frame) → Like frames others → (k : List Entry) → HandsOnStack source g locals kind o p frames k → HandsOnStack source g locals kind o p others k

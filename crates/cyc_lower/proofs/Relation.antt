@@ -855,7 +855,7 @@ module _ (source : Program) where
   FocusAt t (Writing writes (Some pointer)) k locals g p slots frames =
       (object : ℕ) × (done : List Kind) × (values : List Kinded) × (address : ℕ) × (slot : ℕ) × (d : ℕ) × (m : ℕ) × (q : ℕ)
       × (writes ≡ writes_from object (length done) values) × (pointer ≡ record { kind = kinds.NonNull; value = Thin object 0 })
-      × IsObject t object (slots address) (done ++ kinds_of (blanks_of values)) × (length values ≤ words_held values)
+      × IsObject t object (slots address) (done ++ kinds_of (blanks_of values)) × (length values ≤ words_held values) × (base_of g ≤ address) × (base_of g ≤ slot)
       × HoldsFrom t slots slot values × StoresAt (code_of g) (bounds_at g) (types_on g k) (words_held values) address (4 * words_of_kinds done) slot p m
       × At (code_of g) m (instructions.Move d (operands.Slot address)) × (m + 1 ≡ q)
       × Holds t slots (floor g k) (held k) × LandsMade g locals kinds.NonNull d q frames k
