@@ -135,7 +135,7 @@ in_range program r locals [] inside = tt
 in_range program r locals (i ∷ code) (first, rest) = (by i first, in_range program r locals code rest)
   where
     by : (i : Instruction) → IsIn program r locals i → IsInRange program r i
-    by (instructions.AddressOf d slot count) (there, few, takes) = (there, few)
+    by (instructions.AddressOf d slot count) (there, few, (n, t, at, first, count_is)) = (there, omega (arith, count_is, words_positive t), few)
     by i inside = inside
 
 takes_locals : (program : PlainProgram) (r : Routine) (locals : List Ty) (code : List Instruction) → AllByRecursion (IsIn program r locals) code → AllByRecursion (TakesLocal locals) code

@@ -61,7 +61,7 @@ module _ (program : Program) (globals : List Row) (are : AreGlobals program glob
     few = few;
     heap = refl;
     rows = are.many ∙ sym (length-map program.globals global_object);
-    regions = taken (record { kept = refl; named = refl; sort = refl; sizes = refl }) (passed refl refl no_regions);
+    regions = taken (record { kept = refl; named = refl; sort = refl; sizes = refl }) (passed refl refl (λ is. refl) no_regions);
     classes = refl;
     uniques = λ class. sym (none-unique class program.globals);
     owned = λ o x at. subst (Within 2) (sym (first-row o x at).owner) (omega arith);

@@ -37,11 +37,11 @@ pub record Matches (handle : ℕ) (r : Region) (home : Home) : Type 0 where
   pub sizes : sizes_of home.blocks ≡ r.blocks
 
 -- The store has the source's regions in their order, but for those of variables and those that are closed. Each that it has or had has
--- its handle in the table.
+-- its handle in the table. No block is made in one of variables, which has none.
 pub data Regions : List (Option ℕ) → List Region → List Home → Type 0 where
   no_regions : Regions [] [] []
   passed : {handle : Option ℕ} {r : Region} {handles : List (Option ℕ)} {regions : List Region} {open_homes : List Home}
-      → has_home r ≡ false → is_some handle ≡ is_some (sort_of r.sort) → Regions handles regions open_homes
+      → has_home r ≡ false → is_some handle ≡ is_some (sort_of r.sort) → (handle ≡ None → r.blocks ≡ []) → Regions handles regions open_homes
       → Regions (handle ∷ handles) (r ∷ regions) open_homes
   taken : {handle : ℕ} {r : Region} {home : Home} {handles : List (Option ℕ)} {regions : List Region} {open_homes : List Home}
       → Matches handle r home → Regions handles regions open_homes

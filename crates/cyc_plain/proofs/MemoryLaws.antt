@@ -92,7 +92,7 @@ pinned-inside program well function slot pinned =
     let routine = routine_in program function well known in
     let range : IsInRange program (routine_at program function) (instructions.AddressOf p.destination p.first p.count) =
     holds_at (IsInRange program (routine_at program function)) (routine_at program function).code p.index (instructions.AddressOf p.destination p.first p.count) routine.instructions p.at in
-    omega (arith, p.below, range.1)
+    omega (arith, p.below, range.2)
 
 -- ---- the calls that wait
 
@@ -181,6 +181,30 @@ length-waiting program (f ∷ frames) a word = go (slot_at program f.caller a) (
     go : (slot : Option ℕ) → length (with_waiting program frames a word) ≡ length frames → length (put_or slot word f frames (with_waiting program frames a word)) ≡ suc (length frames)
     go (Some number) others = refl
     go None others = ap (λ (n : ℕ). suc n) others
+
+-- what a store leaves of a state, wherever its word is
+pub record IsLeft (c d : Configuration) : Type 0 where
+  pub function : d.active.function ≡ c.active.function
+  pub next : d.active.next ≡ c.active.next
+  pub depth : length d.frames ≡ length c.frames
+  pub output : d.output ≡ c.output
+  pub input : d.input ≡ c.input
+
+pub memory-left : (program : Program) (c : Configuration) (a word : ℕ) → IsLeft c (with_memory program c a word)
+memory-left program c a word = by (range_of a)
+  where
+    by_global : (number : Option ℕ) → IsLeft c (with_global c number word)
+    by_global (Some number) = record { function = refl; next = refl; depth = refl; output = refl; input = refl }
+    by_global None = record { function = refl; next = refl; depth = refl; output = refl; input = refl }
+
+    by_slot : (slot : Option ℕ) → IsLeft c (with_slot program c slot a word)
+    by_slot (Some number) = record { function = refl; next = refl; depth = refl; output = refl; input = refl }
+    by_slot None = record { function = refl; next = refl; depth = length-waiting program c.frames a word; output = refl; input = refl }
+
+    by : (range : Range) → IsLeft c (with_word program c a word range)
+    by OfGlobals = by_global (global_at program a)
+    by OfStore = record { function = refl; next = refl; depth = refl; output = refl; input = refl }
+    by OfSlots = by_slot (slot_at program c.active a)
 
 -- ---- the three ranges
 

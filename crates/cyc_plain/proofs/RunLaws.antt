@@ -190,6 +190,11 @@ lies_none : (program : Program) (base : ℕ) (callee : Option ℕ) (s : State) �
 lies_none program base None s none = tt
 lies_none program base (Some function) s none = absurd (let e : Some function ≡ None = none in cc)
 
+-- wherever the slots of a new call would lie, an instruction that calls no function may be executed
+pub lies_at : (program : Program) (c : Configuration) (i : Instruction) (base : ℕ) → instruction_at program (place_of (Running c)) ≡ Some i → callee_of (Some i) ≡ None
+    → MayLie program base (called program (Running c)) (Running c)
+lies_at program c i base at free = lies_none program base (called program (Running c)) (Running c) (ap callee_of at ∙ free)
+
 pub zeros_allowed : (program : Program) (s : State) → asked program s ≡ None → called program s ≡ None → IsAllowed program s zeros
 zeros_allowed program s none nobody = record {
   contents = λ slot. omega arith;

@@ -77,7 +77,8 @@ IsInRange program r (instructions.Call function arguments count result) =
 IsInRange program r (instructions.Return value) = HasSlots r value r.results
 IsInRange program r (instructions.ReadByte destination) = destination < r.slots
 IsInRange program r (instructions.WriteByte source) = IsOperand r source
-IsInRange program r (instructions.AddressOf destination slot count) = (destination < r.slots) × HasSlots r slot count
+IsInRange program r (instructions.AddressOf destination slot count) =
+    (destination < r.slots) × (0 < count) × HasSlots r slot count
 IsInRange program r (instructions.LoadGlobal destination global) =
     (destination < r.slots) × (global < length program.globals)
 IsInRange program r (instructions.StoreGlobal global source) =
