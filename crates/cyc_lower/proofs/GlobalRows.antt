@@ -15,7 +15,7 @@ use Rattle.cyc_objects.proofs.NumberLemmas.{slice_get-there, slice_get-below}
 use Rattle.cyc_lower.specs.Slots.{Types, starts_from, global_types}
 use Rattle.cyc_lower.proofs.Widths.{type_words, words_in}
 use Rattle.cyc_lower.proofs.Slots.{global-room}
-use Rattle.cyc_lower.proofs.Known.{AreKnown, IsGlobalRow, first_word}
+use Rattle.cyc_lower.proofs.Known.{IsGlobalRow, first_word}
 
 -- the rows of globals whose words stand from a word on
 abbrev pub rows_from : (first : ℕ) → List GlobalVariable → List Row
@@ -61,9 +61,6 @@ module _ (source : Program) (few : words_of_all (global_types source.globals) �
       inl (omega (arith, before_store o g there)),
     );
   }
-
-  pub start-known : AreKnown (length (global_types source.globals)) (first_tables global_rows)
-  start-known number row from there = absurd (omega (arith, from, types_many, rows_many 0 source.globals, slice_get-below global_rows number row there))
 
   pub start-rows : (number : ℕ) → number < length (global_types source.globals) → IsGlobalRow (first_tables global_rows) (global_types source.globals) number
   start-rows number below =

@@ -14,6 +14,7 @@ pub mod Rows
 pub mod Bare
 pub mod WaitingData
 pub mod Leads
+pub mod Named
 pub mod Apart
 pub mod Sources
 pub mod GlobalRows

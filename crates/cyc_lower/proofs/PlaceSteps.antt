@@ -29,7 +29,7 @@ use Rattle.cyc_lower.proofs.Moves.{put_elsewhere}
 use Rattle.cyc_lower.proofs.Relation.{types_on, starts_on, Matches, held, callers, types_at, starts_at, Holds, DataIn, SharedAt, in_temporary, in_local, LandsStack, HandsOnStack, Related, code_of, bounds_at, base_of, top, floor, AheadStack}
 use Rattle.cyc_lower.proofs.Data.{Is-same, height-least, floor-least, Holds-same, data_above, data_written}
 use Rattle.cyc_lower.proofs.Stands.{CopyBy, AddressAt, OperandBy, ExpressionAt, ConvertedOperandAt, LoadedBy, SavedAt}
-use Rattle.cyc_lower.proofs.CellReads.{cell_reads, read_there, one_there, one_is, IsRead, IsOwn, AreSame}
+use Rattle.cyc_lower.proofs.CellReads.{cell_reads, read_there, one_there, one_is, IsRead as IsCellRead, IsOwn, AreSame}
 use Rattle.cyc_lower.proofs.AddressSteps.{Brought, in_slot, by_word, brought}
 use Rattle.cyc_lower.proofs.SwapSteps.{left_found, right_found}
 use Rattle.cyc_lower.proofs.WideCells.{all_in, load_links, load_path, load_last, loaded_is, loaded_elsewhere, ComesTo, AreMixed, mixed_same}
@@ -162,7 +162,7 @@ module _ (source : Program) (pages calls : ℕ) where
   lands_apart g locals kind d q frames k fat (in_local below stack) = inr (omega (arith, below, ap words_of_kind fat, floor-least source g k, height-least (floor source g k) (held k)))
 
   -- what is still to be read is there while words come to slots
-  reads_mixed : {t : Tables} {address : ℕ} {X : Type 0} (c : Configuration) (d : ℕ) (at : Located) {kind : Kind} → kind ≡ kinds.Fat → at.cell.kind ≡ kinds.Fat → (reads : IsRead source t c address at.cell.kind at.cell.content) → ComesTo source c.active.function d
+  reads_mixed : {t : Tables} {address : ℕ} {X : Type 0} (c : Configuration) (d : ℕ) (at : Located) {kind : Kind} → kind ≡ kinds.Fat → at.cell.kind ≡ kinds.Fat → (reads : IsCellRead source t c address at.cell.kind at.cell.content) → ComesTo source c.active.function d
       → (slots : Words) → AreMixed d reads.word c.active.slots slots → {j : ℕ} → (AreSame reads.here (words_of_kind at.cell.kind) c.active.slots slots → j < words_of_kind at.cell.kind → X) → j < 3 → X
   reads_mixed {t} {address} {X} c d at {kind} fat wide reads comes slots mixed {j} goes below =
       goes

@@ -221,7 +221,7 @@ module _ (source : Program) (pages calls : ℕ) where
       let results = (routine_at (lower_program source) active.function).results in
       let base = floor source f.caller.function k in
       let d = f.result in
-      let holds = held_by_caller shared.tables source active.function w.objects e.locals (record { locals = outer.locals; temporaries = behind_records k; values = held k }) (callers k) active.slots globals f frames facts in
+      let holds = held_by_caller shared.tables source active.function active.base w.objects e.locals (record { locals = outer.locals; temporaries = behind_records k; values = held k }) (callers k) active.slots globals f frames facts in
       let now = copied active.slots s results f.caller.slots d in
       let elsewhere : (n : ℕ) → Outside d (words_of_kind v.kind) n → now n ≡ f.caller.slots n =
       λ n out. copied_elsewhere active.slots f.caller.slots s results d n (subst (λ many. Outside d many n) (sym wide) out) in
@@ -232,7 +232,7 @@ module _ (source : Program) (pages calls : ℕ) where
           f.caller.slots,
           λ n out. sym (elsewhere n out),
           (
-            data_returned shared.tables source active.function w.objects e.locals (record { locals = outer.locals; temporaries = behind_records k; values = held k }) (callers k) active.slots f.caller.slots globals f frames (λ n less. refl) facts,
+            data_returned shared.tables source active.function active.base w.objects e.locals (record { locals = outer.locals; temporaries = behind_records k; values = held k }) (callers k) active.slots f.caller.slots globals f frames (λ n less. refl) facts,
             stand,
           ),
         )
