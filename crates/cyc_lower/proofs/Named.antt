@@ -34,8 +34,8 @@ waits (entry ∷ k) call locals at = waits k call locals at
 
 -- the region of what is live is open
 open_there : (o : Option Region) → is_open o ≡ true → (r : Region) × (o ≡ Some r) × (r.is_open ≡ true)
-open_there None open = absurd (let e : false ≡ true = open in cc)
-open_there (Some r) open = (r, refl, open)
+open_there None is = absurd (let e : false ≡ true = is in cc)
+open_there (Some r) is = (r, refl, is)
 
 of_variables : (sort : Sort) → is_some (sort_of sort) ≡ false → is_of_variables sort ≡ true
 of_variables Heap none = absurd (let e : true ≡ false = none in cc)
@@ -48,12 +48,12 @@ module _ (source : Program) where
   named : (k : List Entry) (locals : Locals) (w : World) (store : StoreState) → HaveNames (length source.globals) (locals ∷ waiting k) w.objects w.regions → (t : Tables) → AreBare t w
       → objects.Related t (silent w) store → (object : ℕ) (x : Object) → LiveVariable t (silent w) object x → IsNamed (length (global_types source.globals)) locals (callers k) object
   named k locals w store names t bare related object x live =
-      let (r, there, open) = open_there (slice_get w.regions live.region) (subst (λ o. is_live (silent w) o ≡ true) live.owner live.live) in
+      let (r, there, opened) = open_there (slice_get w.regions live.region) (subst (λ o. is_live (silent w) o ≡ true) live.owner live.live) in
       let (handle, entry, some) = entry-found related.regions live.region r there in
       let none : is_some (sort_of r.sort) ≡ false = sym some ∙ ap (λ (o : Option ℕ). is_some o) (same_Some handle None (sym entry ∙ live.entry)) in
-      elim (names object live.region r (ap region_in live.at ∙ ap region_of live.owner) there (record { open_now = open; sort = of_variables r.sort none; blocks = bare live.region r live.entry there })) [
+      elim (names object live.region r (ap region_in live.at ∙ ap region_of live.owner) there (record { open_now = opened; sort = of_variables r.sort none; blocks = bare live.region r live.entry there })) [
         | inl few ↦ is_global (omega (arith, few, length-map source.globals (λ (g : GlobalVariable). g.of_type)))
-        | inr (call, number, own, here, is) ↦ by call number own here is
+        | inr (call, number, (own, here, is)) ↦ by call number own here is
       ]
     where
       by : (call number : ℕ) (own : Locals) → slice_get (locals ∷ waiting k) call ≡ Some own → own number ≡ Some object → IsNamed (length (global_types source.globals)) locals (callers k) object

@@ -43,7 +43,7 @@ use Rattle.cyc_objects.specs.Tables.{Tables, first_tables}
 use Rattle.cyc_objects.specs.Related as objects
 use Rattle.cyc_objects.proofs.Start.{start-related}
 use Rattle.cyc_objects.proofs.RegionLemmas.{variables-empty}
-use Rattle.cyc_lower.proofs.Relation.{IsWord, silent, callers, contents, Related, Matches, types_at, starts_at, IsTold}
+use Rattle.cyc_lower.proofs.Relation.{IsWord, silent, call_slots, callers, contents, Related, Matches, types_at, starts_at, IsTold}
 use Rattle.cyc_lower.proofs.Fitting.{IsFitting}
 use Rattle.cyc_lower.proofs.Data.{no_locals_hold, IsWord-is}
 use Rattle.cyc_lower.proofs.Accesses.{IsWell}
@@ -192,7 +192,7 @@ module _ (source : Program) (pages calls : ℕ) (well_typed : AreWellTypedGlobal
       stepped_above (above source pages calls) (below source pages calls) matching_lies Named named_kept (Running focus k e w) (plain.Running c) (nested, names)
       (stepped_keeping (above source pages calls) (below source pages calls) (matching source pages calls) Lies lies_kept (Running focus k e w) (plain.Running c) (words, lie)
       (stepping focus k e w c (goes_well (Running focus k e w) never) nested words
-      (names_there source fitting typed_words room k e.locals w c.active.function c.active.base c.frames c.store names.1.3.0 lie) related))
+      (names_there source fitting typed_words room k e.locals w c.active.function c.active.base c.frames c.store names.1.3 lie) related))
   steps (Running focus k e w) (plain.Ended ending output input) ((related, lies), named) running never = absurd related
   steps (Running focus k e w) (plain.Stuck output input) ((related, lies), named) running never = absurd related
   steps (Ended ending output input) t related running never = absurd (let f : simulation.Ended ending ≡ simulation.Running = running in cc)
@@ -225,7 +225,7 @@ module _ (source : Program) (pages calls : ℕ) (well_typed : AreWellTypedGlobal
         (
           length w.objects,
           omega arith,
-          no_locals_hold t _ w.objects (length w.objects) (length w.objects) slots,
+          no_locals_hold t _ (call_slots source source.main base) w.objects (length w.objects) (length w.objects) slots,
           globals_many source.globals,
           λ number few. (
             start-rows source few_globals number few,
