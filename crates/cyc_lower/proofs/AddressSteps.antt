@@ -1,5 +1,5 @@
 -- The address of a place comes to a slot: it stands there already, or one instruction brings it there.
-use Rattle.std.proofs.Common.{◌≡◌, ℕ, zero, suc, ◌+◌, ◌^◌, ◌<◌, Bool, true, false, refl, sym, ap, subst, ◌∙◌, arith, add-zero}
+use Rattle.std.proofs.Common.{◌≡◌, ℕ, zero, suc, ◌+◌, ◌^◌, ◌<◌, Bool, true, false, refl, subst, ◌∙◌, arith, add-zero}
 use Rattle.std.proofs.lemmas.Bool.{eqb-true}
 use Rattle.cyc_words.specs.Word.{add_of}
 use Rattle.cyc_types.specs.TypedTrees.{Program}

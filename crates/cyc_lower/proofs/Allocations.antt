@@ -1,10 +1,9 @@
 -- The steps that make objects: the store is asked for a block, and then each cell is written.
-use Rattle.std.proofs.Common.{◌≡◌, ℕ, zero, suc, ◌+◌, ◌*◌, ◌≤◌, ◌<◌, max, Bool, true, false, List, [], ◌∷◌, ◌++◌, length, reverse, Option, None, Some, slice_get, refl, sym, ap, subst, ◌∙◌, inl, inr, arith, length-append, append_assoc}
+use Rattle.std.proofs.Common.{◌≡◌, ℕ, zero, suc, ◌+◌, ◌*◌, ◌≤◌, ◌<◌, max, Bool, true, false, List, [], ◌∷◌, ◌++◌, length, reverse, None, Some, slice_get, refl, sym, ap, subst, ◌∙◌, inl, inr, arith, length-append, append_assoc}
 use Rattle.std.proofs.lemmas.List.{length-reverse}
-use Rattle.std.specs.Prelude.{◌==◌, nat_le, nat_lt, ◌&&◌, if◌then◌else◌}
-use Rattle.std.proofs.lemmas.Bool.{le-leb, and_from, false_from_ne_true, leb-true, ltb-true, cases_Bool, eqb-true}
+use Rattle.std.specs.Prelude.{◌==◌, nat_lt, if◌then◌else◌}
+use Rattle.std.proofs.lemmas.Bool.{le-leb, and_from, cases_Bool, eqb-true}
 use Rattle.std.proofs.Math.Nat.{le-max_left, mod-eq_of_lt}
-use Rattle.cyc_words.specs.Ending.{Full}
 use Rattle.cyc_words.specs.Word.{add_of}
 use Rattle.cyc_words.specs.Demand.{demand_of}
 use Rattle.cyc_types.specs.declared.typed.Kind.{Kind}
@@ -14,48 +13,42 @@ use Rattle.cyc_store.specs.State.{StoreState, demand}
 use Rattle.cyc_store.specs.State as store_state
 use Rattle.cyc_store.specs.Services as services
 use Rattle.cyc_store.specs.Services.{Allocate, IsAllowed, served, refusal, full_at, is_size}
-use Rattle.cyc_store.specs.declared.range.TheConstants.{HEAP, UNIQUE, MOST_BLOCK_WORDS}
+use Rattle.cyc_store.specs.declared.range.TheConstants.{UNIQUE, MOST_BLOCK_WORDS}
 use Rattle.cyc_store.proofs.ServiceLemmas.{served-sound}
 use Rattle.cyc_plain.specs.declared.instruction.Operand.{Operand}
 use Rattle.cyc_plain.specs.declared.instruction.Operand.TheVariants as operands
 use Rattle.cyc_plain.specs.declared.instruction.Instruction.TheVariants as instructions
-use Rattle.cyc_plain.specs.declared.instruction.Request.{Request}
 use Rattle.cyc_plain.specs.declared.instruction.Request.TheVariants as requests
 use Rattle.cyc_plain.specs.State as plain
 use Rattle.cyc_plain.specs.State.{Words, put, Configuration}
 use Rattle.cyc_plain.specs.Step.{Choice, advanced, operand_word, served_to, performed}
 use Rattle.cyc_plain.specs.Step as plain_step
-use Rattle.cyc_plain.specs.Requests as plain_requests
 use Rattle.cyc_plain.specs.Straight.{At}
-use Rattle.cyc_plain.proofs.Steps.{step_serves, step_full}
 use Rattle.cyc_plain.proofs.SlotLaws.{put-same, put-other}
 use Rattle.cyc_meaning.specs.Values.{Thin, Operand as Kinded, Cell, kinds_of, is_kind, words_of_kind, words_of_cells, block_size}
 use Rattle.cyc_meaning.specs.Allocation.{writes_from, blanks_of, filled, makes_of}
 use Rattle.cyc_meaning.specs.Objects.{made_in, made_unique, created, created_in}
 use Rattle.cyc_meaning.specs.Effects.{pages_of}
-use Rattle.cyc_meaning.specs.State.{Region, Owner, InRegion, Unique, World, Access, Found, Closed, Missing, heap_number, region_at, counted, cell_at, written, Environment, MakePlain, MakeFields, ConvertTo, Write, Entry, Needs, Focus, Evaluating, Given, Writing, State, Running, Ended}
+use Rattle.cyc_meaning.specs.State.{Region, Owner, InRegion, Unique, World, Access, Found, Closed, Missing, region_at, counted, cell_at, written, Environment, MakePlain, MakeFields, ConvertTo, Write, Entry, Needs, Focus, Evaluating, Given, Writing, Running}
 use Rattle.cyc_meaning.specs.Step.{wrong, stored, target_by, step}
-use Rattle.cyc_meaning.specs.Run.{is_within, limited_step}
-use Rattle.cyc_objects.specs.Tables.{Variable, Placed, Tables, with_row, Grows}
+use Rattle.cyc_objects.specs.Tables.{Placed, Tables, with_row, Grows}
 use Rattle.cyc_objects.specs.Words.{words_of_kinds, before, Points, Is, AreBlank}
 use Rattle.cyc_objects.specs.Related as objects
 use Rattle.cyc_objects.specs.Related.{has_home}
 use Rattle.cyc_objects.proofs.Values.{Grows-row}
 use Rattle.cyc_objects.proofs.RegionLemmas.{counted-same}
-use Rattle.cyc_objects.proofs.NumberLemmas.{slice_get-below}
 use Rattle.cyc_objects.proofs.Making.{open-home, allocated, allocated-unique, refusal-allocate, refusal-unique, operands-blank, row-made, placed-range, room-fits}
-use Rattle.cyc_lower.specs.Lowering.{lower_program}
 use Rattle.cyc_lower.proofs.Widths.{kind_positive, wide_kind, Outside}
 use Rattle.cyc_lower.proofs.Stands.{StoresAt, ObjectAt}
-use Rattle.cyc_lower.proofs.Relation.{types_on, starts_on, IsWord, IsIn, IsObject, words_held, height, Holds, HoldsFrom, held, callers, homes, silent, DataIn, SharedAt, in_temporary, into_slot, LandsMade, ValueStack, Matches, code_of, bounds_at, types_at, base_of, top, IsHandleOf, HasHandle, contents, floor, AreBare}
+use Rattle.cyc_lower.proofs.Relation.{types_on, IsWord, IsIn, IsObject, words_held, height, Holds, HoldsFrom, held, callers, homes, silent, DataIn, SharedAt, in_temporary, into_slot, LandsMade, ValueStack, Matches, code_of, bounds_at, base_of, top, IsHandleOf, HasHandle, contents, floor, AreBare}
 use Rattle.cyc_lower.proofs.Handles.{has_handle}
-use Rattle.cyc_lower.proofs.Data.{Is-same, height-least, floor-least, Holds-above, one_word, Holds-same, Holds-rest, Holds-grows, HoldsFrom-grows, in_order, words-reverse, data_above, data_grows, variables_grow, contents_made, data_written}
+use Rattle.cyc_lower.proofs.Data.{Is-same, height-least, floor-least, Holds-above, one_word, Holds-same, Holds-rest, Holds-grows, HoldsFrom-grows, in_order, words-reverse, data_grows, variables_grow, contents_made, data_written}
 use Rattle.cyc_lower.proofs.Accesses.{IsWell, is_fitting}
 use Rattle.cyc_lower.proofs.Paths.{by_path}
 use Rattle.cyc_lower.proofs.Asking.{past_pages, by_asking, by_full}
 use Rattle.cyc_lower.proofs.WideCells.{store_links, store_path, store_last, shared_stored, data_stored, stored as stored_there, above_stored, frames_stored}
 use Rattle.cyc_lower.proofs.CellWrites.{SameVariables, data_beside, cell_is_there, saves_there, shared_saved, data_saved, with_word, above_there, frames_there}
-use Rattle.cyc_lower.proofs.Matched.{IsMatched, below, silently, by_places, by_one, shared_way, shared_within, place_in, known, Executes}
+use Rattle.cyc_lower.proofs.Matched.{IsMatched, below, silently, by_one, shared_within}
 use Rattle.cyc_lower.proofs.Evaluations.{IsStep, made_moved}
 use Rattle.cyc_lower.proofs.Known.{row-made_there}
 use Rattle.cyc_lower.proofs.Leads.{AreNamed}

@@ -1,15 +1,14 @@
 -- The steps that make arrays: the length is tested, the store is asked for a block, and then each element is evaluated and written.
-use Rattle.std.proofs.Common.{◌≡◌, ◌≢◌, ℕ, zero, suc, ◌+◌, ◌*◌, ◌≤◌, ◌<◌, max, Bool, true, false, List, [], ◌∷◌, ◌++◌, length, Option, None, Some, slice_get, refl, sym, ap, subst, ◌∙◌, arith, inl, inr, length-append}
-use Rattle.std.specs.Prelude.{nat_le, nat_lt, ◌==◌, ◌&&◌, if◌then◌else◌}
+use Rattle.std.proofs.Common.{◌≡◌, ◌≢◌, ℕ, zero, suc, ◌+◌, ◌*◌, ◌≤◌, ◌<◌, max, Bool, true, false, List, [], ◌∷◌, ◌++◌, length, None, refl, sym, ap, subst, ◌∙◌, arith, inl, inr, length-append}
+use Rattle.std.specs.Prelude.{nat_le, nat_lt, ◌==◌, if◌then◌else◌}
 use Rattle.std.proofs.lemmas.Bool.{le-leb, eqb-true, eq-eqb, false_from_ne_true, leb-true, leb-false, cases_Bool, cases_eq}
 use Rattle.std.proofs.Math.Nat.{mod-eq_of_lt}
-use Rattle.cyc_words.specs.Ending.{Full}
 use Rattle.cyc_words.specs.Word.{add_of, mul_of, shl_of}
 use Rattle.cyc_words.specs.Word.{IsWord as IsMachineWord}
 use Rattle.cyc_types.specs.declared.typed.Kind.{Kind}
 use Rattle.cyc_types.specs.declared.typed.Kind.TheVariants as kinds
 use Rattle.cyc_types.specs.TypedTrees.{Expression, Program}
-use Rattle.cyc_store.specs.State.{demand, StoreState, saved}
+use Rattle.cyc_store.specs.State.{demand}
 use Rattle.cyc_store.specs.Services as services
 use Rattle.cyc_store.specs.Services.{Allocate, refusal, full_at}
 use Rattle.cyc_store.specs.declared.range.TheConstants.{MOST_BLOCK_WORDS}
@@ -19,9 +18,7 @@ use Rattle.cyc_plain.specs.declared.instruction.UnaryOperator.TheVariants as pla
 use Rattle.cyc_plain.specs.declared.instruction.Comparison.TheVariants as comparisons
 use Rattle.cyc_plain.specs.declared.instruction.Operand.{Operand}
 use Rattle.cyc_plain.specs.declared.instruction.Operand.TheVariants as operands
-use Rattle.cyc_plain.specs.declared.instruction.Instruction.{Instruction}
 use Rattle.cyc_plain.specs.declared.instruction.Instruction.TheVariants as instructions
-use Rattle.cyc_plain.specs.declared.instruction.Request.{Request}
 use Rattle.cyc_plain.specs.declared.instruction.Request.TheVariants as requests
 use Rattle.cyc_plain.specs.Operators.{truth}
 use Rattle.cyc_plain.specs.State as plain
@@ -36,15 +33,13 @@ use Rattle.cyc_meaning.specs.Allocation.{blanks, begun, makes_array, most_words}
 use Rattle.cyc_meaning.specs.Objects.{created}
 use Rattle.cyc_meaning.specs.Effects.{pages_of}
 use Rattle.cyc_meaning.specs.Parts.{gives}
-use Rattle.cyc_meaning.specs.State.{Region, Owner, InRegion, Unique, World, Access, Found, Closed, Missing, Located, heap_number, region_at, cell_at, written, Environment, with_counter, MakeArray, FillElement, Entry, Needs, Focus, Evaluating, Given, Beginning, Repeating, Throwing, State, Running}
+use Rattle.cyc_meaning.specs.State.{Owner, World, Access, Found, Closed, Missing, Located, cell_at, written, Environment, with_counter, MakeArray, FillElement, Entry, Needs, Focus, Evaluating, Given, Beginning, Repeating, Throwing, Running}
 use Rattle.cyc_meaning.specs.Step.{wrong, stored as stored_in, step}
-use Rattle.cyc_meaning.specs.Run.{is_within}
-use Rattle.cyc_objects.specs.Tables.{Variable, Placed, Tables, with_row, Grows}
+use Rattle.cyc_objects.specs.Tables.{Placed, Tables, with_row, Grows}
 use Rattle.cyc_objects.specs.Words.{Points, IsPartOf, Is}
 use Rattle.cyc_objects.specs.Related as objects
 use Rattle.cyc_objects.specs.Related.{has_home}
 use Rattle.cyc_objects.proofs.Values.{Grows-row}
-use Rattle.cyc_objects.proofs.NumberLemmas.{slice_get-below}
 use Rattle.cyc_objects.proofs.Pointers.{pointer-word}
 use Rattle.cyc_objects.proofs.Cells.{element-found}
 use Rattle.cyc_objects.proofs.Making.{blanks-blank, part-made}
@@ -52,18 +47,18 @@ use Rattle.cyc_lower.specs.Lowering.{is_in, most_elements, scale_of, lower_progr
 use Rattle.cyc_lower.proofs.Widths.{Outside, same_kind, wide_kind}
 use Rattle.cyc_lower.proofs.Stands.{CopyBy, BegunAt, ElementsAt, StoresAt}
 use Rattle.cyc_lower.proofs.Handles.{has_handle}
-use Rattle.cyc_lower.proofs.Relation.{IsWord, IsIn, height, Holds, held, callers, counters_of, arrays_in, IsHandleOf, homes, silent, DataIn, SharedAt, in_temporary, into_slot, LandsMade, ValueStack, Related, Matches, code_of, bounds_at, types_on, base_of, floor, top, contents, IsTold, scopes_in}
+use Rattle.cyc_lower.proofs.Relation.{IsWord, IsIn, Holds, held, callers, counters_of, arrays_in, IsHandleOf, homes, silent, DataIn, SharedAt, in_temporary, into_slot, LandsMade, ValueStack, Matches, code_of, bounds_at, types_on, base_of, floor, top, contents, IsTold, scopes_in}
 use Rattle.cyc_lower.proofs.Data.{Is-same, height-least, floor-least, Holds-above, one_word, Holds-same, Holds-grows, data_written, data_grows, variables_grow, contents_made}
 use Rattle.cyc_lower.proofs.Accesses.{IsWell, is_fitting}
 use Rattle.cyc_lower.proofs.Counters.{counters-many, counter_same, counted_before}
 use Rattle.cyc_lower.proofs.Sharing.{shared_less}
 use Rattle.cyc_lower.proofs.PlaceWords.{add_is, shifted_is, multiplied_is, stays, cell_kind, word_is}
-use Rattle.cyc_lower.proofs.Paths.{Link, IsQuiet, is_quiet, end_of, IsPath, end_joined, path_joined, by_path}
+use Rattle.cyc_lower.proofs.Paths.{Link, is_quiet, end_of, IsPath, end_joined, path_joined, by_path}
 use Rattle.cyc_lower.proofs.WideCells.{Parts, parts_of, stage, stored, all_links, all_path, shared_stored, data_stored, above_stored, frames_stored}
 use Rattle.cyc_lower.proofs.Elements.{scaled}
 use Rattle.cyc_lower.proofs.CellWrites.{SameVariables, data_beside, cell_is_there, with_word, saves_there, demand_there, shared_saved, data_saved, above_there, frames_there}
 use Rattle.cyc_lower.proofs.Levels.{lands_arrays}
-use Rattle.cyc_lower.proofs.Matched.{IsMatched, above, below, Executes, executes, by_places, by_one, by_two, by_three, shared_way, shared_within, output_way, place_in, apart, known}
+use Rattle.cyc_lower.proofs.Matched.{IsMatched, by_one, by_two, by_three, shared_way, shared_within}
 use Rattle.cyc_lower.proofs.Evaluations.{IsStep, landed_made, made_moved}
 use Rattle.cyc_lower.proofs.Handling.{raised}
 use Rattle.cyc_lower.proofs.Allocations.{Makes, made_for}
@@ -72,7 +67,6 @@ use Rattle.cyc_words.proofs.WordLemmas.{IsWord-add_of, IsWord-mul_of, IsWord-shl
 use Rattle.cyc_lower.proofs.Known.{row-made_there}
 use Rattle.cyc_lower.proofs.Leads.{AreNamed}
 use Rattle.cyc_lower.proofs.Moving.{Like, like_long, made_moves}
-use Rattle.cyc_lower.proofs.StoredWords.{with_saved}
 use Rattle.cyc_lower.specs.Slots.{global_types}
 
 -- ---- words

@@ -1,5 +1,5 @@
 -- Nothing but variables is made in regions of variables: what stays of that while regions open and close, and while objects are made.
-use Rattle.std.proofs.Common.{◌≡◌, ℕ, false, ◌<◌, List, [], ◌∷◌, ◌++◌, length, Option, None, Some, refl, sym, ap, subst, ◌∙◌, inl, inr}
+use Rattle.std.proofs.Common.{◌≡◌, ℕ, false, ◌<◌, List, [], ◌∷◌, ◌++◌, Option, None, Some, sym, ap, subst, ◌∙◌, inl, inr}
 use Rattle.std.specs.Prelude.{slice_get}
 use Rattle.cyc_store.specs.State.{StoreState}
 use Rattle.cyc_store.proofs.LookupLemmas.{same_some}

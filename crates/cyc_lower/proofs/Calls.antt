@@ -35,7 +35,7 @@ use Rattle.cyc_lower.specs.Slots.{starts_of, slot_of, global_types}
 use Rattle.cyc_lower.proofs.Slots.{slot-parameter, words-parameter, slot_types-many, words-append}
 use Rattle.cyc_lower.proofs.Widths.{kind_of_result, result_kind, same_kind, type_words, words_in, HasRoom}
 use Rattle.cyc_lower.proofs.Values.{of_kind, int_is}
-use Rattle.cyc_objects.specs.Tables.{Variable, with_row, with_handle}
+use Rattle.cyc_objects.specs.Tables.{with_row, with_handle}
 use Rattle.cyc_objects.specs.Words.{Is}
 use Rattle.cyc_objects.specs.Related.{scopes}
 use Rattle.cyc_objects.proofs.Values.{Grows-row, Grows-handle, Is-grows}

@@ -1,11 +1,11 @@
 -- The words of a cell come to slots one by one, by its address in a slot, which none of them overwrites.
-use Rattle.std.proofs.Common.{◌≡◌, ℕ, zero, suc, ◌+◌, ◌*◌, ◌<◌, ◌≤◌, List, [], ◌∷◌, Option, Some, refl, sym, ap, ◌∙◌, arith}
+use Rattle.std.proofs.Common.{◌≡◌, ℕ, zero, suc, ◌+◌, ◌*◌, ◌<◌, ◌≤◌, List, [], ◌∷◌, Some, refl, ap, ◌∙◌, arith}
 use Rattle.cyc_words.specs.Word.{add_of}
 use Rattle.cyc_types.specs.TypedTrees.{Program}
 use Rattle.cyc_plain.specs.declared.instruction.Operand.TheVariants as operands
 use Rattle.cyc_plain.specs.declared.instruction.Instruction.TheVariants as instructions
 use Rattle.cyc_plain.specs.State.{Words, put, Configuration}
-use Rattle.cyc_plain.specs.Step.{Choice, with_slots, advanced, at, loads}
+use Rattle.cyc_plain.specs.Step.{with_slots, advanced, at, loads}
 use Rattle.cyc_plain.specs.Memory.{memory_at}
 use Rattle.cyc_plain.proofs.SlotLaws.{put-other}
 use Rattle.cyc_lower.specs.Lowering.{load_at, lower_program}

@@ -1,5 +1,5 @@
 -- What a cell holds, by its address: it is one of the store's, a global's, or that of a local of a call under way.
-use Rattle.std.proofs.Common.{◌≡◌, ◌⊎◌, ℕ, ◌+◌, ◌*◌, ◌<◌, ◌≤◌, true, List, length, Option, None, Some, refl, sym, ap, subst, ◌∙◌, arith, inl, inr, length-append}
+use Rattle.std.proofs.Common.{◌≡◌, ℕ, ◌+◌, ◌*◌, ◌<◌, List, length, Option, None, Some, refl, sym, ap, subst, ◌∙◌, arith, length-append}
 use Rattle.std.specs.Prelude.{slice_get}
 use Rattle.std.proofs.lemmas.Option.{none-some, same_Some}
 use Rattle.cyc_words.specs.Word.{add_of}
@@ -7,13 +7,12 @@ use Rattle.cyc_types.specs.declared.typed.Kind.{Kind}
 use Rattle.cyc_types.specs.Types.{Ty}
 use Rattle.cyc_types.specs.TypedTrees.{Program}
 use Rattle.cyc_store.specs.State.{StoreState}
-use Rattle.cyc_store.specs.declared.range.TheConstants.{STORE_BASE}
 use Rattle.cyc_plain.specs.declared.limits.TheConstants.{GLOBALS_BASE}
 use Rattle.cyc_plain.specs.State.{Words, Configuration}
 use Rattle.cyc_plain.specs.Step.{at, with_slots}
 use Rattle.cyc_plain.specs.Memory.{memory_at}
 use Rattle.cyc_plain.proofs.MemoryLaws.{memory-stored, memory-active, memory-waiting}
-use Rattle.cyc_meaning.specs.Values.{Value, Operand as Kinded, words_of_kind}
+use Rattle.cyc_meaning.specs.Values.{Value, words_of_kind}
 use Rattle.cyc_meaning.specs.State.{World, Found, Located, cell_at}
 use Rattle.cyc_meaning.specs.FrameCount.{words_of_all}
 use Rattle.cyc_meaning.proofs.WorldLaws.{cell_found}
@@ -27,8 +26,8 @@ use Rattle.cyc_lower.specs.Slots.{slot_of, global_types}
 use Rattle.cyc_lower.specs.Lowering.{lower_program, lower_globals, scopes_words, scopes_of}
 use Rattle.cyc_lower.proofs.Widths.{HasRoom}
 use Rattle.cyc_lower.proofs.Slots.{slot-room, global-room, globals_counted}
-use Rattle.cyc_lower.proofs.Known.{IsGlobalRow, global-first, global_kind, first_word}
-use Rattle.cyc_lower.proofs.Relation.{Waiting, LocalsHold, GlobalsHold, DataAt, AreBare, silent, call_slots, contents, content_of, content_of_cell, with_kind, code_of, types_at, starts_at, base_of}
+use Rattle.cyc_lower.proofs.Known.{global-first, global_kind, first_word}
+use Rattle.cyc_lower.proofs.Relation.{Waiting, DataAt, AreBare, silent, contents, content_of, content_of_cell, with_kind, types_at, starts_at, base_of}
 use Rattle.cyc_lower.proofs.Rows.{local-pointer, local-kind}
 use Rattle.cyc_lower.proofs.WaitingData.{frame_at}
 use Rattle.cyc_lower.proofs.Leads.{IsNamed, is_global, is_local, is_waiting, AreNamed, Leads, to_store, to_variable, leads}

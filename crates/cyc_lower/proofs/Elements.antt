@@ -1,9 +1,8 @@
 -- Accesses by fat pointers: the pointer is tested, its index is compared with its length, and the address of the cell at the index is
 -- computed. A pointer to a struct stands at the struct itself where the source does not go wrong.
-use Rattle.std.proofs.Common.{◌≡◌, ◌≢◌, ℕ, zero, suc, ◌+◌, ◌*◌, ◌^◌, ◌≤◌, ◌<◌, Bool, true, false, not, List, [], ◌∷◌, Option, None, Some, slice_get, refl, sym, ap, subst, ◌∙◌, arith, inl, inr}
+use Rattle.std.proofs.Common.{◌≡◌, ◌≢◌, ℕ, zero, suc, ◌+◌, ◌*◌, ◌≤◌, ◌<◌, Bool, true, false, List, [], ◌∷◌, Option, None, Some, slice_get, refl, sym, ap, subst, ◌∙◌, arith, inl, inr}
 use Rattle.std.specs.Prelude.{◌==◌, ◌&&◌, nat_lt, nat_le, if◌then◌else◌, option_map}
-use Rattle.std.proofs.lemmas.Bool.{eq-eqb, ne_eqb, eqb-true, eqb-false, cases_Bool, ltb-true, ltb-false, le-leb, lt-leb, and_parts}
-use Rattle.std.proofs.lemmas.Option.{same_Some}
+use Rattle.std.proofs.lemmas.Bool.{eq-eqb, ne_eqb, eqb-true, cases_Bool, ltb-true, ltb-false, le-leb, lt-leb, and_parts}
 use Rattle.cyc_words.specs.Word.{add_of, mul_of, shl_of}
 use Rattle.cyc_types.specs.declared.typed.Kind.{Kind}
 use Rattle.cyc_types.specs.declared.typed.Kind.TheVariants as kinds
@@ -13,7 +12,6 @@ use Rattle.cyc_plain.specs.declared.instruction.BinaryOperator.TheVariants as pl
 use Rattle.cyc_plain.specs.declared.instruction.Comparison.TheVariants as comparisons
 use Rattle.cyc_plain.specs.declared.instruction.Operand.{Operand}
 use Rattle.cyc_plain.specs.declared.instruction.Operand.TheVariants as operands
-use Rattle.cyc_plain.specs.declared.instruction.Instruction.{Instruction}
 use Rattle.cyc_plain.specs.declared.instruction.Instruction.TheVariants as instructions
 use Rattle.cyc_plain.specs.State as plain
 use Rattle.cyc_plain.specs.State.{Words, put, Configuration}
@@ -24,7 +22,7 @@ use Rattle.cyc_meaning.specs.Values.{Value, Int, Null, Thin, Fat, Handle, Key, O
 use Rattle.cyc_meaning.specs.Operators.{Result, null_exception, array_bounds}
 use Rattle.cyc_meaning.specs.Pointers.{Reach, Stops, followed}
 use Rattle.cyc_meaning.specs.Pointers as reaches
-use Rattle.cyc_meaning.specs.State.{Object, World, Environment, Follow, Index, Advance, Entry, Needs, calls_in, Focus, Evaluating, Given, GivenPlace, Throwing, State, Running}
+use Rattle.cyc_meaning.specs.State.{Object, World, Environment, Follow, Index, Advance, Entry, Needs, Focus, Evaluating, Given, GivenPlace, Throwing, State, Running}
 use Rattle.cyc_meaning.specs.Places.{arrives}
 use Rattle.cyc_meaning.specs.Parts.{is_target, cell_of}
 use Rattle.cyc_meaning.specs.Step.{wrong, computed, step, leads_to}
@@ -37,8 +35,8 @@ use Rattle.cyc_lower.specs.Lowerable.{is_pointer}
 use Rattle.cyc_lower.specs.Lowering.{raising, scale_of, reached_operand, followed_operand, lower_program}
 use Rattle.cyc_lower.proofs.Widths.{wide_kind, same_kind, Outside}
 use Rattle.cyc_lower.proofs.Moves.{put_elsewhere}
-use Rattle.cyc_lower.proofs.Stands.{BoundsAt, SteppedAt, ReachedBy, ReachedAt, FollowedAt, ValueAt}
-use Rattle.cyc_lower.proofs.Relation.{IsIn, IsLow, types_at, types_on, floor, silent, Holds, held, callers, in_operand, as_operand, DataIn, SharedAt, ValueStack, PlaceStack, Matches, code_of, bounds_at, base_of, top, IsParts, ReadyAt, with_left, as_right}
+use Rattle.cyc_lower.proofs.Stands.{SteppedAt, ReachedBy, ReachedAt, FollowedAt, ValueAt}
+use Rattle.cyc_lower.proofs.Relation.{IsIn, IsLow, types_at, types_on, floor, Holds, held, as_operand, DataIn, SharedAt, ValueStack, PlaceStack, Matches, code_of, bounds_at, top, IsParts, ReadyAt, with_left, as_right}
 use Rattle.cyc_lower.proofs.Data.{Is-same, height-least, Holds-same, data_written, in_words}
 use Rattle.cyc_lower.proofs.Accesses.{IsWell, is_fitting}
 use Rattle.cyc_lower.proofs.PlaceWords.{narrow_element, wide_element, stays}

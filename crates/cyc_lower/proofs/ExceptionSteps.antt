@@ -24,8 +24,8 @@ use Rattle.cyc_plain.specs.Step.{Choice, at, with_slots, advanced, operand_word,
 use Rattle.cyc_plain.specs.Step as plain_step
 use Rattle.cyc_plain.proofs.SlotLaws.{put-same, put-other, copied-inside, copied-below, copied-above}
 use Rattle.cyc_plain.specs.Operators.{compares}
-use Rattle.cyc_meaning.specs.Values.{Int, Operand as Kinded, words_of_kind}
-use Rattle.cyc_meaning.specs.State.{World, Environment, variable, made, opened, closed, with_local, region_at, ThrowWith, Entry, Needs, NeedsPlace, Discard, Rest, Join, Loop, CloseRegion, CloseLexical, EndLoan, Handler, Caller, Main, Evaluating, Executing, Proceeding, Naming, Throwing, Catching, Running, Ended, State, Region, Access}
+use Rattle.cyc_meaning.specs.Values.{Operand as Kinded, words_of_kind}
+use Rattle.cyc_meaning.specs.State.{World, Environment, variable, made, closed, with_local, region_at, ThrowWith, Entry, Needs, NeedsPlace, Discard, Rest, Join, Loop, CloseRegion, CloseLexical, EndLoan, Handler, Caller, Main, Evaluating, Executing, Proceeding, Naming, Throwing, Catching, Running, Ended, State, Region, Access}
 use Rattle.cyc_meaning.specs.Nesting.{IsNested}
 use Rattle.cyc_meaning.specs.Regions.{closing_lexical}
 use Rattle.cyc_meaning.specs.Step.{inside}
@@ -33,7 +33,7 @@ use Rattle.cyc_meaning.specs.Exceptions.{catches}
 use Rattle.cyc_lower.specs.declared.statements.Exits.{Exits}
 use Rattle.cyc_lower.specs.Slots.{slot_of}
 use Rattle.cyc_lower.specs.Lowering.{tag_operand, lower_program, inside_try, scopes_of}
-use Rattle.cyc_objects.specs.Tables.{Variable, Tables, with_row, with_handle}
+use Rattle.cyc_objects.specs.Tables.{Tables, with_row, with_handle}
 use Rattle.cyc_objects.specs.Related as objects
 use Rattle.cyc_objects.proofs.Scopes.{scopes-counted, ends-newest}
 use Rattle.cyc_objects.specs.Words.{Is}

@@ -10,12 +10,10 @@ use Rattle.cyc_plain.specs.declared.instruction.BinaryOperator.TheVariants as pl
 use Rattle.cyc_plain.specs.declared.instruction.Comparison.TheVariants as comparisons
 use Rattle.cyc_plain.specs.declared.instruction.Operand.{Operand}
 use Rattle.cyc_plain.specs.declared.instruction.Operand.TheVariants as operands
-use Rattle.cyc_plain.specs.declared.instruction.Instruction.{Instruction}
 use Rattle.cyc_plain.specs.declared.instruction.Instruction.TheVariants as instructions
 use Rattle.cyc_plain.specs.State as plain
 use Rattle.cyc_plain.specs.State.{Words, put, Configuration}
-use Rattle.cyc_plain.specs.Step.{Choice, with_slots, at, advanced, performed, branches}
-use Rattle.cyc_plain.specs.Straight.{At}
+use Rattle.cyc_plain.specs.Step.{Choice, with_slots, at, performed, branches}
 use Rattle.cyc_plain.proofs.SlotLaws.{put-same, put-other}
 use Rattle.cyc_meaning.specs.Values.{Value, Int, Null, Thin, Fat, Handle, Key, Operand as Kinded, words_of_kind}
 use Rattle.cyc_meaning.specs.Operators.{Result, Gives, Misfits}
@@ -30,7 +28,7 @@ use Rattle.cyc_lower.specs.Lowering.{jump_if_zero, lower_program}
 use Rattle.cyc_lower.proofs.Widths.{Outside}
 use Rattle.cyc_lower.proofs.Stands.{CountAt, WidenedAt}
 use Rattle.cyc_lower.proofs.Handles.{kept_holds}
-use Rattle.cyc_lower.proofs.Relation.{IsIn, floor, types_at, Holds, held, callers, in_operand, DataIn, SharedAt, ValueStack, LandsStack, Related, Matches, code_of, bounds_at, base_of, top}
+use Rattle.cyc_lower.proofs.Relation.{IsIn, floor, types_at, Holds, held, in_operand, DataIn, SharedAt, ValueStack, LandsStack, Matches, code_of, bounds_at, top}
 use Rattle.cyc_lower.proofs.Data.{height-least, Holds-same, data_written}
 use Rattle.cyc_lower.proofs.Accesses.{IsWell}
 use Rattle.cyc_lower.proofs.Matched.{IsMatched, silently, by_one}

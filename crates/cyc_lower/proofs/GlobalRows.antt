@@ -1,9 +1,9 @@
 -- Where globals stand: one behind the other, all before the store.
-use Rattle.std.proofs.Common.{◌≡◌, ℕ, zero, suc, ◌+◌, ◌*◌, ◌<◌, ◌≤◌, List, [], ◌∷◌, length, Option, None, Some, refl, sym, ap, subst, ◌∙◌, inl, arith}
+use Rattle.std.proofs.Common.{◌≡◌, ℕ, zero, suc, ◌+◌, ◌*◌, ◌<◌, ◌≤◌, List, [], ◌∷◌, length, None, Some, refl, ap, inl, arith}
 use Rattle.std.specs.Prelude.{slice_get, unwrap_or}
 use Rattle.std.proofs.lemmas.List.{length-map}
 use Rattle.std.proofs.lemmas.Option.{none-some}
-use Rattle.cyc_types.specs.Types.{Ty, words_of}
+use Rattle.cyc_types.specs.Types.{words_of}
 use Rattle.cyc_types.specs.TypedTrees.{GlobalVariable, Program}
 use Rattle.cyc_store.proofs.LookupLemmas.{same_some}
 use Rattle.cyc_plain.specs.declared.limits.TheConstants.{GLOBALS_BASE, MOST_GLOBALS}

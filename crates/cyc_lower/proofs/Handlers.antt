@@ -1,5 +1,5 @@
 -- Code of handlers that is made piece by piece: clauses, whose jumps are written back, and what they keep beside the variables.
-use Rattle.std.proofs.Common.{◌≡◌, ℕ, zero, suc, ◌+◌, ◌≤◌, ◌<◌, List, [], ◌∷◌, ◌++◌, length, get_or, drop, set, Option, None, Some, refl, sym, ap, ◌∙◌, arith, append_assoc, append-nil, length-set}
+use Rattle.std.proofs.Common.{◌≡◌, ℕ, zero, suc, ◌+◌, ◌≤◌, ◌<◌, List, [], ◌∷◌, ◌++◌, length, get_or, set, Option, None, Some, refl, sym, ap, ◌∙◌, arith, append_assoc, length-set}
 use Rattle.std.proofs.lemmas.List.{drop_all, length-append}
 use Rattle.std.specs.declared.vec.Vec.{Vec}
 use Rattle.std.specs.declared.boxed.Box.{Box}
@@ -8,7 +8,7 @@ use Rattle.cyc_types.specs.declared.typed.Stmt.{Stmt}
 use Rattle.cyc_types.specs.declared.typed.Stmt.TheVariants as stmt
 use Rattle.cyc_types.specs.declared.typed.Clause.{Clause}
 use Rattle.cyc_types.specs.declared.typed.Body.{Body}
-use Rattle.cyc_types.specs.TypedTrees.{Statement, Try, Items, NoItems, Clauses, NoClauses, Default, Case}
+use Rattle.cyc_types.specs.TypedTrees.{Statement, Try, Items, NoItems, Clauses, NoClauses, Default}
 use Rattle.cyc_types.specs.TypedTreeView.{view_statement, items_of, clauses_of, default_of}
 use Rattle.cyc_types.proofs.TypedTreeViewLemmas.{view_try}
 use Rattle.cyc_plain.specs.declared.instruction.Instruction.{Instruction}

@@ -1,8 +1,7 @@
 -- Where pointers lead: each object that has an address is one of the store's, or a global, whose words stand in their order from one
 -- address on.
-use Rattle.std.proofs.Common.{◌≡◌, ℕ, zero, ◌+◌, ◌*◌, ◌<◌, ◌≤◌, List, [], ◌∷◌, length, Option, Some, None, refl, sym, ap, subst, ◌∙◌, inl, inr, arith}
+use Rattle.std.proofs.Common.{◌≡◌, ℕ, ◌+◌, ◌*◌, ◌<◌, ◌≤◌, List, [], ◌∷◌, length, Some, sym, ap, subst, ◌∙◌, inl, inr, arith}
 use Rattle.std.specs.Prelude.{◌⊎◌, slice_get, unwrap_or, ◌%◌, ◌^◌}
-use Rattle.std.proofs.lemmas.Bool.{cases_lt, cases_eq}
 use Rattle.cyc_types.specs.declared.typed.Kind.{Kind}
 use Rattle.cyc_types.specs.Types.{Ty}
 use Rattle.cyc_store.specs.State.{StoreState, homes, room}
@@ -10,19 +9,17 @@ use Rattle.cyc_store.proofs.LookupLemmas.{same_some}
 use Rattle.cyc_store.specs.declared.range.TheConstants.{STORE_BASE}
 use Rattle.cyc_plain.specs.declared.limits.TheConstants.{GLOBALS_BASE}
 use Rattle.cyc_meaning.specs.Values.{words_of_kind, block_size}
-use Rattle.cyc_meaning.specs.State.{Object, World, Found, Located, cell_at}
-use Rattle.cyc_objects.specs.Tables.{Row, Variable, Placed, Tables, with_row, Grows}
+use Rattle.cyc_meaning.specs.State.{Object, World}
+use Rattle.cyc_objects.specs.Tables.{Variable, Placed, Tables, Grows}
 use Rattle.cyc_objects.specs.Words.{words_of_kinds, before, Points}
-use Rattle.cyc_objects.specs.Related.{Alive, Stands, LiveVariable, AreApart, Related}
-use Rattle.cyc_objects.proofs.NumberLemmas.{slice_get-last, slice_get-there, slice_get-below}
-use Rattle.cyc_objects.proofs.Values.{kind-some, before-inside}
+use Rattle.cyc_objects.specs.Related.{Alive, Stands, Related}
+use Rattle.cyc_objects.proofs.NumberLemmas.{slice_get-below}
+use Rattle.cyc_objects.proofs.Values.{kind-some}
 use Rattle.cyc_objects.proofs.Pointers.{same-row}
-use Rattle.cyc_objects.proofs.Cells.{found-either, variable-alone}
-use Rattle.cyc_objects.proofs.Comparing.{pointer-outside}
+use Rattle.cyc_objects.proofs.Cells.{variable-alone}
 use Rattle.cyc_plain.specs.Memory.{slots_base}
-use Rattle.cyc_lower.specs.Slots.{Types, starts_from, starts_of, global_of}
+use Rattle.cyc_lower.specs.Slots.{starts_from}
 use Rattle.cyc_lower.proofs.Widths.{words_in}
-use Rattle.cyc_lower.proofs.Slots.{global-apart}
 use Rattle.cyc_words.specs.Word.{add_of, mul_of}
 use Rattle.cyc_lower.specs.Lowering.{address_of_global}
 

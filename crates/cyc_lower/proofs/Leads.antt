@@ -1,15 +1,12 @@
 -- Where a pointer leads: a cell that is there is one of the store's, a global's, or that of a local of one call under way.
-use Rattle.std.proofs.Common.{◌≡◌, ◌≢◌, ℕ, zero, suc, ◌+◌, ◌*◌, ◌<◌, ◌≤◌, true, List, [], ◌∷◌, length, Option, Some, slice_get, refl, sym, ap, subst, ◌∙◌, arith, inl, inr}
-use Rattle.std.specs.Prelude.{◌⊎◌}
+use Rattle.std.proofs.Common.{◌≡◌, ℕ, ◌+◌, ◌<◌, true, List, length, Option, Some, slice_get, inl, inr}
 use Rattle.cyc_types.specs.TypedTrees.{Program}
 use Rattle.cyc_store.specs.State.{StoreState}
 use Rattle.cyc_plain.specs.State.{Frame}
 use Rattle.cyc_plain.specs.WellFormed.{IsWellFormed}
 use Rattle.cyc_plain.specs.Memory.{AreBelow, is_pinned}
-use Rattle.cyc_meaning.specs.Values.{words_of_kind}
 use Rattle.cyc_meaning.specs.State.{Object, World, Found, Located, cell_at}
 use Rattle.cyc_objects.specs.Tables.{Tables}
-use Rattle.cyc_objects.specs.Words.{Points}
 use Rattle.cyc_objects.specs.Related as objects
 use Rattle.cyc_objects.specs.Related.{Alive, LiveVariable}
 use Rattle.cyc_objects.proofs.Cells.{found-either}

@@ -1,45 +1,23 @@
 -- Where a value goes that waits for it, the arrays that are being filled are as many as there are slots of counters: behind a statement
 -- there is none.
-use Rattle.std.proofs.Common.{length-append, ◌≡◌, ◌≢◌, ℕ, suc, ◌+◌, ◌≤◌, ◌<◌, Bool, true, false, List, [], ◌∷◌, length, Option, None, Some, refl, sym, ap, subst, ◌∙◌, arith, inl, inr}
-use Rattle.std.specs.Prelude.{Contains, if◌then◌else◌, option_map}
-use Rattle.std.specs.List.{AllByRecursion}
-use Rattle.std.proofs.lemmas.Bool.{le-leb, and_from}
-use Rattle.cyc_words.specs.Ending.{Ending, Full}
+use Rattle.std.proofs.Common.{length-append, ◌≡◌, ℕ, ◌+◌, List, [], ◌∷◌, length, Option, refl, arith, inl, inr}
+use Rattle.std.specs.Prelude.{option_map}
 use Rattle.cyc_types.specs.declared.typed.Kind.{Kind}
 use Rattle.cyc_types.specs.declared.typed.Kind.TheVariants as kinds
 use Rattle.cyc_types.specs.declared.typed.Callee.TheVariants as callees
-use Rattle.cyc_types.specs.declared.typed.Operator.{Operator}
 use Rattle.cyc_types.specs.TypedTrees.{Expression, Convert, NoOperations, Program}
-use Rattle.cyc_meaning.specs.Values.{Thin, Operand as Kinded, is_thin, words_of_kind}
+use Rattle.cyc_meaning.specs.Values.{is_thin, words_of_kind}
 use Rattle.cyc_plain.specs.declared.instruction.Comparison.{Comparison}
 use Rattle.cyc_plain.specs.declared.instruction.Comparison.TheVariants as comparisons
 use Rattle.cyc_plain.specs.declared.instruction.Operand.{Operand}
 use Rattle.cyc_plain.specs.declared.instruction.Operand.TheVariants as operands
-use Rattle.cyc_plain.specs.declared.instruction.Instruction.{Instruction}
-use Rattle.cyc_words.specs.Simulation as simulation
-use Rattle.cyc_words.specs.Simulation.{Status, Failed, Machine, Matching, Comes, IsOnTheWay, IsMatchedStep, IsStepped, IsDistinct}
-use Rattle.cyc_plain.specs.Program.{CodePlace, places_of}
-use Rattle.cyc_store.specs.State.{demand}
-use Rattle.cyc_plain.specs.State as plain
-use Rattle.cyc_plain.specs.State.{Frame, Configuration}
-use Rattle.cyc_plain.specs.Step.{Choice, performed, machine}
-use Rattle.cyc_plain.specs.Step as plain_step
-use Rattle.cyc_words.proofs.Matching.{by_none, way_before}
-use Rattle.cyc_plain.proofs.Steps.{step_performs, place_known}
-use Rattle.cyc_plain.specs.Straight.{At}
-use Rattle.cyc_words.specs.Demand.{demand_of}
-use Rattle.cyc_meaning.specs.State.{FreeObject, CloseByKey, PlaceBy, BesideHandle, CountElements, Index, Advance, ThrowWith, SwapLeft, SwapRight, Handler, World, Environment, ConvertTo, Operate, Chain, Apply, ApplyPointer, Follow, LoadFrom, Decide, Store, Pass, MakePlain, MakeFields, MakeArray, FillElement, Initialise, Choose, Test, Return, Entry, Needs, NeedsPlace, Discard, Rest, Join, Loop, CloseRegion, EndLoan, CloseLexical, Caller, Main, counted, calls_in, Focus, Evaluating, Locating, Given, Executing, Proceeding, Calling, Entering, Binding, Writing, Beginning, Repeating, Breaking, Continuing, Returning, Throwing, State, Running, Ended, Dead, Wrong, output_of, input_of, status_of, GivenPlace, FollowMember, TakeAddress, StoreTo, StoreCell, OpenBy, AliasOf}
-use Rattle.cyc_meaning.specs.Step.{step}
-use Rattle.cyc_meaning.specs.Run.{is_within, limited_step}
-use Rattle.cyc_objects.specs.Tables.{Tables}
-use Rattle.cyc_objects.proofs.RegionLemmas.{counted-same}
+use Rattle.cyc_plain.specs.State.{Frame}
+use Rattle.cyc_meaning.specs.State.{FreeObject, CloseByKey, PlaceBy, BesideHandle, CountElements, Index, Advance, ThrowWith, SwapLeft, SwapRight, Handler, ConvertTo, Operate, Chain, Apply, ApplyPointer, Follow, LoadFrom, Decide, Store, Pass, MakePlain, MakeFields, MakeArray, FillElement, Initialise, Choose, Test, Return, Entry, Needs, NeedsPlace, Discard, Rest, Join, Loop, CloseRegion, EndLoan, CloseLexical, Caller, Main, FollowMember, TakeAddress, StoreTo, StoreCell, OpenBy, AliasOf}
 use Rattle.cyc_lower.specs.declared.statements.Exits.{Exits}
-use Rattle.cyc_lower.specs.Lowering.{reached_operand, followed_operand, compared_of, outside_loops, lower_program}
+use Rattle.cyc_lower.specs.Lowering.{reached_operand, followed_operand}
 use Rattle.cyc_meaning.specs.Pointers.{result_kind as operator_kind}
 use Rattle.cyc_lower.proofs.Widths.{chain_kind, made_kind}
-use Rattle.cyc_meaning.specs.SourceMachine.{status_in, source_machine}
-use Rattle.cyc_lower.proofs.Weights.{weight}
-use Rattle.cyc_lower.proofs.Relation.{base_of, Lands, in_temporary, in_local, HandsOn, drops, leaves, copies, Prints, prints_only, gives_byte, SharedAt, to_slot, to_jump, ValueStack, PlaceStack, ConditionStack, DroppedStack, AheadStack, StatementStack, LandsMade, PrintsStack, AppliedStack, RightAt, ReadyAt, EvaluatingAt, as_operand, into_slot, for_effect, as_right, as_condition, FocusAt, GivenAt, in_operand, nowhere, ahead, compared, with_left, ProceedingAt, behind_statement, behind_call, behind_wrong, Related, Matches, code_of, given_at, called_at, returned_at, top}
+use Rattle.cyc_lower.proofs.Relation.{to_slot, to_jump, ValueStack, PlaceStack, ConditionStack, DroppedStack, AheadStack, StatementStack, LandsMade, called_at, top}
 use Rattle.cyc_lower.proofs.Relation.{held, height, counters_of, arrays_in}
 use Rattle.cyc_lower.proofs.Matched.{by_lands, by_hands, by_prints}
 

@@ -1,7 +1,7 @@
 -- Stores through pointers change slots of calls that wait, but neither where these go on nor what stands behind their locals: so what is said
 -- of the control stack and its code stays.
 use Rattle.std.proofs.Common.{◌≡◌, ℕ, suc, ◌+◌, ◌≤◌, ◌<◌, List, [], ◌∷◌, length, Option, Some, refl, sym, ap, subst, ◌∙◌, arith, inl, inr, zero, set, slice_get, option_map}
-use Rattle.std.specs.Prelude.{if◌then◌else◌, option_map}
+use Rattle.std.specs.Prelude.{option_map}
 use Rattle.cyc_types.specs.declared.typed.Kind.{Kind}
 use Rattle.cyc_types.specs.declared.typed.Kind.TheVariants as kinds
 use Rattle.cyc_types.specs.declared.typed.Callee.TheVariants as callees
@@ -19,7 +19,7 @@ use Rattle.cyc_lower.specs.declared.statements.Exits.{Exits}
 use Rattle.cyc_lower.specs.Lowering.{reached_operand, followed_operand}
 use Rattle.cyc_meaning.specs.Pointers.{result_kind as operator_kind}
 use Rattle.cyc_lower.proofs.Widths.{chain_kind, made_kind}
-use Rattle.cyc_lower.proofs.Relation.{base_of, Lands, in_temporary, in_local, HandsOn, drops, leaves, copies, Prints, prints_only, gives_byte, to_slot, to_jump, ValueStack, PlaceStack, ConditionStack, DroppedStack, AheadStack, StatementStack, ahead, called_at, returned_at, top, LandsStack, LandsMade, HandsOnStack, HandlersStand, CatchesAt}
+use Rattle.cyc_lower.proofs.Relation.{base_of, Lands, in_temporary, in_local, HandsOn, drops, leaves, copies, Prints, prints_only, gives_byte, to_slot, to_jump, ValueStack, PlaceStack, ConditionStack, DroppedStack, AheadStack, StatementStack, called_at, returned_at, top, LandsStack, LandsMade, HandsOnStack, HandlersStand, CatchesAt}
 use Rattle.cyc_lower.proofs.Data.{handlers_same}
 use Rattle.cyc_plain.proofs.MemoryLaws.{with_slot_of}
 use Rattle.cyc_plain.proofs.SlotLaws.{put-other}

@@ -1,5 +1,5 @@
 -- Variables that are live have names, and the slots of calls lie apart: what the source and the plain program keep of their own accord.
-use Rattle.std.proofs.Common.{◌≡◌, ℕ, zero, suc, ◌+◌, ◌<◌, true, false, Bool, List, [], ◌∷◌, length, Option, None, Some, is_some, slice_get, refl, sym, ap, subst, ◌∙◌, arith, inl, inr}
+use Rattle.std.proofs.Common.{◌≡◌, ℕ, zero, suc, ◌+◌, ◌<◌, true, false, List, [], ◌∷◌, length, Option, None, Some, is_some, slice_get, refl, sym, ap, subst, ◌∙◌, arith, inl, inr}
 use Rattle.std.proofs.lemmas.List.{length-map}
 use Rattle.std.proofs.lemmas.Option.{same_Some, none-some}
 use Rattle.cyc_types.specs.TypedTrees.{GlobalVariable, Program}
@@ -9,7 +9,7 @@ use Rattle.cyc_store.specs.State.{StoreState}
 use Rattle.cyc_plain.specs.declared.limits.TheConstants.{MOST_GLOBALS}
 use Rattle.cyc_meaning.specs.State.{Sort, Heap, Globals, Stack, Lexical, Dynamic, Region, World, Object, is_open, is_live, Entry, Caller}
 use Rattle.cyc_meaning.specs.FrameCount.{words_of_all}
-use Rattle.cyc_meaning.specs.Variables.{Locals, waiting, HaveNames, LivesIn, region_in, region_of, is_of_variables, HasVariables}
+use Rattle.cyc_meaning.specs.Variables.{Locals, waiting, HaveNames, region_in, region_of, is_of_variables}
 use Rattle.cyc_objects.specs.Tables.{Tables}
 use Rattle.cyc_objects.specs.Related as objects
 use Rattle.cyc_objects.specs.Related.{LiveVariable, sort_of}

@@ -1,34 +1,30 @@
 -- The steps behind a place that a pointer leads to: its cell is read, its address is taken, or waits for what is stored there.
-use Rattle.std.proofs.Common.{◌≡◌, ◌⊎◌, ℕ, zero, suc, ◌+◌, ◌*◌, ◌^◌, ◌<◌, ◌≤◌, Bool, true, false, List, [], ◌∷◌, Option, None, Some, refl, sym, ap, subst, ◌∙◌, arith, add-zero, inl, inr}
+use Rattle.std.proofs.Common.{◌≡◌, ◌⊎◌, ℕ, ◌+◌, ◌*◌, ◌^◌, ◌<◌, ◌≤◌, Bool, true, false, List, ◌∷◌, Option, None, Some, refl, sym, ap, subst, ◌∙◌, arith, inl, inr}
 use Rattle.std.specs.Prelude.{◌==◌, if◌then◌else◌}
 use Rattle.std.proofs.lemmas.Bool.{eqb-true}
 use Rattle.cyc_words.specs.Word.{add_of}
 use Rattle.cyc_types.specs.declared.typed.Kind.{Kind}
 use Rattle.cyc_types.specs.declared.typed.Kind.TheVariants as kinds
 use Rattle.cyc_types.specs.TypedTrees.{Expression, Convert, Program, NoOperations}
-use Rattle.cyc_store.specs.State.{StoreState, word_at}
-use Rattle.cyc_plain.specs.declared.instruction.BinaryOperator.TheVariants as plain_binary
 use Rattle.cyc_plain.specs.declared.instruction.Operand.{Operand}
 use Rattle.cyc_plain.specs.declared.instruction.Operand.TheVariants as operands
-use Rattle.cyc_plain.specs.declared.instruction.Instruction.{Instruction}
 use Rattle.cyc_plain.specs.declared.instruction.Instruction.TheVariants as instructions
 use Rattle.cyc_plain.specs.State as plain
 use Rattle.cyc_plain.specs.State.{put, Frame, Configuration, Words}
-use Rattle.cyc_plain.specs.Step.{Choice, operand_word, with_slots, at, advanced, loads, performed}
+use Rattle.cyc_plain.specs.Step.{operand_word, with_slots, at, advanced, loads}
 use Rattle.cyc_plain.specs.Straight.{At}
 use Rattle.cyc_plain.proofs.SlotLaws.{put-same}
 use Rattle.cyc_meaning.specs.Values.{Value, Thin, Operand as Kinded, is_kind, words_of_kind}
 use Rattle.cyc_meaning.specs.State.{World, Access, Found, Closed, Missing, Located, cell_at, Environment, LoadFrom, Entry, NeedsPlace, GivenPlace, Given, Running, ConvertTo, StoreCell, TakeAddress, StoreTo, Needs, Evaluating, SwapLeft, SwapRight, Chain, BesideHandle, Store, Initialise}
 use Rattle.cyc_meaning.specs.Step.{wrong, read, loaded, target_by}
 use Rattle.cyc_objects.specs.Tables.{Tables}
-use Rattle.cyc_objects.specs.Words.{words_from, Points, Is, IsContent}
-use Rattle.cyc_objects.specs.Related as objects
-use Rattle.cyc_lower.specs.Lowering.{is_in, move_of, source_of, source_slot, lower_program, right_slot}
+use Rattle.cyc_objects.specs.Words.{Points, Is}
+use Rattle.cyc_lower.specs.Lowering.{source_of, source_slot, lower_program, right_slot}
 use Rattle.cyc_lower.proofs.Widths.{kind_positive, same_kind, wide_kind, Outside, HasRoom}
 use Rattle.cyc_lower.proofs.Moves.{put_elsewhere}
-use Rattle.cyc_lower.proofs.Relation.{types_on, starts_on, Matches, held, callers, types_at, starts_at, Holds, DataIn, SharedAt, in_temporary, in_local, LandsStack, HandsOnStack, Related, code_of, bounds_at, base_of, top, floor, AheadStack}
-use Rattle.cyc_lower.proofs.Data.{Is-same, height-least, floor-least, Holds-same, data_above, data_written}
-use Rattle.cyc_lower.proofs.Stands.{CopyBy, AddressAt, OperandBy, ExpressionAt, ConvertedOperandAt, LoadedBy, SavedAt}
+use Rattle.cyc_lower.proofs.Relation.{types_on, starts_on, Matches, held, callers, types_at, starts_at, Holds, DataIn, SharedAt, in_temporary, in_local, LandsStack, HandsOnStack, Related, code_of, bounds_at, top, floor, AheadStack}
+use Rattle.cyc_lower.proofs.Data.{height-least, floor-least, Holds-same, data_written}
+use Rattle.cyc_lower.proofs.Stands.{OperandBy, ExpressionAt, ConvertedOperandAt, LoadedBy, SavedAt}
 use Rattle.cyc_lower.proofs.CellReads.{cell_reads, read_there, one_there, one_is, IsRead as IsCellRead, IsOwn, AreSame}
 use Rattle.cyc_lower.proofs.AddressSteps.{Brought, in_slot, by_word, brought}
 use Rattle.cyc_lower.proofs.SwapSteps.{left_found, right_found}
@@ -38,7 +34,6 @@ use Rattle.cyc_lower.proofs.Matched.{IsMatched, silently, by_one}
 use Rattle.cyc_lower.proofs.Paths.{is_quiet, by_path}
 use Rattle.cyc_lower.proofs.Evaluations.{IsStep, sources, landed}
 use Rattle.cyc_lower.proofs.Values.{of_kind, landed_there}
-use Rattle.cyc_plain.proofs.MemoryLaws.{memory-stored}
 use Rattle.cyc_plain.specs.Memory.{memory_at}
 use Rattle.cyc_lower.proofs.Leads.{AreNamed}
 use Rattle.cyc_lower.proofs.Slots.{room-inside}

@@ -34,13 +34,12 @@ use Rattle.cyc_lower.specs.Lowering.{left_kind, behind_left, pointer_operator, l
 use Rattle.cyc_lower.proofs.Widths.{same_kind, Outside}
 use Rattle.cyc_lower.proofs.Moves.{copied_elsewhere}
 use Rattle.cyc_lower.proofs.Stands.{FirstTwoAt, IndexAt, PointerAt, ValueAt}
-use Rattle.cyc_lower.proofs.Relation.{types_on, starts_on, IsIn, types_at, silent, Holds, held, DataIn, SharedAt, LandsStack, in_temporary, in_local, EvaluatingAt, as_operand, Matches, code_of, bounds_at, base_of, top, floor, callers}
+use Rattle.cyc_lower.proofs.Relation.{types_on, IsIn, silent, Holds, held, DataIn, SharedAt, LandsStack, in_temporary, in_local, EvaluatingAt, as_operand, Matches, code_of, bounds_at, top, floor, callers}
 use Rattle.cyc_lower.proofs.Data.{height-least, in_words, floor-least}
 use Rattle.cyc_lower.proofs.Accesses.{IsWell}
 use Rattle.cyc_lower.proofs.Matched.{IsMatched, by_one, by_two}
 use Rattle.cyc_lower.proofs.Evaluations.{landed, landed_word}
 use Rattle.cyc_objects.specs.Related.{AreApart}
-use Rattle.cyc_lower.specs.Slots.{global_types}
 use Rattle.cyc_lower.proofs.Apart.{variables-apart}
 use Rattle.cyc_lower.proofs.Leads.{AreNamed}
 

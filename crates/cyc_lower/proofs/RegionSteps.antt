@@ -25,7 +25,6 @@ use Rattle.cyc_meaning.specs.State.{Lexical, Dynamic, World, opened_as, globals_
 use Rattle.cyc_meaning.specs.Nesting.{IsNested}
 use Rattle.cyc_meaning.specs.Step.{step, wrong}
 use Rattle.cyc_objects.specs.Tables.{Tables, with_handle, Grows}
-use Rattle.cyc_objects.specs.Related as objects
 use Rattle.cyc_objects.proofs.Values.{Grows-handle}
 use Rattle.cyc_objects.proofs.Variables.{handle-made}
 use Rattle.cyc_objects.proofs.Services.{opened-lexical, refusal-lexical, opened-dynamic, refusal-dynamic}

@@ -1,6 +1,6 @@
 -- The rows of locals: where the code takes the address of one, it stands in its slots, behind the store.
-use Rattle.std.proofs.Common.{◌≡◌, ℕ, zero, ◌+◌, ◌*◌, ◌<◌, ◌≤◌, Bool, true, false, List, [], ◌∷◌, length, Option, Some, refl, sym, ap, subst, ◌∙◌, inl, inr, arith}
-use Rattle.std.specs.Prelude.{◌⊎◌, ◌&&◌, nat_le, slice_get, if◌then◌else◌}
+use Rattle.std.proofs.Common.{◌≡◌, ℕ, ◌+◌, ◌*◌, ◌<◌, ◌≤◌, Bool, true, false, List, [], ◌∷◌, length, Option, Some, refl, sym, ap, subst, ◌∙◌, inl, inr, arith}
+use Rattle.std.specs.Prelude.{◌&&◌, nat_le, slice_get}
 use Rattle.std.proofs.lemmas.Bool.{cond-true, cond-false, and_parts, and_from, leb-true, le-leb}
 use Rattle.cyc_types.specs.declared.typed.Kind.{Kind}
 use Rattle.cyc_types.specs.Types.{Ty}

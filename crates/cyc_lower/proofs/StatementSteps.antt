@@ -26,13 +26,13 @@ use Rattle.cyc_meaning.specs.Nesting.{IsNested}
 use Rattle.cyc_meaning.specs.Regions.{closing_lexical}
 use Rattle.cyc_meaning.specs.Step.{target_by, inside, region_end, step}
 use Rattle.cyc_lower.specs.declared.statements.Exits.{Exits}
-use Rattle.cyc_lower.specs.Slots.{slot_of, global_types}
+use Rattle.cyc_lower.specs.Slots.{slot_of}
 use Rattle.cyc_lower.proofs.Slots.{slot-room, room-inside}
 use Rattle.cyc_lower.proofs.Widths.{HasRoom, Outside}
 use Rattle.cyc_lower.proofs.Moves.{copied_is, copied_elsewhere}
 use Rattle.cyc_lower.specs.Lowering.{counter_operand, operand_of, are_as_wide, converts_there, break_target, continue_target, scopes_of, inside_loop, results_of, lower_function, lower_program, globals_of, null_of}
 use Rattle.cyc_lower.proofs.Stands.{OperandBy, ExpressionAt, InitialAt, InitialBy, ReturnedAt, ItemsAt}
-use Rattle.cyc_objects.specs.Tables.{Variable, Tables, with_row, with_handle}
+use Rattle.cyc_objects.specs.Tables.{Tables, with_row, with_handle}
 use Rattle.cyc_objects.specs.Related.{scopes}
 use Rattle.cyc_objects.specs.Words.{Is}
 use Rattle.cyc_objects.proofs.Values.{Grows-row, Grows-handle}

@@ -1,40 +1,35 @@
 -- The steps of a swap: its places are found, both are read, and then both are written. Each of them is a local, a global or a cell.
-use Rattle.std.proofs.Common.{◌≡◌, ℕ, zero, suc, ◌+◌, ◌*◌, ◌≤◌, ◌<◌, Bool, true, false, List, [], ◌∷◌, length, Option, None, Some, slice_get, refl, sym, ap, subst, ◌∙◌, arith, inl, inr}
+use Rattle.std.proofs.Common.{◌≡◌, ℕ, zero, suc, ◌+◌, ◌*◌, ◌≤◌, ◌<◌, Bool, true, false, List, [], ◌∷◌, length, Option, None, Some, refl, sym, ap, subst, ◌∙◌, arith, inl, inr}
 use Rattle.std.specs.Prelude.{◌==◌, if◌then◌else◌}
 use Rattle.std.proofs.lemmas.Bool.{eqb-true}
 use Rattle.std.proofs.lemmas.Option.{same_Some}
 use Rattle.cyc_words.specs.Word.{add_of}
 use Rattle.cyc_types.specs.declared.typed.Kind.{Kind}
 use Rattle.cyc_types.specs.declared.typed.Kind.TheVariants as kinds
-use Rattle.cyc_types.specs.Types.{Ty, words_of}
-use Rattle.cyc_types.specs.TypedTrees.{Lvalue, Local, Global, Dereference, Side, VariableSide, CellSide, type_of_place, peeked, Swap, Program}
+use Rattle.cyc_types.specs.TypedTrees.{Local, Global, Dereference, Side, VariableSide, CellSide, type_of_place, peeked, Swap, Program}
 use Rattle.cyc_plain.specs.declared.instruction.Operand.TheVariants as operands
-use Rattle.cyc_plain.specs.declared.instruction.Instruction.{Instruction}
-use Rattle.cyc_plain.specs.declared.instruction.Instruction.TheVariants as instructions
 use Rattle.cyc_plain.specs.State as plain
 use Rattle.cyc_plain.specs.State.{Words, put, Configuration}
-use Rattle.cyc_plain.specs.Step.{Choice, with_slots, advanced, at, loads, performed}
-use Rattle.cyc_plain.specs.Straight.{At}
-use Rattle.cyc_plain.proofs.SlotLaws.{put-same, put-other}
-use Rattle.cyc_meaning.proofs.WorldLaws.{cell_found}
+use Rattle.cyc_plain.specs.Step.{with_slots, advanced, at}
+use Rattle.cyc_plain.proofs.SlotLaws.{put-same}
 use Rattle.cyc_meaning.specs.Values.{Value, Thin, Operand as Kinded, is_kind, kind_of, words_of_kind}
 use Rattle.cyc_meaning.specs.State.{World, Access, Found, Closed, Missing, Located, cell_at, written, Environment, SwapLeft, SwapRight, Entry, NeedsPlace, Write, Focus, Locating, GivenPlace, Executing, Proceeding, Writing, Swapping, State, Running}
 use Rattle.cyc_meaning.specs.Step.{wrong, stored_at, object_of, step}
-use Rattle.cyc_meaning.specs.Swaps.{finds_right, finds_right_object, finds_left_object, swap_read, swap_content, swap_loaded}
+use Rattle.cyc_meaning.specs.Swaps.{finds_right_object, finds_left_object, swap_read, swap_content, swap_loaded}
 use Rattle.cyc_objects.specs.Tables.{Tables}
-use Rattle.cyc_objects.specs.Words.{words_from, Points, Is}
+use Rattle.cyc_objects.specs.Words.{Points, Is}
 use Rattle.cyc_lower.specs.declared.statements.Exits.{Exits}
 use Rattle.cyc_lower.specs.Lowering.{right_slot, move_of, load_word, load_at, lower_program}
 use Rattle.cyc_lower.specs.Slots.{slot_of, global_of, global_types}
-use Rattle.cyc_lower.proofs.Widths.{same_kind, kind_positive, wide_kind, HasRoom, Outside}
+use Rattle.cyc_lower.proofs.Widths.{same_kind, kind_positive, wide_kind, Outside}
 use Rattle.cyc_lower.proofs.Slots.{slot-room, global-inside}
 use Rattle.cyc_lower.proofs.Moves.{put_elsewhere, moved_slots, moves, moved_elsewhere, moved_is}
 use Rattle.cyc_lower.proofs.Weights.{focus_weight, stack_weight}
-use Rattle.cyc_lower.proofs.Stands.{EachAt, StoresAt, HasSide, SideAt, ReadAt, WriteAt, ExchangeAt, SwapAt, PlaceAt}
-use Rattle.cyc_lower.proofs.Relation.{base_of, floor, IsWord, Holds, held, contents, content_of, content_of_cell, with_kind, callers, behind_statement, IsSideAt, IsLeft, WritesAt, StatementStack, DataIn, SharedAt, Related, Matches, code_of, bounds_at, types_at, starts_at, base_of, scopes_in}
-use Rattle.cyc_lower.proofs.Data.{Is-same, one_word, IsWord-is, data_written, data_assigned, data_assigned_global, handlers_beside, floor-least, told_beside}
+use Rattle.cyc_lower.proofs.Stands.{EachAt, StoresAt, HasSide, SideAt, ReadAt, WriteAt, ExchangeAt, PlaceAt}
+use Rattle.cyc_lower.proofs.Relation.{base_of, floor, IsWord, Holds, held, contents, callers, behind_statement, IsSideAt, IsLeft, WritesAt, StatementStack, DataIn, SharedAt, Matches, code_of, bounds_at, types_at, starts_at, base_of, scopes_in}
+use Rattle.cyc_lower.proofs.Data.{Is-same, one_word, data_written, data_assigned, data_assigned_global, handlers_beside, floor-least, told_beside}
 use Rattle.cyc_lower.proofs.Sharing.{shared_written, shared_beside}
-use Rattle.cyc_lower.proofs.Accesses.{IsWell, is_fitting, is_stored, written_here, written_elsewhere, written_length}
+use Rattle.cyc_lower.proofs.Accesses.{IsWell, is_stored, written_here, written_elsewhere, written_length}
 use Rattle.cyc_lower.proofs.CellWrites.{cell_is_there, saves_there, shared_saved, data_saved, with_word, above_there, frames_there}
 use Rattle.cyc_lower.proofs.PlaceWords.{stays, cell_kind, word_is}
 use Rattle.cyc_lower.proofs.Paths.{Link, is_quiet, end_of, IsPath}

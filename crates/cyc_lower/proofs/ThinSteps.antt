@@ -1,5 +1,5 @@
 -- Fat pointers become thin ones: null stays null or raises an exception, and any other leads to the cell at its index.
-use Rattle.std.proofs.Common.{◌≡◌, ℕ, ◌+◌, ◌≤◌, ◌<◌, Bool, true, false, List, ◌∷◌, Option, None, Some, refl, sym, ap, subst, ◌∙◌, arith, inl, inr}
+use Rattle.std.proofs.Common.{◌≡◌, ℕ, ◌+◌, ◌<◌, Bool, true, List, ◌∷◌, Option, None, Some, refl, sym, ap, subst, ◌∙◌, arith, inl, inr}
 use Rattle.std.specs.Prelude.{nat_lt, if◌then◌else◌, option_map}
 use Rattle.std.proofs.lemmas.Bool.{eqb-true, cases_Bool, ltb-true}
 use Rattle.cyc_words.specs.Word.{add_of}
@@ -12,14 +12,13 @@ use Rattle.cyc_plain.specs.State as plain
 use Rattle.cyc_plain.specs.State.{Words, put, Configuration}
 use Rattle.cyc_plain.specs.Step.{at}
 use Rattle.cyc_plain.proofs.SlotLaws.{put-same}
-use Rattle.cyc_meaning.specs.Values.{Value, Int, Null, Thin, Fat, Handle, Key, Operand as Kinded, is_thin, words_of_kind}
-use Rattle.cyc_meaning.specs.Operators.{Result, Gives, Raises, null_exception, array_bounds}
+use Rattle.cyc_meaning.specs.Values.{Value, Null, Thin, Fat, Operand as Kinded, words_of_kind}
+use Rattle.cyc_meaning.specs.Operators.{Result, Gives, Raises, array_bounds}
 use Rattle.cyc_meaning.specs.Pointers.{Reach, Stops, followed}
 use Rattle.cyc_meaning.specs.Pointers as reaches
 use Rattle.cyc_meaning.specs.Conversion.{conversion}
 use Rattle.cyc_meaning.specs.State.{World, Environment, ConvertTo, Entry, Needs, Given, Running}
 use Rattle.cyc_meaning.specs.Step.{computed, step, leads_to}
-use Rattle.cyc_objects.specs.Tables.{Tables}
 use Rattle.cyc_objects.specs.Words.{IsPartOf, Points, Is}
 use Rattle.cyc_objects.proofs.Pointers.{part-not-null}
 use Rattle.cyc_lower.proofs.Stands.{ReachedBy, ThinnedAt}

@@ -1,14 +1,12 @@
 -- The steps that free objects: nothing happens to null, and the store gets any other block back, which is that of a live object.
-use Rattle.std.proofs.Common.{◌≡◌, ◌≢◌, ℕ, ◌+◌, ◌*◌, ◌≤◌, Bool, true, false, List, [], ◌∷◌, length, set, Option, None, Some, slice_get, refl, sym, ap, subst, ◌∙◌, arith, length-set}
+use Rattle.std.proofs.Common.{◌≡◌, ◌≢◌, ℕ, ◌+◌, ◌*◌, Bool, true, false, List, [], ◌∷◌, length, set, Option, None, Some, slice_get, refl, sym, ap, subst, ◌∙◌, arith, length-set}
 use Rattle.std.specs.Prelude.{◌==◌, if◌then◌else◌}
 use Rattle.std.proofs.lemmas.Bool.{eqb-true, false_from_ne_true}
 use Rattle.cyc_types.specs.declared.typed.Kind.{Kind}
 use Rattle.cyc_types.specs.declared.typed.Kind.TheVariants as kinds
 use Rattle.cyc_types.specs.TypedTrees.{Program}
-use Rattle.cyc_store.specs.State.{StoreState}
 use Rattle.cyc_store.specs.Services as services
 use Rattle.cyc_store.specs.Services.{Free, refusal, served}
-use Rattle.cyc_plain.specs.declared.instruction.Comparison.TheVariants as comparisons
 use Rattle.cyc_plain.specs.declared.instruction.Operand.{Operand}
 use Rattle.cyc_plain.specs.declared.instruction.Operand.TheVariants as operands
 use Rattle.cyc_plain.specs.declared.instruction.Instruction.{Instruction}
@@ -24,17 +22,15 @@ use Rattle.cyc_plain.specs.Straight.{At}
 use Rattle.cyc_plain.proofs.Steps.{step_serves}
 use Rattle.cyc_meaning.specs.Values.{Value, Int, Null, Thin, Fat, Handle, Key, Operand as Kinded}
 use Rattle.cyc_meaning.specs.Objects.{freed}
-use Rattle.cyc_meaning.specs.Regions.{frees_in_region, frees_owned, frees_object, frees}
+use Rattle.cyc_meaning.specs.Regions.{frees_in_region, frees_owned, frees_object}
 use Rattle.cyc_meaning.specs.State.{Region, Owner, InRegion, Unique, Object, World, Access, Found, Closed, Missing, region_at, Environment, FreeObject, Entry, Needs, Focus, Given, Proceeding, State, Running}
 use Rattle.cyc_meaning.specs.Step.{wrong, step}
-use Rattle.cyc_objects.specs.Tables.{Variable, Placed, Tables}
-use Rattle.cyc_objects.specs.Words.{before, Points, IsPartOf, Is}
-use Rattle.cyc_objects.proofs.Cells.{not-placed}
+use Rattle.cyc_objects.specs.Tables.{Placed, Tables}
+use Rattle.cyc_objects.specs.Words.{before, IsPartOf, Is}
 use Rattle.cyc_objects.proofs.Pointers.{not-null, part-not-null}
 use Rattle.cyc_objects.proofs.Services.{refusal-free, freed-unique}
 use Rattle.cyc_lower.specs.Lowering.{lower_program}
-use Rattle.cyc_lower.proofs.Stands.{FreedAt}
-use Rattle.cyc_lower.proofs.Relation.{IsIn, content_of, callers, in_temporary, in_local, behind_call, behind_wrong, ProceedingAt, DataIn, SharedAt, LandsStack, ValueStack, Matches, code_of, bounds_at, types_at}
+use Rattle.cyc_lower.proofs.Relation.{IsIn, content_of, callers, in_temporary, in_local, behind_call, behind_wrong, ProceedingAt, DataIn, SharedAt, LandsStack, ValueStack, Matches, code_of}
 use Rattle.cyc_lower.proofs.Data.{calls_counted, in_words, get_set_other, null_is, points_in}
 use Rattle.cyc_lower.proofs.Accesses.{IsWell, is_fitting}
 use Rattle.cyc_lower.proofs.CellWrites.{SameVariables, data_beside}

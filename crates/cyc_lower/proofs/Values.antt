@@ -43,7 +43,7 @@ use Rattle.cyc_meaning.specs.Pointers.{takes_kind, followed, result_kind as oper
 use Rattle.cyc_meaning.specs.Places.{arrives, member_of}
 use Rattle.cyc_meaning.specs.Conversion.{conversion}
 use Rattle.cyc_meaning.specs.Allocation.{makes_by}
-use Rattle.cyc_meaning.specs.State.{Region, World, Environment, with_local, made, variable, written, region_at, Awaiting, ConvertTo, Operate, Chain, Apply, ApplyPointer, Follow, Decide, Store, Pass, MakePlain, MakeFields, MakeArray, FillElement, Initialise, Choose, Test, Return, Entry, Needs, Discard, Rest, Join, Loop, Focus, Evaluating, Given, GivenPlace, Executing, Proceeding, Calling, Returning, Throwing, State, Running, cell_at, FollowMember, StoreCell, calls_in, FreeObject, ThrowWith, CountElements, Index, Advance, InRegion, PlaceBy, BesideHandle, CloseByKey, OpenBy, AliasOf}
+use Rattle.cyc_meaning.specs.State.{Region, World, Environment, with_local, made, variable, written, region_at, Awaiting, ConvertTo, Operate, Chain, Apply, ApplyPointer, Follow, Decide, Store, Pass, MakePlain, MakeFields, MakeArray, FillElement, Initialise, Choose, Test, Return, Entry, Needs, Discard, Rest, Join, Loop, Focus, Evaluating, Given, GivenPlace, Executing, Proceeding, Calling, Returning, Throwing, State, Running, cell_at, FollowMember, StoreCell, FreeObject, ThrowWith, CountElements, Index, Advance, InRegion, PlaceBy, BesideHandle, CloseByKey, OpenBy, AliasOf}
 use Rattle.cyc_meaning.specs.Step.{leads_to, wrong, object_of, computed, stored_at, declared, passes, tested, awaits_right, chosen, looped, step}
 use Rattle.cyc_meaning.specs.Allocation.{makes_by}
 use Rattle.cyc_meaning.specs.State.{status_of}
@@ -58,12 +58,12 @@ use Rattle.cyc_lower.proofs.Stands.{OperandBy, CopyBy, CopyAt, CheckAt, CheckedA
 use Rattle.cyc_objects.specs.Tables.{Tables}
 use Rattle.cyc_objects.specs.Words.{Points, Is}
 use Rattle.cyc_objects.proofs.Pointers.{not-null, part-not-null, pointer-word}
-use Rattle.cyc_objects.specs.Tables.{Variable, with_row}
+use Rattle.cyc_objects.specs.Tables.{with_row}
 use Rattle.cyc_objects.proofs.Values.{Grows-row, Is-grows}
 use Rattle.cyc_lower.proofs.Sharing.{shared_declared, row_declared, shared_written, shared_beside}
 use Rattle.cyc_lower.proofs.Relation.{types_on, starts_on, IsWord, IsIn, with_kind, types_at, starts_at, Holds, held, kept, contents, callers, in_place, by_jump, in_temporary, in_local, drops, leaves, copies, DataIn, SharedAt, StoreAt, to_slot, to_jump, ValueStack, ConditionStack, DroppedStack, AheadStack, LandsStack, HandsOnStack, AppliedStack, ReadyAt, as_operand, into_slot, as_right, in_operand, nowhere, ahead, compared, with_left, behind_statement, Related, Matches, code_of, bounds_at, base_of, top, floor, PlaceStack, scopes_in, row_of, call_slots}
 use Rattle.cyc_lower.proofs.Handles.{kept_holds}
-use Rattle.cyc_lower.proofs.Data.{in_words, IsWord-is, one_word, height-least, Holds-same, Holds-above, data_above, data_assigned, data_assigned_global, data_declared, data_grows, null_is, points_in, null_at, points_at, floor-least, handlers_beside, data_written, told_beside, Is-same}
+use Rattle.cyc_lower.proofs.Data.{in_words, IsWord-is, one_word, height-least, Holds-same, Holds-above, data_assigned, data_assigned_global, data_declared, data_grows, null_is, points_in, null_at, points_at, floor-least, handlers_beside, data_written, told_beside, Is-same}
 use Rattle.cyc_lower.proofs.Accesses.{IsWell, is_fitting, is_stored, written_here, written_elsewhere, written_length, is_declared, home_there, is_member}
 use Rattle.cyc_lower.proofs.PlaceWords.{stays, member_there, cell_kind, word_is}
 use Rattle.cyc_lower.proofs.CellWrites.{cell_is_there, with_word, saves_there, shared_saved, data_saved, above_there, frames_there, word_stays}

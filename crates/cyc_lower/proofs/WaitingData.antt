@@ -1,11 +1,11 @@
 -- A local of a call that waits: where its call is, and what stays where it is assigned.
-use Rattle.std.proofs.Common.{◌≡◌, ◌≢◌, ℕ, zero, suc, ◌+◌, ◌≤◌, ◌<◌, List, [], ◌∷◌, length, set, Option, None, Some, slice_get, refl, sym, ap, subst, ◌∙◌, arith, inr}
+use Rattle.std.proofs.Common.{◌≡◌, ◌≢◌, ℕ, zero, suc, ◌≤◌, ◌<◌, List, [], ◌∷◌, length, set, Option, Some, slice_get, refl, sym, ap, subst, arith, inr}
 use Rattle.std.proofs.lemmas.Option.{same_Some, none-some}
 use Rattle.cyc_types.specs.TypedTrees.{Program}
 use Rattle.cyc_plain.specs.Program.{Program as PlainProgram}
 use Rattle.cyc_plain.specs.State.{Words, Frame}
 use Rattle.cyc_meaning.specs.Values.{Operand, words_of_kind}
-use Rattle.cyc_meaning.specs.State.{Object, Entry, Caller, Handler, CloseLexical, Main}
+use Rattle.cyc_meaning.specs.State.{Object, Entry, Caller}
 use Rattle.cyc_objects.specs.Tables.{Tables}
 use Rattle.cyc_objects.specs.Words.{Is}
 use Rattle.cyc_lower.specs.Slots.{slot_of, global_types}
