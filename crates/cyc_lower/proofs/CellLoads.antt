@@ -1,5 +1,5 @@
 -- The words of a cell come to slots one by one, by its address in a slot, which none of them overwrites.
-use Rattle.std.proofs.Common.{◌≡◌, ℕ, zero, suc, ◌+◌, ◌*◌, ◌<◌, List, [], ◌∷◌, Some, ap, ◌∙◌, arith}
+use Rattle.std.proofs.Common.{◌≡◌, ℕ, zero, suc, ◌+◌, ◌*◌, ◌<◌, List, [], ◌∷◌, Some, ap, ◌∙◌, arith, ◌≤◌, refl}
 use Rattle.cyc_words.specs.Word.{add_of}
 use Rattle.cyc_types.specs.TypedTrees.{Program}
 use Rattle.cyc_plain.specs.Memory.{memory_at}
@@ -31,19 +31,20 @@ word_end word c (suc many) index s d =
     word_end word (with_read word c index d) many (suc index) s (suc d)
     ∙ ap (λ (n : ℕ). advanced (with_slots (at c n) (each_put word c.active.slots (suc (suc many)) index d))) (let e : c.active.next + 1 + many ≡ c.active.next + suc many = omega arith in e)
 
--- Each word is there, whatever slots hold.
-pub word_path : (source : Program) (word : ℕ → ℕ) (c : Configuration) (address many index s d q : ℕ) → c.active.slots s ≡ address → s < d
-    → ((slots : Words) (next j : ℕ) → j < index + many → memory_at (lower_program source) (at (with_slots c slots) next) (add_of address (4 * j)) ≡ Some (word j))
+-- Each word is there, while slots below some slot stay as they are.
+pub word_path : (source : Program) (word : ℕ → ℕ) (c : Configuration) (address many index s d q bound : ℕ) → c.active.slots s ≡ address → s < d → bound ≤ d
+    → ((slots : Words) (next j : ℕ) → ((n : ℕ) → n < bound → slots n ≡ c.active.slots n) → j < index + many → memory_at (lower_program source) (at (with_slots c slots) next) (add_of address (4 * j)) ≡ Some (word j))
     → EachAt (code_of source c.active.function) (load_at s) many index d c.active.next q → IsPath source c (word_links word c many index s d) × (c.active.next + many ≡ q)
-word_path source word c address zero index s d q same before there end = (tt, omega (arith, end))
-word_path source word c address (suc many) index s d q same before there (here, rest) =
+word_path source word c address zero index s d q bound same before least there end = (tt, omega (arith, end))
+word_path source word c address (suc many) index s d q bound same before least there (here, rest) =
     let next = with_read word c index d in
     let stays : next.active.slots s ≡ address = put-other c.active.slots d s (word index) (λ equal. omega (arith, equal, before)) ∙ same in
-    let (path, end) = word_path source word next address many (suc index) s (suc d) q stays (omega (arith, before)) (λ slots n j below. there slots n j (omega (arith, below))) rest in (
+    let (path, end) = word_path source word next address many (suc index) s (suc d) q bound stays (omega (arith, before)) (omega (arith, least))
+    (λ slots n j low below. there slots n j (λ m less. low m less ∙ put-other c.active.slots d m (word index) (λ equal. omega (arith, equal, less, least))) (omega (arith, below))) rest in (
       (
         here,
         (λ choice. ap (λ (a : ℕ). loads c d (memory_at (lower_program source) c (add_of a (4 * index)))) same
-        ∙ ap (loads c d) (there c.active.slots c.active.next index (omega arith))),
+        ∙ ap (loads c d) (there c.active.slots c.active.next index (λ m less. refl) (omega arith))),
         omega arith,
         is_quiet c next.active,
         path,

@@ -37,6 +37,7 @@ use Rattle.cyc_lower.proofs.Data.{data_behind}
 use Rattle.cyc_lower.proofs.Stands.{ToldAt, ClosedAt}
 use Rattle.cyc_lower.proofs.Relation.{IsTold, HasScopes, store_by, silent, scopes_in, Waiting, DataAt, ScopesBy, SharedBy, SharedAt, Matches, code_of, bounds_at, types_at}
 use Rattle.cyc_lower.proofs.Matched.{Inside, IsMatched, Executes, executes, by_places, place_in, known, apart, elsewhere, output_way, inside_within}
+use Rattle.cyc_lower.proofs.Bare.{bare-closed}
 
 -- what the word holds then
 abbrev pub told_in : (scopes : Option ℕ) → Words → (many : ℕ) → Words
@@ -140,10 +141,10 @@ module _ (source : Program) (pages calls : ℕ) where
   -- ---- data
 
   -- the globals of the source stay
-  pub data_told : (t : Tables) (g : ℕ) (objects : List Object) (locals : ℕ → Option ℕ) (outer : List Waiting) (slots globals : Words) (frames : List Frame) (many : ℕ)
-      → DataAt source t g objects locals outer slots globals frames → DataAt source t g objects locals outer slots (told_in (scopes_of source) globals many) frames
-  data_told t g objects locals outer slots globals frames many facts =
-      data_behind t source g objects locals outer slots globals (told_in (scopes_of source) globals many) frames (λ m below. stays m below (scopes_of source) (scopes_behind source)) facts
+  pub data_told : (t : Tables) (g base : ℕ) (objects : List Object) (locals : ℕ → Option ℕ) (outer : List Waiting) (slots globals : Words) (frames : List Frame) (many : ℕ)
+      → DataAt source t g base objects locals outer slots globals frames → DataAt source t g base objects locals outer slots (told_in (scopes_of source) globals many) frames
+  data_told t g base objects locals outer slots globals frames many facts =
+      data_behind t source g base objects locals outer slots globals (told_in (scopes_of source) globals many) frames (λ m below. stays m below (scopes_of source) (scopes_behind source)) facts
     where
       stays : (m : ℕ) → m < words_of_all (global_types source.globals) → (o : Option ℕ) → ((place : ℕ) → o ≡ Some place → words_of_all (global_types source.globals) ≡ place) → told_in o globals many m ≡ globals m
       stays m below None behind = refl
@@ -159,7 +160,7 @@ module _ (source : Program) (pages calls : ℕ) where
     tables = s.tables;
     same_output = s.same_output;
     same_input = s.same_input;
-    inside = s.inside;
+    bare = bare-closed s.tables w region ends.region ends.there s.bare;
     same_pages = pages_same closing leaving s.same_pages;
     related = behind closing leaving s.related;
     globals = s.globals;
@@ -205,7 +206,7 @@ module _ (source : Program) (pages calls : ℕ) where
     tables = s.tables;
     same_output = s.same_output;
     same_input = s.same_input;
-    inside = s.inside;
+    bare = s.bare;
     same_pages = s.same_pages;
     related =
         closed-at_once many choice s.counters.1.1 (subst (λ n. Related s.tables (silent w) (closed_to c.store n)) now s.related) (refusal-close_to c.store many (omega (arith, now, s.counters.1.2))) allowed;

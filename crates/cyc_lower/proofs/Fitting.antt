@@ -152,7 +152,7 @@ module _ (b : Numbering) (types : Types) where
     pub FitItems : Bool → Items → Type 0
     FitItems l NoItems = Unit {0}
     FitItems l (MoreItems (Execute s) js) = FitsStatement l s × FitItems l js
-    FitItems l (MoreItems (Declare n t v) js) = (n < b.locals) × FitsInitial n v × FitItems l js
+    FitItems l (MoreItems (Declare n t v) js) = (n < b.locals) × HasRoom types n (kind_of t) × FitsInitial n v × FitItems l js
     FitItems l (MoreItems (DeclareRegion r n) js) = IsCounting types.scopes × (n < b.locals) × HasRoom types n kinds.Handle × FitItems l js
     FitItems l (MoreItems (OpenRegion r n w k) js) =
         (n < b.locals) × HasRoom types n kinds.Handle × (k < b.locals) × HasRoom types k kinds.Handle × FitItems l js
@@ -644,6 +644,7 @@ module _ (b : Numbering) (types : Types) where
         (fits_statement s l c suits one well, fit_items js l (behind c s) (suits_behind s c suits) all rest)
     fit_items (MoreItems (Declare n t v) js) l c suits (few, one, all) ((next, there, live), well, rest) = (
       few,
+      room_in b types c n t (kind_of t) suits there refl,
       fits_initial v n t c suits there one well,
       fit_items js l (with_local true t c) (record { functions = suits.functions; structs = suits.structs; variables = suits.variables; globals = suits.globals; counters = suits.counters; result = suits.result; scopes = suits.scopes }) all rest,
     )

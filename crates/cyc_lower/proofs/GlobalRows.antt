@@ -1,9 +1,9 @@
 -- Where globals stand: one behind the other, all before the store.
-use Rattle.std.proofs.Common.{◌≡◌, ℕ, zero, suc, ◌+◌, ◌*◌, ◌<◌, ◌≤◌, List, [], ◌∷◌, length, Option, None, Some, refl, sym, ap, subst, ◌∙◌, inl, arith}
+use Rattle.std.proofs.Common.{◌≡◌, ℕ, zero, suc, ◌+◌, ◌*◌, ◌<◌, ◌≤◌, List, [], ◌∷◌, length, None, Some, refl, ap, inl, arith}
 use Rattle.std.specs.Prelude.{slice_get, unwrap_or}
 use Rattle.std.proofs.lemmas.List.{length-map}
 use Rattle.std.proofs.lemmas.Option.{none-some}
-use Rattle.cyc_types.specs.Types.{Ty, words_of}
+use Rattle.cyc_types.specs.Types.{words_of}
 use Rattle.cyc_types.specs.TypedTrees.{GlobalVariable, Program}
 use Rattle.cyc_store.proofs.LookupLemmas.{same_some}
 use Rattle.cyc_plain.specs.declared.limits.TheConstants.{GLOBALS_BASE, MOST_GLOBALS}
@@ -15,7 +15,7 @@ use Rattle.cyc_objects.proofs.NumberLemmas.{slice_get-there, slice_get-below}
 use Rattle.cyc_lower.specs.Slots.{Types, starts_from, global_types}
 use Rattle.cyc_lower.proofs.Widths.{type_words, words_in}
 use Rattle.cyc_lower.proofs.Slots.{global-room}
-use Rattle.cyc_lower.proofs.Known.{AreKnown, IsGlobalRow, first_word}
+use Rattle.cyc_lower.proofs.Known.{IsGlobalRow, first_word}
 
 -- the rows of globals whose words stand from a word on
 abbrev pub rows_from : (first : ℕ) → List GlobalVariable → List Row
@@ -61,9 +61,6 @@ module _ (source : Program) (few : words_of_all (global_types source.globals) �
       inl (omega (arith, before_store o g there)),
     );
   }
-
-  pub start-known : AreKnown (length (global_types source.globals)) (first_tables global_rows)
-  start-known number row from there = absurd (omega (arith, from, types_many, rows_many 0 source.globals, slice_get-below global_rows number row there))
 
   pub start-rows : (number : ℕ) → number < length (global_types source.globals) → IsGlobalRow (first_tables global_rows) (global_types source.globals) number
   start-rows number below =

@@ -10,6 +10,13 @@ pub mod Lengths
 -- a run of the plain program is one of the source
 pub mod Known
 pub mod Moving
+pub mod Rows
+pub mod Bare
+pub mod WaitingData
+pub mod Leads
+pub mod Named
+pub mod Apart
+pub mod Sources
 pub mod GlobalRows
 pub mod Relation
 pub mod Matched

@@ -1,7 +1,7 @@
 -- Stores through pointers change slots of calls that wait, but neither where these go on nor what stands behind their locals: so what is said
 -- of the control stack and its code stays.
 use Rattle.std.proofs.Common.{◌≡◌, ℕ, suc, ◌+◌, ◌≤◌, ◌<◌, List, [], ◌∷◌, length, Option, Some, refl, sym, ap, subst, ◌∙◌, arith, inl, inr, zero, set, slice_get, option_map}
-use Rattle.std.specs.Prelude.{if◌then◌else◌, option_map}
+use Rattle.std.specs.Prelude.{option_map}
 use Rattle.cyc_types.specs.declared.typed.Kind.{Kind}
 use Rattle.cyc_types.specs.declared.typed.Kind.TheVariants as kinds
 use Rattle.cyc_types.specs.declared.typed.Callee.TheVariants as callees
@@ -19,7 +19,7 @@ use Rattle.cyc_lower.specs.declared.statements.Exits.{Exits}
 use Rattle.cyc_lower.specs.Lowering.{reached_operand, followed_operand}
 use Rattle.cyc_meaning.specs.Pointers.{result_kind as operator_kind}
 use Rattle.cyc_lower.proofs.Widths.{chain_kind, made_kind}
-use Rattle.cyc_lower.proofs.Relation.{base_of, Lands, in_temporary, in_local, HandsOn, drops, leaves, copies, Prints, prints_only, gives_byte, to_slot, to_jump, ValueStack, PlaceStack, ConditionStack, DroppedStack, AheadStack, StatementStack, ahead, called_at, returned_at, top, LandsStack, HandsOnStack, HandlersStand, CatchesAt}
+use Rattle.cyc_lower.proofs.Relation.{base_of, Lands, in_temporary, in_local, HandsOn, drops, leaves, copies, Prints, prints_only, gives_byte, to_slot, to_jump, ValueStack, PlaceStack, ConditionStack, DroppedStack, AheadStack, StatementStack, called_at, returned_at, top, LandsStack, LandsMade, HandsOnStack, HandlersStand, CatchesAt}
 use Rattle.cyc_lower.proofs.Data.{handlers_same}
 use Rattle.cyc_plain.proofs.MemoryLaws.{with_slot_of}
 use Rattle.cyc_plain.proofs.SlotLaws.{put-other}
@@ -71,6 +71,21 @@ module _ (source : Program) where
         like_same frames,
       )
   like_set (h ∷ frames) (suc i) f slot word at below = ((h.caller.slots, refl, (λ n least. refl)), like_set frames i f slot word at below)
+
+  -- several words of a local are written
+  pub like_slots : (frames : List Frame) (i : ℕ) (f : Frame) (slots : Words) → slice_get frames i ≡ Some f → ((n : ℕ) → base_of source f.caller.function ≤ n → slots n ≡ f.caller.slots n)
+      → Like frames (set frames i (record f { caller = record f.caller { slots = slots } }))
+  like_slots [] i f slots at same = absurd (none-some f at)
+  like_slots (h ∷ frames) zero f slots at same =
+      let equal = same_Some h f at in (
+        (
+          slots,
+          ap (λ (x : Frame). let z : Frame = record x { caller = record x.caller { slots = slots } } in z) (sym equal),
+          subst (λ (x : Frame). (n : ℕ) → base_of source x.caller.function ≤ n → slots n ≡ x.caller.slots n) (sym equal) same,
+        ),
+        like_same frames,
+      )
+  like_slots (h ∷ frames) (suc i) f slots at same = ((h.caller.slots, refl, (λ n least. refl)), like_slots frames i f slots at same)
 
   pub like_long : (frames others : List Frame) → Like frames others → length others ≡ length frames
   like_long [] [] like = refl
@@ -199,8 +214,8 @@ module _ (source : Program) where
     dropped_moves g p frames others like k stack = absurd stack
 
     pub ahead_moves : (g : ℕ) (locals : ℕ → Option ℕ) (kind : Kind) (n p : ℕ) (frames others : List Frame) → Like frames others → (k : List Entry) → AheadStack source g locals kind n p frames k → AheadStack source g locals kind n p others k
-    ahead_moves g locals kind n p frames others like (Needs (ConvertTo from to target) ∷ k) (quiet, stack) =
-        (quiet, ahead_moves g locals to n p frames others like k stack)
+    ahead_moves g locals kind n p frames others like (Needs (ConvertTo from to target) ∷ k) (quiet, wide, stack) =
+        (quiet, wide, ahead_moves g locals to n p frames others like k stack)
     ahead_moves g locals kind n p frames others like (Needs (Chain NoOperations) ∷ k) stack = ahead_moves g locals kind n p frames others like k stack
     ahead_moves g locals kind n p frames others like (Needs (BesideHandle region) ∷ k) stack = ahead_moves g locals kind n p frames others like k stack
     ahead_moves g locals kind n p frames others like (Needs (Store place) ∷ k) (number, object, is, found, same, room, hands) =
@@ -242,6 +257,10 @@ module _ (source : Program) where
 
   pub lands_moves : (g : ℕ) (locals : ℕ → Option ℕ) (kind : Kind) (d p : ℕ) (frames others : List Frame) → Like frames others → (k : List Entry) → LandsStack source g locals kind d p frames k → LandsStack source g locals kind d p others k
   lands_moves g locals kind d p frames others like k lands =
+      lands_move (λ stack. value_moves g locals kind (operands.Slot d) p frames others like k stack) (λ stack. ahead_moves g locals kind d p frames others like k stack) lands
+
+  pub made_moves : (g : ℕ) (locals : ℕ → Option ℕ) (kind : Kind) (d p : ℕ) (frames others : List Frame) → Like frames others → (k : List Entry) → LandsMade source g locals kind d p frames k → LandsMade source g locals kind d p others k
+  made_moves g locals kind d p frames others like k lands =
       lands_move (λ stack. value_moves g locals kind (operands.Slot d) p frames others like k stack) (λ stack. ahead_moves g locals kind d p frames others like k stack) lands
 
   pub hands_moves : (g : ℕ) (locals : ℕ → Option ℕ) (kind : Kind) (o : Operand) (p : ℕ) (frames others : List Frame) → Like frames others → (k : List Entry) → HandsOnStack source g locals kind o p frames k → HandsOnStack source g locals kind o p others k

@@ -1,5 +1,5 @@
 -- The slots that have an address are those of whole locals: no temporary has one, nor a handler's record, a region's mark or a counter.
-use Rattle.std.proofs.Common.{◌≡◌, ◌⊎◌, ℕ, zero, suc, ◌+◌, ◌<◌, ◌≤◌, Bool, true, false, List, [], ◌∷◌, length, map, Option, Some, slice_get, refl, sym, ap, ◌∙◌, arith, inl, inr}
+use Rattle.std.proofs.Common.{◌≡◌, ◌⊎◌, ℕ, zero, suc, ◌+◌, ◌<◌, ◌≤◌, Bool, true, false, List, [], ◌∷◌, map, Some, slice_get, refl, sym, ap, ◌∙◌, arith, inl, inr}
 use Rattle.std.specs.Prelude.{◌&&◌, ◌||◌, nat_le, nat_lt, slice_index_or}
 use Rattle.std.specs.List.{AllByRecursion}
 use Rattle.std.proofs.lemmas.Bool.{and_from, and_parts, cases_lt, leb-true, ltb-true, le-leb, lt-ltb, or_left, or_right}
@@ -17,7 +17,7 @@ use Rattle.cyc_lower.specs.Words.{AreOfWordsFunctions, IsOfWordsProgram}
 use Rattle.cyc_lower.specs.Lowering.{globals_of, lower_function, scopes_of}
 use Rattle.cyc_lower.proofs.Fitting.{AreFitting, IsFitting}
 use Rattle.cyc_lower.proofs.Relation.{code_of, local_types, types_at}
-use Rattle.cyc_lower.proofs.Slots.{slot-below, slots-apart, words_positive}
+use Rattle.cyc_lower.proofs.Slots.{slot-below, slots-apart}
 use Rattle.cyc_lower.proofs.WellFormed.{TakesLocal, function_takes}
 
 -- ---- the code of a function

@@ -53,6 +53,7 @@ use Rattle.cyc_lower.proofs.Moves.{put_elsewhere}
 use Rattle.cyc_lower.proofs.Weights.{stack_weight}
 use Rattle.cyc_lower.proofs.Closings.{told_in, by_closing, data_told, shared_behind, settled}
 use Rattle.cyc_lower.proofs.Sharing.{shared_ahead}
+use Rattle.cyc_lower.proofs.Bare.{bare-opened}
 
 module _ (source : Program) (pages calls : ℕ) where
   locals_in : (h : Option Function) → (bounds_in source h).locals ≡ length (types_in source h).locals
@@ -132,7 +133,7 @@ module _ (source : Program) (pages calls : ℕ) where
       tables = grown;
       same_output = shared.same_output;
       same_input = shared.same_input;
-      inside = shared.inside;
+      bare = bare-opened w shared.related shared.bare (Some choice.handle) Lexical;
       same_pages = shared.same_pages;
       related = opened-lexical shared.related choice free served_it.allowed;
       globals = grows.handles globals_number None shared.globals;
@@ -145,10 +146,10 @@ module _ (source : Program) (pages calls : ℕ) where
     data_opened : DataIn source grown told.active.slots (CloseLexical (length w.regions) ∷ k) e (opened_as Lexical w) told
     data_opened =
         let g = c.active.function in
-        let (written, stand) = data_written source shared.tables g w.objects e.locals k c.active.slots told.active.slots c.active.handlers c.globals c.frames t 3 (omega arith) elsewhere facts in (
-          subst (λ o. DataAt source grown g w.objects e.locals (callers k) told.active.slots (told_in o c.globals (added.active.slots (t + 2))) c.frames) told_there
-              (data_told source pages calls grown g w.objects e.locals (callers k) told.active.slots c.globals c.frames (added.active.slots (t + 2))
-              (data_grows shared.tables grown grows source g w.objects e.locals (callers k) told.active.slots c.globals c.frames written)),
+        let (written, stand) = data_written source shared.tables g c.active.base w.objects e.locals k c.active.slots told.active.slots c.active.handlers c.globals c.frames t 3 (omega arith) elsewhere facts in (
+          subst (λ o. DataAt source grown g c.active.base w.objects e.locals (callers k) told.active.slots (told_in o c.globals (added.active.slots (t + 2))) c.frames) told_there
+              (data_told source pages calls grown g c.active.base w.objects e.locals (callers k) told.active.slots c.globals c.frames (added.active.slots (t + 2))
+              (data_grows shared.tables grown grows source g c.active.base w.objects e.locals (callers k) told.active.slots c.globals c.frames written)),
           (mark_is, stand),
         )
 
@@ -234,7 +235,7 @@ module _ (source : Program) (pages calls : ℕ) where
       (λ choice allowed. (
         settled source pages calls own k e new c (scopes_in k) q choice (omega (arith, many, now)) refl allowed (shared_behind source pages calls (Some own) number k e w c ends has tt ahead),
         behind_statement outer
-            (data_told source pages calls shared.tables g w.objects e.locals (callers k) c.active.slots c.globals c.frames (scopes_in k) facts, stand) stack,
+            (data_told source pages calls shared.tables g c.active.base w.objects e.locals (callers k) c.active.slots c.globals c.frames (scopes_in k) facts, stand) stack,
       ))
     where
       told_somewhere : (o : Option ℕ) (globals : Words) (n : ℕ) → IsTold o globals (suc n) → HasScopes o
@@ -277,7 +278,7 @@ module _ (source : Program) (pages calls : ℕ) where
               tables = grown;
               same_output = shared.same_output;
               same_input = shared.same_input;
-              inside = shared.inside;
+              bare = bare-opened w shared.related shared.bare (Some choice.handle) Dynamic;
               same_pages = shared.same_pages;
               related = opened-dynamic shared.related choice free served_it.allowed;
               globals = grows.handles globals_number None shared.globals;
@@ -286,11 +287,11 @@ module _ (source : Program) (pages calls : ℕ) where
               fits = shared.fits;
               counters = shared.counters;
             } in
-            let (written, stand) = data_written source shared.tables g w.objects e.locals k c.active.slots after.active.slots c.active.handlers c.globals c.frames t 1 (omega arith)
+            let (written, stand) = data_written source shared.tables g c.active.base w.objects e.locals k c.active.slots after.active.slots c.active.handlers c.globals c.frames t 1 (omega arith)
             (λ i out. put_elsewhere c.active.slots t choice.handle 1 i (omega arith) out) facts in (
               (
                 shared_new,
-                (data_grows shared.tables grown grows source g w.objects e.locals (callers k) after.active.slots c.globals c.frames written, stand),
+                (data_grows shared.tables grown grows source g c.active.base w.objects e.locals (callers k) after.active.slots c.globals c.frames written, stand),
                 (
                   exits,
                   q,

@@ -27,7 +27,6 @@ use Rattle.cyc_meaning.specs.State.{Region, Owner, InRegion, Unique, Object, Wor
 use Rattle.cyc_meaning.specs.Step.{wrong, step}
 use Rattle.cyc_objects.specs.Tables.{Placed, Tables}
 use Rattle.cyc_objects.specs.Words.{before, IsPartOf, Is}
-use Rattle.cyc_objects.proofs.Cells.{not-placed}
 use Rattle.cyc_objects.proofs.Pointers.{not-null, part-not-null}
 use Rattle.cyc_objects.proofs.Services.{refusal-free, freed-unique}
 use Rattle.cyc_lower.specs.Lowering.{lower_program}
@@ -137,7 +136,7 @@ module _ (source : Program) (pages calls : ℕ) where
       tables = shared.tables;
       same_output = shared.same_output;
       same_input = shared.same_input;
-      inside = shared.inside;
+      bare = shared.bare;
       same_pages = shared.same_pages;
       related = freed-unique shared.related number word x ks there owned row choice served_it.allowed;
       globals = shared.globals;
@@ -150,7 +149,7 @@ module _ (source : Program) (pages calls : ℕ) where
     pub data_freed : DataIn source shared.tables c.active.slots k e (freed w number x) after
     data_freed =
         let many : length (set w.objects number gone) ≡ length w.objects = length-set w.objects number gone in
-        (data_beside shared.tables source c.active.function w.objects (set w.objects number gone) e.locals (callers k) c.active.slots c.globals c.frames (omega (arith, many)) beside facts.0, facts.1)
+        (data_beside shared.tables source c.active.function c.active.base w.objects (set w.objects number gone) e.locals (callers k) c.active.slots c.globals c.frames (omega (arith, many)) beside facts.0, facts.1)
       where
         beside : SameVariables shared.tables (global_types source.globals) w.objects (set w.objects number gone)
         beside o variable =

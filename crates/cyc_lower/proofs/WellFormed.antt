@@ -1363,7 +1363,7 @@ module _ (program : PlainProgram) (r : Routine) (b : Numbering) (types : Types) 
         let long = length-append front back in
         append program r b types locals levels globals called results behind front back (statement_in s in_loop p exits t numbered around outside (omega (arith, few)) (omega (arith, short, long)))
         (items_in js in_loop (p + length front) exits t rest around outside (omega (arith, few)) (omega (arith, short, long)))
-    items_in (MoreItems (Declare n ty v) js) in_loop p exits t (within, numbered, rest) around outside few short =
+    items_in (MoreItems (Declare n ty v) js) in_loop p exits t (within, room, numbered, rest) around outside few short =
         let front = declaration_code (starts_of types) n v p t in
         let back = items_code (starts_of types) js (p + length front) exits t in
         let long = length-append front back in
