@@ -40,7 +40,7 @@ use Rattle.cyc_objects.proofs.RegionLemmas.{counted-same}
 use Rattle.cyc_objects.proofs.Making.{open-home, allocated, allocated-unique, refusal-allocate, refusal-unique, operands-blank, row-made, placed-range, room-fits}
 use Rattle.cyc_lower.proofs.Widths.{kind_positive, wide_kind, Outside}
 use Rattle.cyc_lower.proofs.Stands.{StoresAt, ObjectAt}
-use Rattle.cyc_lower.proofs.Relation.{types_on, IsWord, IsIn, IsObject, words_held, height, Holds, HoldsFrom, held, callers, homes, silent, DataIn, SharedAt, in_temporary, into_slot, LandsMade, ValueStack, Matches, code_of, bounds_at, top, IsHandleOf, HasHandle, contents, floor, AreBare, base_of}
+use Rattle.cyc_lower.proofs.Relation.{types_on, IsWord, IsIn, IsObject, words_held, height, Holds, HoldsFrom, held, callers, homes, silent, DataIn, SharedAt, in_temporary, into_slot, LandsMade, ValueStack, Matches, code_of, bounds_at, top, IsHandleOf, HasHandle, contents, floor, base_of}
 use Rattle.cyc_lower.proofs.Handles.{has_handle}
 use Rattle.cyc_lower.proofs.Data.{Is-same, height-least, one_word, Holds-same, Holds-rest, Holds-grows, HoldsFrom-grows, in_order, words-reverse, data_grows, variables_grow, contents_made, data_written, floor-least, Holds-above}
 use Rattle.cyc_lower.proofs.Accesses.{IsWell, is_fitting}
@@ -54,7 +54,6 @@ use Rattle.cyc_lower.proofs.Known.{row-made_there}
 use Rattle.cyc_lower.proofs.Leads.{AreNamed}
 use Rattle.cyc_lower.proofs.Moving.{made_moves}
 use Rattle.cyc_lower.specs.Slots.{global_types}
-use Rattle.cyc_lower.proofs.Bare.{bare-made}
 
 -- a sum that does not wrap
 add_is : (a b : ℕ) → a + b < 4294967296 → add_of a b ≡ a + b
@@ -115,7 +114,6 @@ pub record Makes (t : Tables) (w : World) (s : StoreState) (owner : Owner) (hand
   pub input : new.input ≡ w.input
   pub pages : (choice : services.Choice) → (served s (Allocate handle (block_size cells)) choice).pages ≡ s.pages
   pub refuses : refusal s (Allocate handle (block_size cells)) ≡ full_at (nat_lt s.pages (pages_of new))
-  pub bare : AreBare t w → AreBare t new
   pub related : (choice : services.Choice) → refusal s (Allocate handle (block_size cells)) ≡ None → IsAllowed s (Allocate handle (block_size cells)) choice
       → objects.Related (with_row t (Placed choice.address (kinds_of cells))) (silent new) (served s (Allocate handle (block_size cells)) choice)
 
@@ -147,7 +145,6 @@ module _ {t : Tables} {w : World} {s : StoreState} (related : objects.Related t 
         input = refl;
         pages = λ choice. asked_pages s handle (block_size cells) choice;
         refuses = refusal-allocate related region handle r cells there kept entry (cells_sized cells few);
-        bare = λ bare. bare-made t w region handle r cells there entry bare;
         related = λ choice free allowed. allocated related region handle r cells there kept entry choice blank free allowed;
       }
 
@@ -160,7 +157,6 @@ module _ {t : Tables} {w : World} {s : StoreState} (related : objects.Related t 
     input = refl;
     pages = λ choice. refl;
     refuses = refusal-unique related cells (cells_sized cells few);
-    bare = λ bare. bare;
     related = λ choice free allowed. allocated-unique related cells choice blank (omega (arith, few)) free allowed;
   }
 
@@ -212,7 +208,6 @@ module _ (source : Program) (pages calls : ℕ) where
       tables = grown;
       same_output = shared.same_output ∙ sym makes.output;
       same_input = shared.same_input ∙ sym makes.input;
-      bare = makes.bare shared.bare;
       same_pages = makes.pages choice ∙ shared.same_pages;
       related = related_made;
       globals = shared.globals;

@@ -23,7 +23,7 @@ use Rattle.cyc_lower.specs.Lowering.{lower_program}
 use Rattle.cyc_lower.proofs.Widths.{words_in}
 use Rattle.cyc_lower.proofs.Slots.{slot-apart, global-apart}
 use Rattle.cyc_lower.proofs.Known.{global-first, first_word}
-use Rattle.cyc_lower.proofs.Relation.{Waiting, DataAt, AreBare, silent, code_of, types_at, starts_at}
+use Rattle.cyc_lower.proofs.Relation.{Waiting, DataAt, silent, code_of, types_at, starts_at}
 use Rattle.cyc_lower.proofs.Rows.{local-pointer}
 use Rattle.cyc_lower.proofs.WaitingData.{frame_at}
 use Rattle.cyc_lower.proofs.Leads.{IsNamed, is_global, is_local, is_waiting, AreNamed}
@@ -49,7 +49,7 @@ data Lies (source : Program) (locals : ℕ → Option ℕ) (outer : List Waiting
       → word ≡ f.caller.base + 4 * slot_of (starts_at source f.caller.function) number → Lies source locals outer g base frames object word
 
 module _ (source : Program) {t : Tables} {w : World} {store : StoreState} {locals : ℕ → Option ℕ} {outer : List Waiting} {g base : ℕ} {frames : List Frame} (slots globals : Words)
-    (names : AreNamed source locals outer w g base frames store) (bare : AreBare t w) (related : objects.Related t (silent w) store) (facts : DataAt source t g base w.objects locals outer slots globals frames) where
+    (names : AreNamed source locals outer w g base frames store) (related : objects.Related t (silent w) store) (facts : DataAt source t g base w.objects locals outer slots globals frames) where
   abbrev types : List Ty
   types = global_types source.globals
 
@@ -132,4 +132,4 @@ module _ (source : Program) {t : Tables} {w : World} {store : StoreState} {local
 
   pub variables-apart : AreApart t (silent w)
   variables-apart a b offset beside word x y first second points also =
-      one_variable a b word (lies a offset word (names.named t bare related a x first) points) (lies b beside word (names.named t bare related b y second) also)
+      one_variable a b word (lies a offset word (names.named t related a x first) points) (lies b beside word (names.named t related b y second) also)

@@ -316,7 +316,6 @@ module _ (source : Program) (pages calls : ℕ) where
       tables = grown;
       same_output = shared.same_output ∙ sym makes.output;
       same_input = shared.same_input ∙ sym makes.input;
-      bare = makes.bare shared.bare;
       same_pages = makes.pages choice ∙ shared.same_pages;
       related = makes.related choice free served.allowed;
       globals = shared.globals;
@@ -502,7 +501,6 @@ module _ (source : Program) (pages calls : ℕ) where
             tables = shared.tables;
             same_output = shared.same_output;
             same_input = shared.same_input;
-            bare = shared.bare;
             same_pages = shared.same_pages;
             related = shared.related;
             globals = shared.globals;
@@ -641,7 +639,6 @@ module _ (source : Program) (pages calls : ℕ) where
           tables = shared.tables;
           same_output = shared.same_output;
           same_input = shared.same_input;
-          bare = shared.bare;
           related = related;
           same_pages = same_pages;
           globals = shared.globals;

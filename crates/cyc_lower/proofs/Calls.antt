@@ -60,7 +60,6 @@ module _ (source : Program) (pages calls : ℕ) where
       let shared_read : SharedAt source pages calls k e next read = record {
         same_output = shared.same_output;
         same_input = ap (drop 1) shared.same_input;
-        bare = shared.bare;
         same_pages = shared.same_pages;
         few_pages = shared.few_pages;
         tables = shared.tables;
@@ -81,7 +80,6 @@ module _ (source : Program) (pages calls : ℕ) where
   shared_printed a x k e w c shared is = record {
     same_output = ap (λ (l : List ℕ). l ++ x % 256 ∷ []) shared.same_output ∙ ap (λ y. w.output ++ y % 256 ∷ []) is;
     same_input = shared.same_input;
-    bare = shared.bare;
     same_pages = shared.same_pages;
     few_pages = shared.few_pages;
     tables = shared.tables;
@@ -304,7 +302,6 @@ module _ (source : Program) (pages calls : ℕ) where
                 (record {
                   same_output = shared.same_output;
                   same_input = shared.same_input;
-                  bare = shared.bare;
                   same_pages = shared.same_pages;
                   few_pages = shared.few_pages;
                   tables = shared.tables;

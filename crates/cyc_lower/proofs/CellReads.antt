@@ -27,7 +27,7 @@ use Rattle.cyc_lower.specs.Lowering.{lower_program, lower_globals, scopes_words,
 use Rattle.cyc_lower.proofs.Widths.{HasRoom}
 use Rattle.cyc_lower.proofs.Slots.{slot-room, global-room, globals_counted}
 use Rattle.cyc_lower.proofs.Known.{global-first, global_kind, first_word}
-use Rattle.cyc_lower.proofs.Relation.{Waiting, DataAt, AreBare, silent, contents, content_of, content_of_cell, with_kind, types_at, starts_at, base_of}
+use Rattle.cyc_lower.proofs.Relation.{Waiting, DataAt, silent, contents, content_of, content_of_cell, with_kind, types_at, starts_at, base_of}
 use Rattle.cyc_lower.proofs.Rows.{local-pointer, local-kind}
 use Rattle.cyc_lower.proofs.WaitingData.{frame_at}
 use Rattle.cyc_lower.proofs.Leads.{IsNamed, is_global, is_local, is_waiting, AreNamed, Leads, to_store, to_variable, leads}
@@ -65,7 +65,7 @@ pub record IsRead (source : Program) (t : Tables) (c : Configuration) (address :
       → memory_at (lower_program source) (at (with_slots c slots) next) (address + 4 * j) ≡ Some (word j)
   pub is : (v : Value) → content ≡ Some v → Is t kind v word 0
 
-module _ (source : Program) {t : Tables} {w : World} (c : Configuration) {locals : ℕ → Option ℕ} {outer : List Waiting} (related : objects.Related t (silent w) c.store) (bare : AreBare t w)
+module _ (source : Program) {t : Tables} {w : World} (c : Configuration) {locals : ℕ → Option ℕ} {outer : List Waiting} (related : objects.Related t (silent w) c.store)
     (names : AreNamed source locals outer w c.active.function c.active.base c.frames c.store)
     (facts : DataAt source t c.active.function c.active.base w.objects locals outer c.active.slots c.globals c.frames) where
   abbrev globals : List Ty
@@ -172,7 +172,7 @@ module _ (source : Program) {t : Tables} {w : World} (c : Configuration) {locals
 
   pub cell_reads : (object offset address : ℕ) (at : Located) → cell_at w object offset ≡ Found at → Points t object offset address → IsRead source t c address at.cell.kind at.cell.content
   cell_reads object offset address cell found points =
-      let (lies, there) = leads source names bare related object offset cell found in
+      let (lies, there) = leads source names related object offset cell found in
       by lies there
     where
       by : Leads source t w locals outer object cell.object → slice_get cell.object.cells offset ≡ Some cell.cell → IsRead source t c address cell.cell.kind cell.cell.content

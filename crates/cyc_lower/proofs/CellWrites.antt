@@ -300,7 +300,7 @@ module _ (source : Program) (pages calls : ℕ) (k : List Entry) (e : Environmen
 
   pub is_saved : IsSaved
   is_saved =
-      let (lies, cell) = leads source names shared.bare shared.related object offset at found in
+      let (lies, cell) = leads source names shared.related object offset at found in
       by lies cell
     where
       by : Leads source shared.tables w e.locals (callers k) object at.object → slice_get at.object.cells offset ≡ Some at.cell → IsSaved
@@ -339,7 +339,6 @@ module _ (source : Program) (pages calls : ℕ) (k : List Entry) (e : Environmen
     tables = shared.tables;
     same_output = shared.same_output;
     same_input = shared.same_input;
-    bare = shared.bare;
     same_pages = is_saved.same_pages ∙ shared.same_pages;
     related = is_saved.related;
     globals = shared.globals;

@@ -37,7 +37,6 @@ use Rattle.cyc_lower.proofs.Data.{data_behind}
 use Rattle.cyc_lower.proofs.Stands.{ToldAt, ClosedAt}
 use Rattle.cyc_lower.proofs.Relation.{IsTold, HasScopes, store_by, silent, scopes_in, Waiting, DataAt, ScopesBy, SharedBy, SharedAt, Matches, code_of, bounds_at, types_at}
 use Rattle.cyc_lower.proofs.Matched.{Inside, IsMatched, Executes, executes, by_places, place_in, known, apart, elsewhere, output_way, inside_within}
-use Rattle.cyc_lower.proofs.Bare.{bare-closed}
 
 -- what the word holds then
 abbrev pub told_in : (scopes : Option ℕ) → Words → (many : ℕ) → Words
@@ -160,7 +159,6 @@ module _ (source : Program) (pages calls : ℕ) where
     tables = s.tables;
     same_output = s.same_output;
     same_input = s.same_input;
-    bare = bare-closed s.tables w region ends.region ends.there s.bare;
     same_pages = pages_same closing leaving s.same_pages;
     related = behind closing leaving s.related;
     globals = s.globals;
@@ -206,7 +204,6 @@ module _ (source : Program) (pages calls : ℕ) where
     tables = s.tables;
     same_output = s.same_output;
     same_input = s.same_input;
-    bare = s.bare;
     same_pages = s.same_pages;
     related =
         closed-at_once many choice s.counters.1.1 (subst (λ n. Related s.tables (silent w) (closed_to c.store n)) now s.related) (refusal-close_to c.store many (omega (arith, now, s.counters.1.2))) allowed;

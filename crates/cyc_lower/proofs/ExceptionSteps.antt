@@ -277,7 +277,6 @@ module _ (source : Program) (pages calls : ℕ) where
       tables = s.tables;
       same_output = s.same_output;
       same_input = s.same_input;
-      bare = s.bare;
       same_pages = s.same_pages;
       related = s.related;
       globals = s.globals;

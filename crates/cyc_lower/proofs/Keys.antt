@@ -28,7 +28,6 @@ use Rattle.cyc_lower.proofs.Accesses.{IsWell}
 use Rattle.cyc_lower.proofs.Matched.{IsMatched, shared_within}
 use Rattle.cyc_lower.proofs.Asking.{by_asking}
 use Rattle.cyc_lower.proofs.UniqueBlocks.{proceeds}
-use Rattle.cyc_lower.proofs.Bare.{bare-closed}
 
 -- the word of a key is the handle of its region
 key_word : (t : Tables) (kind : Kind) (region : ℕ) (slots : Words) (o : Operand) → IsIn t (record { kind = kind; value = Key region }) slots o → slice_get t.handles region ≡ Some (Some (operand_word slots o))
@@ -73,7 +72,6 @@ module _ (source : Program) (pages calls : ℕ) where
       tables = shared.tables;
       same_output = shared.same_output;
       same_input = shared.same_input;
-      bare = bare-closed shared.tables w region r opens.0 shared.bare;
       same_pages = shared.same_pages;
       related = closed-dynamic shared.related region word r choice opens.0 opens.1 dynamic entry served.allowed;
       globals = shared.globals;

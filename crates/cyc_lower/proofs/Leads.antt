@@ -13,7 +13,7 @@ use Rattle.cyc_objects.proofs.Cells.{found-either}
 use Rattle.cyc_lower.specs.Slots.{starts_of, slot_of, global_types}
 use Rattle.cyc_lower.specs.Lowering.{lower_program}
 use Rattle.cyc_lower.proofs.Widths.{words_in}
-use Rattle.cyc_lower.proofs.Relation.{Waiting, AreBare, silent, code_of, types_at}
+use Rattle.cyc_lower.proofs.Relation.{Waiting, silent, code_of, types_at}
 
 -- a variable that is live, by its number: one of so many globals, or a local of the running call or of one that waits
 pub data IsNamed (globals : ℕ) (locals : ℕ → Option ℕ) (outer : List Waiting) (object : ℕ) : Type 0 where
@@ -23,7 +23,7 @@ pub data IsNamed (globals : ℕ) (locals : ℕ → Option ℕ) (outer : List Wai
 
 -- What the source and the plain program keep of their own accord: variables that are live have names, and calls lie apart.
 pub record AreNamed (source : Program) (locals : ℕ → Option ℕ) (outer : List Waiting) (w : World) (g base : ℕ) (frames : List Frame) (store : StoreState) : Type 0 where
-  pub named : (t : Tables) → AreBare t w → objects.Related t (silent w) store → (object : ℕ) (x : Object) → LiveVariable t (silent w) object x → IsNamed (length (global_types source.globals)) locals outer object
+  pub named : (t : Tables) → objects.Related t (silent w) store → (object : ℕ) (x : Object) → LiveVariable t (silent w) object x → IsNamed (length (global_types source.globals)) locals outer object
   pub lie : AreBelow (lower_program source) g base frames
   pub well : IsWellFormed (lower_program source)
   -- each slot of a local has an address where its first has one
@@ -36,11 +36,11 @@ pub data Leads (source : Program) (t : Tables) (w : World) (locals : ℕ → Opt
   to_variable : IsNamed (length (global_types source.globals)) locals outer object → Leads source t w locals outer object x
 
 module _ (source : Program) {t : Tables} {w : World} {store : StoreState} {locals : ℕ → Option ℕ} {outer : List Waiting} {g base : ℕ} {frames : List Frame}
-    (names : AreNamed source locals outer w g base frames store) (bare : AreBare t w) (related : objects.Related t (silent w) store) where
+    (names : AreNamed source locals outer w g base frames store) (related : objects.Related t (silent w) store) where
   pub leads : (object offset : ℕ) (at : Located) → cell_at w object offset ≡ Found at → Leads source t w locals outer object at.object × (slice_get at.object.cells offset ≡ Some at.cell)
   leads object offset at found =
       let (lives, cell) = found-either related object offset at found in
       (elim lives [
         | inl (h, alive) ↦ to_store h alive
-        | inr variable ↦ to_variable (names.named t bare related object at.object variable)
+        | inr variable ↦ to_variable (names.named t related object at.object variable)
       ], cell)

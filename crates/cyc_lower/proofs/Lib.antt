@@ -11,7 +11,6 @@ pub mod Lengths
 pub mod Known
 pub mod Moving
 pub mod Rows
-pub mod Bare
 pub mod WaitingData
 pub mod Leads
 pub mod Named

@@ -13,7 +13,7 @@ use Rattle.cyc_meaning.specs.Variables.{Locals, waiting, HaveNames, region_in, r
 use Rattle.cyc_objects.specs.Tables.{Tables}
 use Rattle.cyc_objects.specs.Related as objects
 use Rattle.cyc_objects.specs.Related.{LiveVariable, sort_of}
-use Rattle.cyc_objects.proofs.RegionLemmas.{entry-found}
+use Rattle.cyc_objects.proofs.RegionLemmas.{entry-found, variables-empty}
 use Rattle.cyc_lower.specs.Slots.{starts_of, slot_of, global_types}
 use Rattle.cyc_lower.specs.Lowering.{lower_program}
 use Rattle.cyc_lower.specs.Words.{IsOfWordsProgram}
@@ -22,7 +22,7 @@ use Rattle.cyc_lower.proofs.Slots.{type-there, starts-are, words-there}
 use Rattle.cyc_lower.proofs.Fitting.{IsFitting}
 use Rattle.cyc_lower.proofs.Pinned.{pinned-whole, takes_locals}
 use Rattle.cyc_lower.proofs.WellFormed.{well_formed}
-use Rattle.cyc_lower.proofs.Relation.{Waiting, AreBare, callers, silent, code_of, types_at}
+use Rattle.cyc_lower.proofs.Relation.{Waiting, callers, silent, code_of, types_at}
 use Rattle.cyc_lower.proofs.Leads.{IsNamed, is_global, is_local, is_waiting, AreNamed}
 
 -- a call that waits has these locals
@@ -45,13 +45,13 @@ of_variables Lexical none = absurd (let e : true ≡ false = none in cc)
 of_variables Dynamic none = absurd (let e : true ≡ false = none in cc)
 
 module _ (source : Program) where
-  named : (k : List Entry) (locals : Locals) (w : World) (store : StoreState) → HaveNames (length source.globals) (locals ∷ waiting k) w.objects w.regions → (t : Tables) → AreBare t w
+  named : (k : List Entry) (locals : Locals) (w : World) (store : StoreState) → HaveNames (length source.globals) (locals ∷ waiting k) w.objects w.regions → (t : Tables) 
       → objects.Related t (silent w) store → (object : ℕ) (x : Object) → LiveVariable t (silent w) object x → IsNamed (length (global_types source.globals)) locals (callers k) object
-  named k locals w store names t bare related object x live =
+  named k locals w store names t related object x live =
       let (r, there, opened) = open_there (slice_get w.regions live.region) (subst (λ o. is_live (silent w) o ≡ true) live.owner live.live) in
       let (handle, entry, some) = entry-found related.regions live.region r there in
       let none : is_some (sort_of r.sort) ≡ false = sym some ∙ ap (λ (o : Option ℕ). is_some o) (same_Some handle None (sym entry ∙ live.entry)) in
-      elim (names object live.region r (ap region_in live.at ∙ ap region_of live.owner) there (record { open_now = opened; sort = of_variables r.sort none; blocks = bare live.region r live.entry there })) [
+      elim (names object live.region r (ap region_in live.at ∙ ap region_of live.owner) there (record { open_now = opened; sort = of_variables r.sort none; blocks = variables-empty related.regions live.region r live.entry there })) [
         | inl few ↦ is_global (omega (arith, few, length-map source.globals (λ (g : GlobalVariable). g.of_type)))
         | inr (call, number, (own, here, is)) ↦ by call number own here is
       ]
@@ -76,7 +76,7 @@ module _ (source : Program) where
     pub names_there : (k : List Entry) (locals : Locals) (w : World) (g base : ℕ) (frames : List Frame) (store : StoreState) → HaveNames (length source.globals) (locals ∷ waiting k) w.objects w.regions
         → AreBelow (lower_program source) g base frames → AreNamed source locals (callers k) w g base frames store
     names_there k locals w g base frames store names lie = record {
-      named = λ t bare related object x live. named k locals w store names t bare related object x live;
+      named = λ t related object x live. named k locals w store names t related object x live;
       lie = lie;
       well = well_formed source fitting of_words few;
       whole = λ n number j inside room pinned. whole n number j inside room pinned;

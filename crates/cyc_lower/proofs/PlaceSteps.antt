@@ -181,7 +181,7 @@ module _ (source : Program) (pages calls : ℕ) where
       let found = is_read kind (cell_at w object offset) k e w well in
       let v : Kinded = record { kind = kind; value = found.value } in
       let wide = found.same ∙ fat in
-      let reads = cell_reads source c shared.related shared.bare names facts.0 object offset (c.active.slots t) found.at found.there points in
+      let reads = cell_reads source c shared.related names facts.0 object offset (c.active.slots t) found.at found.there points in
       let content = subst (λ i. Is shared.tables i found.value reads.word 0) wide (reads.is found.value found.has) in
       let there : (slots : Words) (next j : ℕ) → AreMixed d reads.word c.active.slots slots → j < 3 → memory_at (lower_program source) (at (with_slots c slots) next) (add_of (c.active.slots t) (4 * j)) ≡ Some (reads.word j)
       = λ slots next j mixed below. reads_mixed c d found.at fat wide reads (comes_where g e.locals kind d q c.frames k fat lands) slots mixed (λ same few. read_there source c shared.related found.at found.there points reads slots next j same few) below in
@@ -210,7 +210,7 @@ module _ (source : Program) (pages calls : ℕ) where
       let v : Kinded = record { kind = kind; value = found.value } in
       let wide = found.same ∙ fat in
       let points_there = subst (Points shared.tables object offset) (sym (put-same c.active.slots t word)) points in
-      let reads = cell_reads source b shared.related shared.bare names facts_there.0 object offset (b.active.slots t) found.at found.there points_there in
+      let reads = cell_reads source b shared.related names facts_there.0 object offset (b.active.slots t) found.at found.there points_there in
       let content = subst (λ i. Is shared.tables i found.value reads.word 0) wide (reads.is found.value found.has) in
       let there : (slots : Words) (next j : ℕ) → AreMixed d reads.word b.active.slots slots → j < 3 → memory_at (lower_program source) (at (with_slots b slots) next) (add_of (b.active.slots t) (4 * j)) ≡ Some (reads.word j)
       = λ slots next j mixed below. reads_mixed b d found.at fat wide reads (comes_where g e.locals kind d q c.frames k fat lands) slots mixed (λ same few. read_there source b shared.related found.at found.there points_there reads slots next j same few) below in
@@ -246,7 +246,7 @@ module _ (source : Program) (pages calls : ℕ) where
       let found = is_read kind (cell_at w object offset) k e w well in
       let v : Kinded = record { kind = kind; value = found.value } in
       let word = add_of (operand_word c.active.slots o) more in
-      let reads = cell_reads source c shared.related shared.bare names facts.0 object offset word found.at found.there points in
+      let reads = cell_reads source c shared.related names facts.0 object offset word found.at found.there points in
       let one = ap words_of_kind found.same ∙ eqb-true (words_of_kind kind) 1 narrow in
       let after = put c.active.slots d (reads.word 0) in
       by_one source pages calls found.gives shared load

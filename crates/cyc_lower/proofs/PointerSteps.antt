@@ -307,7 +307,7 @@ module _ (source : Program) (pages calls : ℕ) where
       let free = top source c.active.function k in
       let (others, p, same, is_right) = in_words shared.tables v slots o is in
       let n = told (is_negated u) (slots free) (operand_word slots o) in
-      let does = applies_told k e w shared.tables c.store shared.related (variables-apart source c.active.slots c.globals names shared.bare shared.related facts.0) u left.kind v.kind left.value v.value slots others free p test is_left is_right well ∙ ap (λ x. gives_told k e w (is_negated u) (slots free) x) same in
+      let does = applies_told k e w shared.tables c.store shared.related (variables-apart source c.active.slots c.globals names shared.related facts.0) u left.kind v.kind left.value v.value slots others free p test is_left is_right well ∙ ap (λ x. gives_told k e w (is_negated u) (slots free) x) same in
       by_one source pages calls does shared here
       (λ choice. subst (Matches source pages calls (Running (Given (record { kind = kinds.Int; value = Int n })) k e w)) (sym (compares_words u (operands.Slot free) o d choice c test))
       (landed_word source pages calls n n d k e w c q refl shared facts holds end lands))

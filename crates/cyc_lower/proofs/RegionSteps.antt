@@ -53,7 +53,6 @@ use Rattle.cyc_lower.proofs.Moves.{put_elsewhere}
 use Rattle.cyc_lower.proofs.Weights.{stack_weight}
 use Rattle.cyc_lower.proofs.Closings.{told_in, by_closing, data_told, shared_behind, settled}
 use Rattle.cyc_lower.proofs.Sharing.{shared_ahead}
-use Rattle.cyc_lower.proofs.Bare.{bare-opened}
 
 module _ (source : Program) (pages calls : ℕ) where
   locals_in : (h : Option Function) → (bounds_in source h).locals ≡ length (types_in source h).locals
@@ -133,7 +132,6 @@ module _ (source : Program) (pages calls : ℕ) where
       tables = grown;
       same_output = shared.same_output;
       same_input = shared.same_input;
-      bare = bare-opened w shared.related shared.bare (Some choice.handle) Lexical;
       same_pages = shared.same_pages;
       related = opened-lexical shared.related choice free served_it.allowed;
       globals = grows.handles globals_number None shared.globals;
@@ -278,7 +276,6 @@ module _ (source : Program) (pages calls : ℕ) where
               tables = grown;
               same_output = shared.same_output;
               same_input = shared.same_input;
-              bare = bare-opened w shared.related shared.bare (Some choice.handle) Dynamic;
               same_pages = shared.same_pages;
               related = opened-dynamic shared.related choice free served_it.allowed;
               globals = grows.handles globals_number None shared.globals;

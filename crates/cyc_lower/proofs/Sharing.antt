@@ -20,7 +20,6 @@ use Rattle.cyc_lower.specs.Lowering.{scopes_of}
 use Rattle.cyc_lower.proofs.Counters.{counted_less}
 use Rattle.cyc_lower.proofs.Data.{append_seam, variables_grow}
 use Rattle.cyc_lower.proofs.Known.{IsVariableRow, row-away}
-use Rattle.cyc_lower.proofs.Bare.{bare-opened, bare-closed}
 use Rattle.cyc_lower.specs.Slots.{global_types}
 
 module _ (source : Program) (pages calls : ℕ) (k : List Entry) (e : Environment) (w : World) (c : Configuration) (s : SharedAt source pages calls k e w c) where
@@ -31,7 +30,6 @@ module _ (source : Program) (pages calls : ℕ) (k : List Entry) (e : Environmen
     tables = with_row s.tables row;
     same_output = s.same_output;
     same_input = s.same_input;
-    bare = s.bare;
     same_pages = s.same_pages;
     related = declared s.related e.home r kind content row there s.variables.0 fits outside;
     globals = s.globals;
@@ -52,7 +50,6 @@ module _ (source : Program) (pages calls : ℕ) (k : List Entry) (e : Environmen
     tables = s.tables;
     same_output = s.same_output;
     same_input = s.same_input;
-    bare = s.bare;
     same_pages = s.same_pages;
     related = assigned-away s.related object 0 at.object at.cell v there cell (λ h alive. row-away s.related (global_types source.globals) object h at.object row alive);
     globals = s.globals;
@@ -68,7 +65,6 @@ module _ (source : Program) (pages calls : ℕ) (k : List Entry) (e : Environmen
     tables = s.tables;
     same_output = s.same_output;
     same_input = s.same_input;
-    bare = s.bare;
     same_pages = s.same_pages;
     related = s.related;
     globals = s.globals;
@@ -84,7 +80,6 @@ module _ (source : Program) (pages calls : ℕ) (k : List Entry) (e : Environmen
     tables = with_handle s.tables None;
     same_output = s.same_output;
     same_input = s.same_input;
-    bare = bare-opened w s.related s.bare None Stack;
     same_pages = s.same_pages;
     related = opened-variables s.related Stack refl;
     globals = (Grows-handle s.tables None).handles globals_number None s.globals;
@@ -104,7 +99,6 @@ shared_closed source closing pages calls k e w c number home r there s = record 
   tables = s.tables;
   same_output = s.same_output;
   same_input = s.same_input;
-  bare = bare-closed s.tables w number r there s.bare;
   same_pages = subst (λ now. (store_by closing c.store now).pages ≡ pages) same s.same_pages;
   related = subst (λ now. Related s.tables (silent (closed w number r)) (store_by closing c.store now)) same after;
   globals = s.globals;
@@ -127,7 +121,6 @@ shared_ahead source closing pages calls k e w c known s = record {
   tables = s.tables;
   same_output = s.same_output;
   same_input = s.same_input;
-  bare = s.bare;
   same_pages = pages_same closing ∙ s.same_pages;
   related = ahead closing;
   globals = s.globals;
@@ -160,7 +153,6 @@ shared_left source closing pages calls k e outer w c s = record {
   tables = s.tables;
   same_output = s.same_output;
   same_input = s.same_input;
-  bare = s.bare;
   same_pages = s.same_pages;
   related = s.related;
   globals = s.globals;
@@ -177,7 +169,6 @@ shared_less source closing pages calls a k e w c s = record {
   tables = s.tables;
   same_output = s.same_output;
   same_input = s.same_input;
-  bare = s.bare;
   same_pages = s.same_pages;
   related = s.related;
   globals = s.globals;

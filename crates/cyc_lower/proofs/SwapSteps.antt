@@ -175,7 +175,7 @@ module _ (source : Program) (pages calls : ℕ) where
   reads_side (CellSide x) s d q object offset kind v k e w c shared facts found there same has before least names points none here =
       let g = c.active.function in
       let address = c.active.slots s in
-      let reads = cell_reads source c shared.related shared.bare names facts.0 object offset address found there points in
+      let reads = cell_reads source c shared.related names facts.0 object offset address found there points in
       reads_cell shared.tables kind v address s d q (words_of_kind kind) (base_of source g) c (kind_positive kind) refl refl before least reads.word
       (λ slots next j low below. read_there source c shared.related found there points reads slots next j (low_same source g found.cell.kind reads.here c.active.slots slots reads.own low) (omega (arith, below, ap words_of_kind same)))
       (subst (λ i. Is shared.tables i v reads.word 0) same (reads.is v has)) here

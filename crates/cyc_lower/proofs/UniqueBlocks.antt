@@ -136,7 +136,6 @@ module _ (source : Program) (pages calls : ℕ) where
       tables = shared.tables;
       same_output = shared.same_output;
       same_input = shared.same_input;
-      bare = shared.bare;
       same_pages = shared.same_pages;
       related = freed-unique shared.related number word x ks there owned row choice served_it.allowed;
       globals = shared.globals;

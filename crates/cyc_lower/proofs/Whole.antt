@@ -42,7 +42,6 @@ use Rattle.cyc_meaning.proofs.VariableRuns.{NestsAndNames, both_kept, names_star
 use Rattle.cyc_objects.specs.Tables.{Tables, first_tables}
 use Rattle.cyc_objects.specs.Related as objects
 use Rattle.cyc_objects.proofs.Start.{start-related}
-use Rattle.cyc_objects.proofs.RegionLemmas.{variables-empty}
 use Rattle.cyc_lower.proofs.Relation.{IsWord, silent, call_slots, callers, contents, Related, Matches, types_at, starts_at, IsTold}
 use Rattle.cyc_lower.proofs.Fitting.{IsFitting}
 use Rattle.cyc_lower.proofs.Data.{no_locals_hold, IsWord-is}
@@ -213,7 +212,6 @@ module _ (source : Program) (pages calls : ℕ) (well_typed : AreWellTypedGlobal
         tables = t;
         same_output = refl;
         same_input = refl;
-        bare = λ number r entry there. variables-empty (start-related source (global_rows source few_globals) (are_globals source few_globals) [] pages new.0 new.1 some_page few_pages).regions number r entry there;
         same_pages = ap (λ (s : StoreState). s.pages) new.2;
         related = subst (objects.Related t (silent w)) (sym new.2) (start-related source (global_rows source few_globals) (are_globals source few_globals) [] pages new.0 new.1 some_page few_pages);
         globals = refl;

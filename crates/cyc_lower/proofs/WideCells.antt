@@ -406,7 +406,7 @@ module _ (source : Program) (pages calls : ℕ) (k : List Entry) (e : Environmen
 
   pub is_saved : IsSaved
   is_saved =
-      let (lies, at_cell) = leads source names shared.bare shared.related object offset cell found in
+      let (lies, at_cell) = leads source names shared.related object offset cell found in
       by lies at_cell
     where
       by : Leads source shared.tables w e.locals (callers k) object cell.object → slice_get cell.object.cells offset ≡ Some cell.cell → IsSaved
@@ -480,7 +480,6 @@ module _ (source : Program) (pages calls : ℕ) (k : List Entry) (e : Environmen
     tables = shared.tables;
     same_output = shared.same_output;
     same_input = shared.same_input;
-    bare = shared.bare;
     same_pages = is_saved.same_pages ∙ shared.same_pages;
     related = is_saved.related;
     globals = shared.globals;
