@@ -34,14 +34,14 @@ use Rattle.cyc_soundness.specs.Classes.{HasScopes, IsSwappable, IsDeclarable, In
 use Rattle.cyc_soundness.specs.Stacks.{IsByType, Evaluates, Executes, Continues, Catches, IsLoop, Val, Go, operands_in, IsReturn, IsStack, IsFocus, IsWell}
 use Rattle.cyc_soundness.specs.Stacks as stacks
 use Rattle.cyc_soundness.proofs.TypeLemmas.{target_typed, place_type, kind_read, kind_meant}
-use Rattle.cyc_soundness.proofs.FlowLemmas.{implies_self, implies_after, meet_first, meet_second, at_least_implies, emptied_implied, holds_implied, not_vacant, full_last}
+use Rattle.cyc_soundness.proofs.FlowLemmas.{used_full, implies_self, implies_after, meet_first, meet_second, at_least_implies, emptied_implied, holds_implied, not_vacant, full_last}
 use Rattle.cyc_soundness.proofs.RuleLemmas.{breaks_statement, breaks_items, breaks_clauses, clauses_implied, nothing_locked}
 use Rattle.cyc_soundness.proofs.StackLemmas.{among_set, bound_of, within_bound, within_variables, within_live, within_holds, below_more}
 use Rattle.cyc_soundness.proofs.RegionLemmas.{opened_known, contains_more, live_more, same_name, known_behind, opened_life, opened_lasting, agrees_of, context_inside, context_lexical}
 use Rattle.cyc_soundness.proofs.WorldLemmas.{opened_typed}
 use Rattle.cyc_soundness.proofs.Sharing.{swappable_by_type, keeps_by}
 use Rattle.cyc_soundness.proofs.Cells.{running}
-use Rattle.cyc_soundness.proofs.Evaluation.{from_bound, used_full}
+use Rattle.cyc_soundness.proofs.Evaluation.{from_bound}
 use Rattle.cyc_soundness.proofs.Loans.{type_known, keys_on, shared_loans}
 use Rattle.cyc_soundness.proofs.Touched.{relied_body}
 use Rattle.cyc_soundness.proofs.Supply.{declares_blank}

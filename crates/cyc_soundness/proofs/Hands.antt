@@ -9,7 +9,7 @@ use Rattle.cyc_meaning.specs.Values as values
 use Rattle.cyc_meaning.specs.State.{Dynamic, new_region, Region, Unique, Object, heap_number, is_open}
 use Rattle.cyc_meaning.proofs.ListLemmas.{slice_get-end, slice_get-set_other}
 use Rattle.cyc_soundness.specs.Lives.{Life, OfRegion, OfObject, Never, Owned, Kept, RunTy, RunValue, Void, Null, Value, Seen, Into}
-use Rattle.cyc_soundness.specs.Worlds.{Settled, Awaits, IsKept, IsAmong, first as newest, later as behind, Slot, ObjectType, variable_type, Thing, KeyOf, PointerTo, Holder, Nobody, Hand, At, Lent, Typing, IsHeld, same_thing, thing_of, Owns, Claims, ClaimsPart, ClaimsBy, ClaimsAlone, IsLookedAt, IsSlot, IsHere, given, giving, marked, handing, AreOwned, IsUniqueObject, is_lent_by, lent_now, IsOpenIn, Stays, IsDynamic, IsFull, IsOwner, IsObject, IsTyped, Grows}
+use Rattle.cyc_soundness.specs.Worlds.{Settled, Awaits, IsHiding, IsKept, IsAmong, first as newest, later as behind, Slot, ObjectType, variable_type, Thing, KeyOf, PointerTo, Holder, Nobody, Hand, At, Lent, Typing, IsHeld, same_thing, thing_of, Owns, Claims, ClaimsPart, ClaimsBy, ClaimsAlone, IsLookedAt, IsSlot, IsHere, given, giving, marked, handing, AreOwned, IsUniqueObject, is_lent_by, lent_now, IsOpenIn, Stays, IsDynamic, IsFull, IsOwner, IsObject, IsTyped, Grows}
 use Rattle.cyc_soundness.specs.Frames.{InScope, Variable, Names, Instance, IsOfVariable, local_type, HoldsIts, IsFullIn, AreVariables, AreSet, Holds, KnowsProgram}
 use Rattle.cyc_soundness.specs.Classes.{Source}
 use Rattle.cyc_soundness.proofs.Numbers.{same_or_other, slice_get-set_same, some_same}
@@ -142,6 +142,19 @@ handing_changed g o old new object b has from = record {
     here true from n is apart = by_test (n == object) (g.here n) true true (λ e. refl) (λ e. is)
     here false from n is apart = marked_other object false g.here n (λ same. apart (ap (λ i. At i 0) same ∙ sym (from refl))) ∙ is
 
+-- what is known of locals stays so, where those that are full have what is in them
+module _ (g h : Typing) (grows : Grows g h) (depth : h.depth ≡ g.depth) where
+  one_here : (f : flow.State) (b : InScope) → ((n object : ℕ) → IsFullIn f n → IsHere g g.depth n object → IsHere h g.depth n object) → HoldsIts g f b → HoldsIts h f b
+  one_here f (Variable b) now (set, full) = (λ s. grows.filled b.object 1 (set s), λ s. subst (λ d. IsHere h d b.number b.object) (sym depth) (now b.number b.object s (full s)))
+  one_here f b now is = tt
+
+  set_here : (f : flow.State) (bs : List InScope) → ((n object : ℕ) → IsFullIn f n → IsHere g g.depth n object → IsHere h g.depth n object) → AreSet g f bs → AreSet h f bs
+  set_here f [] now are = tt
+  set_here f (b ∷ bs) now (is, are) = (one_here f b now is, set_here f bs now are)
+
+  pub holds_here : (f : flow.State) (bs : List InScope) → ((n object : ℕ) → IsFullIn f n → IsHere g g.depth n object → IsHere h g.depth n object) → Holds g f bs → Holds h f bs
+  holds_here f bs now (reached, are) = (reached, set_here f bs now are)
+
 module _ (old : Holder) (g h : Typing) (changed : Changed old g h) where
   pub owns_kept : (holder : Holder) (o : Option Thing) → holder ≢ old → Owns g.own holder o → Owns h.own holder o
   owns_kept holder None apart is = tt
@@ -156,12 +169,16 @@ module _ (old : Holder) (g h : Typing) (changed : Changed old g h) where
   pub here_kept : (d n object : ℕ) → At object 0 ≢ old → IsHere g d n object → IsHere h d n object
   here_kept d n object apart (is, slot) = (changed.here object is apart, slot_kept d n object slot)
 
-  looked_kept : (n : ℕ) (o : Option Thing) → ((object : ℕ) → IsHere g g.depth n object → At object 0 ≢ old) → IsLookedAt g n o → IsLookedAt h n o
+  looked_kept : (n : ℕ) (o : Option Thing) → ((object : ℕ) → IsHere g g.depth n object → IsHiding g object true → At object 0 ≢ old) → IsLookedAt g n o → IsLookedAt h n o
   looked_kept n None apart is = tt
-  looked_kept n (Some a) apart (object, here, is) =
-      (object, subst (λ d. IsHere h d n object) (sym changed.depth) (here_kept g.depth n object (apart object here) here), changed.own a (λ e. apart object here (sym is ∙ e)) ∙ is)
+  looked_kept n (Some a) apart (object, here, (x, there, hidden), is) = (
+    object,
+    subst (λ d. IsHere h d n object) (sym changed.depth) (here_kept g.depth n object (apart object here (x, there, hidden)) here),
+    (x, changed.grows.objects object x there, hidden),
+    changed.own a (λ e. apart object here (x, there, hidden) (sym is ∙ e)) ∙ is,
+  )
 
-  pub part_kept : (i : ℕ) (peek : Option ℕ) (o : Option Thing) → Hand i ≢ old → ((n object : ℕ) → peek ≡ Some n → IsHere g g.depth n object → At object 0 ≢ old) → ClaimsPart g i peek o → ClaimsPart h i peek o
+  pub part_kept : (i : ℕ) (peek : Option ℕ) (o : Option Thing) → Hand i ≢ old → ((n object : ℕ) → peek ≡ Some n → IsHere g g.depth n object → IsHiding g object true → At object 0 ≢ old) → ClaimsPart g i peek o → ClaimsPart h i peek o
   part_kept i None o apart other is = owns_kept (Hand i) o apart is
   part_kept i (Some n) o apart other is = looked_kept n o (λ object. other n object refl) is
 
@@ -195,18 +212,9 @@ module _ (old : Holder) (g h : Typing) (changed : Changed old g h) where
   variables_kept [] none are = tt
   variables_kept (b ∷ bs) none (is, are) = (one_kept b none is, variables_kept bs none are)
 
-  one_holds : (f : flow.State) (b : InScope) → ((n object : ℕ) → IsFullIn f n → IsHere g g.depth n object → At object 0 ≢ old) → HoldsIts g f b → HoldsIts h f b
-  one_holds f (Variable b) other (set, full) =
-      (λ s. changed.grows.filled b.object 1 (set s), λ s. subst (λ d. IsHere h d b.number b.object) (sym changed.depth) (here_kept g.depth b.number b.object (other b.number b.object s (full s)) (full s)))
-  one_holds f b other is = tt
-
-  pub set_kept : (f : flow.State) (bs : List InScope) → ((n object : ℕ) → IsFullIn f n → IsHere g g.depth n object → At object 0 ≢ old) → AreSet g f bs → AreSet h f bs
-  set_kept f [] other are = tt
-  set_kept f (b ∷ bs) other (is, are) = (one_holds f b other is, set_kept f bs other are)
-
   -- what is known of locals stays so, where none of them had it
   pub holds_kept : (f : flow.State) (bs : List InScope) → ((n object : ℕ) → IsFullIn f n → IsHere g g.depth n object → At object 0 ≢ old) → Holds g f bs → Holds h f bs
-  holds_kept f bs other (reached, are) = (reached, set_kept f bs other are)
+  holds_kept f bs other holds = holds_here g h changed.grows changed.depth f bs (λ n object full here. here_kept g.depth n object (other n object full here) here) holds
 
 -- ---- nothing changes hands
 

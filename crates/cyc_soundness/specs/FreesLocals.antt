@@ -79,10 +79,9 @@ abbrev pub thrown_is_in : Option Expression → Bool
 thrown_is_in None = true
 thrown_is_in (Some a) = expression_is_in a
 
--- no unique pointer is swapped
 abbrev pub side_is_in : Side → Bool
-side_is_in (VariableSide l t) = not (is_unique t)
-side_is_in (CellSide d) = not (is_unique (type_of_place d)) && place_is_in d
+side_is_in (VariableSide l t) = true
+side_is_in (CellSide d) = place_is_in d
 
 -- ---- statements, where the next region gets this number
 
