@@ -1,0 +1,1 @@
+cd /work/lab-join; bash sync.sh /work/next; cd crates/cyc_lower; (time timeout 590 rt check --allow-holes --jobs 3) > /work/log/join-lab 2>&1; grep -E "error" /work/log/join-lab | grep -v "was not admitted, w\|which was rejected\|is not admitted: rejected" | head -${1:-40}; tail -4 /work/log/join-lab | head -2
