@@ -1,12 +1,11 @@
 -- Numbers of locals rise in a program that the typing rules accept.
-use Rattle.std.proofs.Common.{◌≡◌, ℕ, zero, suc, ◌+◌, ◌≤◌, true, false, List, [], ◌∷◌, length, Option, Some, None, subst, arith}
+use Rattle.std.proofs.Common.{◌≡◌, ℕ, zero, suc, ◌≤◌, true, false, List, [], ◌∷◌, length, Some, None, subst, arith}
 use Rattle.std.specs.Prelude.{slice_get}
-use Rattle.cyc_types.specs.Declarations.{declared_types, caught_types, item_types}
 use Rattle.cyc_types.specs.declared.region.Region.TheVariants as regions
 use Rattle.cyc_types.specs.declared.scope.ScopeKind.TheVariants as scopes
-use Rattle.cyc_types.specs.Types.{Int, Handle, Key}
+use Rattle.cyc_types.specs.Types.{Handle, Key}
 use Rattle.cyc_types.specs.TypedTrees.{Statement, Block, If, While, Try, Items, NoItems, MoreItems, Execute, Declare, DeclareRegion, OpenRegion, DeclareAlias, DeclareKey, Clauses, NoClauses, Default, Case, Function, Program}
-use Rattle.cyc_types.specs.typing.WellTyped.{Context, WellTypedStatement, WellTypedItems, WellTypedClauses, IsCaught, behind, in_block, in_body, with_local, with_region, with_opened, with_key_opened, with_caught, behind_clause, body_context, IsWellTypedFunction, AreWellTypedFunctions, IsWellTypedProgram}
+use Rattle.cyc_types.specs.typing.WellTyped.{Context, WellTypedStatement, WellTypedItems, WellTypedClauses, behind, in_block, in_body, with_local, with_region, with_opened, with_key_opened, with_caught, behind_clause, body_context, AreWellTypedFunctions, IsWellTypedProgram}
 use Rattle.cyc_meaning.specs.Variables.{StatementRises, ItemsRise, ClausesRise, FunctionsRise}
 
 mutual

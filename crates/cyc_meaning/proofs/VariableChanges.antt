@@ -1,14 +1,13 @@
 -- What opening and leaving blocks, calling and returning, making, writing and freeing make of the names of variables.
-use Rattle.std.proofs.Common.{◌≡◌, ℕ, zero, suc, ◌+◌, ◌≤◌, Bool, true, false, List, [], ◌∷◌, ◌++◌, set, length, map, Option, Some, None, refl, sym, ap, subst, ◌∙◌, inl, inr, arith, length-append}
-use Rattle.std.specs.Prelude.{◌≢◌, ◌⊎◌, ◌<◌, ◌==◌, if◌then◌else◌, slice_get}
+use Rattle.std.proofs.Common.{◌≡◌, ℕ, zero, suc, Bool, true, false, List, [], ◌∷◌, ◌++◌, set, length, Some, None, refl, sym, ap, subst, ◌∙◌, inl, inr, arith, length-append}
+use Rattle.std.specs.Prelude.{◌⊎◌, ◌<◌, if◌then◌else◌, slice_get}
 use Rattle.std.proofs.lemmas.Bool.{cases_eq}
 use Rattle.std.proofs.lemmas.List.{length-set}
-use Rattle.cyc_types.specs.TypedTrees.{GlobalVariable, Program}
 use Rattle.cyc_meaning.specs.Values.{Value, Cell, block_size}
-use Rattle.cyc_meaning.specs.State.{Sort, Region, Owner, InRegion, Unique, Object, World, Found, Closed, found_region, region_at, Located, cell_at, globals_number, new_region, opened_as, closed, made, written, Environment, no_locals, global_object, first_world, Entry, CloseRegion, Caller, Main}
+use Rattle.cyc_meaning.specs.State.{Sort, Region, InRegion, Unique, Object, World, Found, Closed, found_region, region_at, Located, cell_at, new_region, opened_as, closed, written, Environment, no_locals, Entry, CloseRegion, Caller}
 use Rattle.cyc_meaning.specs.Objects.{made_in, made_unique, freed}
-use Rattle.cyc_meaning.specs.Variables.{region_of, region_in, LivesIn, IsShut, HasVariables, Locals, waiting, IsLocal, IsOfCall, AreLow, DeclareLater, LiveInBlocks, WaitInBlocks, HaveNames, AreDistinct, AreGlobals, LiveInRegions, AreNamed}
-use Rattle.cyc_meaning.proofs.ListLemmas.{slice_get-end, slice_get-set_other}
+use Rattle.cyc_meaning.specs.Variables.{region_of, LivesIn, IsShut, HasVariables, Locals, waiting, IsLocal, AreLow, LiveInRegions, AreNamed}
+use Rattle.cyc_meaning.proofs.ListLemmas.{slice_get-set_other}
 use Rattle.cyc_meaning.proofs.NestingLemmas.{region_found}
 use Rattle.cyc_meaning.proofs.WorldLaws.{cell_found}
 use Rattle.cyc_meaning.proofs.VariableLemmas.{lives_once, lives_more, lives_newest, lives_same, shut_open, shut_more, region_below, region_before, set_there, shut_set, Passes, passes}

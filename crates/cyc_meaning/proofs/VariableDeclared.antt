@@ -1,11 +1,11 @@
 -- What a local that is declared makes of the names of variables: it is a new object, and what its number stood for before is shut.
-use Rattle.std.proofs.Common.{◌≡◌, ℕ, zero, suc, ◌+◌, ◌≤◌, Bool, true, false, List, [], ◌∷◌, ◌++◌, length, map, Option, Some, None, refl, sym, ap, subst, ◌∙◌, inl, inr, arith, length-append}
+use Rattle.std.proofs.Common.{◌≡◌, ℕ, zero, suc, Bool, List, [], ◌∷◌, ◌++◌, length, Option, Some, None, refl, sym, ap, subst, ◌∙◌, inl, inr, arith}
 use Rattle.std.specs.Prelude.{◌≢◌, ◌⊎◌, ◌<◌, ◌==◌, if◌then◌else◌, slice_get}
 use Rattle.std.proofs.lemmas.Bool.{eq-eqb, eqb-true, false_from_ne_true, cases_eq}
 use Rattle.cyc_types.specs.declared.typed.Kind.{Kind}
 use Rattle.cyc_types.specs.TypedTrees.{Statement}
 use Rattle.cyc_meaning.specs.Values.{Value}
-use Rattle.cyc_meaning.specs.State.{Region, Object, World, Found, Closed, found_region, region_at, globals_number, variable, made, Environment, with_local, Initialise, Choose, Test, OpenBy, AliasOf, Entry, Needs, Rest, Loop, CloseRegion, CloseLexical, EndLoan, Handler, Caller}
+use Rattle.cyc_meaning.specs.State.{Region, Object, World, Found, region_at, globals_number, variable, Environment, with_local, Initialise, Choose, Test, OpenBy, AliasOf, Entry, Needs, Rest, Loop, CloseRegion, CloseLexical, EndLoan, Handler, Caller}
 use Rattle.cyc_meaning.specs.Nesting.{ends_of, AreBelow, IsHome, IsNested}
 use Rattle.cyc_meaning.specs.Variables.{region_in, LivesIn, IsShut, HasVariables, Locals, waiting, IsLocal, IsOfCall, IsInBlock, AreLow, StatementDeclares, DeclareLater, LiveInBlocks, WaitInBlocks, HaveNames, AreDistinct, AreNamed}
 use Rattle.cyc_meaning.proofs.ListLemmas.{slice_get-end}

@@ -1,19 +1,10 @@
 -- Variables of blocks have names: what each change of the world makes of that, opening and leaving blocks, calling and returning, and a
 -- local that is declared.
-use Rattle.std.proofs.Common.{◌≡◌, ℕ, zero, suc, ◌+◌, ◌≤◌, Bool, true, false, List, [], ◌∷◌, ◌++◌, set, length, map, Option, Some, None, refl, sym, ap, subst, ◌∙◌, inl, inr, arith, length-append}
-use Rattle.std.specs.Prelude.{◌≢◌, ◌⊎◌, ◌<◌, ◌==◌, if◌then◌else◌, slice_get}
-use Rattle.std.proofs.lemmas.Bool.{eq-eqb, eqb-true, false_from_ne_true, cases_eq}
-use Rattle.std.proofs.lemmas.List.{length-set}
-use Rattle.cyc_types.specs.declared.typed.Kind.{Kind}
+use Rattle.std.proofs.Common.{◌≡◌, ℕ, zero, suc, Bool, true, List, [], ◌∷◌, ◌++◌, set, length, Some, None, refl, sym, ap, ◌∙◌, inl, inr, arith}
+use Rattle.std.specs.Prelude.{◌⊎◌, ◌<◌, if◌then◌else◌, slice_get}
 use Rattle.cyc_types.specs.TypedTrees.{Statement}
-use Rattle.cyc_meaning.specs.Values.{Value, Cell, block_size}
-use Rattle.cyc_meaning.specs.State.{Sort, Region, Owner, InRegion, Unique, Object, World, Found, Closed, Missing, found_region, region_at, Located, cell_at, globals_number, new_region, opened_as, closed, variable, made, written, Environment, no_locals, with_local, global_object, first_world, Initialise, Choose, Test, OpenBy, AliasOf, Awaiting, Entry, Needs, Rest, Loop, CloseRegion, CloseLexical, EndLoan, Handler, Caller, Main}
-use Rattle.cyc_meaning.specs.Objects.{made_in, made_unique, freed}
-use Rattle.cyc_meaning.specs.Nesting.{ends_of, IsFound, AreBelow, IsHome, IsNested}
-use Rattle.cyc_meaning.specs.Variables.{region_of, region_in, LivesIn, IsShut, HasVariables, Locals, waiting, IsLocal, IsOfCall, IsInBlock, AreLow, StatementDeclares, ItemsDeclare, ClausesDeclare, Names, DeclareLater, LiveInBlocks, WaitInBlocks, HaveNames, AreDistinct, AreGlobals, LiveInRegions, AreNamed}
-use Rattle.cyc_meaning.proofs.ListLemmas.{slice_get-append, slice_get-end, slice_get-set_other}
-use Rattle.cyc_meaning.proofs.NestingLemmas.{region_found}
-use Rattle.cyc_meaning.proofs.WorldLaws.{cell_found}
+use Rattle.cyc_meaning.specs.State.{Region, Object, Found, Closed, Missing, found_region, globals_number, Initialise, Choose, Test, OpenBy, AliasOf, Entry, Needs, Rest, Loop, Handler, Caller}
+use Rattle.cyc_meaning.specs.Variables.{region_of, region_in, LivesIn, IsShut, HasVariables, Locals, waiting, AreLow, StatementDeclares, DeclareLater, LiveInBlocks, WaitInBlocks, HaveNames, LiveInRegions, AreNamed}
 
 -- ---- where objects live
 

@@ -1,7 +1,7 @@
 -- Variables of blocks have names in every state of a run: what each step makes of that.
-use Rattle.std.proofs.Common.{◌≡◌, ℕ, suc, Bool, true, false, List, [], ◌∷◌, length, reverse, Option, Some, None, refl, subst, arith}
+use Rattle.std.proofs.Common.{◌≡◌, ℕ, suc, Bool, true, false, List, [], ◌∷◌, length, reverse, Option, Some, None, refl, arith}
 use Rattle.std.specs.Prelude.{◌≤◌, ◌<◌, ◌+◌, ◌==◌, ◌*◌, ◌&&◌, nat_le, if◌then◌else◌, slice_get}
-use Rattle.cyc_words.specs.Ending.{Ending, Returned, Uncaught, Full}
+use Rattle.cyc_words.specs.Ending.{Ending}
 use Rattle.cyc_types.specs.declared.typed.Kind.{Kind}
 use Rattle.cyc_types.specs.declared.typed.Kind.TheVariants as kinds
 use Rattle.cyc_types.specs.declared.typed.Callee.{Callee}
@@ -16,7 +16,7 @@ use Rattle.cyc_meaning.specs.Values.{Value, Int, Null, Thin, Fat, Handle, Key, O
 use Rattle.cyc_meaning.specs.Operators.{Result, Gives, Raises, Misfits, is_zero, binary_result, unary_result, truth_of, decides}
 use Rattle.cyc_meaning.specs.Pointers.{element_count, pointer_result, result_kind, takes_kind, Reach, At, Stops, Nowhere, followed}
 use Rattle.cyc_meaning.specs.Conversion.{conversion}
-use Rattle.cyc_meaning.specs.State.{opened, Sort, Stack, Lexical, Dynamic, Region, Owner, InRegion, Unique, Object, World, Access, Found, Closed, Missing, region_at, Located, cell_at, Environment, no_locals, Awaiting, ConvertTo, Operate, Chain, Apply, ApplyPointer, Decide, Store, StoreCell, Pass, Follow, FollowMember, Index, Advance, CountElements, FreeObject, CloseByKey, PlaceBy, BesideHandle, MakePlain, MakeFields, MakeArray, FillElement, Initialise, Choose, Test, Return, ThrowWith, OpenBy, AliasOf, LoadFrom, TakeAddress, StoreTo, SwapLeft, SwapRight, Entry, Needs, NeedsPlace, Discard, Rest, Join, Loop, CloseRegion, CloseLexical, EndLoan, Handler, Caller, Main, Write, Focus, Evaluating, Locating, Given, GivenPlace, Executing, Proceeding, Calling, Entering, Binding, Naming, Writing, Beginning, Repeating, Swapping, Breaking, Continuing, Returning, Throwing, Catching, State, Running, Ended, Dead, Wrong, calls_in, closed, written}
+use Rattle.cyc_meaning.specs.State.{opened, Sort, Stack, Lexical, Dynamic, Region, Owner, InRegion, Unique, Object, World, Access, Found, Closed, Missing, region_at, Located, cell_at, Environment, no_locals, Awaiting, ConvertTo, Operate, Chain, Apply, ApplyPointer, Decide, Store, StoreCell, Pass, Follow, FollowMember, Index, Advance, CountElements, FreeObject, CloseByKey, PlaceBy, BesideHandle, MakePlain, MakeFields, MakeArray, FillElement, Initialise, Choose, Test, Return, ThrowWith, OpenBy, AliasOf, LoadFrom, TakeAddress, StoreTo, SwapLeft, SwapRight, Entry, Needs, NeedsPlace, Discard, Rest, Join, Loop, CloseRegion, CloseLexical, EndLoan, Handler, Caller, Main, Write, Focus, Given, Executing, Proceeding, Entering, Binding, Naming, Writing, Repeating, Breaking, Continuing, Returning, Throwing, Catching, State, Running, Ended, Dead, Wrong, closed, written}
 use Rattle.cyc_meaning.specs.Objects.{compared, created_in}
 use Rattle.cyc_meaning.specs.Parts.{gives, computed, leads_to, object_of, read, loaded, loaded_from, stored, stored_at, step_writing, declared, inside, region_end, closing}
 use Rattle.cyc_meaning.specs.Parts as parts
@@ -27,9 +27,8 @@ use Rattle.cyc_meaning.specs.Exceptions.{throws, throws_value, catches, step_cat
 use Rattle.cyc_meaning.specs.Regions.{is_dynamic, step_naming, closing_lexical, opened_by, opens_with, closes_dynamic, closes_with, frees_in_region, frees_owned, frees_object, frees}
 use Rattle.cyc_meaning.specs.Step.{values_of, called, step_calling, step_entering, step_binding, passes, assigned, addressed, counts, step_evaluating, decided, tested, awaits_right, chained, tells, applies_pointer, chosen, looped, converts, initialises, supplied, step_given, step_executing, declares, continues_with, step_proceeding, step_breaking, step_continuing, returned, ends_with, main_returned, step_returning, step_throwing, stepped}
 use Rattle.cyc_meaning.specs.Step as steps
-use Rattle.cyc_meaning.specs.Effects.{Changes, Keeps, Opens, Closes, Makes, MakesIn, MakesUnique, Frees, Writes, Prints, Reads, printed_of, printed_by, read_of, read_by, calls_after}
-use Rattle.cyc_meaning.specs.Nesting.{IsScoped, IsFound, IsNested, is_access_of, is_access_in, is_access}
-use Rattle.cyc_meaning.specs.Variables.{FunctionsRise, ItemsRise, ClausesRise, Locals, IsInBlock, AreLow, StatementDeclares, ItemsDeclare, ClausesDeclare, Names, DeclareLater, DeclareNow, AreNamed, HasNames}
+use Rattle.cyc_meaning.specs.Nesting.{IsNested}
+use Rattle.cyc_meaning.specs.Variables.{FunctionsRise, ItemsRise, ClausesRise, Locals, IsInBlock, AreLow, Names, DeclareLater, DeclareNow, AreNamed, HasNames}
 use Rattle.cyc_meaning.proofs.VariableChanges.{named_opened, named_closed, named_made_in, named_made_unique, named_freed, named_written, low_opened, named_entered, named_left, is_shut, named_call, named_return}
 use Rattle.cyc_meaning.proofs.VariableDeclared.{low_declared, named_declared}
 
