@@ -9,7 +9,7 @@ use Rattle.cyc_meaning.specs.Values as values
 use Rattle.cyc_meaning.specs.State.{Dynamic, new_region, Region, Unique, Object, heap_number, is_open}
 use Rattle.cyc_meaning.proofs.ListLemmas.{slice_get-end, slice_get-set_other}
 use Rattle.cyc_soundness.specs.Lives.{Life, OfRegion, OfObject, Never, Owned, Kept, RunTy, RunValue, Void, Null, Value, Seen, Into}
-use Rattle.cyc_soundness.specs.Worlds.{Settled, Awaits, IsHiding, IsKept, IsAmong, first as newest, later as behind, Slot, ObjectType, variable_type, Thing, KeyOf, PointerTo, Holder, Nobody, Hand, At, Lent, Typing, IsHeld, same_thing, thing_of, Owns, Claims, ClaimsPart, ClaimsBy, ClaimsAlone, IsLookedAt, IsSlot, IsHere, given, giving, marked, handing, AreOwned, IsUniqueObject, is_lent_by, lent_now, IsOpenIn, Stays, IsDynamic, IsFull, IsOwner, IsObject, IsTyped, Grows}
+use Rattle.cyc_soundness.specs.Worlds.{Pending, Settled, Awaits, IsHiding, IsKept, IsAmong, first as newest, later as behind, Slot, ObjectType, variable_type, Thing, KeyOf, PointerTo, Holder, Nobody, Hand, At, Lent, Typing, IsHeld, same_thing, thing_of, Owns, Claims, ClaimsPart, ClaimsBy, ClaimsAlone, IsLookedAt, IsSlot, IsHere, given, giving, marked, handing, AreOwned, IsUniqueObject, is_lent_by, lent_now, IsOpenIn, Stays, IsDynamic, IsFull, IsOwner, IsObject, IsTyped, Grows}
 use Rattle.cyc_soundness.specs.Frames.{InScope, Variable, Names, Instance, IsOfVariable, local_type, HoldsIts, IsFullIn, AreVariables, AreSet, Holds, KnowsProgram}
 use Rattle.cyc_soundness.specs.Classes.{Source}
 use Rattle.cyc_soundness.proofs.Numbers.{same_or_other, slice_get-set_same, some_same}
@@ -48,7 +48,7 @@ given_other own None old new a has apart = refl
 given_other own (Some b) old new a has apart = by_test (same_thing a b) (own a) new (own a) (λ e. absurd (apart (ap own (the_same a b e) ∙ has))) (λ e. refl)
 
 -- what somebody has now somebody had before
-held_before : (own : Thing → Holder) (o : Option Thing) (old new : Holder) (a : Thing) → Owns own old o → IsHeld old → IsHeld (given o new own a) → IsHeld (own a)
+pub held_before : (own : Thing → Holder) (o : Option Thing) (old new : Holder) (a : Thing) → Owns own old o → IsHeld old → IsHeld (given o new own a) → IsHeld (own a)
 held_before own None old new a has held now = now
 held_before own (Some b) old new a has held now = go (same_thing a b) refl now
   where
@@ -56,8 +56,20 @@ held_before own (Some b) old new a has held now = go (same_thing a b) refl now
     go true e now = subst (λ h. IsHeld h) (sym (ap own (the_same a b e) ∙ has)) held
     go false e now = now
 
+-- also what its new holder had before
+pub given_too : (own : Thing → Holder) (o q : Option Thing) (h : Holder) → Owns own h q → Owns (given o h own) h q
+given_too own o None h has = tt
+given_too own None (Some b) h has = has
+given_too own (Some a) (Some b) h has = by_test (same_thing b a) (own b) h h (λ e. refl) (λ e. has)
+
+-- two things of two holders are two
+pub given_apart : (own now : Thing → Holder) (o q : Option Thing) (h k new : Holder) → Owns own h o → Owns own k q → h ≢ k → Owns now k o → Owns (given q new now) k o
+given_apart own now None q h k new has its apart is = tt
+given_apart own now (Some a) None h k new has its apart is = is
+given_apart own now (Some a) (Some b) h k new has its apart is = by_test (same_thing a b) (now a) new k (λ e. absurd (apart (sym has ∙ ap own (the_same a b e) ∙ its))) (λ e. is)
+
 -- what nobody has nobody had
-none_before : (own : Thing → Holder) (o : Option Thing) (old new : Holder) (a : Thing) → Owns own old o → IsHeld old → own a ≡ Nobody → given o new own a ≡ Nobody
+pub none_before : (own : Thing → Holder) (o : Option Thing) (old new : Holder) (a : Thing) → Owns own old o → IsHeld old → own a ≡ Nobody → given o new own a ≡ Nobody
 none_before own None old new a has held none = none
 none_before own (Some b) old new a has held none = by_test (same_thing a b) (own a) new Nobody (λ e. absurd (subst (λ h. IsHeld h) (sym has ∙ ap own (sym (the_same a b e)) ∙ none) held)) (λ e. none)
 
@@ -462,6 +474,27 @@ open_more g (OfRegion number ns us) is = λ r e. lent_more g.loans (g.own (KeyOf
 open_more g (OfObject object) is = tt
 open_more g Never is = tt
 open_more g Owned is = tt
+
+-- which swap is under way is nothing to what is open
+pending_grows : (g : Typing) (q : Pending) → Grows g (record g { pending = q })
+pending_grows g q = record { objects = λ n u is. is; filled = λ n count is. is; fields = λ n ls ts is. is; kept = λ n is. is }
+
+open_pending : (g : Typing) (q : Pending) (l : Life) → IsOpenIn g l → IsOpenIn (record g { pending = q }) l
+open_pending g q (Kept region) is = is
+open_pending g q (OfRegion number ns us) is = is
+open_pending g q (OfObject object) is = tt
+open_pending g q Never is = tt
+open_pending g q Owned is = tt
+
+variable_pending : (g : Typing) (q : Pending) (b : InScope) → IsOfVariable g b → IsOfVariable (record g { pending = q }) b
+variable_pending g q (Variable b) (is, opens) = (is, open_pending g q b.life opens)
+variable_pending g q (Names number l live) (is, opens) = (life_grown g (record g { pending = q }) (pending_grows g q) l is, λ e. open_pending g q l (opens e))
+variable_pending g q (Instance frees these live) is = λ n. (life_grown g (record g { pending = q }) (pending_grows g q) (these n) (is n).0, λ e. open_pending g q (these n) ((is n).1 e))
+variable_pending g q b is = tt
+
+pub variables_pending : (g : Typing) (q : Pending) (bs : List InScope) → AreVariables g bs → AreVariables (record g { pending = q }) bs
+variables_pending g q [] are = tt
+variables_pending g q (b ∷ bs) (is, are) = (variable_pending g q b is, variables_pending g q bs are)
 
 variable_more : (g : Typing) (b : InScope) → IsOfVariable g b → IsOfVariable (record g { loans = suc g.loans }) b
 variable_more g (Variable b) (is, opens) = (is, open_more g b.life opens)

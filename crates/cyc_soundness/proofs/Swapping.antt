@@ -28,7 +28,7 @@ use Rattle.cyc_soundness.specs.Stacks.{IsByType, relied_at, operands_in, Finds, 
 use Rattle.cyc_soundness.specs.Stacks as stacks
 use Rattle.cyc_soundness.proofs.Numbers.{some_same}
 use Rattle.cyc_soundness.proofs.TypeLemmas.{is_kind_same, kind_meant, place_type}
-use Rattle.cyc_soundness.proofs.FlowLemmas.{not_vacant}
+use Rattle.cyc_soundness.proofs.FlowLemmas.{full_set, used_full}
 use Rattle.cyc_soundness.proofs.WorldLemmas.{cell_there}
 use Rattle.cyc_soundness.proofs.Hands.{holds_grown}
 use Rattle.cyc_soundness.proofs.StackLemmas.{stack_grown, swapped_grown, bound_of, place_local, among_bound, among_variable, among_live, among_set, open_of, globals_among, lasting_open, kept_open, object_known, among_open, IsPresent, there_present}
@@ -38,6 +38,20 @@ use Rattle.cyc_soundness.proofs.Cells.{part_had, running, life_of, lasting_commo
 pub kept_both : (ds es : List Demand) → AllKept (ds ++ es) → AllKept ds × AllKept es
 kept_both [] es are = (tt, are)
 kept_both (d ∷ ds) es (is, are) = let (first, second) = kept_both ds es are in ((is, first), second)
+
+-- a local that has what is in it, or an object that pointers lead to
+abbrev pub IsFree : Typing → (object : ℕ) → ObjectType → Type 0
+IsFree g object y = ((n : ℕ) × IsHere g g.depth n object) ⊎ (y.is_hidden ≡ false)
+
+free_kept : (g : Typing) (object offset : ℕ) (y : ObjectType) → g.pending ≡ Settled → IsFree g object y → IsKept g object offset y.is_hidden
+free_kept g object offset y settled (inl (n, here)) = kept_now g object offset y.is_hidden here.0 settled
+free_kept g object offset y settled (inr shown) = ((λ is. let k : true ≡ false = sym is ∙ shown in absurd (cc)), not_awaited g object offset settled)
+
+-- nothing that waits claims a thing by it
+free_above : (x : Exits) (g : Typing) (k : List Entry) (object offset : ℕ) (y : ObjectType) → relied_at [] k ≡ [] → slice_get g.objects object ≡ Some y → IsFree g object y → IsAboveBy false x g k (At object offset)
+free_above x g k object (suc i) y none there free = tt
+free_above x g k object zero y none there (inl (n, here)) = inl (g.depth, n, here.1, inl (refl, subst (λ q. IsSpared q n) (sym none) tt))
+free_above x g k object zero y none there (inr shown) = inr (refl, (y, there, shown))
 
 -- where the place of a side is
 pub record SpotAt (g : Typing) (w : World) (t : RunTy) (v : values.Value) : Type 0 where
@@ -49,7 +63,7 @@ pub record SpotAt (g : Typing) (w : World) (t : RunTy) (v : values.Value) : Type
   pub cell : slice_get of_type.cells offset ≡ Some t
   pub opens : IsOpenObject g w.regions number of_type.life
   pub full : IsFilled g number (suc offset)
-  pub claims : (value : values.Value) → IsByType t → IsKept g number offset of_type.is_hidden → Claims g.own (At number offset) t value
+  pub free : IsFree g number of_type
 
 module _ (p : Source) (g : Typing) (x : Exits) (bs : List InScope) (e : Environment) (w : World) (typed : IsTyped g w.regions w.objects) (globals : KnowsProgram g p) (bound : IsBound e.locals e.counters bs) (variables : AreVariables g bs) where
   cell_spot : (t : Ty) (l : Life) (place : values.Value) (k : List Entry) → AreOpen w.regions (ends_of k) → IsPresent g (ends_of k) l → IsHad g (thing_of (lives.Pointer marks.NonNull (read bs t) l) place) → is_struct t ≡ false → HasType g (lives.Pointer marks.NonNull (read bs t) l) place
@@ -57,7 +71,7 @@ module _ (p : Source) (g : Typing) (x : Exits) (bs : List InScope) (e : Environm
   cell_spot t l (values.Thin object offset) k opens lasting had plain (y, there, shown, outlasts, part) =
       let open' = life_of g w typed k object y l there opens outlasts lasting had in
       let (cell, full) = value_part (lives_in bs) g object y t offset plain part in
-      record { number = object; offset = offset; of_type = y; is = refl; there = there; cell = cell; opens = open'; full = full; claims = λ v by kept. shared_claims g w object offset y (read bs t) typed there shown cell by (At object offset) v }
+      record { number = object; offset = offset; of_type = y; is = refl; there = there; cell = cell; opens = open'; full = full; free = inr shown }
   cell_spot t l place k opens lasting had plain has = absurd has
 
   spot_at : (t : Ty) (f : flow.State) (v : values.Value) (k : List Entry) → AreOpen w.regions (ends_of k) → LiveIn k bs → Holds g f bs → is_struct t ≡ false → IsSpot p g bs t f v → SpotAt g w (read bs t) v
@@ -68,8 +82,7 @@ module _ (p : Source) (g : Typing) (x : Exits) (bs : List InScope) (e : Environm
       let lasts = among_live (ends_of k) among live.0 in
       let opens' : IsOpenObject g w.regions b.object b.life = open_object g w.regions b.object b.life (lasting_common (ends_of k) b.life lasts)
       (lasting_open w.regions (ends_of k) b.life opens typed.heap (kept_open g w.regions w.objects b.life typed (object_known g w.regions w.objects b.object y typed there) (among_open g among variables)) lasts) in
-      let full : IsFilled g b.object 1 = among_set g f among holds.1 set in
-      let c = content_of p g x bs e w typed globals bound variables (kind_at (read bs t)) b.object 0 (read bs t) y there cell opens' full refl in
+      let full : IsFilled g b.object 1 = among_set g f among holds.1 (full_set (fullness f b.number) set) in
       record {
         number = b.object;
         offset = 0;
@@ -79,7 +92,7 @@ module _ (p : Source) (g : Typing) (x : Exits) (bs : List InScope) (e : Environm
         cell = cell;
         opens = opens';
         full = full;
-        claims = λ v by kept. by_type_claims g.own (At b.object 0) (read bs t) c.value v by (typed.owned b.object y c.object there c.there 0 (read bs t) c.cell c.value kept cell c.at c.content);
+        free = inl (b.number, among_own g f among holds.1 set);
       }
   spot_at t f v k opens live holds plain (of_global number there same) =
       let (at, full, closed) = globals.globals number t there in
@@ -92,7 +105,7 @@ module _ (p : Source) (g : Typing) (x : Exits) (bs : List InScope) (e : Environm
         cell = ap (λ u. Some u) (sym same);
         opens = open_of w.regions (globals_among k) opens;
         full = full;
-        claims = λ v by kept. shared_claims g w number 0 (global_type (lives.at (as_heap (frees_of p.reading)) t)) (read bs t) typed at refl (ap (λ u. Some u) (sym same)) by (At number 0) v;
+        free = inr refl;
       }
   spot_at t f v k opens live holds plain (of_cell place r alive has had) = cell_spot t (lives_in bs r) place k opens (there_present g (ends_of k) bs r live.0 variables alive) had plain has
 
@@ -103,10 +116,10 @@ module _ (p : Source) (g : Typing) (x : Exits) (bs : List InScope) (e : Environm
 
   -- ---- both places are found
 
-  pub both_on : (kind : Kind) (left right : values.Value) (t : Ty) (k : List Entry) (f : flow.State) → LiveIn k bs → Holds g f bs → kind ≡ values.kind_of t → is_struct t ≡ false → IsByType (read bs t)
+  pub both_on : (kind : Kind) (left right : values.Value) (t : Ty) (k : List Entry) (f : flow.State) → LiveIn k bs → Holds g f bs → kind ≡ values.kind_of t → is_struct t ≡ false
       → IsSpot p g bs t f left → IsSpot p g bs t f right → IsStack p g x bs (Go f) k → IsWell p (both_places kind left right k e w)
-  both_on kind left right t k f live holds kind_is plain by here there stack =
-      running p g x bs e w typed globals bound variables (Swapping kind left right None) k live (t, f, holds, kind_is, plain, by, here, there, tt, stack)
+  both_on kind left right t k f live holds kind_is plain here there stack =
+      running p g x bs e w typed globals bound variables (Swapping kind left right None) k live (t, f, holds, kind_is, plain, here, there, tt, stack)
 
   global_spot : (n : ℕ) (u t : Ty) (c : Context) (f : flow.State) → IsContext p x bs c → t ≡ u → slice_get c.globals n ≡ Some u → (h : Typing) → IsSpot p h bs t f (values.Thin n 0)
   global_spot n u t c f stands same there h =
@@ -114,19 +127,19 @@ module _ (p : Source) (g : Typing) (x : Exits) (bs : List InScope) (e : Environm
       let (at, full, closed) = globals.globals n t found in
       of_global n found (global_means p.reading c.regions bs t stands.regions closed)
 
-  pub finds_right_on : (kind : Kind) (peek : Option ℕ) (is_cell : Bool) (left : values.Value) (right : Side) (c : Context) (t : Ty) (k : List Entry) (f h : flow.State) (q : List ℕ) → LiveIn k bs → IsContext p x bs c → Holds g f bs → IsByType (read bs t)
+  pub finds_right_on : (kind : Kind) (peek : Option ℕ) (is_cell : Bool) (left : values.Value) (right : Side) (c : Context) (t : Ty) (k : List Entry) (f h : flow.State) (q : List ℕ) → LiveIn k bs → IsContext p x bs c → Holds g f bs
       → kind ≡ values.kind_of t → is_struct t ≡ false → IsLeftSpot p g (operands_in k) peek bs t h left → IsSide c right t → Derives (rule_side q right f) h → AllKept (side_demanded q right h) → InSide p.reading (and_looked peek x.relied) right
       → IsStack p g x bs (Go h) k → IsWell p (finds_right kind peek is_cell left right k e w)
-  finds_right_on kind peek is_cell left (VariableSide (Local place n) u) c t k f h q live stands holds by kind_is plain here (r, (m, has, region, there), same) (unit, known) used kept stack =
+  finds_right_on kind peek is_cell left (VariableSide (Local place n) u) c t k f h q live stands holds kind_is plain here (r, (m, has, region, there), same) (unit, known) used kept stack =
       let (b, among, number, of_type) = bound_of p.reading (lives_in bs) c.locals bs n u m stands.scope (place_local c.locals n u m has) in
       let at : e.locals n ≡ Some b.object = ap e.locals (sym number) ∙ among_bound e among bound in
-      let set : IsSet h b.number = subst (λ i. IsSet h i) (sym number) (not_vacant (is_vacant (fullness h n)) used.0) in
+      let set : IsFullIn h b.number = subst (λ i. IsFullIn h i) (sym number) (used_full h n used.0 used.1.0) in
       subst (λ o. IsWell p (finds_right_object kind left o k e w)) (sym at)
-      (both_on kind left (values.Thin b.object 0) t k h live (subst (λ z. Holds g z bs) (sym known) holds) kind_is plain by (left_spot (operands_in k) peek t h left here) (of_local b among (of_type ∙ ap (read bs) (sym same)) set) stack)
-  finds_right_on kind peek is_cell left (VariableSide (Global n) u) c t k f h q live stands holds by kind_is plain here (r, (region, there), same) (unit, known) used kept stack =
-      both_on kind left (values.Thin n 0) t k h live (subst (λ z. Holds g z bs) (sym known) holds) kind_is plain by (left_spot (operands_in k) peek t h left here)
+      (both_on kind left (values.Thin b.object 0) t k h live (subst (λ z. Holds g z bs) (sym known) holds) kind_is plain (left_spot (operands_in k) peek t h left here) (of_local b among (of_type ∙ ap (read bs) (sym same)) set) stack)
+  finds_right_on kind peek is_cell left (VariableSide (Global n) u) c t k f h q live stands holds kind_is plain here (r, (region, there), same) (unit, known) used kept stack =
+      both_on kind left (values.Thin n 0) t k h live (subst (λ z. Holds g z bs) (sym known) holds) kind_is plain (left_spot (operands_in k) peek t h left here)
       (global_spot n u t c h stands same there g) stack
-  finds_right_on kind peek is_cell left (CellSide d) c t k f h q live stands holds by kind_is plain here (r, cell) flows used (shared, kept) stack =
+  finds_right_on kind peek is_cell left (CellSide d) c t k f h q live stands holds kind_is plain here (r, cell) flows used kept stack =
       running p g x bs e w typed globals bound variables (Locating d) (NeedsPlace (SwapRight kind peek is_cell left) ∷ k) live (
         c,
         t,
@@ -139,21 +152,21 @@ module _ (p : Source) (g : Typing) (x : Exits) (bs : List InScope) (e : Environm
         (Go h, stacks.swaps_right (peek_behind d) t r h (there_of p x bs c stands r (cell_live c d t r cell)) by kind_is, (t, refl, plain, here), stack),
       )
 
-  pub swap_on : (y z : Side) (c : Context) (t : Ty) (k : List Entry) (f f1 h : flow.State) (q : List ℕ) → LiveIn k bs → IsContext p x bs c → Holds g f bs → IsByType (read bs t) → is_struct t ≡ false
+  pub swap_on : (y z : Side) (c : Context) (t : Ty) (k : List Entry) (f f1 h : flow.State) (q : List ℕ) → LiveIn k bs → IsContext p x bs c → Holds g f bs → is_struct t ≡ false
       → IsSide c y t → Derives (rule_side [] y f) f1 → AllKept (side_demanded [] y h) → InSide p.reading x.relied y → (is_reached f1 ≡ true → Finds p.reading (and_looked (peeked_side y) x.relied) c z f1 t h) → IsStack p g x bs (Go h) k → IsWell p (swaps y z k e w)
-  swap_on (VariableSide (Local place n) u) z c t k f f1 h q live stands holds by plain (r, (m, has, region, there), same) (unit, known) used kept later stack =
+  swap_on (VariableSide (Local place n) u) z c t k f f1 h q live stands holds plain (r, (m, has, region, there), same) (unit, known) used kept later stack =
       let finds = later (ap is_reached known ∙ holds.0) in
       let (b, among, number, of_type) = bound_of p.reading (lives_in bs) c.locals bs n u m stands.scope (place_local c.locals n u m has) in
       let at : e.locals n ≡ Some b.object = ap e.locals (sym number) ∙ among_bound e among bound in
-      let set : IsSet h b.number = subst (λ i. IsSet h i) (sym number) (not_vacant (is_vacant (fullness h n)) used.0) in
+      let set : IsFullIn h b.number = subst (λ i. IsFullIn h i) (sym number) (used_full h n used.0 used.1.0) in
       subst (λ o. IsWell p (finds_left_object (values.kind_of u) o z k e w)) (sym at)
-      (finds_right_on (values.kind_of u) None false (values.Thin b.object 0) z c t k f1 h finds.waiting live stands (subst (λ i. Holds g i bs) (sym known) holds) by (ap values.kind_of (sym same)) plain
+      (finds_right_on (values.kind_of u) None false (values.Thin b.object 0) z c t k f1 h finds.waiting live stands (subst (λ i. Holds g i bs) (sym known) holds) (ap values.kind_of (sym same)) plain
       (left_variable (values.Thin b.object 0) (λ z. of_local b among (of_type ∙ ap (read bs) (sym same)) set)) finds.typed finds.flows finds.used finds.kept stack)
-  swap_on (VariableSide (Global n) u) z c t k f f1 h q live stands holds by plain (r, (region, there), same) (unit, known) used kept later stack =
+  swap_on (VariableSide (Global n) u) z c t k f f1 h q live stands holds plain (r, (region, there), same) (unit, known) used kept later stack =
       let finds = later (ap is_reached known ∙ holds.0) in
-      finds_right_on (values.kind_of u) None false (values.Thin n 0) z c t k f1 h finds.waiting live stands (subst (λ i. Holds g i bs) (sym known) holds) by (ap values.kind_of (sym same)) plain
+      finds_right_on (values.kind_of u) None false (values.Thin n 0) z c t k f1 h finds.waiting live stands (subst (λ i. Holds g i bs) (sym known) holds) (ap values.kind_of (sym same)) plain
       (left_variable (values.Thin n 0) (global_spot n u t c h stands same there)) finds.typed finds.flows finds.used finds.kept stack
-  swap_on (CellSide d) z c t k f f1 h q live stands holds by plain (r, cell) flows used (shared, kept) finds stack =
+  swap_on (CellSide d) z c t k f f1 h q live stands holds plain (r, cell) flows used kept finds stack =
       running p g x bs e w typed globals bound variables (Locating d) (NeedsPlace (SwapLeft (values.kind_of (type_of_place d)) (peeked d) z) ∷ k) live (
         c,
         t,
@@ -166,7 +179,7 @@ module _ (p : Source) (g : Typing) (x : Exits) (bs : List InScope) (e : Environm
         (
           Go h,
           subst (λ o. stacks.WaitsPlace p x (relied_at x.relied k) bs (SwapLeft (values.kind_of (type_of_place d)) (peeked d) z) o (read bs t) (lives_in bs r) f1 (Go h)) (peeked_so d)
-              (stacks.swaps_left c t r f1 h (there_of p x bs c stands r (cell_live c d t r cell)) by stands (ap values.kind_of (sym (place_type c d t r cell))) plain
+              (stacks.swaps_left c t r f1 h (there_of p x bs c stands r (cell_live c d t r cell)) stands (ap values.kind_of (sym (place_type c d t r cell))) plain
               (λ reached. subst (λ o. Finds p.reading (and_looked o x.relied) c z f1 t h) (sym (peeked_so d)) (finds reached))),
           tt,
           stack,
@@ -175,51 +188,35 @@ module _ (p : Source) (g : Typing) (x : Exits) (bs : List InScope) (e : Environm
 
   -- ---- both are read
 
-  swap_read_on : (kind : Kind) (left right : values.Value) (before : Option Operand) (value : values.Value) (t : Ty) (k : List Entry) (f : flow.State) → LiveIn k bs → Holds g f bs → kind ≡ values.kind_of t → is_struct t ≡ false → IsByType (read bs t)
-      → IsSpot p g bs t f left → IsSpot p g bs t f right → IsRead g (read bs t) before → HasType g (read bs t) value → IsStack p g x bs (Go f) k → IsWell p (swap_read kind left right before value k e w)
-  swap_read_on kind left right None value t k f live holds kind_is plain by here there before has stack =
-      running p g x bs e w typed globals bound variables (Swapping kind left right (Some (record { kind = kind; value = value }))) k live
-      (t, f, holds, kind_is, plain, by, here, there, (kind_is ∙ sym (kind_meant (lives_in bs) t), has), stack)
-  swap_read_on kind left right (Some v) value t k f live holds kind_is plain by here there before has stack =
-      running p g x bs e w typed globals bound variables (Writing (
-      record { place = left; operand = record { kind = kind; value = value } }
-      ∷ record { place = right; operand = v }
-      ∷ []) None) k live
-      (f, holds, ((t, plain, by, here, (kind_is ∙ sym (kind_meant (lives_in bs) t), has)), ((t, plain, by, there, before), tt)), stack)
-
-  swap_content_on : (kind : Kind) (left right : values.Value) (before : Option Operand) (t : Ty) (k : List Entry) (f : flow.State) (number offset : ℕ) (y : ObjectType) → LiveIn k bs → Holds g f bs
-      → kind ≡ values.kind_of t → is_struct t ≡ false → IsByType (read bs t) → IsSpot p g bs t f left → IsSpot p g bs t f right → IsRead g (read bs t) before → slice_get g.objects number ≡ Some y → slice_get y.cells offset ≡ Some (read bs t)
-      → IsOpenObject g w.regions number y.life → IsFilled g number (suc offset) → IsStack p g x bs (Go f) k
-      → IsWell p (swap_loaded kind left right before (cell_at w number offset) k e w)
-  swap_content_on kind left right before t k f number offset y live holds kind_is plain by here there read_is at cells opens (m, flag, enough) stack =
-      let c = cell_there g w number offset (read bs t) y typed at cells opens in
+  -- what is in the place that is read is its own
+  swap_content_on : (kind : Kind) (left right place : values.Value) (before : Option Operand) (t : Ty) (k : List Entry) (f : flow.State) → SpotAt g w (read bs t) place → kind ≡ values.kind_of t → IsStack p g x bs (Go f) k
+      → ((v : values.Value) → HasType g (read bs t) v → ClaimsAt g.own place (read bs t) v → IsWell p (swap_read kind left right before v k e w)) → IsWell p (swap_loaded_at kind left right before place k e w)
+  swap_content_on kind left right place before t k f s kind_is stack goes =
+      let c = cell_there g w s.number s.offset (read bs t) s.of_type typed s.there s.cell s.opens in
+      let (m, flag, enough) = s.full in
       let count : m ≡ c.filled = some_same m c.filled (sym flag ∙ c.flag) in
-      let (v, content, has) = c.of.content (let less : suc offset ≤ c.filled = omega (arith, count, enough) in less) in
-      subst (λ a. IsWell p (swap_loaded kind left right before a k e w)) (sym c.found)
+      let (v, content, has) = c.of.content (let less : suc s.offset ≤ c.filled = omega (arith, count, enough) in less) in
+      let kept = free_kept g s.number s.offset s.of_type (settled p g x bs (Go f) k stack) s.free in
+      let claims : Claims g.own (At s.number s.offset) (read bs t) v = typed.owned s.number s.of_type c.object s.there c.there s.offset (read bs t) c.of.cell v kept s.cell c.of.at content in
+      subst (λ z. IsWell p (swap_loaded_at kind left right before z k e w)) (sym s.is)
+      (subst (λ a. IsWell p (swap_loaded kind left right before a k e w)) (sym c.found)
       (subst (λ (b : Bool). IsWell p (if b then swap_content kind left right before c.of.cell.content k e w else wrong w)) (sym (is_kind_same c.of.cell.kind kind (c.of.kind ∙ kind_meant (lives_in bs) t ∙ sym kind_is)))
       (subst (λ o. IsWell p (swap_content kind left right before o k e w)) (sym content)
-      (swap_read_on kind left right before v t k f live holds kind_is plain by here there read_is has stack)))
+      (goes v has (subst (λ z. ClaimsAt g.own z (read bs t) v) (sym s.is) claims)))))
 
   pub swapping_on : (kind : Kind) (left right : values.Value) (before : Option Operand) (t : Ty) (k : List Entry) (f : flow.State) → AreOpen w.regions (ends_of k) → LiveIn k bs → Holds g f bs → kind ≡ values.kind_of t
-      → is_struct t ≡ false → IsByType (read bs t) → IsSpot p g bs t f left → IsSpot p g bs t f right → IsRead g (read bs t) before → IsStack p g x bs (Go f) k → IsWell p (step_swapping kind left right before k e w)
-  swapping_on kind left right None t k f opens live holds kind_is plain by here there read_is stack =
-      let s = spot_at t f left k opens live holds plain here in
-      subst (λ v. IsWell p (swap_loaded_at kind left right None v k e w)) (sym s.is)
-      (swap_content_on kind left right None t k f s.number s.offset s.of_type live holds kind_is plain by here there read_is s.there s.cell s.opens s.full stack)
-  swapping_on kind left right (Some v) t k f opens live holds kind_is plain by here there read_is stack =
-      let s = spot_at t f right k opens live holds plain there in
-      subst (λ v'. IsWell p (swap_loaded_at kind left right (Some v) v' k e w)) (sym s.is)
-      (swap_content_on kind left right (Some v) t k f s.number s.offset s.of_type live holds kind_is plain by here there read_is s.there s.cell s.opens s.full stack)
+      → is_struct t ≡ false → IsSpot p g bs t f left → IsSpot p g bs t f right → IsRead g left (read bs t) before → IsStack p g x bs (Go f) k → IsWell p (step_swapping kind left right before k e w)
+  swapping_on kind left right None t k f opens live holds kind_is plain here there read_is stack =
+      swap_content_on kind left right left None t k f (spot_at t f left k opens live holds plain here) kind_is stack (λ v has claims.
+      running p g x bs e w typed globals bound variables (Swapping kind left right (Some (record { kind = kind; value = v }))) k live
+      (t, f, holds, kind_is, plain, here, there, ((kind_is ∙ sym (kind_meant (lives_in bs) t), has), claims), stack))
+  swapping_on kind left right (Some u) t k f opens live holds kind_is plain here there (before, its) stack =
+      let now = settled p g x bs (Go f) k stack in
+      let stays : Stays g (record g { pending = Settled }) = record { grows = pending_grows g Settled; own = refl; here = refl; pending = sym now; depth = refl; loans = refl } in
+      swap_content_on kind left right right (Some u) t k f (spot_at t f right k opens live holds plain there) kind_is stack (λ v has claims.
+      running p g x bs e w typed globals bound variables (Writing (
+      record { place = left; operand = record { kind = kind; value = v } }
+      ∷ record { place = right; operand = u }
+      ∷ []) None) k live
+      (f, holds, (t, (plain, here, (kind_is ∙ sym (kind_meant (lives_in bs) t), has)), (plain, there, before), now, claims, its), stack_grown p g (record g { pending = Settled }) stays x bs (Go f) k stack))
 
-  -- ---- and written
-
-  pub swapped_on : (ws : List Write) (k : List Entry) (f : flow.State) → AreOpen w.regions (ends_of k) → LiveIn k bs → Holds g f bs → AreSwapped p g bs f ws → IsStack p g x bs (Go f) k
-      → IsWell p (step_writing ws None k e w)
-  swapped_on [] k f opens live holds are stack = running p g x bs e w typed globals bound variables Proceeding k live (f, holds, stack)
-  swapped_on (one ∷ ws) k f opens live holds ((t, plain, by, spot, is), are) stack =
-      let s = spot_at t f one.place k opens live holds plain spot in
-      let (m, flag, enough) = s.full in
-      subst (λ v. IsWell p (stored_at v one.operand (Writing ws None) k e w)) (sym s.is)
-      (writes p g x bs e w typed globals bound variables one.operand (Writing ws None) k s.number s.offset m (read bs t) s.of_type live s.there s.cell s.opens flag
-      (let few : s.offset ≤ m = omega (arith, enough) in few) is (λ kept. s.claims one.operand.value by kept)
-      (λ grows now. (f, holds_grown g _ grows f bs holds, swapped_grown p g _ grows bs f ws are, stack_grown p g _ grows x bs (Go f) k stack)))
