@@ -60,7 +60,7 @@ pub part_had : (g : Typing) (i : ℕ) (peek : Option ℕ) (o : Option Thing) →
 part_had g i None None is = tt
 part_had g i (Some n) None is = tt
 part_had g i None (Some a) is = subst (λ h. IsHeld h) (sym is) tt
-part_had g i (Some n) (Some a) (object, here, is) = subst (λ h. IsHeld h) (sym is) tt
+part_had g i (Some n) (Some a) (object, here, hidden, is) = subst (λ h. IsHeld h) (sym is) tt
 
 module _ (g : Typing) (w : World) (typed : IsTyped g w.regions w.objects) where
   -- no struct is in a cell

@@ -94,6 +94,9 @@ at_no_hand m n i e = let k : At m n ≡ Hand i = e in absurd (cc)
 pub at_not_lent : (m n j : ℕ) → At m n ≢ Lent j
 at_not_lent m n j e = let k : At m n ≡ Lent j = e in absurd (cc)
 
+pub awaits_same : (m i n j : ℕ) → Awaits m i ≡ Awaits n j → (m ≡ n) × (i ≡ j)
+awaits_same m i n j e = let k : Awaits m i ≡ Awaits n j = e in (cc, cc)
+
 pub at_some : (m n : ℕ) → At m n ≢ Nobody
 at_some m n e = let k : At m n ≡ Nobody = e in absurd (cc)
 
@@ -476,7 +479,7 @@ open_more g Never is = tt
 open_more g Owned is = tt
 
 -- which swap is under way is nothing to what is open
-pending_grows : (g : Typing) (q : Pending) → Grows g (record g { pending = q })
+pub pending_grows : (g : Typing) (q : Pending) → Grows g (record g { pending = q })
 pending_grows g q = record { objects = λ n u is. is; filled = λ n count is. is; fields = λ n ls ts is. is; kept = λ n is. is }
 
 open_pending : (g : Typing) (q : Pending) (l : Life) → IsOpenIn g l → IsOpenIn (record g { pending = q }) l

@@ -1,5 +1,5 @@
 -- SWAPS: both places are found, and then are read and written.
-use Rattle.std.proofs.Common.{true, ◌≡◌, ℕ, suc, ◌≤◌, Bool, false, List, [], ◌∷◌, ◌++◌, Option, Some, None, slice_get, refl, sym, ap, subst, ◌∙◌, arith}
+use Rattle.std.proofs.Common.{true, ◌≡◌, ℕ, suc, ◌≤◌, Bool, false, List, [], ◌∷◌, ◌++◌, Option, Some, None, slice_get, refl, sym, ap, subst, ◌∙◌, arith, inl, inr, zero, ◌⊎◌, ◌≢◌}
 use Rattle.std.specs.Prelude.{if◌then◌else◌}
 use Rattle.cyc_syntax.specs.declared.tree.PointerKind.TheVariants as marks
 use Rattle.cyc_types.specs.declared.typed.Kind.{Kind}
@@ -14,26 +14,26 @@ use Rattle.cyc_types.specs.flow.Expressions.{peek_behind}
 use Rattle.cyc_types.specs.flow.Statements.{rule_side, side_demanded, peeked_side}
 use Rattle.cyc_meaning.specs.Values.{Operand}
 use Rattle.cyc_meaning.specs.Values as values
-use Rattle.cyc_meaning.specs.State.{World, cell_at, Environment, SwapLeft, SwapRight, Write, Entry, NeedsPlace, Locating, Proceeding, Writing, Swapping}
-use Rattle.cyc_meaning.specs.Parts.{wrong, stored_at, step_writing}
+use Rattle.cyc_meaning.specs.State.{World, cell_at, Environment, SwapLeft, SwapRight, Write, Entry, NeedsPlace, Locating, Proceeding, Writing, Swapping, Focus, Running, written}
+use Rattle.cyc_meaning.specs.Parts.{wrong, stored_at, step_writing, stored}
 use Rattle.cyc_meaning.specs.Swaps.{both_places, finds_right_object, finds_right, finds_left_object, swaps, swap_read, swap_content, swap_loaded, swap_loaded_at, step_swapping}
 use Rattle.cyc_meaning.specs.Nesting.{ends_of, AreOpen}
 use Rattle.cyc_soundness.proofs.Looking.{peeked_so}
-use Rattle.cyc_soundness.specs.Lives.{Life, RunTy, as_heap, kind_at}
+use Rattle.cyc_soundness.specs.Lives.{Life, RunTy, as_heap, kind_at, Value}
 use Rattle.cyc_soundness.specs.Lives as lives
-use Rattle.cyc_soundness.specs.Worlds.{At, IsKept, thing_of, IsHad, Claims, IsOpenObject, ObjectType, Typing, global_type, IsFilled, HasType, IsTyped}
-use Rattle.cyc_soundness.specs.Frames.{InScope, local_type, IsBound, AreVariables, LiveIn, IsSet, Holds, Exits, IsContext, KnowsProgram, lives_in, read}
-use Rattle.cyc_soundness.specs.Classes.{InSide, Source, and_looked, frees_of}
-use Rattle.cyc_soundness.specs.Stacks.{IsByType, relied_at, operands_in, Finds, Go, IsSpot, of_local, of_global, of_cell, IsLeftSpot, left_variable, left_cell, IsRead, AreSwapped, IsStack, IsWell}
+use Rattle.cyc_soundness.specs.Worlds.{At, IsKept, thing_of, IsHad, Claims, IsOpenObject, ObjectType, Typing, global_type, IsFilled, HasType, IsTyped, Awaits, Pending, Settled, Thing, Holder, Nobody, Hand, IsHeld, Owns, Stays, Grows, IsHere, given, giving}
+use Rattle.cyc_soundness.specs.Frames.{InScope, local_type, IsBound, AreVariables, LiveIn, IsSet, Holds, Exits, IsContext, KnowsProgram, lives_in, read, IsFullIn}
+use Rattle.cyc_soundness.specs.Classes.{InSide, Source, and_looked, frees_of, IsSpared}
+use Rattle.cyc_soundness.specs.Stacks.{IsByType, relied_at, operands_in, Finds, Go, IsSpot, of_local, of_global, of_cell, IsLeftSpot, left_variable, left_cell, IsRead, AreSwapped, IsStack, IsWell, ClaimsAt, IsWrite, IsAwaited}
 use Rattle.cyc_soundness.specs.Stacks as stacks
 use Rattle.cyc_soundness.proofs.Numbers.{some_same}
 use Rattle.cyc_soundness.proofs.TypeLemmas.{is_kind_same, kind_meant, place_type}
 use Rattle.cyc_soundness.proofs.FlowLemmas.{full_set, used_full}
-use Rattle.cyc_soundness.proofs.WorldLemmas.{cell_there}
-use Rattle.cyc_soundness.proofs.Hands.{holds_grown}
-use Rattle.cyc_soundness.proofs.StackLemmas.{stack_grown, swapped_grown, bound_of, place_local, among_bound, among_variable, among_live, among_set, open_of, globals_among, lasting_open, kept_open, object_known, among_open, IsPresent, there_present}
+use Rattle.cyc_soundness.proofs.WorldLemmas.{cell_there, type_grown, result_grown, risen, with_filled, written_grows, cell_written, globals_grown}
+use Rattle.cyc_soundness.proofs.Hands.{holds_grown, Changed, given_now, given_too, given_apart, given_other, held_before, none_before, giving_changed, at_no_hand, at_same, not_awaited, kept_now, holds_here, variables_kept, variables_pending, variables_grown, pending_grows, awaits_same}
+use Rattle.cyc_soundness.proofs.StackLemmas.{stack_grown, swapped_grown, bound_of, place_local, among_bound, among_variable, among_live, among_set, open_of, globals_among, lasting_open, kept_open, object_known, among_open, IsPresent, there_present, stack_by, IsAboveBy, statement_relied, settled, among_own}
 use Rattle.cyc_soundness.proofs.RegionLemmas.{there_of, cell_live, global_means}
-use Rattle.cyc_soundness.proofs.Cells.{part_had, running, life_of, lasting_common, open_object, by_type_claims, shared_claims, value_part, content_of, writes}
+use Rattle.cyc_soundness.proofs.Cells.{part_had, running, life_of, lasting_common, open_object, by_type_claims, shared_claims, value_part, content_of, writes, held_still}
 
 pub kept_both : (ds es : List Demand) → AllKept (ds ++ es) → AllKept ds × AllKept es
 kept_both [] es are = (tt, are)
@@ -220,3 +220,140 @@ module _ (p : Source) (g : Typing) (x : Exits) (bs : List InScope) (e : Environm
       ∷ []) None) k live
       (f, holds, (t, (plain, here, (kind_is ∙ sym (kind_meant (lives_in bs) t), has)), (plain, there, before), now, claims, its), stack_grown p g (record g { pending = Settled }) stays x bs (Go f) k stack))
 
+  -- ---- and written
+
+  -- what a moment is after a write: nothing has changed but who has what, and which write is awaited
+  pub record IsNext (own : Thing → Holder) (pending : Pending) (h : Typing) : Type 0 where
+    pub grows : Grows g h
+    pub own_is : h.own ≡ own
+    pub here : h.here ≡ g.here
+    pub pending_is : h.pending ≡ pending
+    pub depth : h.depth ≡ g.depth
+    pub loans : h.loans ≡ g.loans
+
+  writes_next : (v : Operand) (focus : Focus) (k : List Entry) (t : RunTy) (place : values.Value) (s : SpotAt g w t place) (own : Thing → Holder) (pending : Pending) → LiveIn k bs → IsResult g (Value t) v
+      → ((a : Thing) → IsHeld (own a) → IsHeld (g.own a)) → ((a : Thing) → g.own a ≡ Nobody → own a ≡ Nobody)
+      → ((object i : ℕ) → (object ≡ s.number → i ≢ s.offset) → pending ≢ Awaits object i → (a : Thing) → g.own a ≡ At object i → own a ≡ At object i)
+      → ((object i : ℕ) → (object ≡ s.number → i ≢ s.offset) → g.pending ≢ Awaits object i) → (pending ≢ Awaits s.number s.offset → Claims own (At s.number s.offset) t v.value)
+      → AreVariables (record g { own = own; pending = pending }) bs → ((h : Typing) → IsNext own pending h → IsFocus p h x bs focus k) → IsWell p (stored_at place v focus k e w)
+  writes_next v focus k t place s own pending live is held none stays before claims known goes =
+      let c = cell_there g w s.number s.offset t s.of_type typed s.there s.cell s.opens in
+      let (m, flag, enough) = s.full in
+      let count : m ≡ c.filled = some_same m c.filled (sym flag ∙ c.flag) in
+      let few : s.offset ≤ c.filled = omega (arith, count, enough) in
+      let h : Typing = record (with_filled g s.number (risen s.offset c.filled)) { own = own; here = g.here; pending = pending } in
+      let more = written_grows g w s.number s.offset s.of_type t v.value typed s.there s.cell c few is.1 in
+      let grows : Grows g h = record { objects = more.objects; filled = more.filled; fields = more.fields; kept = more.kept } in
+      let later : Stays (record g { own = own; pending = pending }) h = record { grows = record { objects = more.objects; filled = more.filled; fields = more.fields; kept = more.kept }; own = refl; here = refl; pending = refl; depth = refl; loans = refl } in
+      subst (λ z. IsWell p (stored_at z v focus k e w)) (sym s.is)
+      (subst (λ a. IsWell p (stored a s.number s.offset v focus k e w)) (sym c.found)
+      (subst (λ (b : Bool). IsWell p (if b then Running focus k e (written w s.number s.offset (record { object = c.object; cell = c.of.cell }) v.value) else wrong w)) (sym (is_kind_same c.of.cell.kind v.kind (c.of.kind ∙ sym is.0)))
+      (running p h x bs e (written w s.number s.offset (record { object = c.object; cell = c.of.cell }) v.value)
+      (cell_written g w s.number s.offset s.of_type t v.value typed s.there s.cell c few is.1 own g.here pending held none (λ object i hidden apart kept a has. stays object i apart kept.1 a has)
+      (λ object i hidden apart kept. (kept.0, before object i (λ same. absurd (apart same)))) (λ i u found apart kept. (kept.0, before s.number i (λ same. apart))) (λ kept. claims kept.1))
+      (globals_grown g h grows p (λ n ls. refl) globals.keys globals) bound (variables_grown (record g { own = own; pending = pending }) h later bs known) focus k live
+      (goes h (record { grows = grows; own_is = refl; here = refl; pending_is = refl; depth = refl; loans = refl })))))
+
+  module _ (h : Typing) (own : Thing → Holder) (pending : Pending) (next : IsNext own pending h) where
+    holds_next : (f : flow.State) → Holds g f bs → Holds h f bs
+    holds_next f holds = holds_here g h next.grows next.depth f bs (λ n object full here. (ap (λ z. z object) next.here ∙ here.0, (here.1.0, next.grows.objects object here.1.0 here.1.1, here.1.2))) holds
+
+    had_next : (o : Option Thing) → ((a : Thing) → IsHeld (g.own a) → IsHeld (own a)) → IsHad g o → IsHad h o
+    had_next None all had = tt
+    had_next (Some a) all had = subst (λ own. IsHeld (own a)) (sym next.own_is) (all a had)
+
+    spot_next : (t : Ty) (f : flow.State) (v : values.Value) → ((a : Thing) → IsHeld (g.own a) → IsHeld (own a)) → IsSpot p g bs t f v → IsSpot p h bs t f v
+    spot_next t f v all (of_local b among of_type is) = of_local b among of_type is
+    spot_next t f v all (of_global number there means) = of_global number there means
+    spot_next t f v all (of_cell place r alive has had) =
+        of_cell place r alive (type_grown g h next.grows (lives.Pointer marks.NonNull (read bs t) (lives_in bs r)) place has) (had_next (thing_of (lives.Pointer marks.NonNull (read bs t) (lives_in bs r)) place) all had)
+
+    stack_next : (f : flow.State) (k : List Entry) → IsStack p (record g { own = own; pending = Settled }) x bs (Go f) k → IsStack p (record h { pending = Settled }) x bs (Go f) k
+    stack_next f k stack =
+        let grows : Grows (record g { own = own; pending = Settled }) (record h { pending = Settled }) = record { objects = next.grows.objects; filled = next.grows.filled; fields = next.grows.fields; kept = next.grows.kept } in
+        stack_grown p (record g { own = own; pending = Settled }) (record h { pending = Settled }) (record { grows = grows; own = next.own_is; here = next.here; pending = refl; depth = next.depth; loans = next.loans }) x bs (Go f) k stack
+
+  -- the right place gets what the left one had
+  second_on : (two : Write) (k : List Entry) (f : flow.State) (t : Ty) → AreOpen w.regions (ends_of k) → LiveIn k bs → Holds g f bs → IsWrite p g bs f t two → IsAwaited g two.place → Claims g.own (Hand (operands_in k)) (read bs t) two.operand.value
+      → IsStack p (record g { pending = Settled }) x bs (Go f) k → IsWell p (stored_at two.place two.operand (Writing [] None) k e w)
+  second_on two k f t opens live holds (plain, spot, is) awaits claims stack =
+      let s = spot_at t f two.place k opens live holds plain spot in
+      let o = thing_of (read bs t) two.operand.value in
+      let hand = Hand (operands_in k) in
+      let right = At s.number s.offset in
+      let old : g.pending ≡ Awaits s.number s.offset = subst (λ z. IsAwaited g z) s.is awaits in
+      let still : Typing = record g { pending = Settled } in
+      let changed : Changed hand still (giving still o right) = giving_changed still o hand right claims.0 in
+      writes_next two.operand (Writing [] None) k (read bs t) two.place s (given o right g.own) Settled live is
+      (λ a now. held_before g.own o hand right a claims.0 tt now) (λ a none. none_before g.own o hand right a claims.0 tt none)
+      (λ object i apart kept a has. given_other g.own o hand right a claims.0 (λ e. at_no_hand object i (operands_in k) (sym has ∙ e)) ∙ has)
+      (λ object i apart e. (let same = awaits_same s.number s.offset object i (sym old ∙ e) in apart (sym same.0) (sym same.1)))
+      (λ kept. (given_now g.own o right, claims.1)) (variables_kept hand still (giving still o right) changed bs refl (variables_pending g Settled bs variables))
+      (λ h next. (
+        f,
+        holds_next h (given o right g.own) Settled next f holds,
+        next.pending_is,
+        stack_next h (given o right g.own) Settled next f k
+            (stack_by false p hand still (giving still o right) x bs (Go f) k (λ e object now. now) changed (let le : operands_in k ≤ operands_in k = omega arith in le) stack),
+      ))
+
+  -- the left place gets what the right one has, and what it had is in hand
+  first_on : (one two : Write) (k : List Entry) (f : flow.State) (t : Ty) → AreOpen w.regions (ends_of k) → LiveIn k bs → Holds g f bs → IsWrite p g bs f t one → IsWrite p g bs f t two → g.pending ≡ Settled
+      → ClaimsAt g.own two.place (read bs t) one.operand.value → ClaimsAt g.own one.place (read bs t) two.operand.value → IsStack p (record g { pending = Settled }) x bs (Go f) k
+      → IsWell p (stored_at one.place one.operand (Writing (two ∷ []) None) k e w)
+  first_on one two k f t opens live holds (plain, here, is) (plain', there, its) settled claims_right claims_left stack =
+      let l = spot_at t f one.place k opens live holds plain here in
+      let r = spot_at t f two.place k opens live holds plain there in
+      let o = thing_of (read bs t) one.operand.value in
+      let q = thing_of (read bs t) two.operand.value in
+      let hand = Hand (operands_in k) in
+      let left = At l.number l.offset in
+      let right = At r.number r.offset in
+      let rights : Claims g.own right (read bs t) one.operand.value = subst (λ z. ClaimsAt g.own z (read bs t) one.operand.value) r.is claims_right in
+      let lefts : Claims g.own left (read bs t) two.operand.value = subst (λ z. ClaimsAt g.own z (read bs t) two.operand.value) l.is claims_left in
+      let both = given o left g.own in
+      let both_left : Owns both left q = given_too g.own o q left lefts.0 in
+      let own = given q hand both in
+      let await = Awaits r.number r.offset in
+      let still : Typing = record g { pending = Settled } in
+      let waits : Typing = record g { pending = await } in
+      let none = statement_relied p still x bs f k [] stack in
+      let all : (a : Thing) → IsHeld (g.own a) → IsHeld (own a) = (λ a had. held_still both q hand a tt (held_still g.own o left a tt had)) in
+      writes_next one.operand (Writing (two ∷ []) None) k (read bs t) one.place l own await live is
+      (λ a now. held_before g.own o right left a rights.0 tt (held_before both q left hand a both_left tt now))
+      (λ a nobody. none_before both q left hand a both_left tt (none_before g.own o right left a rights.0 tt nobody))
+      (λ object i apart kept a has.
+      (let other : g.own a ≢ right = (λ e. (let same = at_same object i r.number r.offset (sym has ∙ e) in kept (ap (λ n. Awaits n r.offset) (sym same.0) ∙ ap (λ n. Awaits object n) (sym same.1)))) in
+      let first : both a ≡ At object i = given_other g.own o right left a rights.0 other ∙ has in
+      given_other both q left hand a both_left (λ e. (let same = at_same object i l.number l.offset (sym first ∙ e) in apart same.0 same.1)) ∙ first))
+      (λ object i apart. not_awaited g object i settled)
+      (λ kept. (given_apart g.own both o q right left hand rights.0 lefts.0
+      (λ e. (let same = at_same r.number r.offset l.number l.offset e in kept (ap (λ n. Awaits n r.offset) same.0 ∙ ap (λ n. Awaits l.number n) same.1))) (given_now g.own o left), rights.1))
+      (variables_kept left (giving waits o left) (giving (giving waits o left) q hand) (giving_changed (giving waits o left) q left hand both_left) bs refl
+      (variables_kept right waits (giving waits o left) (giving_changed waits o right left rights.0) bs refl (variables_pending g await bs variables)))
+      (λ h next. (
+        f,
+        holds_next h own await next f holds,
+        (
+          t,
+          (plain', spot_next h own await next t f two.place all there, result_grown g h next.grows (Value (read bs t)) two.operand its),
+          subst (λ z. IsAwaited h z) (sym r.is) next.pending_is,
+          (subst (λ z. Owns z hand q) (sym next.own_is) (given_now both q hand), lefts.1),
+        ),
+        stack_next h own await next f k
+            (stack_by false p left (giving still o left) (giving (giving still o left) q hand) x bs (Go f) k (λ e object now. now) (giving_changed (giving still o left) q left hand both_left)
+            (free_above x (giving still o left) k l.number l.offset l.of_type none l.there l.free)
+            (stack_by false p right still (giving still o left) x bs (Go f) k (λ e object now. now) (giving_changed still o right left rights.0) (free_above x still k r.number r.offset r.of_type none r.there r.free) stack)),
+      ))
+
+  pub swapped_on : (ws : List Write) (k : List Entry) (f : flow.State) → AreOpen w.regions (ends_of k) → LiveIn k bs → Holds g f bs → AreSwapped p g (operands_in k) bs f ws → IsStack p (record g { pending = Settled }) x bs (Go f) k
+      → IsWell p (step_writing ws None k e w)
+  swapped_on [] k f opens live holds settled stack =
+      running p g x bs e w typed globals bound variables Proceeding k live (
+        f,
+        holds,
+        stack_grown p (record g { pending = Settled }) g (record { grows = record { objects = λ n u is. is; filled = λ n count is. is; fields = λ n ls ts is. is; kept = λ n is. is }; own = refl; here = refl; pending = settled; depth = refl; loans = refl }) x bs (Go f) k stack,
+      )
+  swapped_on (two ∷ []) k f opens live holds (t, is, awaits, claims) stack = second_on two k f t opens live holds is awaits claims stack
+  swapped_on (one ∷ two ∷ []) k f opens live holds (t, first, second, settled, rights, lefts) stack = first_on one two k f t opens live holds first second settled rights lefts stack
+  swapped_on (one ∷ two ∷ three ∷ ws) k f opens live holds are stack = absurd are

@@ -9,7 +9,7 @@ use Rattle.cyc_meaning.specs.State.{Region, Owner, InRegion, Unique, Object, Wor
 use Rattle.cyc_meaning.specs.Nesting.{IsScoped, IsFound}
 use Rattle.cyc_meaning.proofs.ListLemmas.{slice_get-append, slice_get-end, slice_get-set_other}
 use Rattle.cyc_soundness.specs.Lives.{Life, OfRegion, OfObject, Never, Owned, Kept, RunTy, Int, Pointer, Handle, Key, Struct, RunValue, Void, Null, Value, Seen, Into, kind_at, at}
-use Rattle.cyc_soundness.specs.Worlds.{Pending, IsKept, IsAmong, KeyOf, PointerTo, At, ObjectType, Typing, IsHeld, Claims, AreOwned, IsUniqueObject, IsOpenObject, Stays, IsKnownLife, IsKnownOwner, IsDynamic, IsFilled, IsPart, IsTarget, HasType, IsResult, AreOperands, IsContent, AreCells, IsOwner, IsObject, IsTyped, Grows}
+use Rattle.cyc_soundness.specs.Worlds.{Pending, IsKept, IsAmong, KeyOf, PointerTo, At, ObjectType, Typing, IsHeld, Claims, AreOwned, IsUniqueObject, IsOpenObject, Stays, IsKnownLife, IsKnownOwner, IsDynamic, IsFilled, IsPart, IsTarget, HasType, IsResult, AreOperands, IsContent, AreCells, IsOwner, IsObject, IsTyped, Grows, Thing, Holder, Nobody, Owns, thing_of}
 use Rattle.cyc_soundness.specs.Frames.{lives_among, KnowsProgram}
 use Rattle.cyc_soundness.specs.Classes.{frees_of, HasLoans, Source}
 use Rattle.cyc_soundness.proofs.Numbers.{same_or_other, slice_get-set_same, appended, some_same}
