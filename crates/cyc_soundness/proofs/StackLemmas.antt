@@ -124,7 +124,7 @@ variable_other x g k n object (Hand i) above slot relied = at_no_hand object 0 i
 variable_other x g k n object (Lent j) above slot relied = at_not_lent object 0 j
 variable_other x g k n object (At other (suc i)) above slot relied = λ e. (let z : 0 ≡ suc i = (at_same object 0 other (suc i) e).1 in absurd (omega (arith, z)))
 variable_other x g k n object (At other zero) (inl loose) slot relied = loose_other true x g k n object other loose slot relied
-variable_other x g k n object (At other zero) (inr (no, shown)) slot relied = let z : true ≡ false = no in absurd (cc)
+variable_other x g k n object (At other zero) (inr (filling, shown)) slot relied = let z : true ≡ false = filling in absurd (cc)
 
 -- no pointer leads to one that is looked at
 hiding_other : (g : Typing) (object other : ℕ) → IsHiding g object true → IsHiding g other false → At object 0 ≢ At other 0
@@ -138,7 +138,7 @@ looked_other empties x g k n object (Hand i) above slot hidden relied = at_no_ha
 looked_other empties x g k n object (Lent j) above slot hidden relied = at_not_lent object 0 j
 looked_other empties x g k n object (At other (suc i)) above slot hidden relied = λ e. (let z : 0 ≡ suc i = (at_same object 0 other (suc i) e).1 in absurd (omega (arith, z)))
 looked_other empties x g k n object (At other zero) (inl loose) slot hidden relied = loose_other empties x g k n object other loose slot relied
-looked_other empties x g k n object (At other zero) (inr (stays, shown)) slot hidden relied = hiding_other g object other hidden shown
+looked_other empties x g k n object (At other zero) (inr (filling, shown)) slot hidden relied = hiding_other g object other hidden shown
 
 -- what is lent stays so
 pub none_lent : (empties : Bool) (x : Exits) (g : Typing) (k : List Entry) (old : Holder) → IsAboveBy empties x g k old → is_lent_by g.loans old ≡ false
@@ -315,7 +315,7 @@ outer_other x g caller k d (At other zero) m object same (inl (e, n, its, inl (h
     (let (depth, number) = slot_same g d e m n other (subst (λ i. IsSlot g d m i) (at_same object 0 other 0 q).0 slot) its in absurd (omega (arith, depth, here, same)))
 outer_other x g caller k d (At other zero) m object same (inl (e, n, its, inr deeper)) slot = λ q.
     (let (depth, number) = slot_same g d e m n other (subst (λ i. IsSlot g d m i) (at_same object 0 other 0 q).0 slot) its in absurd (omega (arith, depth, deeper, same)))
-outer_other x g caller k d (At other zero) m object same (inr (no, shown)) slot = let z : true ≡ false = no in absurd (cc)
+outer_other x g caller k d (At other zero) m object same (inr (filling, shown)) slot = let z : true ≡ false = filling in absurd (cc)
 
 -- a local that is not full is another one than those that are
 pub emptied_other : (g : Typing) (a : flow.Fullness) (f : flow.State) (n m object other : ℕ) → is_full a ≡ false → is_reached f ≡ true → IsFullIn (with_fullness a f n) m → IsSlot g g.depth n object → IsSlot g g.depth m other → At other 0 ≢ At object 0
@@ -386,7 +386,7 @@ module _ (p : Source) (old : Holder) (g h : Typing) (changed : Changed old g h) 
       left_cell place r alive (type_grown g h changed.grows (lives.Pointer marks.NonNull (read bs t) (lives_in bs r)) place has)
       (part_kept old g h changed i peek (thing_of (lives.Pointer marks.NonNull (read bs t) (lives_in bs r)) place) apart other part)
 
-  keeps_place_kept : (i : ℕ) (bs : List InScope) (a : AwaitingPlace) (r : RunTy) (f : flow.State) → ((j : ℕ) → j < count_place a + i → Hand j ≢ old) → ((n object : ℕ) → place_peek a ≡ Some n → IsHere g g.depth n object → At object 0 ≢ old)
+  keeps_place_kept : (i : ℕ) (bs : List InScope) (a : AwaitingPlace) (r : RunTy) (f : flow.State) → ((j : ℕ) → j < count_place a + i → Hand j ≢ old) → ((n object : ℕ) → place_peek a ≡ Some n → IsHere g g.depth n object → IsHiding g object true → At object 0 ≢ old)
       → KeepsPlace p g i bs a r f → KeepsPlace p h i bs a r f
   keeps_place_kept i bs (SwapRight kind peek is_cell left) r f hands other (t, same, plain, spot) = (t, same, plain, left_kept i peek bs t f left (hands i (let less : i < 1 + i = omega arith in less)) other spot)
   keeps_place_kept i bs a r f hands other keeps = tt

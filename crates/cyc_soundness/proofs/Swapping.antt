@@ -21,7 +21,7 @@ use Rattle.cyc_meaning.specs.Nesting.{ends_of, AreOpen}
 use Rattle.cyc_soundness.proofs.Looking.{peeked_so}
 use Rattle.cyc_soundness.specs.Lives.{Life, RunTy, as_heap, kind_at, Value}
 use Rattle.cyc_soundness.specs.Lives as lives
-use Rattle.cyc_soundness.specs.Worlds.{At, IsKept, thing_of, IsHad, Claims, IsOpenObject, ObjectType, Typing, global_type, IsFilled, HasType, IsTyped, Awaits, Pending, Settled, Thing, Holder, Nobody, Hand, IsHeld, Owns, Stays, Grows, IsHere, given, giving}
+use Rattle.cyc_soundness.specs.Worlds.{At, IsKept, thing_of, IsHad, Claims, IsOpenObject, ObjectType, Typing, global_type, IsFilled, HasType, IsTyped, Awaits, Pending, Settled, Thing, Holder, Nobody, Hand, IsHeld, Owns, Stays, Grows, IsHere, given, giving, IsResult}
 use Rattle.cyc_soundness.specs.Frames.{InScope, local_type, IsBound, AreVariables, LiveIn, IsSet, Holds, Exits, IsContext, KnowsProgram, lives_in, read, IsFullIn}
 use Rattle.cyc_soundness.specs.Classes.{InSide, Source, and_looked, frees_of, IsSpared}
 use Rattle.cyc_soundness.specs.Stacks.{IsByType, relied_at, operands_in, Finds, Go, IsSpot, of_local, of_global, of_cell, IsLeftSpot, left_variable, left_cell, IsRead, AreSwapped, IsStack, IsWell, ClaimsAt, IsWrite, IsAwaited}
@@ -31,7 +31,7 @@ use Rattle.cyc_soundness.proofs.TypeLemmas.{is_kind_same, kind_meant, place_type
 use Rattle.cyc_soundness.proofs.FlowLemmas.{full_set, used_full}
 use Rattle.cyc_soundness.proofs.WorldLemmas.{cell_there, type_grown, result_grown, risen, with_filled, written_grows, cell_written, globals_grown}
 use Rattle.cyc_soundness.proofs.Hands.{holds_grown, Changed, given_now, given_too, given_apart, given_other, held_before, none_before, giving_changed, at_no_hand, at_same, not_awaited, kept_now, holds_here, variables_kept, variables_pending, variables_grown, pending_grows, awaits_same}
-use Rattle.cyc_soundness.proofs.StackLemmas.{stack_grown, swapped_grown, bound_of, place_local, among_bound, among_variable, among_live, among_set, open_of, globals_among, lasting_open, kept_open, object_known, among_open, IsPresent, there_present, stack_by, IsAboveBy, statement_relied, settled, among_own}
+use Rattle.cyc_soundness.proofs.StackLemmas.{stack_grown, bound_of, place_local, among_bound, among_variable, among_live, among_set, open_of, globals_among, lasting_open, kept_open, object_known, among_open, IsPresent, there_present, stack_by, IsAboveBy, statement_relied, settled, among_own}
 use Rattle.cyc_soundness.proofs.RegionLemmas.{there_of, cell_live, global_means}
 use Rattle.cyc_soundness.proofs.Cells.{part_had, running, life_of, lasting_common, open_object, by_type_claims, shared_claims, value_part, content_of, writes, held_still}
 
@@ -149,7 +149,7 @@ module _ (p : Source) (g : Typing) (x : Exits) (bs : List InScope) (e : Environm
         stands,
         holds,
         record { waiting = q; typed = cell; flows = flows; kept = kept },
-        (Go h, stacks.swaps_right (peek_behind d) t r h (there_of p x bs c stands r (cell_live c d t r cell)) by kind_is, (t, refl, plain, here), stack),
+        (Go h, stacks.swaps_right (peek_behind d) t r h (there_of p x bs c stands r (cell_live c d t r cell)) kind_is, (t, refl, plain, here), stack),
       )
 
   pub swap_on : (y z : Side) (c : Context) (t : Ty) (k : List Entry) (f f1 h : flow.State) (q : List ℕ) → LiveIn k bs → IsContext p x bs c → Holds g f bs → is_struct t ≡ false
