@@ -24,7 +24,7 @@ use Rattle.cyc_soundness.specs.Lives as lives
 use Rattle.cyc_soundness.specs.Worlds.{At, IsKept, thing_of, IsHad, Claims, IsOpenObject, ObjectType, Typing, global_type, IsFilled, HasType, IsTyped, Awaits, Pending, Settled, Thing, Holder, Nobody, Hand, IsHeld, Owns, Stays, Grows, IsHere, given, giving, IsResult}
 use Rattle.cyc_soundness.specs.Frames.{InScope, local_type, IsBound, AreVariables, LiveIn, IsSet, Holds, Exits, IsContext, KnowsProgram, lives_in, read, IsFullIn}
 use Rattle.cyc_soundness.specs.Classes.{InSide, Source, and_looked, frees_of, IsSpared}
-use Rattle.cyc_soundness.specs.Stacks.{IsByType, relied_at, operands_in, Finds, Go, IsSpot, of_local, of_global, of_cell, IsLeftSpot, left_variable, left_cell, IsRead, AreSwapped, IsStack, IsWell, ClaimsAt, IsWrite, IsAwaited}
+use Rattle.cyc_soundness.specs.Stacks.{IsByType, relied_at, operands_in, Finds, Go, IsSpot, of_local, of_global, of_cell, IsLeftSpot, left_variable, left_cell, IsRead, AreSwapped, IsStack, IsWell, ClaimsAt, IsWrite, IsAwaited, IsFocus}
 use Rattle.cyc_soundness.specs.Stacks as stacks
 use Rattle.cyc_soundness.proofs.Numbers.{some_same}
 use Rattle.cyc_soundness.proofs.TypeLemmas.{is_kind_same, kind_meant, place_type}
