@@ -1,5 +1,4 @@
--- WHICH PROGRAMS GIVE BACK ONLY WHAT LOCALS HAVE: unique objects, with no aliases, and no swaps of unique pointers, which alone take them out
--- of cells. It is computed for each program, and is the class `FreesLocals`, decided.
+-- WHICH PROGRAMS GIVE BACK ONLY WHAT LOCALS HAVE: unique objects, with no aliases. It is computed for each program, and is the class `FreesLocals`, decided.
 use Rattle.std.specs.Prelude.{ℕ, suc, ◌+◌, nat_lt, Bool, true, false, not, ◌&&◌, Option, None, Some}
 use Rattle.std.specs.List.{list_all}
 use Rattle.cyc_types.specs.declared.region.Region.{Region}
