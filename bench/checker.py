@@ -135,7 +135,7 @@ def main():
             if subprocess.run([PROGRAM, "check", text], capture_output=True).returncode == 0:
                 print(f"{milliseconds([PROGRAM, 'check', text], SHAPE_RUNS) / ints:6.2f} {name}")
             else:
-                print(f"       {name}: not accepted (what is not built yet?)")
+                print(f"       {name}: not accepted")
 
 
 if __name__ == "__main__":

@@ -9,9 +9,9 @@ it needs and fewer, and with a small budget of steps, which has to give a prefix
 is filled up with locals until its frame has 256 words, which changes nothing, and 257, which is refused. Beside it stand
 texts that were refused, and the program with one thing changed: what is checked of each is the code and its place.
 
-A program that `compile` says is not built yet is checked and not run; how many are is said. No run may come to what is
-closed or freed: then the reference itself is wrong, or the language's rules are. The same seed gives the same programs. The last line is `N passed, M failed`, of programs: `--count` of ints, and a quarter of that of each other
-profile.
+No run may come to what is closed or freed: then the reference itself is wrong, or the language's rules are. The same seed
+gives the same programs. The last line is `N passed, M failed`, of programs: `--count` of ints, and a quarter of that of each
+other profile.
 
 --check only asks what `check` says. --texts writes the programs to a folder, and those of ints in C beside it. As
 `--program tests/in_c.py` answers like the program itself, the expectations for ints can be held against gcc too.
@@ -110,12 +110,10 @@ class Tried:
     def __init__(self, program, folder):
         self.program = program
         self.source, self.image = os.path.join(folder, "main.cyc"), os.path.join(folder, "main.elf")
-        self.fault, self.text, self.is_built = None, None, True
+        self.fault, self.text = None, None
 
     def want(self, what, expected, got):
-        if what == "compile" and got[1] == suite.NOT_BUILT:
-            self.is_built = False
-        elif self.fault is None and got != expected:
+        if self.fault is None and got != expected:
             self.fault = suite.difference(what, expected, got)
 
     def given(self, text):
@@ -148,14 +146,9 @@ def try_program(tried, wanted, only_check):
     """Checks a program and those beside it, and compiles and runs it in each way."""
     for text, line in wanted.verdicts:
         tried.check(text, line)
-    tried.is_built = True
     if only_check:
         return tried.check(wanted.text)
     tried.compile(wanted.text)
-    if not tried.is_built and wanted.profile in ("ints", "pointers"):
-        tried.fault = f"a program of {wanted.profile} is not built: {suite.NOT_BUILT}"
-    if not tried.is_built:
-        return tried.check(wanted.text)
     for given, options, expected in wanted.runs:
         tried.run(given, options, expected)
     given, _, expected = wanted.runs[0]
@@ -187,21 +180,18 @@ def programs_of(options):
 
 def try_all(options, program):
     """The numbers of programs that pass and that fail."""
-    passed, failed, unbuilt, shortest = 0, 0, 0, None
+    passed, failed, shortest = 0, 0, None
     with tempfile.TemporaryDirectory(prefix="cyclone-random-") as folder:
         for profile, number in programs_of(options):
             wanted, tried = Wanted(profile, options.seed, number), Tried(program, folder)
             if options.texts:
                 write(wanted, os.path.join(options.texts, f"{profile}.{number:04}"))
             try_program(tried, wanted, options.check)
-            unbuilt += not tried.is_built
             passed += not tried.fault
             if tried.fault:
                 failed += 1
                 print(f"FAILED program {number} of {profile}, seed {options.seed}\n  " + tried.fault.replace("\n", "\n  "))
                 shortest = min(shortest or tried.text, tried.text, key=len)
-    if unbuilt:
-        print(f"{unbuilt} of the programs need what is not built yet")
     if shortest:
         print("the shortest of the texts that fail (--texts FOLDER writes all programs):")
         print("\n".join("    " + line for line in shortest.splitlines()))

@@ -4,8 +4,7 @@
     python3 tests/run.py [--program PATH] [--whole] [FILE.cases ..]
 
 The last line is `N passed, M failed`. A case is a few lines; tests/README.md has the format. With --whole the cases are those of
-the whole language, in tests/whole: a case passes too where `compile` says that something it needs is not built yet, and how
-many do is said.
+the whole language, in tests/whole.
 """
 import os
 import re
@@ -292,10 +291,6 @@ def run_step(step, folder, program):
             os.close(output)
 
 
-class NotBuilt(Exception):
-    """The compiler says that something a case needs is not built yet."""
-
-
 def faults_of_step(step, folder, program, act):
     """What a step does otherwise than expected, in words."""
     try:
@@ -308,9 +303,6 @@ def faults_of_step(step, folder, program, act):
         if wanted != got:
             faults.append(suite.difference(what, wanted, got))
 
-    compiles = step.is_program and step.words[:1] == ["compile"]
-    if compiles and step.last != suite.NOT_BUILT and suite.last_line(done.stderr or b"") == suite.NOT_BUILT:
-        raise NotBuilt
     if step.status is not None:
         wanted = f"{step.status} {step.last}".strip()
         last = "" if "err" in step.closed else suite.last_line(done.stderr)
@@ -354,20 +346,7 @@ def main():
     files = options.files or case_files(WHOLE if options.whole else CASES)
     cases = [case for path in files for case in Reader(path).read()]
     program = suite.program_of(options, len(cases))
-    unbuilt = []
-
-    def faults(case):
-        try:
-            return faults_of(case, program)
-        except NotBuilt:
-            unbuilt.append(case)
-            return [] if options.whole else [f"the program says {suite.NOT_BUILT}"]
-
-    suite.try_each(cases, lambda case: f"{case.place}: {case.name}", faults, lambda: said_of(unbuilt))
-
-
-def said_of(unbuilt):
-    return f"{len(unbuilt)} of the cases need what is not built yet" if unbuilt else None
+    suite.try_each(cases, lambda case: f"{case.place}: {case.name}", lambda case: faults_of(case, program))
 
 
 if __name__ == "__main__":

@@ -215,9 +215,7 @@ def is_runner_right(folder):
 
 
 def answered(step, folder, _):
-    """What the reference says, in this process, where the program would be run. It has nothing that is not built."""
-    if step.last == suite.NOT_BUILT:
-        return subprocess.CompletedProcess(step.words, step.status, step.output, (step.last + "\n").encode("latin-1"))
+    """What the reference says, in this process, where the program would be run."""
     with contextlib.chdir(folder):
         output, line, status = reference.answer(step.words, lambda: step.input)
     return subprocess.CompletedProcess(step.words, status, output, (line + "\n").encode("latin-1"))

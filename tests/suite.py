@@ -11,8 +11,6 @@ PROGRAM = os.path.join(ROOT, "crates", "cyclone", "out", "cyclone")
 SECONDS = 60
 # The stack of each program that is run, in bytes: half of what a shell gives.
 STACK = 4 * 1024 * 1024
-# What `compile` says of a program that needs what is not built yet.
-NOT_BUILT = "fault 60 at 1:1"
 # A long value is shown by its two ends.
 SHOWN = 400
 
@@ -64,8 +62,8 @@ def program_of(options, count):
     return program
 
 
-def try_each(things, name_of, faults_of, note=lambda: None):
-    """Tries the things one by one, prints the faults of those that fail, and ends the test. `note` may say more before the end."""
+def try_each(things, name_of, faults_of):
+    """Tries the things one by one, prints the faults of those that fail, and ends the test."""
     failed = 0
     for thing in things:
         faults = faults_of(thing)
@@ -73,8 +71,6 @@ def try_each(things, name_of, faults_of, note=lambda: None):
             failed += 1
             print(f"FAILED {name_of(thing)}")
             print("\n".join("  " + line for fault in faults for line in fault.split("\n")))
-    if note():
-        print(note())
     end(len(things) - failed, failed)
 
 

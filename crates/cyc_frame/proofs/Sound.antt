@@ -21,6 +21,7 @@ pub is_frame : (r : Routine) → r.slots + LAYOUT_WORDS ≤ r.frame_count → r.
 is_frame r fits small = record {
   apart = λ a b a_below b_below same. omega (arith, same);
   inside = λ slot below. omega (arith, below);
+  first_inside = omega arith;
   beside = λ slot below same. absurd (omega (arith, same));
   return_inside = omega arith;
   within = omega (arith, fits);

@@ -18,6 +18,8 @@ slot_word frame slot = frame.first_slot + slot
 pub record IsFrame (r : Routine) (frame : Frame) : Type 0 where
   pub apart : (a b : ℕ) → a < r.slots → b < r.slots → slot_word frame a ≡ slot_word frame b → a ≡ b
   pub inside : (slot : ℕ) → slot < r.slots → slot_word frame slot < frame.words
+  -- (of a function without slots `inside` says nothing)
+  pub first_inside : frame.first_slot ≤ frame.words
   pub beside : (slot : ℕ) → slot < r.slots → slot_word frame slot ≢ frame.return_address
   pub return_inside : frame.return_address < frame.words
   pub within : frame.words ≤ r.frame_count

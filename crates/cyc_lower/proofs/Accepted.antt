@@ -1,5 +1,5 @@
--- What is accepted and built can be lowered: the typed tree of a text within the limits is numbered, its constants are words, and it
--- globals have no more words than the text has tokens.
+-- What is accepted can be lowered: the typed tree of a text within the limits is numbered, its constants are words, and its globals
+-- have no more words than the text has tokens.
 use Rattle.std.proofs.Common.{◌≡◌, ℕ, ◌+◌, ◌*◌, ◌≤◌, ◌<◌, Bool, true, false, ◌&&◌, List, [], ◌∷◌, ◌++◌, length, map, Option, Some, None, inl, inr, subst, arith}
 use Rattle.std.specs.Prelude.{if◌then◌else◌, ◌==◌, nat_le, IsTrue}
 use Rattle.std.specs.List.{AllByRecursion}
@@ -13,15 +13,16 @@ use Rattle.cyc_syntax.specs.TokenRule.{Part, IsCut, part_tokens, tokens_of, HasT
 use Rattle.cyc_syntax.specs.Symbols.{Symbol, terminal_of, symbol_of, symbols_of, texts_in}
 use Rattle.cyc_syntax.specs.Names.{distinct_texts}
 use Rattle.cyc_syntax.specs.Trees.{Declaration}
-use Rattle.cyc_syntax.specs.Grammar.{HasTree}
+use Rattle.cyc_syntax.specs.Grammar.{HasTree, IsWithinLimits as IsTreeWithinLimits}
 use Rattle.cyc_syntax.specs.Weight.{tree_weight}
 use Rattle.cyc_syntax.proofs.WeightLemmas.{tree_weight-length}
 use Rattle.cyc_types.specs.TypedTrees.{Program, GlobalVariable}
 use Rattle.cyc_types.specs.typing.Programs.{IsTypedProgram}
-use Rattle.cyc_types.specs.Built.{is_built}
 use Rattle.cyc_types.specs.Weight.{program_weight}
 use Rattle.cyc_types.proofs.WeightLemmas.{declarations_counted}
+use Rattle.cyc_types.specs.Texts.{IsOfTextProgram}
 use Rattle.cyc_types.proofs.typing.ProgramLemmas.{program_well}
+use Rattle.cyc_types.proofs.typing.TextLemmas.{program_of_text}
 use Rattle.cyc_types.proofs.typing.WeightLemmas.{program_lighter}
 use Rattle.cyc_lower.proofs.LowerableLemmas.{lowerable_program}
 use Rattle.cyc_lower.specs.Lowered.{CanBeLowered}
@@ -38,13 +39,15 @@ globals_few [] = omega arith
 globals_few (g ∷ gs) = omega (arith, type_words g.of_type, kind_few (kind_of g.of_type), globals_few gs)
 
 pub can_be_lowered : (texts : List (List ℕ)) (symbols : List Symbol) (tree : List Declaration) (p : Program)
-    → HasTree symbols tree → AreOfWordsSymbols symbols → tree_weight tree ≤ max_tokens → IsTypedProgram texts tree p → is_built p ≡ true → CanBeLowered p
-can_be_lowered texts symbols tree p has words light typed built =
+    → HasTree symbols tree → IsTreeWithinLimits tree → AreOfWordsSymbols symbols → length symbols ≤ max_tokens → IsTypedProgram texts tree p → CanBeLowered p
+can_be_lowered texts symbols tree p has small words short typed =
+    let text : IsOfTextProgram p = program_of_text texts symbols tree p has small short typed in
+    let weight : tree_weight tree ≡ length symbols = tree_weight-length symbols tree has in
     let fewer : program_weight p ≤ tree_weight tree = program_lighter texts tree p typed in
     let counted : 3 * length p.globals + 6 * length p.functions ≤ program_weight p = declarations_counted p in
     record {
-      lowerable = lowerable_program p (program_well texts tree p typed) built;
-      of_words = typed_constants texts tree p typed built (tree_constants symbols tree has words);
+      lowerable = lowerable_program p (program_well texts tree p typed) text;
+      of_words = typed_constants texts tree p typed text (tree_constants symbols tree has words);
       few_globals = omega (arith, globals_few p.globals);
     }
 
@@ -122,8 +125,7 @@ text_constants text tokens (parts, cut, e) within =
     symbol_constants (distinct_texts (texts_in tokens)) tokens (recursion_from_All (λ t. IsSmall t.kind) tokens within.numbers) (subst AreByteTokens e (cut_bytes [] parts text [] cut))
 
 pub accepted_can_be_lowered : (texts : List (List ℕ)) (text : List ℕ) (tokens : List Token) (tree : List Declaration) (p : Program)
-    → HasTokens text tokens → IsWithinLimits tokens → HasTree (symbols_of tokens) tree → IsTypedProgram texts tree p → is_built p ≡ true → CanBeLowered p
-accepted_can_be_lowered texts text tokens tree p rule within has typed built =
-    let weight : tree_weight tree ≡ length (symbols_of tokens) = tree_weight-length (symbols_of tokens) tree has in
+    → HasTokens text tokens → IsWithinLimits tokens → HasTree (symbols_of tokens) tree → IsTreeWithinLimits tree → IsTypedProgram texts tree p → CanBeLowered p
+accepted_can_be_lowered texts text tokens tree p rule within has small typed =
     let same : length (symbols_of tokens) ≡ length tokens = length-map tokens (symbol_of (distinct_texts (texts_in tokens))) in
-    can_be_lowered texts (symbols_of tokens) tree p has (text_constants text tokens rule within) (omega (arith, within.count)) typed built
+    can_be_lowered texts (symbols_of tokens) tree p has small (text_constants text tokens rule within) (omega (arith, same, within.count)) typed

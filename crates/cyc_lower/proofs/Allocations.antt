@@ -20,7 +20,7 @@ use Rattle.cyc_plain.specs.declared.instruction.Operand.TheVariants as operands
 use Rattle.cyc_plain.specs.declared.instruction.Instruction.TheVariants as instructions
 use Rattle.cyc_plain.specs.declared.instruction.Request.TheVariants as requests
 use Rattle.cyc_plain.specs.State as plain
-use Rattle.cyc_plain.specs.State.{Words, put, Configuration, with_memory}
+use Rattle.cyc_plain.specs.State.{Words, put, Configuration}
 use Rattle.cyc_plain.specs.Step.{Choice, advanced, operand_word, served_to, performed}
 use Rattle.cyc_plain.specs.Step as plain_step
 use Rattle.cyc_plain.specs.Straight.{At}
@@ -31,26 +31,29 @@ use Rattle.cyc_meaning.specs.Objects.{made_in, made_unique, created, created_in}
 use Rattle.cyc_meaning.specs.Effects.{pages_of}
 use Rattle.cyc_meaning.specs.State.{Region, Owner, InRegion, Unique, World, Access, Found, Closed, Missing, region_at, counted, cell_at, written, Environment, MakePlain, MakeFields, ConvertTo, Write, Entry, Needs, Focus, Evaluating, Given, Writing, Running}
 use Rattle.cyc_meaning.specs.Step.{wrong, stored, target_by, step}
-use Rattle.cyc_objects.specs.Tables.{Variable, Placed, Tables, with_row, Grows}
+use Rattle.cyc_objects.specs.Tables.{Placed, Tables, with_row, Grows}
 use Rattle.cyc_objects.specs.Words.{words_of_kinds, before, Points, Is, AreBlank}
 use Rattle.cyc_objects.specs.Related as objects
 use Rattle.cyc_objects.specs.Related.{has_home}
 use Rattle.cyc_objects.proofs.Values.{Grows-row}
 use Rattle.cyc_objects.proofs.RegionLemmas.{counted-same}
-use Rattle.cyc_objects.proofs.NumberLemmas.{slice_get-below}
 use Rattle.cyc_objects.proofs.Making.{open-home, allocated, allocated-unique, refusal-allocate, refusal-unique, operands-blank, row-made, placed-range, room-fits}
 use Rattle.cyc_lower.proofs.Widths.{kind_positive, wide_kind, Outside}
 use Rattle.cyc_lower.proofs.Stands.{StoresAt, ObjectAt}
-use Rattle.cyc_lower.proofs.Relation.{types_on, IsWord, IsIn, IsObject, words_held, height, Holds, HoldsFrom, held, callers, homes, silent, DataIn, SharedAt, in_temporary, into_slot, LandsMade, ValueStack, Matches, code_of, bounds_at, top, IsHandleOf, HasHandle, contents, floor}
+use Rattle.cyc_lower.proofs.Relation.{types_on, IsWord, IsIn, IsObject, words_held, height, Holds, HoldsFrom, held, callers, homes, silent, DataIn, SharedAt, in_temporary, into_slot, LandsMade, ValueStack, Matches, code_of, bounds_at, top, IsHandleOf, HasHandle, contents, floor, base_of}
 use Rattle.cyc_lower.proofs.Handles.{has_handle}
-use Rattle.cyc_lower.proofs.Data.{Is-same, height-least, one_word, Holds-same, Holds-rest, Holds-grows, HoldsFrom-grows, in_order, words-reverse, data_grows, variables_grow, contents_made, data_written}
+use Rattle.cyc_lower.proofs.Data.{Is-same, height-least, one_word, Holds-same, Holds-rest, Holds-grows, HoldsFrom-grows, in_order, words-reverse, data_grows, variables_grow, contents_made, data_written, floor-least, Holds-above}
 use Rattle.cyc_lower.proofs.Accesses.{IsWell, is_fitting}
 use Rattle.cyc_lower.proofs.Paths.{by_path}
 use Rattle.cyc_lower.proofs.Asking.{past_pages, by_asking, by_full}
-use Rattle.cyc_lower.proofs.WideCells.{store_links, store_path, store_last, shared_stored, data_stored}
-use Rattle.cyc_lower.proofs.CellWrites.{SameVariables, data_beside, cell_is_there, saves_there, shared_saved, data_saved}
+use Rattle.cyc_lower.proofs.WideCells.{store_links, store_path, store_last, shared_stored, data_stored, stored as stored_there, above_stored, frames_stored}
+use Rattle.cyc_lower.proofs.CellWrites.{SameVariables, data_beside, cell_is_there, saves_there, shared_saved, data_saved, with_word, above_there, frames_there}
 use Rattle.cyc_lower.proofs.Matched.{IsMatched, below, silently, by_one, shared_within}
 use Rattle.cyc_lower.proofs.Evaluations.{IsStep, made_moved}
+use Rattle.cyc_lower.proofs.Known.{row-made_there}
+use Rattle.cyc_lower.proofs.Leads.{AreNamed}
+use Rattle.cyc_lower.proofs.Moving.{made_moves}
+use Rattle.cyc_lower.specs.Slots.{global_types}
 
 -- a sum that does not wrap
 add_is : (a b : ℕ) → a + b < 4294967296 → add_of a b ≡ a + b
@@ -80,6 +83,13 @@ HoldsFrom-same t slots other first [] same holds = tt
 HoldsFrom-same t slots other first (v ∷ vs) same (is, holds) = (
   Is-same t v.kind v.value slots other first first (λ i short. same (first + i) (omega (arith, short))) is,
   HoldsFrom-same t slots other (first + words_of_kind v.kind) vs (λ n short. same n (omega (arith, short))) holds,
+)
+
+HoldsFrom-later : (t : Tables) (slots other : Words) (first : ℕ) (vs : List Kinded) → ((n : ℕ) → first ≤ n → other n ≡ slots n) → HoldsFrom t slots first vs → HoldsFrom t other first vs
+HoldsFrom-later t slots other first [] same holds = tt
+HoldsFrom-later t slots other first (v ∷ vs) same (is, holds) = (
+  Is-same t v.kind v.value slots other first first (λ i short. same (first + i) (omega arith)) is,
+  HoldsFrom-later t slots other (first + words_of_kind v.kind) vs (λ n from. same n (omega (arith, from))) holds,
 )
 
 -- the size of a block that is asked for
@@ -219,14 +229,14 @@ module _ (source : Program) (pages calls : ℕ) where
     data_made =
         let g = c.active.function in
         let many : length new.objects ≡ length w.objects + 1 = ap length makes.joined ∙ length-append w.objects (record { owner = owner; cells = cells } ∷ []) in
-        data_written source grown g new.objects e.locals k c.active.slots after.active.slots c.active.handlers c.globals c.frames (t + words_held vs) 1 (omega (arith, height-least (floor source g k) (held k))) same_slots (
-          data_grows shared.tables grown grows source g new.objects e.locals (callers k) c.active.slots c.globals c.frames
-              (data_beside shared.tables source g w.objects new.objects e.locals (callers k) c.active.slots c.globals c.frames (omega (arith, many)) beside facts.0),
+        data_written source grown g c.active.base new.objects e.locals k c.active.slots after.active.slots c.active.handlers c.globals c.frames (t + words_held vs) 1 (omega (arith, height-least (floor source g k) (held k))) same_slots (
+          data_grows shared.tables grown grows source g c.active.base new.objects e.locals (callers k) c.active.slots c.globals c.frames
+              (data_beside shared.tables source g c.active.base w.objects new.objects e.locals (callers k) c.active.slots c.globals c.frames (omega (arith, many)) beside facts.0),
           facts.1,
         )
       where
-        beside : SameVariables shared.tables w.objects new.objects
-        beside o row = ap (λ l. contents l o) makes.joined ∙ contents_made w.objects (record { owner = owner; cells = cells }) o (omega (arith, slice_get-below shared.tables.rows o Variable row, shared.related.rows))
+        beside : SameVariables shared.tables (global_types source.globals) w.objects new.objects
+        beside o row = ap (λ l. contents l o) makes.joined ∙ contents_made w.objects (record { owner = owner; cells = cells }) o (row-made_there shared.related (global_types source.globals) o row)
 
     holds_made : Holds grown after.active.slots (floor source c.active.function k) (held k)
     holds_made =
@@ -297,6 +307,8 @@ module _ (source : Program) (pages calls : ℕ) where
                   refl,
                   object_there k e w c shared facts holds vs owner word new makes some few choice free served,
                   single,
+                  omega (arith, height-least (floor source c.active.function k) (held k), floor-least source c.active.function k),
+                  omega (arith, height-least (floor source c.active.function k) (held k), floor-least source c.active.function k),
                   values_made k e w c shared facts holds vs owner word new makes some few choice free served values,
                   stores,
                   move,
@@ -377,7 +389,8 @@ module _ (source : Program) (pages calls : ℕ) where
   -- the next cell is written, by its word or by its three words
   module _ (x : Write) (writes : List Write) (pointer : Kinded) (object : ℕ) (done : List Kind) (u : Kinded) (us : List Kinded) (address slot d m q : ℕ) (k : List Entry) (e : Environment) (w : World) (c : Configuration)
       (does : step source (Running (Writing (x ∷ writes) (Some pointer)) k e w) ≡ stored (cell_at w object (length done)) object (length done) u (Writing (writes_from object (suc (length done)) us) (Some pointer)) k e w)
-      (words : plain.HoldsWords (plain.Running c)) (well : IsWell (step source (Running (Writing (x ∷ writes) (Some pointer)) k e w)))
+      (words : plain.HoldsWords (plain.Running c)) (names : AreNamed source e.locals (callers k) w c.active.function c.active.base c.frames c.store) (well : IsWell (step source (Running (Writing (x ∷ writes) (Some pointer)) k e w)))
+      (high : base_of source c.active.function ≤ address) (above : base_of source c.active.function ≤ slot)
       (shared : SharedAt source pages calls k e w c) (facts : DataIn source shared.tables c.active.slots k e w c) (is : pointer ≡ record { kind = kinds.NonNull; value = Thin object 0 })
       (there : IsObject shared.tables object (c.active.slots address) (done ++ kinds_of (blanks_of (u ∷ us)))) (is_u : Is shared.tables u.kind u.value c.active.slots slot)
       (held_in : HoldsFrom shared.tables c.active.slots (slot + words_of_kind u.kind) us)
@@ -411,13 +424,15 @@ module _ (source : Program) (pages calls : ℕ) where
         let word = slots slot in
         let is_word : IsWord tables cell.cell.kind u.value word = subst (λ i. IsWord tables i u.value word) (sym same) (one_word tables u.kind u.value slots slot one is_u) in
         let (store, behind) = subst (λ n. StoresAt (code_of source g) (bounds_at source g) (types_on source g k) n address (4 * words_of_kinds done) slot c.active.next m) (let e : words_held us + words_of_kind u.kind ≡ suc (words_held us) = omega (arith, one) in e) stores in
-        let later = shared_saved source pages calls k e w c shared object (length done) place word cell u.value found points is_word (words.0 slot) in
+        let later = shared_saved source pages calls k e w c shared names facts object (length done) place word cell u.value found points is_word (words.0 slot) in
         let wider : 4 * words_of_kinds (done ++ u.kind ∷ []) ≡ 4 * words_of_kinds done + 4 = omega (arith, words_joined done (u.kind ∷ []), one) in
+        let after = with_word source pages calls k e w c shared names facts object (length done) place word cell u.value found points is_word (words.0 slot) in
+        let stands : (n : ℕ) → base_of source g ≤ n → after.active.slots n ≡ slots n = λ n least. above_there source pages calls k e w c shared names facts object (length done) place word cell u.value found points is_word (words.0 slot) n least in
         by_one source pages calls (does ∙ gives) shared store
         (λ choice. subst (Matches source pages calls (Running next_write k e (written w object (length done) cell u.value)))
-        (sym (saves_there source pages calls k e w c shared object (length done) place word cell u.value found points is_word (words.0 slot))) (
+        (sym (saves_there source pages calls k e w c shared names facts object (length done) place word cell u.value found points is_word (words.0 slot))) (
           later,
-          data_saved source pages calls k e w c shared object (length done) place word cell u.value found points is_word (words.0 slot) facts,
+          data_saved source pages calls k e w c shared names facts object (length done) place word cell u.value found points is_word (words.0 slot),
           (
             object,
             done ++ u.kind ∷ [],
@@ -429,14 +444,16 @@ module _ (source : Program) (pages calls : ℕ) where
             q,
             ap (λ n. writes_from object n us) (sym longer),
             is,
-            more,
+            subst (λ x. IsObject tables object x ((done ++ u.kind ∷ []) ++ rest)) (sym (stands address high)) more,
             words_many us,
-            subst (λ n. HoldsFrom tables slots n us) (let e : slot + words_of_kind u.kind ≡ suc slot = omega (arith, one) in e) held_in,
+            high,
+            omega (arith, above),
+            subst (λ n. HoldsFrom tables after.active.slots n us) (let e : slot + words_of_kind u.kind ≡ suc slot = omega (arith, one) in e) (HoldsFrom-later tables slots after.active.slots (slot + words_of_kind u.kind) us (λ n from. stands n (omega (arith, from, above))) held_in),
             subst (λ n. StoresAt (code_of source g) (bounds_at source g) (types_on source g k) (words_held us) address n (suc slot) (c.active.next + 1) m) (sym wider) behind,
             move,
             end,
-            holds,
-            lands,
+            Holds-above tables slots after.active.slots (floor source g k) (held k) (λ n from. stands n (omega (arith, from, floor-least source g k))) holds,
+            made_moves source g e.locals kinds.NonNull d q c.frames after.frames (frames_there source pages calls k e w c shared names facts object (length done) place word cell u.value found points is_word (words.0 slot)) k lands,
           ),
         ))
 
@@ -464,14 +481,16 @@ module _ (source : Program) (pages calls : ℕ) where
         let second : add_of (slots address) (bytes + 4) ≡ place + 4 * 1 = ap (add_of (slots address)) (let e : bytes + 4 ≡ bytes + 4 * 1 = omega arith in e) ∙ unwrapped fat 1 (omega arith) in
         let third : add_of (slots address) (bytes + 4 + 4) ≡ place + 4 * 2 = ap (add_of (slots address)) (let e : bytes + 4 + 4 ≡ bytes + 4 * 2 = omega arith in e) ∙ unwrapped fat 2 (omega arith) in
         let wider : 4 * words_of_kinds (done ++ u.kind ∷ []) ≡ bytes + 4 + 4 + 4 = omega (arith, words_joined done (u.kind ∷ []), three) in
+        let after = stored_there source pages calls k e w c shared names facts object (length done) place address bytes slot high (inl above) cell u.value found points wide fat_is words first second third in
+        let stands : (n : ℕ) → base_of source g ≤ n → after.active.slots n ≡ slots n = λ n least. above_stored source pages calls k e w c shared names facts object (length done) place address bytes slot high (inl above) cell u.value found points wide fat_is words first second third n least in
         by_path source pages calls (Writing (x ∷ writes) (Some pointer)) k e w c (Running next_write k e (written w object (length done) cell u.value))
-        (store_links source pages calls k e w c shared object (length done) place address bytes slot cell u.value found points wide fat_is words first second third)
+        (store_links source pages calls k e w c shared names facts object (length done) place address bytes slot high (inl above) cell u.value found points wide fat_is words first second third)
         (instructions.Store (operands.Slot address) (bytes + 4 + 4) (operands.Slot (suc (suc slot)))) (does ∙ gives) shared
-        (store_path source pages calls k e w c shared object (length done) place address bytes slot cell u.value found points wide fat_is words first second third at_first at_second) at_third
+        (store_path source pages calls k e w c shared names facts object (length done) place address bytes slot high (inl above) cell u.value found points wide fat_is words first second third at_first at_second) at_third
         (λ choice. subst (Matches source pages calls (Running next_write k e (written w object (length done) cell u.value)))
-        (sym (store_last source pages calls k e w c shared object (length done) place address bytes slot cell u.value found points wide fat_is words first second third choice)) (
-          shared_stored source pages calls k e w c shared object (length done) place address bytes slot cell u.value found points wide fat_is words first second third,
-          data_stored source pages calls k e w c shared object (length done) place address bytes slot cell u.value found points wide fat_is words first second third facts,
+        (sym (store_last source pages calls k e w c shared names facts object (length done) place address bytes slot high (inl above) cell u.value found points wide fat_is words first second third choice)) (
+          shared_stored source pages calls k e w c shared names facts object (length done) place address bytes slot high (inl above) cell u.value found points wide fat_is words first second third,
+          data_stored source pages calls k e w c shared names facts object (length done) place address bytes slot high (inl above) cell u.value found points wide fat_is words first second third,
           (
             object,
             done ++ u.kind ∷ [],
@@ -483,14 +502,16 @@ module _ (source : Program) (pages calls : ℕ) where
             q,
             ap (λ n. writes_from object n us) (sym longer),
             is,
-            more,
+            subst (λ x. IsObject tables object x ((done ++ u.kind ∷ []) ++ rest)) (sym (stands address high)) more,
             words_many us,
-            subst (λ n. HoldsFrom tables slots n us) (let e : slot + words_of_kind u.kind ≡ suc (suc (suc slot)) = omega (arith, three) in e) held_in,
+            high,
+            omega (arith, above),
+            subst (λ n. HoldsFrom tables after.active.slots n us) (let e : slot + words_of_kind u.kind ≡ suc (suc (suc slot)) = omega (arith, three) in e) (HoldsFrom-later tables slots after.active.slots (slot + words_of_kind u.kind) us (λ n from. stands n (omega (arith, from, above))) held_in),
             subst (λ n. StoresAt (code_of source g) (bounds_at source g) (types_on source g k) (words_held us) address n (suc (suc (suc slot))) (c.active.next + 1 + 1 + 1) m) (sym wider) behind,
             move,
             end,
-            holds,
-            lands,
+            Holds-above tables slots after.active.slots (floor source g k) (held k) (λ n from. stands n (omega (arith, from, floor-least source g k))) holds,
+            made_moves source g e.locals kinds.NonNull d q c.frames after.frames (frames_stored source pages calls k e w c shared names facts object (length done) place address bytes slot high (inl above) cell u.value found points wide fat_is words first second third) k lands,
           ),
         ))
 
@@ -500,8 +521,8 @@ module _ (source : Program) (pages calls : ℕ) where
 
   -- a cell of a new object is written, and behind the last the pointer to it comes to its slot
   pub writing : (writes : List Write) (pointer : Kinded) (k : List Entry) (e : Environment) (w : World) (c : Configuration) → plain.HoldsWords (plain.Running c)
-      → IsStep source pages calls (Writing writes (Some pointer)) k e w c
-  writing [] pointer k e w c words well (shared, facts, (object, done, [], address, slot, d, m, q, are, is, there, single, held_in, at, move, end, holds, lands)) =
+      → AreNamed source e.locals (callers k) w c.active.function c.active.base c.frames c.store → IsStep source pages calls (Writing writes (Some pointer)) k e w c
+  writing [] pointer k e w c words names well (shared, facts, (object, done, [], address, slot, d, m, q, are, is, there, single, high, above, held_in, at, move, end, holds, lands)) =
       let points : Points shared.tables object 0 (c.active.slots address) = first_cell shared.tables object (c.active.slots address) (done ++ []) there in
       let v : Kinded = record { kind = kinds.NonNull; value = Thin object 0 } in
       by_one source pages calls (ap (λ (x : Kinded). Running (Given x) k e w) is) shared (subst (λ p. At (code_of source c.active.function) p (instructions.Move d (operands.Slot address))) (sym at) move)
@@ -509,8 +530,8 @@ module _ (source : Program) (pages calls : ℕ) where
     where
       first_cell : (t : Tables) (object address : ℕ) (kinds : List Kind) → IsObject t object address kinds → Points t object 0 address
       first_cell t object address kinds is = record { address = address; kinds = kinds; row = is.row; range = is.range; inside = is.some; at = omega arith }
-  writing [] pointer k e w c words well (shared, facts, (object, done, u ∷ us, address, slot, d, m, q, are, is, there, single, held_in, at, move, end, holds, lands)) = absurd (let f : [] ≡ writes_from object (length done) (u ∷ us) = are in cc)
-  writing (x ∷ writes) pointer k e w c words well (shared, facts, (object, done, [], address, slot, d, m, q, are, is, there, single, held_in, at, move, end, holds, lands)) = absurd (let f : x ∷ writes ≡ [] = are in cc)
-  writing (x ∷ writes) pointer k e w c words well (shared, facts, (object, done, u ∷ us, address, slot, d, m, q, are, is, there, single, (is_u, held_in), at, move, end, holds, lands)) =
-      writes_cell x writes pointer object done u us address slot d m q k e w c (ap (λ (l : List Write). step source (Running (Writing l (Some pointer)) k e w)) are) words well shared facts is there is_u held_in at move end holds lands
+  writing [] pointer k e w c words names well (shared, facts, (object, done, u ∷ us, address, slot, d, m, q, are, is, there, single, high, above, held_in, at, move, end, holds, lands)) = absurd (let f : [] ≡ writes_from object (length done) (u ∷ us) = are in cc)
+  writing (x ∷ writes) pointer k e w c words names well (shared, facts, (object, done, [], address, slot, d, m, q, are, is, there, single, high, above, held_in, at, move, end, holds, lands)) = absurd (let f : x ∷ writes ≡ [] = are in cc)
+  writing (x ∷ writes) pointer k e w c words names well (shared, facts, (object, done, u ∷ us, address, slot, d, m, q, are, is, there, single, high, above, (is_u, held_in), at, move, end, holds, lands)) =
+      writes_cell x writes pointer object done u us address slot d m q k e w c (ap (λ (l : List Write). step source (Running (Writing l (Some pointer)) k e w)) are) words names well high above shared facts is there is_u held_in at move end holds lands
       (words_of_kind u.kind == 1) refl

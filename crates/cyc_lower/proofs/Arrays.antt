@@ -8,7 +8,7 @@ use Rattle.cyc_words.specs.Word.{IsWord as IsMachineWord}
 use Rattle.cyc_types.specs.declared.typed.Kind.{Kind}
 use Rattle.cyc_types.specs.declared.typed.Kind.TheVariants as kinds
 use Rattle.cyc_types.specs.TypedTrees.{Expression, Program}
-use Rattle.cyc_store.specs.State.{demand, StoreState, saved}
+use Rattle.cyc_store.specs.State.{demand}
 use Rattle.cyc_store.specs.Services as services
 use Rattle.cyc_store.specs.Services.{Allocate, refusal, full_at}
 use Rattle.cyc_store.specs.declared.range.TheConstants.{MOST_BLOCK_WORDS}
@@ -22,7 +22,7 @@ use Rattle.cyc_plain.specs.declared.instruction.Instruction.TheVariants as instr
 use Rattle.cyc_plain.specs.declared.instruction.Request.TheVariants as requests
 use Rattle.cyc_plain.specs.Operators.{truth}
 use Rattle.cyc_plain.specs.State as plain
-use Rattle.cyc_plain.specs.State.{Words, put, Configuration, with_memory}
+use Rattle.cyc_plain.specs.State.{Words, put, Configuration}
 use Rattle.cyc_plain.specs.Step.{Choice, operand_word, with_slots, at, advanced, served_to, performed}
 use Rattle.cyc_plain.specs.Step as plain_step
 use Rattle.cyc_plain.specs.Straight.{At}
@@ -35,29 +35,27 @@ use Rattle.cyc_meaning.specs.Effects.{pages_of}
 use Rattle.cyc_meaning.specs.Parts.{gives}
 use Rattle.cyc_meaning.specs.State.{Owner, World, Access, Found, Closed, Missing, Located, cell_at, written, Environment, with_counter, MakeArray, FillElement, Entry, Needs, Focus, Evaluating, Given, Beginning, Repeating, Throwing, Running}
 use Rattle.cyc_meaning.specs.Step.{wrong, stored as stored_in, step}
-use Rattle.cyc_objects.specs.Tables.{Variable, Placed, Tables, with_row, Grows}
+use Rattle.cyc_objects.specs.Tables.{Placed, Tables, with_row, Grows}
 use Rattle.cyc_objects.specs.Words.{Points, IsPartOf, Is}
 use Rattle.cyc_objects.specs.Related as objects
-use Rattle.cyc_objects.specs.Related.{has_home}
 use Rattle.cyc_objects.proofs.Values.{Grows-row}
-use Rattle.cyc_objects.proofs.NumberLemmas.{slice_get-below}
 use Rattle.cyc_objects.proofs.Pointers.{pointer-word}
 use Rattle.cyc_objects.proofs.Cells.{element-found}
 use Rattle.cyc_objects.proofs.Making.{blanks-blank, part-made}
-use Rattle.cyc_lower.specs.Lowering.{is_in, most_elements, scale_of, lower_program}
+use Rattle.cyc_lower.specs.Lowering.{is_in, most_elements, scale_of, lower_program, scopes_of}
 use Rattle.cyc_lower.proofs.Widths.{Outside, same_kind, wide_kind}
 use Rattle.cyc_lower.proofs.Stands.{CopyBy, BegunAt, ElementsAt, StoresAt}
 use Rattle.cyc_lower.proofs.Handles.{has_handle}
-use Rattle.cyc_lower.proofs.Relation.{IsWord, IsIn, Holds, held, callers, counters_of, arrays_in, IsHandleOf, homes, silent, DataIn, SharedAt, in_temporary, into_slot, LandsMade, ValueStack, Matches, code_of, bounds_at, types_on, floor, top, contents}
-use Rattle.cyc_lower.proofs.Data.{Is-same, height-least, one_word, Holds-same, Holds-grows, data_written, data_grows, variables_grow, contents_made}
+use Rattle.cyc_lower.proofs.Relation.{IsWord, IsIn, Holds, held, callers, counters_of, arrays_in, IsHandleOf, homes, silent, DataIn, SharedAt, in_temporary, into_slot, LandsMade, ValueStack, Matches, code_of, bounds_at, types_on, floor, top, contents, IsTold, scopes_in, base_of}
+use Rattle.cyc_lower.proofs.Data.{Is-same, height-least, one_word, Holds-same, Holds-grows, data_written, data_grows, variables_grow, contents_made, floor-least, Holds-above}
 use Rattle.cyc_lower.proofs.Accesses.{IsWell, is_fitting}
 use Rattle.cyc_lower.proofs.Counters.{counters-many, counter_same, counted_before}
 use Rattle.cyc_lower.proofs.Sharing.{shared_less}
 use Rattle.cyc_lower.proofs.PlaceWords.{add_is, shifted_is, multiplied_is, stays, cell_kind, word_is}
 use Rattle.cyc_lower.proofs.Paths.{Link, is_quiet, end_of, IsPath, end_joined, path_joined, by_path}
-use Rattle.cyc_lower.proofs.WideCells.{stored, all_links, all_path, shared_stored, data_stored}
+use Rattle.cyc_lower.proofs.WideCells.{stored, all_links, all_path, shared_stored, data_stored, Parts, parts_of, stage, above_stored, frames_stored}
 use Rattle.cyc_lower.proofs.Elements.{scaled}
-use Rattle.cyc_lower.proofs.CellWrites.{SameVariables, data_beside, cell_is_there, saves_there, saved_there, shared_saved, data_saved}
+use Rattle.cyc_lower.proofs.CellWrites.{SameVariables, data_beside, cell_is_there, with_word, saves_there, demand_there, shared_saved, data_saved, above_there, frames_there}
 use Rattle.cyc_lower.proofs.Levels.{lands_arrays}
 use Rattle.cyc_lower.proofs.Matched.{IsMatched, by_one, by_two, by_three, shared_way, shared_within}
 use Rattle.cyc_lower.proofs.Evaluations.{IsStep, landed_made, made_moved}
@@ -65,6 +63,10 @@ use Rattle.cyc_lower.proofs.Handling.{raised}
 use Rattle.cyc_lower.proofs.Allocations.{Makes, made_for}
 use Rattle.cyc_lower.proofs.Asking.{past_pages, by_asking, by_full}
 use Rattle.cyc_words.proofs.WordLemmas.{IsWord-add_of, IsWord-mul_of, IsWord-shl_of}
+use Rattle.cyc_lower.proofs.Known.{row-made_there}
+use Rattle.cyc_lower.proofs.Leads.{AreNamed}
+use Rattle.cyc_lower.proofs.Moving.{Like, like_long, made_moves}
+use Rattle.cyc_lower.specs.Slots.{global_types}
 
 -- ---- words
 
@@ -193,7 +195,7 @@ module _ (source : Program) (pages calls : ℕ) where
         ∙ put-other s1 (t + 2) x 0 (apart_from x t 4 (t + 2) out (omega arith) (omega arith)) ∙ put-other slots (t + 1) x (slots t) (apart_from x t 4 (t + 1) out (omega arith) (omega arith)) in
         let matches : Matches source pages calls next (plain.Running c5) = (
           shared,
-          data_written source shared.tables g w.objects e.locals k slots s5 c.active.handlers c.globals c.frames t 4 (height-least base (held k)) kept facts,
+          data_written source shared.tables g c.active.base w.objects e.locals k slots s5 c.active.handlers c.globals c.frames t 4 (height-least base (held k)) kept facts,
           (
             handle,
             d,
@@ -335,14 +337,14 @@ module _ (source : Program) (pages calls : ℕ) where
     data_made =
         let g = c.active.function in
         let many : length new.objects ≡ length w.objects + 1 = ap length makes.joined ∙ length-append w.objects (record { owner = owner; cells = cells } ∷ []) in
-        data_written source grown g new.objects e.locals k c.active.slots after.active.slots c.active.handlers c.globals c.frames first 1 (omega (arith, height-least (floor source g k) (held k))) same_slots (
-          data_grows shared.tables grown grows source g new.objects e.locals (callers k) c.active.slots c.globals c.frames
-              (data_beside shared.tables source g w.objects new.objects e.locals (callers k) c.active.slots c.globals c.frames (omega (arith, many)) beside facts.0),
+        data_written source grown g c.active.base new.objects e.locals k c.active.slots after.active.slots c.active.handlers c.globals c.frames first 1 (omega (arith, height-least (floor source g k) (held k))) same_slots (
+          data_grows shared.tables grown grows source g c.active.base new.objects e.locals (callers k) c.active.slots c.globals c.frames
+              (data_beside shared.tables source g c.active.base w.objects new.objects e.locals (callers k) c.active.slots c.globals c.frames (omega (arith, many)) beside facts.0),
           facts.1,
         )
       where
-        beside : SameVariables shared.tables w.objects new.objects
-        beside o row = ap (λ l. contents l o) makes.joined ∙ contents_made w.objects (record { owner = owner; cells = cells }) o (omega (arith, slice_get-below shared.tables.rows o Variable row, shared.related.rows))
+        beside : SameVariables shared.tables (global_types source.globals) w.objects new.objects
+        beside o row = ap (λ l. contents l o) makes.joined ∙ contents_made w.objects (record { owner = owner; cells = cells }) o (row-made_there shared.related (global_types source.globals) o row)
 
     holds_made : Holds grown after.active.slots (floor source c.active.function k) (held k)
     holds_made =
@@ -468,7 +470,7 @@ module _ (source : Program) (pages calls : ℕ) where
           (shared_within source pages calls k e w c1 shared) (shared_way source pages calls (Repeating object count index level wanted element) k e w c1 shared)
           branch jumps restart (λ choice. refl) move (λ same. omega (arith, same, before)) (λ same. omega (arith, same, before)) (λ same. omega (arith, same))
           (λ choice. made_moved source pages calls v (operands.Slot t) d k e w c1 q choice shared pointer
-          (data_written source shared.tables g w.objects e.locals k c.active.slots s1 c.active.handlers c.globals c.frames t 3 (omega (arith, height-least (floor source g k) (held k))) elsewhere facts)
+          (data_written source shared.tables g c.active.base w.objects e.locals k c.active.slots s1 c.active.handlers c.globals c.frames t 3 (omega (arith, height-least (floor source g k) (held k))) elsewhere facts)
           (Holds-same shared.tables c.active.slots s1 (floor source g k) (held k) (λ m short. elsewhere m (inl (omega (arith, short)))) holds) end lands)
 
   -- the next one is evaluated, or all are written
@@ -523,7 +525,7 @@ module _ (source : Program) (pages calls : ℕ) where
   -- ---- an element
 
   module _ (object count index level : ℕ) (wanted : Kind) (element : Expression) (v : Kinded) (k : List Entry) (e : Environment) (w : World) (c : Configuration)
-      (words : plain.HoldsWords (plain.Running c)) (shared₀ : SharedAt source pages calls (Needs (FillElement object count index level wanted element) ∷ k) e w c)
+      (words : plain.HoldsWords (plain.Running c)) (names : AreNamed source e.locals (callers k) w c.active.function c.active.base c.frames c.store) (shared₀ : SharedAt source pages calls (Needs (FillElement object count index level wanted element) ∷ k) e w c)
       (facts : DataIn source shared₀.tables c.active.slots k e w c) (part : IsPartOf shared₀.tables object 0 count (c.active.slots (top source c.active.function k)))
       (long : c.active.slots (top source c.active.function k + 1) ≡ count) (now : c.active.slots (top source c.active.function k + 2) ≡ index)
       (holds : Holds shared₀.tables c.active.slots (floor source c.active.function k) (held k)) (d h s q : ℕ) (inside : index < count) (few : count * words_of_kind wanted ≤ MOST_BLOCK_WORDS)
@@ -609,27 +611,30 @@ module _ (source : Program) (pages calls : ℕ) where
     scales false choice = refl
 
     facts_there : DataIn source shared.tables s2 k e w c2
-    facts_there = data_written source shared.tables g w.objects e.locals k slots s2 c.active.handlers c.globals c.frames z 1 (omega (arith, height-least (floor source g k) (held k))) outside_both facts
+    facts_there = data_written source shared.tables g c.active.base w.objects e.locals k slots s2 c.active.handlers c.globals c.frames z 1 (omega (arith, height-least (floor source g k) (held k))) outside_both facts
 
-    -- the store changes, and the code goes on at this place
-    abbrev reached : StoreState → (m : ℕ) → Configuration
-    reached store m = record c2 { store = store; active = record c2.active { next = m } }
+    -- the store changes, or the globals, or slots of locals, and the code goes on at this place
+    abbrev reached : Parts → (m : ℕ) → Configuration
+    reached s m = stage c2 s m
 
     -- The words of the element come to its cell on a path, and behind it the index goes to the next one.
-    goes_on : (m : ℕ) (store : StoreState) (links : List Link) → end_of c2 links ≡ reached store m → IsPath source c2 links
+    goes_on : (m : ℕ) (parts : Parts) (links : List Link) → end_of c2 links ≡ reached parts m → IsPath source c2 links
         → At (code_of source g) m (instructions.Binary plain_binary.Add (free + 2) (operands.Slot (free + 2)) (operands.Word 1)) → At (code_of source g) (m + 1) (instructions.Jump h)
-        → objects.Related shared.tables (silent new) store → store.pages ≡ pages → demand store ≤ pages → DataIn source shared.tables s2 k e new (reached store m)
+        → objects.Related shared.tables (silent new) parts.store → parts.store.pages ≡ pages → demand parts.store ≤ pages → IsTold (scopes_of source) parts.globals (scopes_in k)
+        → Like source c.frames parts.frames → ((n : ℕ) → base_of source g ≤ n → parts.slots n ≡ s2 n) → DataIn source shared.tables parts.slots k e new (reached parts m)
         → IsMatched source pages calls (Running (Given v) (entry ∷ k) e w) (plain.Running c)
-    goes_on m store links ends path count_up jump related same_pages few_pages facts_later =
+    goes_on m parts links ends path count_up jump related same_pages few_pages told like stands facts_later =
         let (branch, before, at_element, (p, scale, sum, stores, next_up, next_jump, end), restart, copy) = elements in
-        let s3 = put s2 (free + 2) (add_of (s2 (free + 2)) 1) in
-        let c3 = reached store m in
+        let least : base_of source g ≤ free = omega (arith, floor-least source g k, height-least (floor source g k) (held k)) in
+        let late : (n : ℕ) → free ≤ n → n < z → parts.slots n ≡ slots n = λ n from less. stands n (omega (arith, from, least)) ∙ early n less in
+        let s3 = put parts.slots (free + 2) (add_of (parts.slots (free + 2)) 1) in
+        let c3 = reached parts m in
         let c4 = advanced (with_slots c3 s3) in
         let next = Running (Repeating object count (suc index) level wanted element) k e new in
-        let up : (x : ℕ) → Outside (free + 2) 1 x → s3 x ≡ s2 x = λ x out. outside_one s2 (free + 2) x (add_of (s2 (free + 2)) 1) out in
+        let up : (x : ℕ) → Outside (free + 2) 1 x → s3 x ≡ parts.slots x = λ x out. outside_one parts.slots (free + 2) x (add_of (parts.slots (free + 2)) 1) out in
         let index_is : s3 (free + 2) ≡ suc index
-        = put-same s2 (free + 2) (add_of (s2 (free + 2)) 1) ∙ ap (λ n. add_of n 1) (early (free + 2) (omega arith) ∙ now) ∙ add_is index 1 (omega (arith, inside, elements_few wanted count few, most_is wanted)) ∙ one_more index in
-        let later : SharedAt source pages calls k e new (reached store m)
+        = put-same parts.slots (free + 2) (add_of (parts.slots (free + 2)) 1) ∙ ap (λ n. add_of n 1) (late (free + 2) (omega arith) (omega arith) ∙ now) ∙ add_is index 1 (omega (arith, inside, elements_few wanted count few, most_is wanted)) ∙ one_more index in
+        let later : SharedAt source pages calls k e new (reached parts m)
         = record {
           tables = shared.tables;
           same_output = shared.same_output;
@@ -639,28 +644,30 @@ module _ (source : Program) (pages calls : ℕ) where
           globals = shared.globals;
           variables = shared.variables;
           few_pages = few_pages;
-          fits = shared.fits;
-          counters = shared.counters;
+          fits = subst (λ n. suc n ≤ calls) (sym (like_long source c.frames parts.frames like)) shared.fits;
+          counters = (shared.counters.0, told);
         } in
         let matches : Matches source pages calls next (plain.Running (at c4 h)) = (
           later,
-          data_written source shared.tables g new.objects e.locals k s2 s3 c.active.handlers c.globals c.frames (free + 2) 1 (omega (arith, height-least (floor source g k) (held k))) up facts_later,
+          data_written source shared.tables g c.active.base new.objects e.locals k parts.slots s3 c.active.handlers parts.globals parts.frames (free + 2) 1 (omega (arith, height-least (floor source g k) (held k))) up facts_later,
           (
             d,
             c.active.next,
             s,
             q,
             (
-              subst (IsPartOf shared.tables object 0 count) (sym (up free (inl (omega arith)) ∙ early free (omega arith))) part,
-              up (free + 1) (inl (omega arith)) ∙ early (free + 1) (omega arith) ∙ long,
+              subst (IsPartOf shared.tables object 0 count) (sym (up free (inl (omega arith)) ∙ late free (omega arith) (omega arith))) part,
+              up (free + 1) (inl (omega arith)) ∙ late (free + 1) (omega arith) (omega arith) ∙ long,
               index_is,
             ),
             omega (arith, inside),
             few,
             level_is,
             elements,
-            Holds-same shared.tables slots s3 (floor source g k) (held k) (λ x less. up x (inl (omega (arith, less))) ∙ early x (omega (arith, less))) holds,
-            lands,
+            Holds-same shared.tables parts.slots s3 (floor source g k) (held k) (λ x less. up x (inl (omega (arith, less))))
+                (Holds-above shared.tables s2 parts.slots (floor source g k) (held k) (λ x from. stands x (omega (arith, from, floor-least source g k)))
+                (Holds-same shared.tables slots s2 (floor source g k) (held k) (λ x less. early x (omega (arith, less))) holds)),
+            made_moves source g e.locals kinds.Fat d q c.frames parts.frames like k lands,
           ),
         ) in
         let counts : Link = record { instruction = instructions.Binary plain_binary.Add (free + 2) (operands.Slot (free + 2)) (operands.Word 1); behind = c4 } in
@@ -699,20 +706,29 @@ module _ (source : Program) (pages calls : ℕ) where
         = subst (λ i. IsWord shared.tables i v.value word) (fits ∙ sym same)
         (subst (IsWord shared.tables v.kind v.value) (sym word_is) (one_word shared.tables v.kind v.value slots (free + 3) (ap words_of_kind fits ∙ one) is)) in
         let machine : IsMachineWord word = subst IsMachineWord (sym word_is) (words.0 (free + 3)) in
-        let kept : SharedAt source pages calls k e new (advanced (with_memory c2 address word)) = shared_saved source pages calls k e w c2 shared object index address word cell v.value found there value machine in
-        let saves_it = saves_there source pages calls k e w c2 shared object index address word cell v.value found there value machine in
-        goes_on m (saved c2.store address word) (record { instruction = instructions.Store (operands.Slot z) 0 (operands.Slot (free + 3)); behind = advanced (with_memory c2 address word) } ∷ [])
-        (ap (reached (saved c2.store address word)) last)
-        (store, (λ choice. saves_it), omega arith, record { output = refl; demand = ap demand (saved_there source pages calls k e w c2 shared object index address word cell v.value found there value machine); frames = refl }, tt)
-        count_up jump (shared_saved source pages calls k e w c2 shared object index address word cell v.value found there value machine).related kept.same_pages kept.few_pages
-        (data_saved source pages calls k e w c2 shared object index address word cell v.value found there value machine facts_there)
+        let after = with_word source pages calls k e w c2 shared names facts_there object index address word cell v.value found there value machine in
+        let kept : SharedAt source pages calls k e new (advanced after) = shared_saved source pages calls k e w c2 shared names facts_there object index address word cell v.value found there value machine in
+        let saves_it = saves_there source pages calls k e w c2 shared names facts_there object index address word cell v.value found there value machine in
+        goes_on m (parts_of after) (record { instruction = instructions.Store (operands.Slot z) 0 (operands.Slot (free + 3)); behind = advanced after } ∷ [])
+        (ap (reached (parts_of after)) last)
+        (
+          store,
+          (λ choice. saves_it),
+          omega arith,
+          record { output = refl; demand = demand_there source pages calls k e w c2 shared names facts_there object index address word cell v.value found there value machine; frames = like_long source c.frames after.frames (frames_there source pages calls k e w c2 shared names facts_there object index address word cell v.value found there value machine) },
+          tt,
+        )
+        count_up jump (shared_saved source pages calls k e w c2 shared names facts_there object index address word cell v.value found there value machine).related kept.same_pages kept.few_pages kept.counters.1
+        (frames_there source pages calls k e w c2 shared names facts_there object index address word cell v.value found there value machine)
+        (λ n least. above_there source pages calls k e w c2 shared names facts_there object index address word cell v.value found there value machine n least)
+        (data_saved source pages calls k e w c2 shared names facts_there object index address word cell v.value found there value machine)
 
     -- slots hold words also with the address of the cell
     words_there : plain.HoldsWords (plain.Running c2)
-    words_there = (with_word s1 (add_of (s1 free) (s1 z)) (with_word slots bytes words.0 (shifted_word wanted (slots (free + 2)))) (IsWord-add_of (s1 free) (s1 z)), words.1, words.2, words.3, words.4)
+    words_there = (with_slot s1 (add_of (s1 free) (s1 z)) (with_slot slots bytes words.0 (shifted_word wanted (slots (free + 2)))) (IsWord-add_of (s1 free) (s1 z)), words.1, words.2, words.3, words.4)
       where
-        with_word : (slots : Words) (x : ℕ) → ((m : ℕ) → IsMachineWord (slots m)) → IsMachineWord x → (m : ℕ) → IsMachineWord (put slots z x m)
-        with_word slots x are is m = elim (cases_eq m z) [
+        with_slot : (slots : Words) (x : ℕ) → ((m : ℕ) → IsMachineWord (slots m)) → IsMachineWord x → (m : ℕ) → IsMachineWord (put slots z x m)
+        with_slot slots x are is m = elim (cases_eq m z) [
           | inl same ↦ subst (λ n. IsMachineWord (put slots z x n)) (sym same) (subst IsMachineWord (sym (put-same slots z x)) is)
           | inr other ↦ subst IsMachineWord (sym (put-other slots z m x other)) (are m)
         ]
@@ -728,32 +744,37 @@ module _ (source : Program) (pages calls : ℕ) where
         = Is-same shared.tables kinds.Fat v.value slots s2 (free + 3) (free + 3) (λ i below. early (free + 3 + i) (omega (arith, three, below))) (subst (λ i. Is shared.tables i v.value slots (free + 3)) (fits ∙ fat) is) in
         let kind_there = cell_kind shared.related cell here found in
         let behind : (j : ℕ) → j < 3 → add_of (s2 z) (4 * j) ≡ s2 z + 4 * j = λ j below. word_is here cell.cell.kind j kind_there (omega (arith, below, ap words_of_kind wide)) in
+        let three_high : base_of source g ≤ free + 3 = omega (arith, floor-least source g k, height-least (floor source g k) (held k)) in
+        let z_high : base_of source g ≤ z = omega (arith, three_high) in
         let first = behind 0 (omega arith) in
         let second = behind 1 (omega arith) in
         let third = behind 2 (omega arith) in
-        let after = stored source pages calls k e w c2 shared object index (s2 z) z 0 (free + 3) cell v.value found here wide fat_is words_there first second third in
-        goes_on m after.store (all_links source pages calls k e w c2 shared object index (s2 z) z 0 (free + 3) cell v.value found here wide fat_is words_there first second third) (ap (reached after.store) last)
-        (all_path source pages calls k e w c2 shared object index (s2 z) z 0 (free + 3) cell v.value found here wide fat_is words_there first second third at_first at_second at_third)
-        count_up jump (shared_stored source pages calls k e w c2 shared object index (s2 z) z 0 (free + 3) cell v.value found here wide fat_is words_there first second third).related shared.same_pages shared.few_pages
-        (data_stored source pages calls k e w c2 shared object index (s2 z) z 0 (free + 3) cell v.value found here wide fat_is words_there first second third facts_there)
+        let after = stored source pages calls k e w c2 shared names facts_there object index (s2 z) z 0 (free + 3) z_high (inl three_high) cell v.value found here wide fat_is words_there first second third in
+        let kept : SharedAt source pages calls k e new after = shared_stored source pages calls k e w c2 shared names facts_there object index (s2 z) z 0 (free + 3) z_high (inl three_high) cell v.value found here wide fat_is words_there first second third in
+        goes_on m (parts_of after) (all_links source pages calls k e w c2 shared names facts_there object index (s2 z) z 0 (free + 3) z_high (inl three_high) cell v.value found here wide fat_is words_there first second third) (ap (reached (parts_of after)) last)
+        (all_path source pages calls k e w c2 shared names facts_there object index (s2 z) z 0 (free + 3) z_high (inl three_high) cell v.value found here wide fat_is words_there first second third at_first at_second at_third)
+        count_up jump (shared_stored source pages calls k e w c2 shared names facts_there object index (s2 z) z 0 (free + 3) z_high (inl three_high) cell v.value found here wide fat_is words_there first second third).related kept.same_pages kept.few_pages kept.counters.1
+        (frames_stored source pages calls k e w c2 shared names facts_there object index (s2 z) z 0 (free + 3) z_high (inl three_high) cell v.value found here wide fat_is words_there first second third)
+        (λ n least. above_stored source pages calls k e w c2 shared names facts_there object index (s2 z) z 0 (free + 3) z_high (inl three_high) cell v.value found here wide fat_is words_there first second third n least)
+        (data_stored source pages calls k e w c2 shared names facts_there object index (s2 z) z 0 (free + 3) z_high (inl three_high) cell v.value found here wide fat_is words_there first second third)
 
     fills : (narrow : Bool) → (own == 1) ≡ narrow → Is shared.tables v.kind v.value slots (free + 3) → IsMatched source pages calls (Running (Given v) (entry ∷ k) e w) (plain.Running c)
     fills true narrow is = fills_word (eqb-true own 1 narrow) is
     fills false wide is = fills_words (wide_kind wanted wide) is
 
   -- it is written, and the index goes to the next one
-  pub array_filled : (object count index level : ℕ) (wanted : Kind) (element : Expression) (v : Kinded) (o : Operand) (k : List Entry) (e : Environment) (w : World) (c : Configuration) → plain.HoldsWords (plain.Running c)
+  pub array_filled : (object count index level : ℕ) (wanted : Kind) (element : Expression) (v : Kinded) (o : Operand) (k : List Entry) (e : Environment) (w : World) (c : Configuration) → plain.HoldsWords (plain.Running c) → AreNamed source e.locals (callers k) w c.active.function c.active.base c.frames c.store
       → IsWell (step source (Running (Given v) (Needs (FillElement object count index level wanted element) ∷ k) e w))
       → (shared : SharedAt source pages calls (Needs (FillElement object count index level wanted element) ∷ k) e w c) → DataIn source shared.tables c.active.slots k e w c
       → IsIn shared.tables v c.active.slots o → Holds shared.tables c.active.slots (floor source c.active.function k) (held (Needs (FillElement object count index level wanted element) ∷ k))
       → ValueStack source c.active.function e.locals v.kind o c.active.next c.frames (Needs (FillElement object count index level wanted element) ∷ k)
       → IsMatched source pages calls (Running (Given v) (Needs (FillElement object count index level wanted element) ∷ k) e w) (plain.Running c)
-  array_filled object count index level wanted element v o k e w c words well shared facts is ((part, long, now), holds) (d, h, s, q, there, inside, few, level_is, elements, lands) =
+  array_filled object count index level wanted element v o k e w c words names well shared facts is ((part, long, now), holds) (d, h, s, q, there, inside, few, level_is, elements, lands) =
       let behind : Focus = Repeating object count (suc index) level wanted element in
       let fitting = is_fitting (is_kind v.kind wanted) (stored_in (cell_at w object index) object index v behind k e w) w well in
       let does : step source (Running (Given v) (Needs (FillElement object count index level wanted element) ∷ k) e w) ≡ stored_in (cell_at w object index) object index v behind k e w
       = ap (λ (b : Bool). if b then stored_in (cell_at w object index) object index v behind k e w else wrong w) fitting in
       let (cell, found, same, goes) = cell_is_there (cell_at w object index) object index v behind k e w (subst IsWell does well) in
       let fits = same_kind v.kind wanted fitting in
-      fills object count index level wanted element v k e w c words shared facts part long now holds d h s q inside few level_is elements lands cell found (same ∙ fits) fits (does ∙ goes)
+      fills object count index level wanted element v k e w c words names shared facts part long now holds d h s q inside few level_is elements lands cell found (same ∙ fits) fits (does ∙ goes)
       (words_of_kind wanted == 1) refl (subst (IsIn shared.tables v c.active.slots) there is)

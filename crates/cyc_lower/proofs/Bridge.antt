@@ -12,7 +12,7 @@ use Rattle.cyc_types.specs.declared.typed.Operator.TheVariants as operators
 use Rattle.cyc_types.specs.declared.typed.PointerOperator.{PointerOperator}
 use Rattle.cyc_types.specs.declared.typed.PointerOperator.TheVariants as pointers
 use Rattle.cyc_types.specs.Types.{Ty, words_of}
-use Rattle.cyc_types.specs.TypedTrees.{Array, Counter, Load, New, OnHeap, AsUnique, ByHandle, Initial, Plain, Fields, Dereference, Target, Lvalue, Local, Global, Expression, Number, NullPointer, Copy, Call, Unary, Binary, Assign, Converted, Convert, Arguments, NoArguments, MoreArguments, Operations, NoOperations, ThenCompute, ThenTest, ThenPointer, Statement, Block, Empty, Evaluate, If, While, Return, Break, Continue, Items, NoItems, MoreItems, Execute, Declare, Signature, StructType, Function, Program, Move, Peek, ThenPointerPeek, type_of, AddressOfCell, Store, Member, type_of_place, FreeUnique, Side, VariableSide, CellSide, Swap, Throw, Try, Clauses, NoClauses, Default, Case, GlobalVariable, NumberOfElements, Element, FreeKey, HeapRegion, DeclareRegion, OpenRegion, DeclareAlias, DeclareKey}
+use Rattle.cyc_types.specs.TypedTrees.{Array, Counter, Load, New, OnHeap, AsUnique, ByHandle, Initial, Plain, Fields, Dereference, Target, Lvalue, Local, Global, Expression, Number, NullPointer, Copy, Call, Unary, Binary, Assign, Converted, Convert, Arguments, NoArguments, MoreArguments, Operations, NoOperations, ThenCompute, ThenTest, ThenPointer, Statement, Block, Empty, Evaluate, If, While, Return, Break, Continue, Items, NoItems, MoreItems, Execute, Declare, Signature, StructType, Function, Program, Move, Peek, ThenPointerPeek, type_of, AddressOfCell, Store, Member, type_of_place, FreeUnique, Side, VariableSide, CellSide, Swap, Throw, Try, Clauses, NoClauses, Default, Case, GlobalVariable, NumberOfElements, Element, FreeKey, HeapRegion, DeclareRegion, OpenRegion, DeclareAlias, DeclareKey, AddressOf}
 use Rattle.cyc_types.specs.Numbered.{Numbering, argument_count, numbering_of, signatures_of}
 use Rattle.cyc_plain.specs.declared.instruction.BinaryOperator.TheVariants as plain_binary
 use Rattle.cyc_plain.specs.declared.instruction.Request.TheVariants as requests
@@ -46,6 +46,7 @@ use Rattle.cyc_lower.proofs.Values.{as_wide}
 use Rattle.cyc_lower.proofs.Relation.{bounds_in, types_in}
 use Rattle.cyc_lower.proofs.Calls.{FunctionsStand}
 use Rattle.cyc_lower.proofs.Slots.{global-inside}
+use Rattle.cyc_lower.proofs.Sources.{IsApart, stored_apart}
 
 -- the end of the second part
 cut : (p q : ℕ) (a b : List Instruction) → p + length (a ++ b) ≡ q → p + length a + length b ≡ q
@@ -315,9 +316,9 @@ module _ (code : List Instruction) (b : Numbering) (types : Types) (raised : Blo
   stores_stand zero address offset slot p q end has = omega (arith, end)
   stores_stand (suc many) address offset slot p q end (here, rest) = (here, stores_stand many address (offset + 4) (suc slot) (p + 1) q (omega (arith, end)) rest)
 
-  saved_stands : (words address : ℕ) (o : Operand) (p q : ℕ) → p + length (saved_code words address o) ≡ q → HasAt code p (saved_code words address o) → SavedAt code b types words address o p q
-  saved_stands words address (operands.Slot n) p q end has = stores_stand words address 0 n p q end has
-  saved_stands words address (operands.Word n) p q end (here, none) = (here, end)
+  saved_stands : (words address : ℕ) (o : Operand) (p q : ℕ) → IsApart types words address o → p + length (saved_code words address o) ≡ q → HasAt code p (saved_code words address o) → SavedAt code b types words address o p q
+  saved_stands words address (operands.Slot n) p q apart end has = (stores_stand words address 0 n p q end has, apart)
+  saved_stands words address (operands.Word n) p q apart end (here, none) = (here, end)
 
   -- each value that is passed has a word or more
   passed_least : (cs : Arguments) → argument_count cs ≤ all_passed cs
@@ -462,6 +463,9 @@ module _ (code : List Instruction) (b : Numbering) where
           place_stands types raised x t p r numbered refl (has_front code p front back has),
           loaded_stands code b types raised (words_of (type_of_place x) == 1) o (place_offset (starts_of types) x) d t r q (cut p q front back end) (has_back code p front back has),
         )
+    expression_stands types raised (AddressOf (Local w n) ty) d t p q (few, (v, there, words)) end (here, none) =
+        (v, there, subst (λ (count : ℕ). At code p (instructions.AddressOf d (slot_of (starts_of types) n) count)) words here, end)
+    expression_stands types raised (AddressOf (Global n) ty) d t p q (v, there, words) end (here, none) = (v, there, here, end)
     expression_stands types raised (AddressOfCell x ty) d t p q numbered end has =
         let o = place_operand (starts_of types) x t in
         let front = place_code (starts_of types) x p t in
@@ -497,7 +501,7 @@ module _ (code : List Instruction) (b : Numbering) where
             place_stands types raised x t p r place refl (has_front code p front bring has_address),
             address_stands code b types raised a bytes t r s (cut p s front bring refl) (has_back code p front bring has_address),
             converted_operand_stands types raised c (t + 1) s u numbered refl (has_front code s value write has_value),
-            saved_stands code b types raised (passed_words c) t o u m (cut s m value write (cut p m address (value ++ write) refl)) (has_back code s value write has_value),
+            saved_stands code b types raised (passed_words c) t o u m (stored_apart types b c t numbered) (cut s m value write (cut p m address (value ++ write) refl)) (has_back code s value write has_value),
           ),
           copy_by code b types raised (is_in o d) (passed_words c) o d m q (cut p q both back end) (has_back code p both back has),
         )
@@ -525,7 +529,6 @@ module _ (code : List Instruction) (b : Numbering) where
         let m = p + length front in
         let (here, none) = has_back code p front _ has in
         (o, m, operand_by code b types raised (operand_of (starts_of types) a) _ inner (value_slot (starts_of types) a t) p m refl (has_front code p front _ has) (λ e h. expression_stands types raised a (value_slot (starts_of types) a t) t p m numbered e h), here, cut p q front _ end)
-    expression_stands types raised a d t p q numbered end has = absurd numbered
 
     place_stands : (types : Types) (raised : BlocksStand code types.raises) → (x : Dereference) (t p q : ℕ) → FitsCell b types x → p + length (place_code (starts_of types) x p t) ≡ q → HasAt code p (place_code (starts_of types) x p t)
         → PlaceAt code b types x (place_operand (starts_of types) x t) (place_offset (starts_of types) x) t p q
@@ -784,7 +787,7 @@ module _ (code : List Instruction) (b : Numbering) (types : Types) (raised : Blo
           place_stands code b types raised x t p r place refl (has_front code p front bring has_address),
           address_stands code b types raised a bytes t r s (cut p s front bring refl) (has_back code p front bring has_address),
           converted_operand_stands code b types raised c (t + 1) s u numbered refl (has_front code s value write has_value),
-          saved_stands code b types raised (passed_words c) t o u q (cut s q value write (cut p q address (value ++ write) end)) (has_back code s value write has_value),
+          saved_stands code b types raised (passed_words c) t o u q (stored_apart types b c t numbered) (cut s q value write (cut p q address (value ++ write) end)) (has_back code s value write has_value),
         ),
       )
   discarded_stands a t p q numbered end has =
@@ -1101,10 +1104,10 @@ module _ (code : List Instruction) (b : Numbering) (types : Types) (raised : Blo
         let front = statement_code (starts_of types) s p exits d in
         let back = items_code (starts_of types) js (p + length front) exits d in
         (p + length front, statement_stands s in_loop exits d p (p + length front) numbered refl (has_front code p front back has), items_stand js in_loop exits d (p + length front) q rest (cut p q front back end) (has_back code p front back has))
-    items_stand (MoreItems (Declare n t v) js) in_loop exits d p q (few, numbered, rest) end has =
+    items_stand (MoreItems (Declare n t v) js) in_loop exits d p q (few, room, numbered, rest) end has =
         let front = declaration_code (starts_of types) n v p d in
         let back = items_code (starts_of types) js (p + length front) exits d in
-        (p + length front, declaration_stands n v d p (p + length front) few numbered refl (has_front code p front back has), items_stand js in_loop exits d (p + length front) q rest (cut p q front back end) (has_back code p front back has))
+        (p + length front, room, declaration_stands n v d p (p + length front) few numbered refl (has_front code p front back has), items_stand js in_loop exits d (p + length front) q rest (cut p q front back end) (has_back code p front back has))
     items_stand (MoreItems (DeclareRegion r n) js) in_loop exits d p q ((global, counts), few, room, numbered) end has =
         let front = opened_code (starts_of types) n d in
         let m = p + length front in

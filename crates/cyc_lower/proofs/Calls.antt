@@ -35,16 +35,17 @@ use Rattle.cyc_lower.specs.Slots.{starts_of, slot_of, global_types}
 use Rattle.cyc_lower.proofs.Slots.{slot-parameter, words-parameter, slot_types-many, words-append}
 use Rattle.cyc_lower.proofs.Widths.{kind_of_result, result_kind, same_kind, type_words, words_in, HasRoom}
 use Rattle.cyc_lower.proofs.Values.{of_kind, int_is}
-use Rattle.cyc_objects.specs.Tables.{Variable, with_row, with_handle}
+use Rattle.cyc_objects.specs.Tables.{with_row, with_handle}
 use Rattle.cyc_objects.specs.Words.{Is}
 use Rattle.cyc_objects.specs.Related.{scopes}
 use Rattle.cyc_objects.proofs.Values.{Grows-row, Grows-handle, Is-grows}
-use Rattle.cyc_lower.proofs.Relation.{IsIn, words_held, Holds, HoldsFrom, held, callers, homes, Shared, DataAt, DataIn, SharedAt, prints_only, gives_byte, StatementStack, LandsStack, PrintsStack, nowhere, behind_statement, Related, Matches, code_of, types_in, types_at, starts_at, parameters_in, parameters_at, bounds_in, bounds_at, called_at, returned_at, base_of, top, behind_records, in_place, floor, HandlersStand, CountsBy}
+use Rattle.cyc_lower.proofs.Relation.{IsIn, words_held, Holds, HoldsFrom, held, callers, homes, Shared, DataAt, DataIn, SharedAt, prints_only, gives_byte, StatementStack, LandsStack, PrintsStack, nowhere, behind_statement, Related, Matches, code_of, types_in, types_at, starts_at, parameters_in, parameters_at, bounds_in, bounds_at, called_at, returned_at, base_of, top, behind_records, in_place, floor, HandlersStand, CountsBy, row_of, call_slots}
 use Rattle.cyc_lower.proofs.Data.{words-reverse, Holds-rest, in_order, arguments_copied, data_declared, data_called, data_grows, HoldsFrom-grows, calls_counted}
 use Rattle.cyc_lower.proofs.Accesses.{IsWell, is_fitting, is_declared, home_there}
 use Rattle.cyc_lower.proofs.Matched.{IsMatched, above, below, matching, silently, by_one, by_two_known, shared_within, shared_way, steps_to, place_in, known}
 use Rattle.cyc_lower.proofs.Evaluations.{IsStep, landed_word, lands_at}
 use Rattle.cyc_lower.proofs.Sharing.{shared_declared, row_declared, shared_opened}
+use Rattle.cyc_lower.proofs.Rows.{row-fits, row-variable}
 
 module _ (source : Program) (pages calls : ℕ) where
   -- ---- services
@@ -125,7 +126,7 @@ module _ (source : Program) (pages calls : ℕ) where
   entering h arguments k e w c well (shared, facts, (m, items, stack, holds, own)) =
       silently source pages calls (Running (Entering h arguments) k e w) (Running (Binding 0 h.parameters arguments h.body) (region_end e w ∷ k) (inside e w) (opened w)) (plain.Running c) refl (
         shared_opened source pages calls k e w c shared,
-        (data_grows shared.tables (with_handle shared.tables None) (Grows-handle shared.tables None) source c.active.function w.objects e.locals (callers k) c.active.slots c.globals c.frames facts.0, facts.1),
+        (data_grows shared.tables (with_handle shared.tables None) (Grows-handle shared.tables None) source c.active.function c.active.base w.objects e.locals (callers k) c.active.slots c.globals c.frames facts.0, facts.1),
         (m, [], items, (m, in_place refl, stack), HoldsFrom-grows shared.tables (with_handle shared.tables None) (Grows-handle shared.tables None) c.active.slots 0 arguments holds, own, refl),
       )
       (omega arith)
@@ -155,9 +156,10 @@ module _ (source : Program) (pages calls : ℕ) where
       let fits = is_fitting (is_kind v.kind (kind_of t)) made_it w well in
       let does : step source (Running (Binding n (t ∷ types) (v ∷ arguments) body) k e w) ≡ made_it = ap (λ (b : Bool). if b then made_it else wrong w) fits in
       let (r, home) = home_there (Binding (suc n) types arguments body) n (kind_of t) (Some v.value) k e w (subst IsWell does well) in
-      let grown = with_row shared.tables Variable in
-      let grows = Grows-row shared.tables Variable in
-      let more = data_grows shared.tables grown grows source g w.objects e.locals (callers k) c.active.slots c.globals c.frames facts.0 in
+      let row = row_of (call_slots source g c.active.base) (slot_of (starts_at source g) n) (kind_of t) in
+      let grown = with_row shared.tables row in
+      let grows = Grows-row shared.tables row in
+      let more = data_grows shared.tables grown grows source g c.active.base w.objects e.locals (callers k) c.active.slots c.globals c.frames facts.0 in
       let is_now = Is-grows grows v.kind v.value c.active.slots (words_of_all first) is in
       let kind_is : v.kind ≡ kind_of t = same_kind v.kind (kind_of t) fits in
       let wide : words_of_kind v.kind ≡ words_of t = ap words_of_kind kind_is ∙ type_words t in
@@ -167,9 +169,9 @@ module _ (source : Program) (pages calls : ℕ) where
       silently source pages calls (Running (Binding n (t ∷ types) (v ∷ arguments) body) k e w)
       (Running (Binding (suc n) types arguments body) k (with_local e n (length w.objects)) (made w x)) (plain.Running c)
       (does ∙ is_declared (region_at w e.home) (Binding (suc n) types arguments body) n (kind_of t) (Some v.value) k e w (subst IsWell does well)) (
-        shared_declared source pages calls k e w c shared n r (kind_of t) (Some v.value) home,
+        shared_declared source pages calls k e w c shared n r (kind_of t) (Some v.value) row home (row-fits (call_slots source g c.active.base) (slot_of (starts_at source g) n) (kind_of t) e.home (Some v.value)) (row-variable (call_slots source g c.active.base) (slot_of (starts_at source g) n) (kind_of t)),
         (
-          data_declared grown source g w.objects e (callers k) c.active.slots c.active.slots c.globals c.frames n 0 x (omega (arith, local, count)) (omega arith) (row_declared source pages calls k e w c shared) (λ i out. refl)
+          data_declared grown source g c.active.base w.objects e (callers k) c.active.slots c.active.slots c.globals c.frames n 0 x (omega (arith, local, count)) (omega arith) (record { kind = kind_of t; room = subst (HasRoom (types_at source g) n) kind_is room; row = row_declared source pages calls k e w c shared row }) (λ i out. refl)
               (λ u has.
               let u_is : v ≡ u = ap (λ i. of_kind i v.value) kind_is ∙ same_Some (of_kind (kind_of t) v.value) u has in
               subst (λ (y : Kinded). Is grown y.kind y.value c.active.slots (slot_of (starts_at source g) n) × HasRoom (types_at source g) n y.kind) u_is (subst (Is grown v.kind v.value c.active.slots) (sym there) is_now, room)) more,
@@ -215,14 +217,14 @@ module _ (source : Program) (pages calls : ℕ) where
       ∙ sym (ap (λ (f : Option Function). kind_of_result (bounds_in source f).result) there)
 
   -- a function has been called, with its arguments in the first slots
-  pub entered : FunctionsStand → (n : ℕ) (h : Function) (arguments : List Kinded) (k : List Entry) (w : World) (slots globals : Words) (handlers : List Handler) (frames : List Frame) (store : StoreState) (output input : List ℕ)
+  pub entered : FunctionsStand → (n base : ℕ) (h : Function) (arguments : List Kinded) (k : List Entry) (w : World) (slots globals : Words) (handlers : List Handler) (frames : List Frame) (store : StoreState) (output input : List ℕ)
       → slice_get source.functions n ≡ Some h
       → (shared : Shared pages calls w (no_locals.home ∷ homes k) (CountsBy source None no_locals k globals store (scopes w.regions)) output input store (length frames))
-      → DataAt source shared.tables n w.objects (λ (number : ℕ). None) (callers k) slots globals frames × HandlersStand source n slots handlers frames k → floor source n k ≡ base_of source n
+      → DataAt source shared.tables n base w.objects (λ (number : ℕ). None) (callers k) slots globals frames × HandlersStand source n slots handlers frames k → floor source n k ≡ base_of source n
       → HoldsFrom shared.tables slots 0 arguments → ((m : ℕ) → At (code_of source n) m (instructions.Finish (base_of source n)) → StatementStack source n outside_loops m frames k)
       → Related source pages calls (Entering h arguments) k no_locals w
-      (record { active = record { function = n; next = 0; slots = slots; handlers = handlers }; frames = frames; globals = globals; store = store; output = output; input = input })
-  entered stand n h arguments k w slots globals handlers frames store output input there shared facts least holds stack =
+      (record { active = record { function = n; next = 0; base = base; slots = slots; handlers = handlers }; frames = frames; globals = globals; store = store; output = output; input = input })
+  entered stand n base h arguments k w slots globals handlers frames store output input there shared facts least holds stack =
       let (m, items, end) = stand n h there in
       let g = code_of source n in (
         shared,
@@ -296,7 +298,7 @@ module _ (source : Program) (pages calls : ℕ) where
                 by_one source pages calls does shared here
                 (λ choice.
                 let slots = copied c.active.slots d (words_held before) choice.contents 0 in
-                entered stand n h (reverse before) (Caller e ∷ k) w slots c.globals [] (frame ∷ c.frames) c.store c.output c.input there
+                entered stand n choice.base h (reverse before) (Caller e ∷ k) w slots c.globals [] (frame ∷ c.frames) c.store c.output c.input there
                 (record {
                   same_output = shared.same_output;
                   same_input = shared.same_input;
@@ -309,7 +311,7 @@ module _ (source : Program) (pages calls : ℕ) where
                   fits = fine;
                   counters = shared.counters;
                 }) (
-                  data_called shared.tables source g n w.objects e (behind_records k) (held k) (callers k) c.active.slots slots c.globals frame c.frames refl refl (Holds-rest shared.tables c.active.slots base before (held k) holds) facts.0,
+                  data_called shared.tables source g c.active.base n choice.base w.objects e (behind_records k) (held k) (callers k) c.active.slots slots c.globals frame c.frames refl refl refl (Holds-rest shared.tables c.active.slots base before (held k) holds) facts.0,
                   (refl, facts.1),
                 )
                 refl

@@ -140,10 +140,10 @@ module _ (source : Program) (pages calls : ℕ) where
   -- ---- data
 
   -- the globals of the source stay
-  pub data_told : (t : Tables) (g : ℕ) (objects : List Object) (locals : ℕ → Option ℕ) (outer : List Waiting) (slots globals : Words) (frames : List Frame) (many : ℕ)
-      → DataAt source t g objects locals outer slots globals frames → DataAt source t g objects locals outer slots (told_in (scopes_of source) globals many) frames
-  data_told t g objects locals outer slots globals frames many facts =
-      data_behind t source g objects locals outer slots globals (told_in (scopes_of source) globals many) frames (λ m below. stays m below (scopes_of source) (scopes_behind source)) facts
+  pub data_told : (t : Tables) (g base : ℕ) (objects : List Object) (locals : ℕ → Option ℕ) (outer : List Waiting) (slots globals : Words) (frames : List Frame) (many : ℕ)
+      → DataAt source t g base objects locals outer slots globals frames → DataAt source t g base objects locals outer slots (told_in (scopes_of source) globals many) frames
+  data_told t g base objects locals outer slots globals frames many facts =
+      data_behind t source g base objects locals outer slots globals (told_in (scopes_of source) globals many) frames (λ m below. stays m below (scopes_of source) (scopes_behind source)) facts
     where
       stays : (m : ℕ) → m < words_of_all (global_types source.globals) → (o : Option ℕ) → ((place : ℕ) → o ≡ Some place → words_of_all (global_types source.globals) ≡ place) → told_in o globals many m ≡ globals m
       stays m below None behind = refl

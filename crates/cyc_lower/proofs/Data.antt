@@ -21,10 +21,11 @@ use Rattle.cyc_lower.proofs.Widths.{words_in, HasRoom, HasGlobal, Outside}
 use Rattle.cyc_lower.proofs.Slots.{slot-room, slot-apart, global-room, global-apart, global-inside, scopes_behind}
 use Rattle.cyc_plain.specs.declared.instruction.Operand.{Operand as Place}
 use Rattle.cyc_plain.specs.declared.instruction.Operand.TheVariants as operands
-use Rattle.cyc_objects.specs.Tables.{Variable, Tables, Grows}
+use Rattle.cyc_objects.specs.Tables.{Tables, Grows}
 use Rattle.cyc_objects.specs.Words.{Points, Is}
 use Rattle.cyc_objects.proofs.Values.{Is-grows, Is-same as words_same}
-use Rattle.cyc_lower.proofs.Relation.{behind_records, scopes_in, IsKept, IsTold, floor, HandlersStand, callers, IsWord, IsIn, Waiting, AreOfVariables, words_held, height, Holds, HoldsFrom, content_of, contents, LocalsHold, GlobalsHold, FramesHold, DataAt, types_at, starts_at, base_of, left_by}
+use Rattle.cyc_lower.proofs.Known.{global-row_grows}
+use Rattle.cyc_lower.proofs.Relation.{CallSlots, row_of, IsLocalRow, call_slots, behind_records, scopes_in, IsKept, IsTold, floor, HandlersStand, callers, IsWord, IsIn, Waiting, AreOfVariables, words_held, height, Holds, HoldsFrom, content_of, contents, LocalsHold, GlobalsHold, FramesHold, DataAt, types_at, starts_at, base_of, left_by}
 
 -- ---- values in slots
 
@@ -204,9 +205,9 @@ module _ (t : Tables) where
         (subst (λ n. HoldsFrom t from n vs) (let e : source + i + words_of_kind v.kind ≡ source + (i + words_of_kind v.kind) = omega arith in e) holds),
   )
 
-  pub locals_kept : (types : Types) (objects others : List Object) (locals : ℕ → Option ℕ) (low high : ℕ) (slots : Words)
-      → SameBetween low high objects others → LocalsHold t types objects locals low high slots → LocalsHold t types others locals low high slots
-  locals_kept types objects others locals low high slots same hold = record {
+  pub locals_kept : (types : Types) (s : CallSlots) (objects others : List Object) (locals : ℕ → Option ℕ) (low high : ℕ) (slots : Words)
+      → SameBetween low high objects others → LocalsHold t types s objects locals low high slots → LocalsHold t types s others locals low high slots
+  locals_kept types s objects others locals low high slots same hold = record {
     within = hold.within;
     apart = hold.apart;
     rows = hold.rows;
@@ -223,9 +224,9 @@ module _ (t : Tables) where
       let slot = slot_of (starts_of types) number in
       Is-same v.kind v.value slots other slot slot (λ i below. same (slot + i) (omega arith) (omega (arith, below, room))) is
 
-  pub locals_same_slots : (types : Types) (objects : List Object) (locals : ℕ → Option ℕ) (low high : ℕ) (slots other : Words)
-      → ((n : ℕ) → n < words_of_all types.locals → other n ≡ slots n) → LocalsHold t types objects locals low high slots → LocalsHold t types objects locals low high other
-  locals_same_slots types objects locals low high slots other same hold = record {
+  pub locals_same_slots : (types : Types) (s : CallSlots) (objects : List Object) (locals : ℕ → Option ℕ) (low high : ℕ) (slots other : Words)
+      → ((n : ℕ) → n < words_of_all types.locals → other n ≡ slots n) → LocalsHold t types s objects locals low high slots → LocalsHold t types s objects locals low high other
+  locals_same_slots types s objects locals low high slots other same hold = record {
     within = hold.within;
     apart = hold.apart;
     rows = hold.rows;
@@ -236,12 +237,12 @@ module _ (t : Tables) where
   }
 
   -- a local is assigned: the words of its value differ, and no others
-  pub locals_assigned : (types : Types) (objects others : List Object) (locals : ℕ → Option ℕ) (low high : ℕ) (slots after : Words) (number object : ℕ) (v : Operand)
+  pub locals_assigned : (types : Types) (s : CallSlots) (objects others : List Object) (locals : ℕ → Option ℕ) (low high : ℕ) (slots after : Words) (number object : ℕ) (v : Operand)
       → locals number ≡ Some object → contents others object ≡ Some v → ((o : ℕ) → o ≢ object → contents others o ≡ contents objects o)
       → HasRoom types number v.kind → Is t v.kind v.value after (slot_of (starts_of types) number)
       → ((m : ℕ) → Outside (slot_of (starts_of types) number) (words_of_kind v.kind) m → after m ≡ slots m)
-      → LocalsHold t types objects locals low high slots → LocalsHold t types others locals low high after
-  locals_assigned types objects others locals low high slots after number object v here now same room is elsewhere hold = record {
+      → LocalsHold t types s objects locals low high slots → LocalsHold t types s others locals low high after
+  locals_assigned types s objects others locals low high slots after number object v here now same room is elsewhere hold = record {
     within = hold.within;
     apart = hold.apart;
     rows = hold.rows;
@@ -262,13 +263,13 @@ module _ (t : Tables) where
   }
 
   -- a local is declared, whose object is the one made last, and so many words of it are written
-  pub locals_declared : (types : Types) (objects : List Object) (e : Environment) (low : ℕ) (slots other : Words) (number many : ℕ) (x : Object)
-      → number < length types.locals → many ≤ words_in types.locals number → low ≤ length objects → slice_get t.rows (length objects) ≡ Some Variable
+  pub locals_declared : (types : Types) (s : CallSlots) (objects : List Object) (e : Environment) (low : ℕ) (slots other : Words) (number many : ℕ) (x : Object)
+      → number < length types.locals → many ≤ words_in types.locals number → low ≤ length objects → IsLocalRow t types s number (length objects)
       → ((m : ℕ) → Outside (slot_of (starts_of types) number) many m → other m ≡ slots m)
       → ((v : Operand) → content_of (Some x) ≡ Some v → Is t v.kind v.value other (slot_of (starts_of types) number) × HasRoom types number v.kind)
-      → LocalsHold t types objects e.locals low (length objects) slots
-      → LocalsHold t types (objects ++ x ∷ []) (with_local e number (length objects)).locals low (length (objects ++ x ∷ [])) other
-  locals_declared types objects e low slots other number many x below few low_is row same is hold =
+      → LocalsHold t types s objects e.locals low (length objects) slots
+      → LocalsHold t types s (objects ++ x ∷ []) (with_local e number (length objects)).locals low (length (objects ++ x ∷ [])) other
+  locals_declared types s objects e low slots other number many x below few low_is row same is hold =
       let locals = e.locals in
       let long : length (objects ++ x ∷ []) ≡ length objects + 1 = length-append objects (x ∷ []) in
       record {
@@ -299,7 +300,7 @@ module _ (t : Tables) where
         rows = λ n o at. elim (cases_eq n number) [
           | inl equal ↦
               let o_is : length objects ≡ o = same_Some (length objects) o (sym (local_new locals number (length objects)) ∙ ap (with_local e number (length objects)).locals (sym equal) ∙ at) in
-              ap (slice_get t.rows) (sym o_is) ∙ row
+              subst (λ m. IsLocalRow t types s m o) (sym equal) (subst (IsLocalRow t types s number) o_is row)
           | inr apart ↦ hold.rows n o (sym (local_other locals number n (length objects) apart) ∙ at)
         ];
         holds = λ n o v at has. elim (cases_eq n number) [
@@ -315,17 +316,17 @@ module _ (t : Tables) where
       }
 
   -- no local is there before the first is declared
-  pub no_locals_hold : (types : Types) (objects : List Object) (low high : ℕ) (slots : Words) → LocalsHold t types objects (λ (number : ℕ). None) low high slots
-  no_locals_hold types objects low high slots = record {
+  pub no_locals_hold : (types : Types) (s : CallSlots) (objects : List Object) (low high : ℕ) (slots : Words) → LocalsHold t types s objects (λ (number : ℕ). None) low high slots
+  no_locals_hold types s objects low high slots = record {
     within = λ number object at. absurd (none-some object at);
     apart = λ number other object at at_other. absurd (none-some object at);
     rows = λ number object at. absurd (none-some object at);
     holds = λ number object v at has. absurd (none-some object at);
   }
 
-  pub locals_raised : (types : Types) (objects : List Object) (locals : ℕ → Option ℕ) (low high higher : ℕ) (slots : Words) → high ≤ higher
-      → LocalsHold t types objects locals low high slots → LocalsHold t types objects locals low higher slots
-  locals_raised types objects locals low high higher slots raised hold = record {
+  pub locals_raised : (types : Types) (s : CallSlots) (objects : List Object) (locals : ℕ → Option ℕ) (low high higher : ℕ) (slots : Words) → high ≤ higher
+      → LocalsHold t types s objects locals low high slots → LocalsHold t types s objects locals low higher slots
+  locals_raised types s objects locals low high higher slots raised hold = record {
     within = λ number object at. let inside = hold.within number object at in (inside.0, inside.1, omega (arith, inside.2, raised));
     apart = hold.apart;
     rows = hold.rows;
@@ -350,7 +351,7 @@ module _ (t : Tables) where
         let above = globals_below objects low frames outer rest in (
           low,
           below,
-          (locals_kept (types_at source f.caller.function) objects others e.locals low high f.caller.slots (λ o from to. same o (omega (arith, above, from)) to) hold, values),
+          (locals_kept (types_at source f.caller.function) (call_slots source f.caller.function f.caller.base) objects others e.locals low high f.caller.slots (λ o from to. same o (omega (arith, above, from)) to) hold, values),
           frames_kept objects others low frames outer (λ o from to. same o from (omega (arith, to, below))) rest,
         )
 
@@ -361,30 +362,30 @@ module _ (t : Tables) where
 
     -- ---- all data
 
-    pub data_same : (g : ℕ) (objects : List Object) (locals : ℕ → Option ℕ) (outer : List Waiting) (slots other globals : Words) (frames : List Frame)
-        → ((n : ℕ) → n < base_of source g → other n ≡ slots n) → DataAt source t g objects locals outer slots globals frames → DataAt source t g objects locals outer other globals frames
-    data_same g objects locals outer slots other globals frames same (low, below, hold, waiting, words) =
-        (low, below, locals_same_slots (types_at source g) objects locals low (length objects) slots other same hold, waiting, words)
+    pub data_same : (g base : ℕ) (objects : List Object) (locals : ℕ → Option ℕ) (outer : List Waiting) (slots other globals : Words) (frames : List Frame)
+        → ((n : ℕ) → n < base_of source g → other n ≡ slots n) → DataAt source t g base objects locals outer slots globals frames → DataAt source t g base objects locals outer other globals frames
+    data_same g base objects locals outer slots other globals frames same (low, below, hold, waiting, words) =
+        (low, below, locals_same_slots (types_at source g) (call_slots source g base) objects locals low (length objects) slots other same hold, waiting, words)
 
     -- words are written behind the locals
-    pub data_above : (g : ℕ) (objects : List Object) (locals : ℕ → Option ℕ) (outer : List Waiting) (slots after globals : Words) (frames : List Frame) (n many : ℕ)
-        → base_of source g ≤ n → ((m : ℕ) → Outside n many m → after m ≡ slots m) → DataAt source t g objects locals outer slots globals frames → DataAt source t g objects locals outer after globals frames
-    data_above g objects locals outer slots after globals frames n many above same facts =
-        data_same g objects locals outer slots after globals frames (λ m below. same m (inl (omega (arith, below, above)))) facts
+    pub data_above : (g base : ℕ) (objects : List Object) (locals : ℕ → Option ℕ) (outer : List Waiting) (slots after globals : Words) (frames : List Frame) (n many : ℕ)
+        → base_of source g ≤ n → ((m : ℕ) → Outside n many m → after m ≡ slots m) → DataAt source t g base objects locals outer slots globals frames → DataAt source t g base objects locals outer after globals frames
+    data_above g base objects locals outer slots after globals frames n many above same facts =
+        data_same g base objects locals outer slots after globals frames (λ m below. same m (inl (omega (arith, below, above)))) facts
 
-    pub data_assigned : (g : ℕ) (objects others : List Object) (locals : ℕ → Option ℕ) (outer : List Waiting) (slots after globals : Words) (frames : List Frame) (number object : ℕ) (v : Operand)
+    pub data_assigned : (g base : ℕ) (objects others : List Object) (locals : ℕ → Option ℕ) (outer : List Waiting) (slots after globals : Words) (frames : List Frame) (number object : ℕ) (v : Operand)
         → locals number ≡ Some object → contents others object ≡ Some v → ((o : ℕ) → o ≢ object → contents others o ≡ contents objects o) → length others ≡ length objects
         → HasRoom (types_at source g) number v.kind → Is t v.kind v.value after (slot_of (starts_at source g) number)
         → ((m : ℕ) → Outside (slot_of (starts_at source g) number) (words_of_kind v.kind) m → after m ≡ slots m)
-        → DataAt source t g objects locals outer slots globals frames → DataAt source t g others locals outer after globals frames
-    data_assigned g objects others locals outer slots after globals frames number object v here now same long room is elsewhere (low, below, hold, waiting, words) =
+        → DataAt source t g base objects locals outer slots globals frames → DataAt source t g base others locals outer after globals frames
+    data_assigned g base objects others locals outer slots after globals frames number object v here now same long room is elsewhere (low, below, hold, waiting, words) =
         let inside = hold.within number object here in
         let above = globals_below objects low frames outer waiting in
         let not : (o : ℕ) → o < low → o ≢ object = λ o less e. absurd (omega (arith, e, less, inside.1)) in (
           low,
           omega (arith, below, long),
-          subst (λ high. LocalsHold t (types_at source g) others locals low high after) (sym long)
-              (locals_assigned (types_at source g) objects others locals low (length objects) slots after number object v here now same room is elsewhere hold),
+          subst (λ high. LocalsHold t (types_at source g) (call_slots source g base) others locals low high after) (sym long)
+              (locals_assigned (types_at source g) (call_slots source g base) objects others locals low (length objects) slots after number object v here now same room is elsewhere hold),
           frames_kept objects others low frames outer (λ o from to. same o (not o to)) waiting,
           globals_kept g objects others globals (λ o from to. same o (not o (omega (arith, to, above)))) words,
         )
@@ -402,19 +403,19 @@ module _ (t : Tables) where
           | inr behind ↦ inr (omega (arith, below, behind, room))
         ])) is
 
-    pub data_assigned_global : (g : ℕ) (objects others : List Object) (locals : ℕ → Option ℕ) (outer : List Waiting) (slots globals after : Words) (frames : List Frame) (number : ℕ) (v : Operand)
+    pub data_assigned_global : (g base : ℕ) (objects others : List Object) (locals : ℕ → Option ℕ) (outer : List Waiting) (slots globals after : Words) (frames : List Frame) (number : ℕ) (v : Operand)
         → HasGlobal (types_at source g) number v.kind → contents others number ≡ Some v → ((o : ℕ) → o ≢ number → contents others o ≡ contents objects o) → length others ≡ length objects
         → Is t v.kind v.value after (global_of (starts_at source g) number)
         → ((m : ℕ) → Outside (global_of (starts_at source g) number) (words_of_kind v.kind) m → after m ≡ globals m)
-        → DataAt source t g objects locals outer slots globals frames → DataAt source t g others locals outer slots after frames
-    data_assigned_global g objects others locals outer slots globals after frames number v room now same long is elsewhere (low, below, hold, waiting, words) =
+        → DataAt source t g base objects locals outer slots globals frames → DataAt source t g base others locals outer slots after frames
+    data_assigned_global g base objects others locals outer slots globals after frames number v room now same long is elsewhere (low, below, hold, waiting, words) =
         let above = globals_below objects low frames outer waiting in
         let few = global-inside (types_at source g) number v.kind room in
         let not : (o : ℕ) → global_count ≤ o → o ≢ number = λ o from e. absurd (omega (arith, e, from, few)) in (
           low,
           omega (arith, below, long),
-          subst (λ high. LocalsHold t (types_at source g) others locals low high slots) (sym long)
-              (locals_kept (types_at source g) objects others locals low (length objects) slots (λ o from to. same o (not o (omega (arith, above, from)))) hold),
+          subst (λ high. LocalsHold t (types_at source g) (call_slots source g base) others locals low high slots) (sym long)
+              (locals_kept (types_at source g) (call_slots source g base) objects others locals low (length objects) slots (λ o from to. same o (not o (omega (arith, above, from)))) hold),
           frames_kept objects others low frames outer (λ o from to. same o (not o from)) waiting,
           λ n less.
               let (row, held) = words n less in (
@@ -432,10 +433,10 @@ module _ (t : Tables) where
         )
 
     -- words behind all globals are written
-    pub data_behind : (g : ℕ) (objects : List Object) (locals : ℕ → Option ℕ) (outer : List Waiting) (slots globals after : Words) (frames : List Frame)
+    pub data_behind : (g base : ℕ) (objects : List Object) (locals : ℕ → Option ℕ) (outer : List Waiting) (slots globals after : Words) (frames : List Frame)
         → ((m : ℕ) → m < words_of_all (global_types source.globals) → after m ≡ globals m)
-        → DataAt source t g objects locals outer slots globals frames → DataAt source t g objects locals outer slots after frames
-    data_behind g objects locals outer slots globals after frames same (low, below, hold, waiting, words) = (
+        → DataAt source t g base objects locals outer slots globals frames → DataAt source t g base objects locals outer slots after frames
+    data_behind g base objects locals outer slots globals after frames same (low, below, hold, waiting, words) = (
       low,
       below,
       hold,
@@ -451,34 +452,35 @@ module _ (t : Tables) where
           ),
     )
 
-    pub data_declared : (g : ℕ) (objects : List Object) (e : Environment) (outer : List Waiting) (slots other globals : Words) (frames : List Frame) (number many : ℕ) (x : Object)
-        → number < length (types_at source g).locals → many ≤ words_in (types_at source g).locals number → slice_get t.rows (length objects) ≡ Some Variable
+    pub data_declared : (g base : ℕ) (objects : List Object) (e : Environment) (outer : List Waiting) (slots other globals : Words) (frames : List Frame) (number many : ℕ) (x : Object)
+        → number < length (types_at source g).locals → many ≤ words_in (types_at source g).locals number → IsLocalRow t (types_at source g) (call_slots source g base) number (length objects)
         → ((m : ℕ) → Outside (slot_of (starts_at source g) number) many m → other m ≡ slots m)
         → ((v : Operand) → content_of (Some x) ≡ Some v → Is t v.kind v.value other (slot_of (starts_at source g) number) × HasRoom (types_at source g) number v.kind)
-        → DataAt source t g objects e.locals outer slots globals frames → DataAt source t g (objects ++ x ∷ []) (with_local e number (length objects)).locals outer other globals frames
-    data_declared g objects e outer slots other globals frames number many x inside few row same is (low, below, hold, waiting, words) =
+        → DataAt source t g base objects e.locals outer slots globals frames → DataAt source t g base (objects ++ x ∷ []) (with_local e number (length objects)).locals outer other globals frames
+    data_declared g base objects e outer slots other globals frames number many x inside few row same is (low, below, hold, waiting, words) =
         let above = globals_below objects low frames outer waiting in (
           low,
           omega (arith, below, length-append objects (x ∷ [])),
-          locals_declared (types_at source g) objects e low slots other number many x inside few below row same is hold,
+          locals_declared (types_at source g) (call_slots source g base) objects e low slots other number many x inside few below row same is hold,
           frames_kept objects (objects ++ x ∷ []) low frames outer (λ o from to. contents_made objects x o (omega (arith, to, below))) waiting,
           globals_kept g objects (objects ++ x ∷ []) globals (λ o from to. contents_made objects x o (omega (arith, to, above, below))) words,
         )
 
     -- the callee has no locals yet, and its caller waits
-    pub data_called : (g callee : ℕ) (objects : List Object) (e : Environment) (temporaries : Option ℕ → ℕ → ℕ) (values : List Operand) (outer : List Waiting) (slots other globals : Words) (f : Frame) (frames : List Frame)
-        → f.caller.function ≡ g → f.caller.slots ≡ slots → Holds t slots (temporaries (scopes_of source) (base_of source g)) values → DataAt source t g objects e.locals outer slots globals frames
-        → DataAt source t callee objects (λ (number : ℕ). None) (record { locals = e.locals; temporaries = temporaries; values = values } ∷ outer) other globals (f ∷ frames)
-    data_called g callee objects e temporaries values outer slots other globals f frames function_is slots_are holds (low, below, hold, waiting, words) = (
+    pub data_called : (g base callee callee_base : ℕ) (objects : List Object) (e : Environment) (temporaries : Option ℕ → ℕ → ℕ) (values : List Operand) (outer : List Waiting) (slots other globals : Words) (f : Frame) (frames : List Frame)
+        → f.caller.function ≡ g → f.caller.base ≡ base → f.caller.slots ≡ slots → Holds t slots (temporaries (scopes_of source) (base_of source g)) values → DataAt source t g base objects e.locals outer slots globals frames
+        → DataAt source t callee callee_base objects (λ (number : ℕ). None) (record { locals = e.locals; temporaries = temporaries; values = values } ∷ outer) other globals (f ∷ frames)
+    data_called g base callee callee_base objects e temporaries values outer slots other globals f frames function_is base_is slots_are holds (low, below, hold, waiting, words) = (
       length objects,
       omega arith,
-      no_locals_hold (types_at source callee) objects (length objects) (length objects) other,
+      no_locals_hold (types_at source callee) (call_slots source callee callee_base) objects (length objects) (length objects) other,
       (
         low,
         below,
         (
-          subst (λ n. LocalsHold t (types_at source n) objects e.locals low (length objects) f.caller.slots) (sym function_is)
-              (subst (λ (s : Words). LocalsHold t (types_at source g) objects e.locals low (length objects) s) (sym slots_are) hold),
+          subst (λ n. LocalsHold t (types_at source n) (call_slots source n f.caller.base) objects e.locals low (length objects) f.caller.slots) (sym function_is)
+              (subst (λ n. LocalsHold t (types_at source g) (call_slots source g n) objects e.locals low (length objects) f.caller.slots) (sym base_is)
+              (subst (λ (s : Words). LocalsHold t (types_at source g) (call_slots source g base) objects e.locals low (length objects) s) (sym slots_are) hold)),
           subst (λ n. Holds t f.caller.slots (temporaries (scopes_of source) (base_of source n)) values) (sym function_is) (subst (λ (s : Words). Holds t s (temporaries (scopes_of source) (base_of source g)) values) (sym slots_are) holds),
         ),
         waiting,
@@ -487,22 +489,22 @@ module _ (t : Tables) where
     )
 
     -- the caller goes on, with a temporary written
-    pub data_returned : (g : ℕ) (objects : List Object) (locals : ℕ → Option ℕ) (e : Waiting) (outer : List Waiting) (slots other globals : Words) (f : Frame) (frames : List Frame)
+    pub data_returned : (g base : ℕ) (objects : List Object) (locals : ℕ → Option ℕ) (e : Waiting) (outer : List Waiting) (slots other globals : Words) (f : Frame) (frames : List Frame)
         → ((n : ℕ) → n < base_of source f.caller.function → other n ≡ f.caller.slots n)
-        → DataAt source t g objects locals (e ∷ outer) slots globals (f ∷ frames) → DataAt source t f.caller.function objects e.locals outer other globals frames
-    data_returned g objects locals e outer slots other globals f frames same (low, below, hold, (under, less, (waits, values), waiting), words) = (
+        → DataAt source t g base objects locals (e ∷ outer) slots globals (f ∷ frames) → DataAt source t f.caller.function f.caller.base objects e.locals outer other globals frames
+    data_returned g base objects locals e outer slots other globals f frames same (low, below, hold, (under, less, (waits, values), waiting), words) = (
       under,
       omega (arith, below, less),
-      locals_same_slots (types_at source f.caller.function) objects e.locals under (length objects) f.caller.slots other same
-          (locals_raised (types_at source f.caller.function) objects e.locals under low (length objects) f.caller.slots below waits),
+      locals_same_slots (types_at source f.caller.function) (call_slots source f.caller.function f.caller.base) objects e.locals under (length objects) f.caller.slots other same
+          (locals_raised (types_at source f.caller.function) (call_slots source f.caller.function f.caller.base) objects e.locals under low (length objects) f.caller.slots below waits),
       waiting,
       words,
     )
 
     -- what the caller holds
-    pub held_by_caller : (g : ℕ) (objects : List Object) (locals : ℕ → Option ℕ) (e : Waiting) (outer : List Waiting) (slots globals : Words) (f : Frame) (frames : List Frame)
-        → DataAt source t g objects locals (e ∷ outer) slots globals (f ∷ frames) → Holds t f.caller.slots (e.temporaries (scopes_of source) (base_of source f.caller.function)) e.values
-    held_by_caller g objects locals e outer slots globals f frames (low, below, hold, (under, less, (waits, values), waiting), words) = values
+    pub held_by_caller : (g base : ℕ) (objects : List Object) (locals : ℕ → Option ℕ) (e : Waiting) (outer : List Waiting) (slots globals : Words) (f : Frame) (frames : List Frame)
+        → DataAt source t g base objects locals (e ∷ outer) slots globals (f ∷ frames) → Holds t f.caller.slots (e.temporaries (scopes_of source) (base_of source f.caller.function)) e.values
+    held_by_caller g base objects locals e outer slots globals f frames (low, below, hold, (under, less, (waits, values), waiting), words) = values
 
 -- ---- the word that tells how many lexical regions are open
 
@@ -523,7 +525,7 @@ record-least None slot = omega arith
 record-least (Some place) slot = omega arith
 
 -- temporaries begin behind the locals
-behind-least : (k : List Entry) (scopes : Option ℕ) (slot : ℕ) → slot ≤ behind_records k scopes slot
+pub behind-least : (k : List Entry) (scopes : Option ℕ) (slot : ℕ) → slot ≤ behind_records k scopes slot
 behind-least [] scopes slot = omega arith
 behind-least (Handler handler ∷ k) scopes slot = omega (arith, behind-least k scopes slot, record-least scopes (behind_records k scopes slot))
 behind-least (CloseLexical region ∷ k) scopes slot = omega (arith, behind-least k scopes slot)
@@ -577,12 +579,12 @@ module _ (source : Program) where
       handlers_same g slots after handlers frames k (λ m from to. same m (inr (omega (arith, below, from)))) stand
 
   -- words are written behind the records
-  pub data_written : (t : Tables) (g : ℕ) (objects : List Object) (locals : ℕ → Option ℕ) (k : List Entry) (slots after : Words) (handlers : List plain.Handler) (globals : Words) (frames : List Frame) (n many : ℕ)
+  pub data_written : (t : Tables) (g base : ℕ) (objects : List Object) (locals : ℕ → Option ℕ) (k : List Entry) (slots after : Words) (handlers : List plain.Handler) (globals : Words) (frames : List Frame) (n many : ℕ)
       → floor source g k ≤ n → ((m : ℕ) → Outside n many m → after m ≡ slots m)
-      → DataAt source t g objects locals (callers k) slots globals frames × HandlersStand source g slots handlers frames k
-      → DataAt source t g objects locals (callers k) after globals frames × HandlersStand source g after handlers frames k
-  data_written t g objects locals k slots after handlers globals frames n many above same (facts, stand) = (
-    data_above t source g objects locals (callers k) slots after globals frames n many (omega (arith, above, floor-least source g k)) same facts,
+      → DataAt source t g base objects locals (callers k) slots globals frames × HandlersStand source g slots handlers frames k
+      → DataAt source t g base objects locals (callers k) after globals frames × HandlersStand source g after handlers frames k
+  data_written t g base objects locals k slots after handlers globals frames n many above same (facts, stand) = (
+    data_above t source g base objects locals (callers k) slots after globals frames n many (omega (arith, above, floor-least source g k)) same facts,
     handlers_same g slots after handlers frames k (λ m from to. same m (inl (omega (arith, to, above)))) stand,
   )
 
@@ -633,12 +635,14 @@ module _ (t u : Tables) (grows : Grows t u) where
   HoldsFrom-grows slots first [] holds = tt
   HoldsFrom-grows slots first (v ∷ vs) (is, holds) = (Is-grows grows v.kind v.value slots first is, HoldsFrom-grows slots (first + words_of_kind v.kind) vs holds)
 
-  locals_grow : (types : Types) (objects : List Object) (locals : ℕ → Option ℕ) (low high : ℕ) (slots : Words) → LocalsHold t types objects locals low high slots
-      → LocalsHold u types objects locals low high slots
-  locals_grow types objects locals low high slots hold = record {
+  locals_grow : (types : Types) (s : CallSlots) (objects : List Object) (locals : ℕ → Option ℕ) (low high : ℕ) (slots : Words) → LocalsHold t types s objects locals low high slots
+      → LocalsHold u types s objects locals low high slots
+  locals_grow types s objects locals low high slots hold = record {
     within = hold.within;
     apart = hold.apart;
-    rows = λ number object at. grows.rows object Variable (hold.rows number object at);
+    rows = λ number object at.
+        let r = hold.rows number object at in
+        record { kind = r.kind; room = r.room; row = grows.rows object (row_of s (slot_of (starts_of types) number) r.kind) r.row };
     holds = λ number object v at has. let (is, room) = hold.holds number object v at has in (Is-grows grows v.kind v.value slots (slot_of (starts_of types) number) is, room);
   }
 
@@ -650,21 +654,21 @@ module _ (t u : Tables) (grows : Grows t u) where
     low,
     below,
     (
-      locals_grow (types_at source f.caller.function) objects x.locals low high f.caller.slots hold,
+      locals_grow (types_at source f.caller.function) (call_slots source f.caller.function f.caller.base) objects x.locals low high f.caller.slots hold,
       Holds-grows f.caller.slots (x.temporaries (scopes_of source) (base_of source f.caller.function)) x.values values,
     ),
     frames_grow source objects low frames outer rest,
   )
 
   -- all data stay
-  pub data_grows : (source : Program) (g : ℕ) (objects : List Object) (locals : ℕ → Option ℕ) (outer : List Waiting) (slots globals : Words) (frames : List Frame)
-      → DataAt source t g objects locals outer slots globals frames → DataAt source u g objects locals outer slots globals frames
-  data_grows source g objects locals outer slots globals frames (low, below, hold, waiting, words) = (
+  pub data_grows : (source : Program) (g base : ℕ) (objects : List Object) (locals : ℕ → Option ℕ) (outer : List Waiting) (slots globals : Words) (frames : List Frame)
+      → DataAt source t g base objects locals outer slots globals frames → DataAt source u g base objects locals outer slots globals frames
+  data_grows source g base objects locals outer slots globals frames (low, below, hold, waiting, words) = (
     low,
     below,
-    locals_grow (types_at source g) objects locals low (length objects) slots hold,
+    locals_grow (types_at source g) (call_slots source g base) objects locals low (length objects) slots hold,
     frames_grow source objects low frames outer waiting,
-    λ number few. let (row, holds) = words number few in (grows.rows number Variable row, λ v has. let (is, room) = holds v has in (Is-grows grows v.kind v.value globals (global_of (starts_at source g) number) is, room)),
+    λ number few. let (row, holds) = words number few in (global-row_grows t u grows (global_types source.globals) number row, λ v has. let (is, room) = holds v has in (Is-grows grows v.kind v.value globals (global_of (starts_at source g) number) is, room)),
   )
 
   pub variables_grow : (regions : List ℕ) → AreOfVariables t regions → AreOfVariables u regions

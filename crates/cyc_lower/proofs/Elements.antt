@@ -293,7 +293,7 @@ module _ (source : Program) (pages calls : ℕ) where
             let there : Points shared.tables object (start + index) (after free) = subst (Points shared.tables object (start + index)) (sym (put-same (put slots (free + 2) (scaled words (slots m))) free address)) points in
             reaches_cell (Given (given x)) waiting k e w c (RaisesNull g) (Some words) n m free q shared here words refl (Running (GivenPlace (Thin object (start + index))) k e w) low some less does (
               shared,
-              data_written source shared.tables g w.objects e.locals k slots after c.active.handlers c.globals c.frames free 3 (height-least base (held k)) (λ x out. elsewhere slots free (scaled words (slots m)) address x out) facts,
+              data_written source shared.tables g c.active.base w.objects e.locals k slots after c.active.handlers c.globals c.frames free 3 (height-least base (held k)) (λ x out. elsewhere slots free (scaled words (slots m)) address x out) facts,
               (operands.Slot free, 0, pointer-word there, stays there, Holds-same shared.tables slots after base (held k) (λ x short. elsewhere slots free (scaled words (slots m)) address x (inl short)) holds, place),
             )
 
@@ -409,7 +409,7 @@ module _ (source : Program) (pages calls : ℕ) where
       (λ choice. subst (λ (y : ℕ). Matches source pages calls (Running (Given v) waiting e w) (plain.Running (advanced (with_slots c (put slots (t + 2) (add_of (slots (n + 2)) y)))))) (sym word) (
         shared,
         with_left
-            (data_written source shared.tables g w.objects e.locals k slots after c.active.handlers c.globals c.frames t 3 (height-least (floor source g k) (held k)) elsewhere_same facts) (
+            (data_written source shared.tables g c.active.base w.objects e.locals k slots after c.active.handlers c.globals c.frames t 3 (height-least (floor source g k) (held k)) elsewhere_same facts) (
               n,
               t + 2,
               q,

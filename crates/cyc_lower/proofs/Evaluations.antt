@@ -1,5 +1,5 @@
 -- The steps that begin an expression.
-use Rattle.std.proofs.Common.{◌≡◌, ℕ, ◌+◌, ◌≤◌, ◌<◌, Bool, true, false, List, [], ◌∷◌, ◌++◌, map, Option, None, Some, slice_get, refl, sym, ap, subst, ◌∙◌, arith, inl, inr, zero, suc}
+use Rattle.std.proofs.Common.{◌≡◌, ℕ, ◌+◌, ◌≤◌, ◌<◌, Bool, true, false, List, [], ◌∷◌, ◌++◌, map, Option, None, Some, slice_get, refl, sym, ap, subst, ◌∙◌, arith, inl, inr, zero, suc, ◌-◌, ◌*◌}
 use Rattle.std.specs.Prelude.{if◌then◌else◌, option_map}
 use Rattle.std.proofs.lemmas.Bool.{eq-eqb}
 use Rattle.std.proofs.lemmas.List.{length-map}
@@ -30,20 +30,20 @@ use Rattle.cyc_store.specs.declared.range.TheConstants.{HEAP, UNIQUE}
 use Rattle.cyc_meaning.specs.SourceMachine.{status_in}
 use Rattle.cyc_meaning.specs.State.{status_of, InRegion, World, heap_number, Environment, ConvertTo, Operate, Chain, Apply, Store, Pass, PlaceBy, MakePlain, MakeFields, MakeArray, Choose, Test, Follow, LoadFrom, Entry, Needs, NeedsPlace, Discard, Focus, Evaluating, Locating, Given, Running, FollowMember, TakeAddress, StoreTo, Owner, Unique, FreeObject, CloseByKey, CountElements, Index, Advance}
 use Rattle.cyc_lower.proofs.Counters.{CountersHold, counters_hold, counters_low}
-use Rattle.cyc_meaning.specs.Step.{counts, target_of, target_by, object_of, assigned, passes, step, loaded_from}
+use Rattle.cyc_meaning.specs.Step.{counts, target_of, target_by, object_of, assigned, passes, step, loaded_from, addressed}
 use Rattle.cyc_meaning.specs.Allocation.{makes}
-use Rattle.cyc_lower.specs.Slots.{slot_of, field_in, global_of, Types, starts_of}
+use Rattle.cyc_lower.specs.Slots.{slot_of, field_in, global_of, Types, starts_of, global_types}
 use Rattle.cyc_meaning.specs.Places.{locates_member}
-use Rattle.cyc_lower.proofs.PlaceWords.{field_bytes}
-use Rattle.cyc_lower.proofs.Slots.{slot-room, slot-low}
+use Rattle.cyc_lower.proofs.PlaceWords.{field_bytes, add_is}
+use Rattle.cyc_lower.proofs.Slots.{slot-room, slot-low, words-there, words_positive}
 use Rattle.cyc_lower.proofs.Widths.{kind_positive, type_words, made_kind, HasRoom, Outside}
 use Rattle.cyc_lower.proofs.Moves.{moved_slots, moves, put_elsewhere, moved_elsewhere, moved_is}
-use Rattle.cyc_lower.specs.Lowering.{counter_operand, failing_comparison, operand_of, value_slot, source_of, source_slot, are_as_wide, converts_there, all_passed, move_of, left_with, slot_with, compared_or, compared_of, lower_program, null_of, followed_operand, span_in, operand_or, reached_operand, pointer_of, load_word}
+use Rattle.cyc_lower.specs.Lowering.{counter_operand, failing_comparison, operand_of, value_slot, source_of, source_slot, are_as_wide, converts_there, all_passed, move_of, left_with, slot_with, compared_or, compared_of, lower_program, null_of, followed_operand, span_in, operand_or, reached_operand, pointer_of, load_word, address_of_global}
 use Rattle.cyc_lower.proofs.Weights.{weight, stack_weight, expression_weight, arguments_weight, object_weight}
 use Rattle.cyc_lower.proofs.Stands.{CopyBy, CopyAt, OperandBy, InitialBy, ExpressionAt, ArgumentsAt, ObjectAt, MadeAt, ValueAt, PairAt, ConditionAt, AssignmentAt, PrintedAt, DiscardedAt, StoredAt, LoadedAt, ReturnedAt, ReachedAt, EachAt}
 use Rattle.cyc_objects.specs.Tables.{Tables}
-use Rattle.cyc_objects.specs.Words.{Is}
-use Rattle.cyc_lower.proofs.Relation.{counters_of, types_on, starts_on, IsIn, types_at, starts_at, given_at, called_at, words_held, height, Holds, held, kept, contents, in_temporary, in_local, drops, leaves, copies, prints_only, gives_byte, DataIn, SharedAt, CallAt, to_slot, to_jump, ValueStack, PlaceStack, ConditionStack, DroppedStack, AheadStack, LandsStack, LandsMade, HandsOnStack, PrintsStack, RightAt, EvaluatingAt, as_operand, into_slot, for_effect, as_right, as_condition, in_operand, ahead, with_left, Related, Matches, code_of, bounds_at, top, IsHandleOf, floor, IsLow}
+use Rattle.cyc_objects.specs.Words.{Is, Points}
+use Rattle.cyc_lower.proofs.Relation.{counters_of, types_on, starts_on, IsIn, types_at, starts_at, given_at, called_at, words_held, height, Holds, held, kept, contents, in_temporary, in_local, drops, leaves, copies, prints_only, gives_byte, DataIn, SharedAt, CallAt, to_slot, to_jump, ValueStack, PlaceStack, ConditionStack, DroppedStack, AheadStack, LandsStack, LandsMade, HandsOnStack, PrintsStack, RightAt, EvaluatingAt, as_operand, into_slot, for_effect, as_right, as_condition, in_operand, ahead, with_left, Related, Matches, code_of, bounds_at, top, IsHandleOf, floor, IsLow, callers}
 use Rattle.cyc_lower.proofs.Handles.{kept_holds, kept_low}
 use Rattle.cyc_lower.proofs.Data.{height-least, Holds-same, Holds-above, floor-least, data_written}
 use Rattle.cyc_types.specs.Numbered.{Numbering}
@@ -51,6 +51,13 @@ use Rattle.cyc_meaning.specs.FrameCount.{words_of_all}
 use Rattle.cyc_lower.proofs.Accesses.{IsWell, is_loaded}
 use Rattle.cyc_lower.proofs.Matched.{IsMatched, silently, by_one}
 use Rattle.cyc_lower.proofs.GlobalSteps.{each_put, each-outside, each_is, load_links, load_end, load_path, by_links}
+use Rattle.cyc_lower.proofs.Known.{global_points, global_address, first_word}
+use Rattle.cyc_objects.proofs.NumberLemmas.{slice_get-below}
+use Rattle.cyc_plain.specs.declared.instruction.Instruction.{Instruction}
+use Rattle.cyc_lower.proofs.Leads.{AreNamed}
+use Rattle.cyc_lower.proofs.Rows.{local-points}
+use Rattle.cyc_plain.proofs.MemoryLaws.{pinned-at, pinned-inside, below-low, below-end}
+use Rattle.cyc_words.specs.Word.{add_of}
 
 -- an object is found in the same way, wherever new variables live
 pub object_of_same : (l : Lvalue) (e : Environment) → object_of (record { locals = e.locals; home = 0; counters = λ level. None }) l ≡ object_of e l
@@ -72,7 +79,7 @@ module _ (source : Program) (pages calls : ℕ) where
       let base = floor source c.active.function k in (
         shared,
         in_operand (operands.Slot d)
-            (data_written source shared.tables c.active.function w.objects e.locals k c.active.slots after c.active.handlers c.globals c.frames d (words_of_kind v.kind) (omega (arith, least, height-least base (kept k))) same facts)
+            (data_written source shared.tables c.active.function c.active.base w.objects e.locals k c.active.slots after c.active.handlers c.globals c.frames d (words_of_kind v.kind) (omega (arith, least, height-least base (kept k))) same facts)
             is
             (Holds-same shared.tables c.active.slots after base (kept k) (λ m below. same m (inl (omega (arith, below, least)))) (kept_holds shared.tables c.active.slots base k holds))
             (subst (λ r. ValueStack source c.active.function e.locals v.kind (operands.Slot d) r c.frames k) (sym end) stack),
@@ -241,13 +248,14 @@ module _ (source : Program) (pages calls : ℕ) where
   abbrev At_step : Expression → List Entry → Environment → World → Configuration → Type 0
   At_step a k e w c = IsWell (step source (Running (Evaluating a) k e w)) × (shared : SharedAt source pages calls k e w c) × DataIn source shared.tables c.active.slots k e w c
       × Holds shared.tables c.active.slots (floor source c.active.function k) (held k)
+      × AreNamed source e.locals (callers k) w c.active.function c.active.base c.frames c.store
 
   abbrev IsBegun : Expression → List Entry → Environment → World → Configuration → Type 0
   IsBegun a k e w c = IsMatched source pages calls (Running (Evaluating a) k e w) (plain.Running c)
 
   known_operand : (a : Expression) (o : Operand) (k : List Entry) (e : Environment) (w : World) (c : Configuration) (q : ℕ) → operand_of (starts_on source c.active.function k) a ≡ Some o → c.active.next ≡ q → At_step a k e w c
       → ValueStack source c.active.function e.locals (given_at source c.active.function a) o q c.frames k → IsBegun a k e w c
-  known_operand a o k e w c q known end (well, shared, facts, holds) stack =
+  known_operand a o k e w c q known end (well, shared, facts, holds, names) stack =
       let found = reads shared.tables a o k e w c known well (counters_hold shared.tables e.counters c.active.slots (floor source c.active.function k) k shared.counters.0 holds) facts shared.related.heap in
       silently source pages calls (Running (Evaluating a) k e w) (Running (Given found.value) k e w) (plain.Running c) found.gives (
         shared,
@@ -299,7 +307,7 @@ module _ (source : Program) (pages calls : ℕ) where
         shared,
         facts,
         into_slot (slot_of (starts_on source g k) n) m at_a holds
-            (in_local (omega (arith, inside, room, wide)) (lands, (n, object, refl, found, refl, room, subst (λ x. HandsOnStack source g e.locals to x m c.frames k) there hands))),
+            (in_local (omega (arith, inside, room, wide)) (lands, wide, (n, object, refl, found, refl, room, subst (λ x. HandsOnStack source g e.locals to x m c.frames k) there hands))),
       )
   assigns_local false n from to a k e w c object o m lands found shared facts holds there room (x, r, s, at_a, at_to, move, end) hands =
       let place : Lvalue = Local (record { line = 0; column = 0 }) n in
@@ -310,15 +318,15 @@ module _ (source : Program) (pages calls : ℕ) where
       → object_of e l ≡ object → At_step (Assign l (Convert from to a) t) k e w c
       → AssignmentAt (code_of source c.active.function) (bounds_at source c.active.function) (types_on source c.active.function k) l (Convert from to a) o (top source c.active.function k) c.active.next m
       → HandsOnStack source c.active.function e.locals to o m c.frames k → IsBegun (Assign l (Convert from to a) t) k e w c
-  assigns l from to a t k e w c None o m found (well, shared, facts, holds) at hands =
+  assigns l from to a t k e w c None o m found (well, shared, facts, holds, names) at hands =
       absurd (well (ap (λ x. status_in (status_of (assigned x (Convert from to a) k e w))) found))
-  assigns (Local p n) from to a t k e w c (Some object) o m found (well, shared, facts, holds) (there, room, at) hands =
+  assigns (Local p n) from to a t k e w c (Some object) o m found (well, shared, facts, holds, names) (there, room, at) hands =
       silently source pages calls (Running (Evaluating (Assign (Local p n) (Convert from to a) t)) k e w)
       (Running (Evaluating a) (Needs (ConvertTo from to (target_by a)) ∷ Needs (Store (Thin object 0)) ∷ k) e w) (plain.Running c)
       (ap (λ x. assigned x (Convert from to a) k e w) found)
       (assigns_local (converts_there from to) n from to a k e w c object o m refl found shared facts holds there room at hands)
       (omega arith)
-  assigns (Global n) from to a t k e w c (Some object) o m found (well, shared, facts, holds) (s, (r, at_a, at_to), room, store) hands =
+  assigns (Global n) from to a t k e w c (Some object) o m found (well, shared, facts, holds, names) (s, (r, at_a, at_to), room, store) hands =
       silently source pages calls (Running (Evaluating (Assign (Global n) (Convert from to a) t)) k e w)
       (Running (Evaluating a) (Needs (ConvertTo from to (target_by a)) ∷ Needs (Store (Thin object 0)) ∷ k) e w) (plain.Running c)
       (ap (λ x. assigned x (Convert from to a) k e w) found)
@@ -330,7 +338,7 @@ module _ (source : Program) (pages calls : ℕ) where
       → At_step (typed.Store x (Convert from to a) t) k e w c
       → StoredAt (code_of source c.active.function) (bounds_at source c.active.function) (types_on source c.active.function k) x (Convert from to a) (top source c.active.function k) o c.active.next m
       → HandsOnStack source c.active.function e.locals to o m c.frames k → IsBegun (typed.Store x (Convert from to a) t) k e w c
-  cell_begins x from to a t k e w c o m (well, shared, facts, holds) (b, offset, r, s, u, at, address, at_a, store) hands =
+  cell_begins x from to a t k e w c o m (well, shared, facts, holds, names) (b, offset, r, s, u, at, address, at_a, store) hands =
       silently source pages calls (Running (Evaluating (typed.Store x (Convert from to a) t)) k e w) (Running (Locating x) (NeedsPlace (StoreTo (peeked x) (Convert from to a)) ∷ k) e w) (plain.Running c) refl
       (shared, facts, (b, offset, r, at, holds, (o, s, u, m, address, at_a, store, hands)))
       (omega arith)
@@ -340,7 +348,7 @@ module _ (source : Program) (pages calls : ℕ) where
       → PrintedAt (code_of source c.active.function) (bounds_at source c.active.function) (types_on source c.active.function k) cs (top source c.active.function k) o c.active.next m
       → PrintsStack source c.active.function e.locals o m c.frames k → IsBegun (Call callees.Putchar cs t) k e w c
   prints NoArguments t k e w c o m known at stack = absurd at
-  prints (MoreArguments (Convert from to a) NoArguments) t k e w c o m (well, shared, facts, holds) (s, at_a, at_to) (write, stack) =
+  prints (MoreArguments (Convert from to a) NoArguments) t k e w c o m (well, shared, facts, holds, names) (s, at_a, at_to) (write, stack) =
       silently source pages calls (Running (Evaluating (Call callees.Putchar (MoreArguments (Convert from to a) NoArguments) t)) k e w)
       (Running (Evaluating a) (Needs (ConvertTo from to (target_by a)) ∷ Needs (Pass callees.Putchar [] NoArguments) ∷ k) e w) (plain.Running c) refl
       (shared, facts, sources shared.tables from to a (Needs (ConvertTo from to (target_by a)) ∷ Needs (Pass callees.Putchar [] NoArguments) ∷ k) e w c o s at_a holds (m, at_to, (refl, refl, write, stack)))
@@ -351,7 +359,7 @@ module _ (source : Program) (pages calls : ℕ) where
       → ArgumentsAt (code_of source c.active.function) (bounds_at source c.active.function) (types_on source c.active.function k) cs (top source c.active.function k) c.active.next m
       → CallAt source c.active.function f (all_passed cs) (top source c.active.function k) d m q
       → LandsStack source c.active.function e.locals (called_at source c.active.function f) d q c.frames k → IsBegun (Call f cs t) k e w c
-  calls_out f cs t k e w c d m q (well, shared, facts, holds) at call lands =
+  calls_out f cs t k e w c d m q (well, shared, facts, holds, names) at call lands =
       silently source pages calls (Running (Evaluating (Call f cs t)) k e w) (passes f [] cs k e w) (plain.Running c) refl
       (passes_related f [] cs k e w c d m q (all_passed cs) shared facts at call (omega arith) holds lands)
       (omega (arith, passes_weight f [] cs k e w))
@@ -362,11 +370,11 @@ module _ (source : Program) (pages calls : ℕ) where
       (ExpressionAt (code_of source c.active.function) (bounds_at source c.active.function) (types_on source c.active.function k) a (slot_with (starts_on source c.active.function k) right a (top source c.active.function k)) (top source c.active.function k) c.active.next m)
       (slot_with (starts_on source c.active.function k) right a (top source c.active.function k)) l c.active.next m
       → ValueStack source c.active.function e.locals (given_at source c.active.function a) l m c.frames (Needs (Chain os) ∷ k) → IsBegun (Binary a os t) k e w c
-  chain_begins (Some r) a os t k e w c l m (well, shared, facts, holds) at stack =
+  chain_begins (Some r) a os t k e w c l m (well, shared, facts, holds, names) at stack =
       silently source pages calls (Running (Evaluating (Binary a os t)) k e w) (Running (Evaluating a) (Needs (Chain os) ∷ k) e w) (plain.Running c) refl
       (shared, facts, as_operand l m at holds stack)
       (omega arith)
-  chain_begins None a os t k e w c l m (well, shared, facts, holds) (is, at) stack =
+  chain_begins None a os t k e w c l m (well, shared, facts, holds, names) (is, at) stack =
       let g = c.active.function in
       silently source pages calls (Running (Evaluating (Binary a os t)) k e w) (Running (Evaluating a) (Needs (Chain os) ∷ k) e w) (plain.Running c) refl
       (shared, facts, into_slot (top source g k) m at holds (in_temporary (omega arith) (subst (λ x. ValueStack source g e.locals (given_at source g a) x m c.frames (Needs (Chain os) ∷ k)) is stack)))
@@ -432,25 +440,39 @@ module _ (source : Program) (pages calls : ℕ) where
       (landed v after d k e w (at c (c.active.next + words)) q shared (each_is shared.tables v c.globals c.active.slots (suc words) first d wide is)
       (λ m out. each-outside c.globals c.active.slots (suc words) first d m (subst (λ many. Outside d many m) wide out)) facts holds (omega (arith, end)) lands))
 
+  -- the address of a variable comes to a slot
+  addresses : (object word d : ℕ) (a : Expression) (i : Instruction) (k : List Entry) (e : Environment) (w : World) (c : Configuration) (q : ℕ)
+      → step source (Running (Evaluating a) k e w) ≡ Running (Given (record { kind = kinds.NonNull; value = Thin object 0 })) k e w → CodeAt (code_of source c.active.function) c.active.next i
+      → ((choice : Choice) → performed (lower_program source) choice c i ≡ plain.Running (advanced (with_slots c (put c.active.slots d word))))
+      → (shared : SharedAt source pages calls k e w c) → DataIn source shared.tables c.active.slots k e w c → Holds shared.tables c.active.slots (floor source c.active.function k) (held k)
+      → Points shared.tables object 0 word → c.active.next + 1 ≡ q → LandsStack source c.active.function e.locals kinds.NonNull d q c.frames k
+      → IsMatched source pages calls (Running (Evaluating a) k e w) (plain.Running c)
+  addresses object word d a i k e w c q does here goes shared facts holds points end lands =
+      let v : Kinded = record { kind = kinds.NonNull; value = Thin object 0 } in
+      by_one source pages calls does shared here
+      (λ choice. subst (Matches source pages calls (Running (Given v) k e w)) (sym (goes choice))
+      (landed v (put c.active.slots d word) d k e w c q shared (subst (Points shared.tables object 0) (sym (put-same c.active.slots d word)) points)
+      (λ m out. put_elsewhere c.active.slots d word 1 m (omega arith) out) facts holds end lands))
+
   comes : (a : Expression) (k : List Entry) (e : Environment) (w : World) (c : Configuration) (d q : ℕ) → At_step a k e w c
       → ExpressionAt (code_of source c.active.function) (bounds_at source c.active.function) (types_on source c.active.function k) a d (top source c.active.function k) c.active.next q
       → LandsStack source c.active.function e.locals (given_at source c.active.function a) d q c.frames k → IsBegun a k e w c
-  comes (Number n) k e w c d q (well, shared, facts, holds) (at, end) lands =
+  comes (Number n) k e w c d q (well, shared, facts, holds, names) (at, end) lands =
       by_one source pages calls refl shared at (λ choice. landed_word n n d k e w c q refl shared facts holds end lands)
-  comes typed.NullPointer k e w c d q (well, shared, facts, holds) (at, end) lands =
+  comes typed.NullPointer k e w c d q (well, shared, facts, holds, names) (at, end) lands =
       let v : Kinded = record { kind = kinds.Nullable; value = Null } in
       by_one source pages calls refl shared at (λ choice. landed_moved v (operands.Word 0) d k e w c q choice shared refl facts holds end lands)
-  comes typed.HeapRegion k e w c d q (well, shared, facts, holds) (at, end) lands =
+  comes typed.HeapRegion k e w c d q (well, shared, facts, holds, names) (at, end) lands =
       let v : Kinded = record { kind = kinds.Handle; value = Handle heap_number } in
       by_one source pages calls refl shared at (λ choice. landed_moved v (operands.Word HEAP) d k e w c q choice shared shared.related.heap facts holds end lands)
-  comes (typed.Counter l) k e w c d q (well, shared, facts, holds) (slot, there, at, end) lands =
+  comes (typed.Counter l) k e w c d q (well, shared, facts, holds, names) (slot, there, at, end) lands =
       let (index, now, is) = counters_hold shared.tables e.counters c.active.slots (floor source c.active.function k) k shared.counters.0 holds l slot there in
       by_one source pages calls (ap (λ (i : Option ℕ). counts i k e w) now) shared at
       (λ choice. landed_word index (c.active.slots slot) d k e w c q is shared facts holds end lands)
-  comes (Copy (Local p n) t) k e w c d q (well, shared, facts, holds) (at, end) lands = comes_from (Copy (Local p n) t) n t k e w c d q refl well shared facts holds at end lands
-  comes (typed.Move p n t) k e w c d q (well, shared, facts, holds) (at, end) lands = comes_from (typed.Move p n t) n t k e w c d q refl well shared facts holds at end lands
-  comes (typed.Peek p n t) k e w c d q (well, shared, facts, holds) (at, end) lands = comes_from (typed.Peek p n t) n t k e w c d q refl well shared facts holds at end lands
-  comes (Copy (Global n) t) k e w c d q (well, shared, facts, holds) (few, at_c) lands =
+  comes (Copy (Local p n) t) k e w c d q (well, shared, facts, holds, names) (at, end) lands = comes_from (Copy (Local p n) t) n t k e w c d q refl well shared facts holds at end lands
+  comes (typed.Move p n t) k e w c d q (well, shared, facts, holds, names) (at, end) lands = comes_from (typed.Move p n t) n t k e w c d q refl well shared facts holds at end lands
+  comes (typed.Peek p n t) k e w c d q (well, shared, facts, holds, names) (at, end) lands = comes_from (typed.Peek p n t) n t k e w c d q refl well shared facts holds at end lands
+  comes (Copy (Global n) t) k e w c d q (well, shared, facts, holds, names) (few, at_c) lands =
       let found = is_loaded (kind_of t) (Some n) k e w well in
       let v : Kinded = record { kind = kind_of t; value = found.value } in
       let same : n ≡ found.number = same_Some n found.number found.there in
@@ -460,15 +482,15 @@ module _ (source : Program) (pages calls : ℕ) where
       prints cs t k e w c o m known at (write, gives_byte d low (lands_at c.active.function e.locals kinds.Int d (m + 1 + 1) q c.frames k end lands))
   comes (Call callees.Getchar cs t) k e w c d q known (m, at, here, end) lands = calls_out callees.Getchar cs t k e w c d m q known at (here, end) lands
   comes (Call (callees.Function n) cs t) k e w c d q known (m, at, here, end) lands = calls_out (callees.Function n) cs t k e w c d m q known at (here, end) lands
-  comes (typed.NumberOfElements a) k e w c d q (well, shared, facts, holds) (r, m, at_a, at) lands =
+  comes (typed.NumberOfElements a) k e w c d q (well, shared, facts, holds, names) (r, m, at_a, at) lands =
       silently source pages calls (Running (Evaluating (typed.NumberOfElements a)) k e w) (Running (Evaluating a) (Needs CountElements ∷ k) e w) (plain.Running c) refl
       (shared, facts, as_operand r m at_a holds (d, q, at, lands))
       (omega arith)
-  comes (Unary o a) k e w c d q (well, shared, facts, holds) (r, m, at_a, at, end) lands =
+  comes (Unary o a) k e w c d q (well, shared, facts, holds, names) (r, m, at_a, at, end) lands =
       silently source pages calls (Running (Evaluating (Unary o a)) k e w) (Running (Evaluating a) (Needs (Operate o) ∷ k) e w) (plain.Running c) refl
       (shared, facts, as_operand r m at_a holds (to_slot (d, at, lands_at c.active.function e.locals kinds.Int d (m + 1) q c.frames k end lands)))
       (omega arith)
-  comes (Binary a NoOperations t) k e w c d q (well, shared, facts, holds) (l, m, (is, at_a), (is_there, end)) lands =
+  comes (Binary a NoOperations t) k e w c d q (well, shared, facts, holds, names) (l, m, (is, at_a), (is_there, end)) lands =
       silently source pages calls (Running (Evaluating (Binary a NoOperations t)) k e w) (Running (Evaluating a) (Needs (Chain NoOperations) ∷ k) e w) (plain.Running c) refl
       (shared, facts, into_slot d m at_a holds (lands_at c.active.function e.locals (given_at source c.active.function a) d m q c.frames k end lands))
       (omega arith)
@@ -481,34 +503,63 @@ module _ (source : Program) (pages calls : ℕ) where
       chain_begins None a (ThenPointerPeek n o b os) t k e w c l m known at_a (to_slot (d, q, at, lands))
   comes (Assign (Local p n) (Convert from to a) t) k e w c d q known (o, m, at, copy) lands = assigns (Local p n) from to a t k e w c (object_of e (Local p n)) o m refl known at (copies d q copy lands)
   comes (Assign (Global n) (Convert from to a) t) k e w c d q known (o, m, at, copy) lands = assigns (Global n) from to a t k e w c (object_of e (Global n)) o m refl known at (copies d q copy lands)
-  comes (typed.Load x) k e w c d q (well, shared, facts, holds) (o, offset, r, at, load) lands =
+  comes (typed.Load x) k e w c d q (well, shared, facts, holds, names) (o, offset, r, at, load) lands =
       let g = c.active.function in
       let kind = kind_of (type_of_place x) in
       silently source pages calls (Running (Evaluating (typed.Load x)) k e w) (Running (Locating x) (NeedsPlace (LoadFrom kind) ∷ k) e w) (plain.Running c) refl
       (shared, facts, (o, offset, r, at, holds, (d, q, subst (λ n. LoadedAt (code_of source g) n o offset d (top source g k) r q) (sym (type_words (type_of_place x))) load, lands)))
       (omega arith)
-  comes (typed.AddressOfCell x t) k e w c d q (well, shared, facts, holds) (o, offset, r, at, address) lands =
+  comes (typed.AddressOf (Local p n) t) k e w c d q (well, shared, facts, holds, names) (v, there, at, end) lands = local_there (e.locals n) refl
+    where
+      g : ℕ
+      g = c.active.function
+
+      slot : ℕ
+      slot = slot_of (starts_at source g) n
+
+      local_there : (x : Option ℕ) → e.locals n ≡ x → IsBegun (typed.AddressOf (Local p n) t) k e w c
+      local_there None none = absurd (well (ap (λ (o : Option ℕ). status_in (status_of (addressed o k e w))) none))
+      local_there (Some object) here =
+          let r = facts.0.2.rows n object here in
+          let inside = slice_get-below (types_at source g).locals n v there in
+          let wide = words-there (types_at source g).locals n v there in
+          let some = words_positive v in
+          let pinned = pinned-at (code_of source g) c.active.next d slot (words_of v) slot at (omega arith) (omega (arith, some)) in
+          let last = pinned-at (code_of source g) c.active.next d slot (words_of v) (slot + (words_of v - 1)) at (omega arith) (omega (arith, some)) in
+          let low = below-low (lower_program source) g c.active.base c.frames names.lie in
+          let end_of_slots = below-end (lower_program source) g c.active.base c.frames names.lie in
+          let bound = pinned-inside (lower_program source) names.well g (slot + (words_of v - 1)) last in
+          let points = local-points r pinned low (omega (arith, end_of_slots, bound, r.room, wide, some)) in
+          let word = add_of c.active.base (4 * slot) in
+          let word_is : word ≡ c.active.base + 4 * slot = add_is c.active.base (4 * slot) (omega (arith, end_of_slots, bound)) in
+          addresses object word d (typed.AddressOf (Local p n) t) (instructions.AddressOf d slot (words_of v)) k e w c q (ap (λ (o : Option ℕ). addressed o k e w) here) at (λ choice. refl) shared facts holds
+          (subst (Points shared.tables object 0) (sym word_is) points) end lands
+  comes (typed.AddressOf (Global n) t) k e w c d q (well, shared, facts, holds, names) (v, there, at, end) lands =
+      let row = (facts.0.4 n (slice_get-below (global_types source.globals) n v there)).0 in
+      let word = address_of_global (first_word (global_types source.globals) n) in
+      addresses n word d (typed.AddressOf (Global n) t) (instructions.Move d (operands.Word word)) k e w c q refl at (λ choice. refl) shared facts holds
+      (subst (Points shared.tables n 0) (sym (global_address (global_types source.globals) n row)) (global_points (global_types source.globals) n row)) end lands
+  comes (typed.AddressOfCell x t) k e w c d q (well, shared, facts, holds, names) (o, offset, r, at, address) lands =
       silently source pages calls (Running (Evaluating (typed.AddressOfCell x t)) k e w) (Running (Locating x) (NeedsPlace TakeAddress ∷ k) e w) (plain.Running c) refl
       (shared, facts, (o, offset, r, at, holds, (d, q, address, lands)))
       (omega arith)
   comes (typed.Store x (Convert from to a) t) k e w c d q known (o, m, at, copy) lands = cell_begins x from to a t k e w c o m known at (copies d q copy lands)
-  comes (typed.FreeUnique a) k e w c d q (well, shared, facts, holds) (o, m, at_a, (jump, ask, end)) lands =
+  comes (typed.FreeUnique a) k e w c d q (well, shared, facts, holds, names) (o, m, at_a, (jump, ask, end)) lands =
       silently source pages calls (Running (Evaluating (typed.FreeUnique a)) k e w) (Running (Evaluating a) (Needs FreeObject ∷ k) e w) (plain.Running c) refl
       (shared, facts, as_operand o m at_a holds (d, q, (jump, ask, end), lands))
       (omega arith)
-  comes (typed.FreeKey a) k e w c d q (well, shared, facts, holds) (o, m, at_a, here, end) lands =
+  comes (typed.FreeKey a) k e w c d q (well, shared, facts, holds, names) (o, m, at_a, here, end) lands =
       silently source pages calls (Running (Evaluating (typed.FreeKey a)) k e w) (Running (Evaluating a) (Needs CloseByKey ∷ k) e w) (plain.Running c) refl
       (shared, facts, as_operand o m at_a holds (d, q, here, end, lands))
       (omega arith)
-  comes (typed.New typed.OnHeap i t) k e w c d q (well, shared, facts, holds) at lands =
+  comes (typed.New typed.OnHeap i t) k e w c d q (well, shared, facts, holds, names) at lands =
       made_of (Evaluating (typed.New typed.OnHeap i t)) k (InRegion heap_number) (operands.Word HEAP) i k e w c d q refl (omega arith) (refl, refl) shared facts holds at (lands_made c.active.function e.locals (made_kind i) d q c.frames k lands)
-  comes (typed.New typed.AsUnique i t) k e w c d q (well, shared, facts, holds) at lands =
+  comes (typed.New typed.AsUnique i t) k e w c d q (well, shared, facts, holds, names) at lands =
       made_of (Evaluating (typed.New typed.AsUnique i t)) k (Unique true) (operands.Word UNIQUE) i k e w c d q refl (omega arith) refl shared facts holds at (lands_made c.active.function e.locals (made_kind i) d q c.frames k lands)
-  comes (typed.New (typed.ByHandle a) i t) k e w c d q (well, shared, facts, holds) (m, at_a, at) lands =
+  comes (typed.New (typed.ByHandle a) i t) k e w c d q (well, shared, facts, holds, names) (m, at_a, at) lands =
       silently source pages calls (Running (Evaluating (typed.New (typed.ByHandle a) i t)) k e w) (Running (Evaluating a) (Needs (PlaceBy i) ∷ k) e w) (plain.Running c) refl
       (shared, facts, into_slot (top source c.active.function k) m at_a holds (in_temporary (omega arith) (d, q, refl, at, lands)))
       (omega arith)
-  comes a k e w c d q known at lands = absurd at
 
   -- a value that is in its slot is not copied
   copy_none : (code : List Instruction) (words n p q : ℕ) → CopyAt code words (operands.Slot n) n p q → p ≡ q
@@ -555,9 +606,9 @@ module _ (source : Program) (pages calls : ℕ) where
   operand (typed.FreeUnique a) k e w c o q known at stack = in_top (typed.FreeUnique a) k e w c o q known at stack
   operand (typed.FreeKey a) k e w c o q known at stack = in_top (typed.FreeKey a) k e w c o q known at stack
   operand (typed.New x i t) k e w c o q known at stack = in_top (typed.New x i t) k e w c o q known at stack
+  operand (typed.AddressOf l t) k e w c o q known at stack = in_top (typed.AddressOf l t) k e w c o q known at stack
   operand (typed.AddressOfCell x t) k e w c o q known at stack = in_top (typed.AddressOfCell x t) k e w c o q known at stack
   operand (typed.Store x v t) k e w c o q known at stack = in_top (typed.Store x v t) k e w c o q known at stack
-  operand a k e w c o q known (is, at) stack = absurd at
 
   for_its_effect : (a : Expression) (k : List Entry) (e : Environment) (w : World) (c : Configuration) (q : ℕ) → At_step a k e w c
       → DiscardedAt (code_of source c.active.function) (bounds_at source c.active.function) (types_on source c.active.function k) a (top source c.active.function k) c.active.next q
@@ -578,7 +629,7 @@ module _ (source : Program) (pages calls : ℕ) where
   for_its_effect (typed.Move p n t) k e w c q known (o, at) stack = operand (typed.Move p n t) k e w c o q known at (dropped_value c.active.function e.locals (given_at source c.active.function (typed.Move p n t)) o q c.frames k stack)
   for_its_effect (typed.Peek p n t) k e w c q known (o, at) stack = operand (typed.Peek p n t) k e w c o q known at (dropped_value c.active.function e.locals (given_at source c.active.function (typed.Peek p n t)) o q c.frames k stack)
   for_its_effect (typed.Load x) k e w c q known (o, at) stack = in_top (typed.Load x) k e w c o q known at (dropped_value c.active.function e.locals (given_at source c.active.function (typed.Load x)) o q c.frames k stack)
-  for_its_effect (typed.AddressOf l t) k e w c q known (o, (is, at)) stack = absurd at
+  for_its_effect (typed.AddressOf l t) k e w c q known (o, at) stack = in_top (typed.AddressOf l t) k e w c o q known at (dropped_value c.active.function e.locals (given_at source c.active.function (typed.AddressOf l t)) o q c.frames k stack)
   for_its_effect (typed.AddressOfCell x t) k e w c q known (o, at) stack = in_top (typed.AddressOfCell x t) k e w c o q known at (dropped_value c.active.function e.locals (given_at source c.active.function (typed.AddressOfCell x t)) o q c.frames k stack)
   for_its_effect (typed.NumberOfElements a) k e w c q known (o, at) stack = in_top (typed.NumberOfElements a) k e w c o q known at (dropped_value c.active.function e.locals (given_at source c.active.function (typed.NumberOfElements a)) o q c.frames k stack)
   for_its_effect (typed.FreeUnique a) k e w c q known (o, at) stack = in_top (typed.FreeUnique a) k e w c o q known at (dropped_value c.active.function e.locals (given_at source c.active.function (typed.FreeUnique a)) o q c.frames k stack)
@@ -632,7 +683,7 @@ module _ (source : Program) (pages calls : ℕ) where
   condition : (a : Expression) (k : List Entry) (e : Environment) (w : World) (c : Configuration) (l r : Operand) (q : ℕ) → At_step a k e w c
       → ConditionAt (code_of source c.active.function) (bounds_at source c.active.function) (types_on source c.active.function k) a l r (top source c.active.function k) c.active.next q
       → ConditionStack source c.active.function (compared_of a).failing l r q c.frames k → IsBegun a k e w c
-  condition (Unary unary.Not a) k e w c l r q (well, shared, facts, holds) (m, at_a, (is, end)) stack =
+  condition (Unary unary.Not a) k e w c l r q (well, shared, facts, holds, names) (m, at_a, (is, end)) stack =
       silently source pages calls (Running (Evaluating (Unary unary.Not a)) k e w) (Running (Evaluating a) (Needs (Operate unary.Not) ∷ k) e w) (plain.Running c) refl
       (shared, facts, as_operand l m at_a holds (to_jump (refl, alone c.active.function comparisons.NotEqual l r m q c.frames k is end stack)))
       (omega arith)
@@ -755,9 +806,9 @@ module _ (source : Program) (pages calls : ℕ) where
       (shared, facts, pointer_begins shared.tables (peeked (Element a i t)) (target_of t) a i n x m r q k e w c holds at_a at_i sum reached there)
       (omega arith)
 
-  pub evaluating : (a : Expression) (k : List Entry) (e : Environment) (w : World) (c : Configuration) → IsStep (Evaluating a) k e w c
-  evaluating a k e w c well (shared, facts, as_operand o q at holds stack) = operand a k e w c o q (well, shared, facts, holds) at stack
-  evaluating a k e w c well (shared, facts, into_slot d q at holds lands) = comes a k e w c d q (well, shared, facts, holds) at lands
-  evaluating a k e w c well (shared, facts, for_effect q at holds stack) = for_its_effect a k e w c q (well, shared, facts, holds) at stack
-  evaluating a k e w c well (shared, facts, as_right right) = beside_left a k e w c well shared facts right
-  evaluating a k e w c well (shared, facts, as_condition l r q at holds stack) = condition a k e w c l r q (well, shared, facts, holds) at stack
+  pub evaluating : (a : Expression) (k : List Entry) (e : Environment) (w : World) (c : Configuration) → AreNamed source e.locals (callers k) w c.active.function c.active.base c.frames c.store → IsStep (Evaluating a) k e w c
+  evaluating a k e w c names well (shared, facts, as_operand o q at holds stack) = operand a k e w c o q (well, shared, facts, holds, names) at stack
+  evaluating a k e w c names well (shared, facts, into_slot d q at holds lands) = comes a k e w c d q (well, shared, facts, holds, names) at lands
+  evaluating a k e w c names well (shared, facts, for_effect q at holds stack) = for_its_effect a k e w c q (well, shared, facts, holds, names) at stack
+  evaluating a k e w c names well (shared, facts, as_right right) = beside_left a k e w c well shared facts right
+  evaluating a k e w c names well (shared, facts, as_condition l r q at holds stack) = condition a k e w c l r q (well, shared, facts, holds, names) at stack

@@ -10,7 +10,7 @@ use Rattle.cyc_types.specs.declared.typed.UnaryOperator.TheVariants as unary
 use Rattle.cyc_types.specs.declared.typed.Operator.TheVariants.{Equal, NotEqual, Less, Greater, Add, Subtract, Multiply, Divide, Remainder}
 use Rattle.cyc_types.specs.declared.typed.LogicalOperator.TheVariants.{AndThen, OrElse}
 use Rattle.cyc_types.specs.Types.{Ty, Int, Pointer, Handle, Value}
-use Rattle.cyc_types.specs.TypedTrees.{Local, Global, Expression, Number, Copy, Call, Unary, Binary, Assign, Converted, Convert, Arguments, NoArguments, MoreArguments, Operations, NoOperations, ThenCompute, ThenTest, Statement, Block, Empty, Evaluate, If, While, Return, Break, Continue, Items, NoItems, MoreItems, Execute, Declare, DeclareRegion, Word, Null, Function, Program, Throw, Try, Case, Default, NoClauses, GlobalVariable}
+use Rattle.cyc_types.specs.TypedTrees.{Local, Global, Expression, Number, Copy, Call, Unary, Binary, Assign, Converted, Convert, Arguments, NoArguments, MoreArguments, Operations, NoOperations, ThenCompute, ThenTest, Statement, Block, Empty, Evaluate, If, While, Return, Break, Continue, Items, NoItems, MoreItems, Execute, Declare, DeclareRegion, Word, Null, Function, Program, Throw, Try, Case, Default, NoClauses, GlobalVariable, Lvalue, AddressOf, Load, Store, Target}
 use Rattle.cyc_types.specs.declared.region.Region.TheVariants.{Heap}
 use Rattle.cyc_syntax.specs.declared.tree.PointerKind.TheVariants.{Nullable, NonNull, Fat}
 use Rattle.cyc_plain.specs.declared.instruction.Instruction.{Instruction}
@@ -99,7 +99,7 @@ program body others = record {
 }
 
 abbrev after : ℕ → Program → List ℕ → State
-after steps p input = run (lower_program p) 3 9 zeros steps (start (lower_program p) (stores.start 3 (λ (address : ℕ). 0)) input)
+after steps p input = run (lower_program p) 3 9 zeros steps (start (lower_program p) 0x7ffff000 (stores.start 3 (λ (address : ℕ). 0)) input)
 
 abbrev ends : ℕ → Program → List ℕ → Status
 ends steps p input = status_of (after steps p input)
@@ -453,6 +453,55 @@ region_code : function_code [] [] (Some 0) (function [] (Int ∷ Handle Heap ∷
     ∷ instructions.Ask (requests.CloseTo (Slot 2)) ∷ instructions.StoreGlobal 0 (Slot 2)
     ∷ instructions.Finish 2 ∷ blocks
 region_code = refl
+
+-- ---- addresses of variables
+
+abbrev star : Ty
+star = Pointer Nullable Int Heap
+
+abbrev address : Lvalue → Converted
+address l = Convert kinds.NonNull kinds.Nullable (AddressOf l (Pointer NonNull Int Heap))
+
+-- `*p = n`, by the pointer in a local
+abbrev puts : (pointer : ℕ) → (value : ℕ) → Statement
+puts p n = Evaluate (Store (Target kinds.Nullable (Copy (Local nowhere p) star) Int) (int (Number n)) (Value Int))
+
+-- main has an int, and a pointer to it
+abbrev pointing : Items → List Function → Program
+pointing body others = record {
+  structs = [];
+  exceptions = [];
+  globals = int_global ∷ [];
+  functions = function [] (Int ∷ star ∷ []) (MoreItems (Declare 0 Int (Some (int (Number 3)))) (MoreItems (Declare 1 star (Some (address (Local nowhere 0)))) body)) ∷ others;
+  main = 0;
+}
+
+-- a variable is stored to and loaded by its address
+variable_is_stored_to : ends 40 (pointing (all (puts 1 5 ∷ returns (local 0) ∷ [])) []) [] ≡ Ended (Returned (pos 5))
+variable_is_stored_to = refl
+
+variable_is_loaded : ends 40 (pointing (all (Evaluate (sets 0 (Number 6)) ∷ returns (Load (Target kinds.Nullable (Copy (Local nowhere 1) star) Int)) ∷ [])) []) [] ≡ Ended (Returned (pos 6))
+variable_is_loaded = refl
+
+-- by a call, while its own call waits
+variable_waits : ends 60 (pointing (all (Evaluate (Call (Calls 1) (MoreArguments (address (Local nowhere 0)) NoArguments) (Value Int)) ∷ returns (local 0) ∷ [])) (function (star ∷ []) [] (all (puts 0 8 ∷ returns (Number 1) ∷ [])) ∷ [])) [] ≡ Ended (Returned (pos 8))
+variable_waits = refl
+
+global_is_stored_to : ends 40 (pointing (all (Evaluate (Assign (Local nowhere 1) (address (Global 0)) (Value star)) ∷ puts 1 9 ∷ returns (global 0) ∷ [])) []) [] ≡ Ended (Returned (pos 9))
+global_is_stored_to = refl
+
+source_stores_to_variable : source_ends 100 (pointing (all (puts 1 5 ∷ returns (local 0) ∷ [])) []) [] ≡ Ended (Returned (pos 5))
+unfolding slt_of
+source_stores_to_variable = refl
+
+-- a local keeps its slots, and the address of a global is a number
+address_of_local : function_code [] [] None (function [] (Pointer Fat Int Heap ∷ Int ∷ star ∷ []) (MoreItems (Declare 2 star (Some (address (Local nowhere 1)))) NoItems)) ≡
+    instructions.AddressOf 4 3 1 ∷ instructions.Finish 5 ∷ blocks
+address_of_local = refl
+
+address_of_global : function_code [] (starts_from 0 (global_types (fat_global ∷ int_global ∷ []))) None (function [] (star ∷ []) (MoreItems (Declare 0 star (Some (address (Global 1)))) NoItems)) ≡
+    Move 0 (Constant 0x1000000c) ∷ instructions.Finish 1 ∷ blocks
+address_of_global = refl
 
 -- ---- frame counts
 

@@ -33,7 +33,7 @@ use Rattle.cyc_meaning.specs.Exceptions.{catches}
 use Rattle.cyc_lower.specs.declared.statements.Exits.{Exits}
 use Rattle.cyc_lower.specs.Slots.{slot_of}
 use Rattle.cyc_lower.specs.Lowering.{tag_operand, lower_program, inside_try, scopes_of}
-use Rattle.cyc_objects.specs.Tables.{Variable, Tables, with_row, with_handle}
+use Rattle.cyc_objects.specs.Tables.{Tables, with_row, with_handle}
 use Rattle.cyc_objects.specs.Related as objects
 use Rattle.cyc_objects.proofs.Scopes.{scopes-counted, ends-newest}
 use Rattle.cyc_objects.specs.Words.{Is}
@@ -43,7 +43,7 @@ use Rattle.cyc_lower.proofs.Widths.{kind_positive, HasRoom, Outside}
 use Rattle.cyc_lower.proofs.Moves.{moved_slots, put_elsewhere, moves, moved_is, moved_elsewhere}
 use Rattle.cyc_lower.proofs.Stands.{CaughtAt, ItemsAt, ClausesAt, KeptAt, RestoredAt}
 use Rattle.cyc_lower.proofs.Sharing.{shared_less, shared_declared, row_declared, shared_opened, shared_closed, shared_left}
-use Rattle.cyc_lower.proofs.Relation.{behind_records, scopes_in, IsTold, IsKept, HasScopes, SharedBy, IsIntact, HandlersStand, DataIn, types_at, starts_at, held, callers, SharedAt, StatementStack, Matches, as_operand, behind_statement, in_place, by_jumps, code_of, bounds_at, floor, Arrives, DataAt}
+use Rattle.cyc_lower.proofs.Relation.{behind_records, scopes_in, IsTold, IsKept, HasScopes, SharedBy, IsIntact, HandlersStand, DataIn, types_at, starts_at, held, callers, SharedAt, StatementStack, Matches, as_operand, behind_statement, in_place, by_jumps, code_of, bounds_at, floor, Arrives, DataAt, row_of, call_slots}
 use Rattle.cyc_lower.proofs.Data.{handlers_beside, data_written, data_declared, data_returned, data_grows}
 use Rattle.cyc_lower.proofs.Accesses.{is_declared, is_closed, home_there}
 use Rattle.cyc_lower.proofs.Matched.{Inside, inside_by, inside_within, IsMatched, Executes, executes, by_places, known, elsewhere, output_way, silently, by_one, by_one_printed, by_two, place_in}
@@ -51,6 +51,7 @@ use Rattle.cyc_lower.proofs.Closings.{closing_rest, closing_distinct, closing_kn
 use Rattle.cyc_lower.proofs.Handling.{intact, closes_here, newest_open, caught_by, raised}
 use Rattle.cyc_lower.proofs.Evaluations.{IsStep}
 use Rattle.cyc_lower.proofs.Values.{taken, not_taken}
+use Rattle.cyc_lower.proofs.Rows.{row-fits, row-variable}
 
 module _ (source : Program) (pages calls : ℕ) where
   -- ---- a `try`
@@ -128,7 +129,7 @@ module _ (source : Program) (pages calls : ℕ) where
 
       inside_one : (choice : Choice) → Matches source pages calls (Running (Executing s) (Handler handler ∷ k) e w) (opens choice begun t)
       inside_one choice =
-          let (written, others) = data_written source shared.tables c.active.function w.objects e.locals k c.active.slots (recorded choice) c.active.handlers c.globals c.frames t (suc RECORD_WORDS) (omega arith) (elsewhere choice) facts in
+          let (written, others) = data_written source shared.tables c.active.function c.active.base w.objects e.locals k c.active.slots (recorded choice) c.active.handlers c.globals c.frames t (suc RECORD_WORDS) (omega arith) (elsewhere choice) facts in
           let is_kept = kept_same (scopes_of source) kept (recorded choice) slot (scopes_in k) (beside choice slot (inr (omega arith))) (kept_there (scopes_of source) c slot (scopes_in k) shared.counters.1) in (
             shared,
             (written, (refl, whole choice, is_kept, (exits, m + 1 + 1, u, m + 1, q, opening, restoring, clauses, over, stack), others)),
@@ -189,17 +190,18 @@ module _ (source : Program) (pages calls : ℕ) where
       let words = words_of_kind v.kind in
       let slot = slot_of (starts_at source g) n in
       let (r, home) = home_there Proceeding n v.kind (Some v.value) (Rest js ∷ k) e w well in
-      let grown = with_row shared.tables Variable in
-      let grows = Grows-row shared.tables Variable in
+      let row = row_of (call_slots source g c.active.base) (slot_of (starts_at source g) n) v.kind in
+      let grown = with_row shared.tables row in
+      let grows = Grows-row shared.tables row in
       let slots = moved_slots c.active.slots words slot o in
       let elsewhere : (m : ℕ) → Outside slot words m → slots m ≡ c.active.slots m = λ m out. moved_elsewhere c.active.slots words slot o m (kind_positive v.kind) out in
       by_one source pages calls (is_declared (region_at w e.home) Proceeding n v.kind (Some v.value) (Rest js ∷ k) e w well) shared here
       (λ choice. subst (Matches source pages calls (Running Proceeding (Rest js ∷ k) (with_local e n (length w.objects)) (made w (variable e.home v.kind (Some v.value))))) (sym (moves (lower_program source) choice c words slot o)) (
-        shared_declared source pages calls k e w (advanced (with_slots c slots)) shared n r v.kind (Some v.value) home,
+        shared_declared source pages calls k e w (advanced (with_slots c slots)) shared n r v.kind (Some v.value) row home (row-fits (call_slots source g c.active.base) slot v.kind e.home (Some v.value)) (row-variable (call_slots source g c.active.base) slot v.kind),
         behind_statement exits (
-          data_declared grown source g w.objects e (callers k) c.active.slots slots c.globals c.frames n words (variable e.home v.kind (Some v.value)) local room (row_declared source pages calls k e w c shared) elsewhere
+          data_declared grown source g c.active.base w.objects e (callers k) c.active.slots slots c.globals c.frames n words (variable e.home v.kind (Some v.value)) local room (record { kind = v.kind; room = room; row = row_declared source pages calls k e w c shared row }) elsewhere
               (λ u has. subst (λ (x : Kinded). Is grown x.kind x.value slots slot × HasRoom (types_at source g) n x.kind) (same_Some v u has) (Is-grows grows v.kind v.value slots slot (moved_is shared.tables v c.active.slots slot o is), room))
-              (data_grows shared.tables grown grows source g w.objects e.locals (callers k) c.active.slots c.globals c.frames facts.0),
+              (data_grows shared.tables grown grows source g c.active.base w.objects e.locals (callers k) c.active.slots c.globals c.frames facts.0),
           handlers_beside source g c.active.slots slots c.active.handlers c.frames k slot words (omega (arith, slot-room (types_at source g) n local, room)) elsewhere facts.1,
         )
             (q, items, stack),
@@ -284,10 +286,10 @@ module _ (source : Program) (pages calls : ℕ) where
       counters = s.counters;
     }
 
-    written : (t : Tables) → DataAt source t a.function w.objects e.locals (callers k) a.slots c.globals rest → HandlersStand source a.function a.slots later rest k
-        → DataAt source t a.function w.objects e.locals (callers k) told_slots c.globals rest × HandlersStand source a.function told_slots later rest k
+    written : (t : Tables) → DataAt source t a.function a.base w.objects e.locals (callers k) a.slots c.globals rest → HandlersStand source a.function a.slots later rest k
+        → DataAt source t a.function a.base w.objects e.locals (callers k) told_slots c.globals rest × HandlersStand source a.function told_slots later rest k
     written t facts others =
-        data_written source t a.function w.objects e.locals k a.slots told_slots later c.globals rest first 2 (omega (arith, first_is)) (λ n away. both_elsewhere a.slots first tag value n away) (facts, others)
+        data_written source t a.function a.base w.objects e.locals k a.slots told_slots later c.globals rest first 2 (omega (arith, first_is)) (λ n away. both_elsewhere a.slots first tag value n away) (facts, others)
 
     -- two instructions, and then those at these places
     by_handler : (places : List CodePlace) → Inside source pages calls w resumed → c.output ≡ w.output
@@ -315,7 +317,7 @@ module _ (source : Program) (pages calls : ℕ) where
 
     -- and then the lexical regions are closed that were opened in the `try`
     by_restoring : (scopes : Option ℕ) → scopes_of source ≡ scopes → objects.scopes w.regions ≡ scopes_in k → (shared : SharedBy source scopes pages calls (Handler handler ∷ k) e w c)
-        → DataAt source shared.tables a.function w.objects e.locals (callers k) a.slots c.globals rest → HandlersStand source a.function a.slots later rest k
+        → DataAt source shared.tables a.function a.base w.objects e.locals (callers k) a.slots c.globals rest → HandlersStand source a.function a.slots later rest k
         → RestoredAt (code_of source a.function) (bounds_at source a.function) (types_at source a.function) scopes (floor source a.function k + RECORD_WORDS) m p
         → IsKept scopes a.slots (floor source a.function k + RECORD_WORDS) (scopes_in k) → IsMatched source pages calls old_state (plain.Running c)
     by_restoring None is counted shared facts others end kept =
@@ -339,14 +341,14 @@ module _ (source : Program) (pages calls : ℕ) where
         (both_elsewhere a.slots first tag value slot (inr (omega (arith, first_is))) ∙ kept) (omega (arith, counted, shared.counters.1.2))
         (λ choice allowed. (
           settled source pages calls place k e w resumed (scopes_in k) p choice counted refl allowed fewer,
-          (data_told source pages calls shared.tables a.function w.objects e.locals (callers k) told_slots c.globals rest (scopes_in k) holds, stands),
+          (data_told source pages calls shared.tables a.function a.base w.objects e.locals (callers k) told_slots c.globals rest (scopes_in k) holds, stands),
           (exits, out, q, clauses, over, stack, word, tag_is, value_is),
         )))
 
   comes_to : (tag value : ℕ) (handler : Clauses) (k : List Entry) (e : Environment) (w : World) (c : Configuration) (x o : Operand) (a : Activation) (rest : List Frame)
       → objects.scopes w.regions ≡ scopes_in k → (shared : SharedBy source (scopes_of source) pages calls k e w c) → IsNumber tag → At (code_of source c.active.function) c.active.next (instructions.Throw x o)
       → operand_word c.active.slots x ≡ tag → operand_word c.active.slots o ≡ value → length rest ≤ length c.frames → throws c tag value c.active c.frames ≡ throws c tag value a rest
-      → DataAt source shared.tables a.function w.objects e.locals (callers k) a.slots c.globals rest → HandlersStand source a.function a.slots a.handlers rest (Handler handler ∷ k)
+      → DataAt source shared.tables a.function a.base w.objects e.locals (callers k) a.slots c.globals rest → HandlersStand source a.function a.slots a.handlers rest (Handler handler ∷ k)
       → IsMatched source pages calls (Running (Throwing tag value) (Handler handler ∷ k) e w) (plain.Running c)
   comes_to tag value handler k e w c x o a rest counted shared word here x_is o_is less same facts stand =
       let (index, first, contents, later, are, (first_is, whole, kept, (exits, m, p, out, q, opening, restoring, clauses, over, stack), others)) = newest_open a.handlers _ stand in
@@ -401,7 +403,7 @@ module _ (source : Program) (pages calls : ℕ) where
         rest,
         omega (arith, less),
         same ∙ ap (λ (handlers : List plain.Handler). lands c tag value a (f ∷ rest) (throws c tag value f.caller rest) handlers) none,
-        data_returned shared.tables source a.function w.objects e.locals (record { locals = outer.locals; temporaries = behind_records k; values = held k }) (callers k) a.slots f.caller.slots c.globals f rest (λ n short. refl) facts,
+        data_returned shared.tables source a.function a.base w.objects e.locals (record { locals = outer.locals; temporaries = behind_records k; values = held k }) (callers k) a.slots f.caller.slots c.globals f rest (λ n short. refl) facts,
         caught_by source f.caller rest k stand,
       )
       (omega arith)
@@ -449,13 +451,13 @@ module _ (source : Program) (pages calls : ℕ) where
   caught_at value None js k e w c exits m u q shared facts end value_is items comes stack = (
     shared_opened source pages calls k e w c shared,
     behind_statement exits
-        (data_grows shared.tables (with_handle shared.tables None) (Grows-handle shared.tables None) source c.active.function w.objects e.locals (callers k) c.active.slots c.globals c.frames facts.0, facts.1)
+        (data_grows shared.tables (with_handle shared.tables None) (Grows-handle shared.tables None) source c.active.function c.active.base w.objects e.locals (callers k) c.active.slots c.globals c.frames facts.0, facts.1)
         (u, subst (λ p. ItemsAt (code_of source c.active.function) (bounds_at source c.active.function) (types_at source c.active.function) js exits (floor source c.active.function k) p u) (sym end) items, (q, comes, stack)),
   )
   caught_at value (Some n) js k e w c exits m u q shared facts (few, room, move, end) value_is items comes stack =
       let g = c.active.function in (
         shared_opened source pages calls k e w c shared,
-        (data_grows shared.tables (with_handle shared.tables None) (Grows-handle shared.tables None) source g w.objects e.locals (callers k) c.active.slots c.globals c.frames facts.0, facts.1),
+        (data_grows shared.tables (with_handle shared.tables None) (Grows-handle shared.tables None) source g c.active.base w.objects e.locals (callers k) c.active.slots c.globals c.frames facts.0, facts.1),
         (
           exits,
           u,

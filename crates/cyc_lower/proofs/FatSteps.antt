@@ -286,7 +286,7 @@ module _ (source : Program) (pages calls : ℕ) where
       (λ choice. (
         shared,
         in_operand (operands.Slot n)
-            (data_written source shared.tables g w.objects e.locals k slots after c.active.handlers c.globals c.frames (n + 1) 2 (omega (arith, there, height-least base (held k))) (λ m out. widened_elsewhere slots n m out) facts)
+            (data_written source shared.tables g c.active.base w.objects e.locals k slots after c.active.handlers c.globals c.frames (n + 1) 2 (omega (arith, there, height-least base (held k))) (λ m out. widened_elsewhere slots n m out) facts)
             (widened_is shared.tables v.kind v.value found.value slots n narrow found.gives is)
             (kept_holds _ _ _ k (Holds-same shared.tables slots after base (held k) (λ m below. widened_elsewhere slots n m (inl (omega (arith, below, there)))) holds))
             (subst (λ r. ValueStack source g e.locals kinds.Fat (operands.Slot n) r c.frames k) (sym behind) stack),

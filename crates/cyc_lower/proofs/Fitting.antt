@@ -23,16 +23,17 @@ use Rattle.cyc_types.specs.typing.Scopes.{signature_of_ints}
 use Rattle.cyc_types.specs.typing.Statements.{with_region_of}
 use Rattle.cyc_types.specs.typing.Tests as tests
 use Rattle.cyc_types.specs.typing.Expressions.{instantiated, type_of_side}
-use Rattle.cyc_types.specs.typing.WellTyped.{with_counter, Context, PointerOperation, adds, subtracts, equals, differs, thin_null, thin_there, fat_null, fat_there, null_is, null_is_not, IsCallee, Converts, IsPeek, WellTyped, IsCell, IsConverted, ArePassed, IsChain, IsCondition, IsReturned, IsInitial, WellTypedStatement, WellTypedItems, behind, in_block, in_body, with_local, body_context, AreWellTypedFunctions, AreWellTypedGlobals, IsWellTypedProgram, IsLeft, IsMade, IsSide, IsThrown, IsCaught, WellTypedClauses, with_caught, behind_clause, with_opened, with_key_opened, with_region}
-use Rattle.cyc_types.specs.Numbered.{Numbering, signatures_of, IsSignature, argument_count, numbering_of}
+use Rattle.cyc_types.specs.typing.WellTyped.{with_counter, Context, PointerOperation, adds, subtracts, equals, differs, thin_null, thin_there, fat_null, fat_there, null_is, null_is_not, IsCallee, Converts, IsPeek, WellTyped, IsCell, IsConverted, ArePassed, IsChain, IsCondition, IsReturned, IsInitial, WellTypedStatement, WellTypedItems, behind, in_block, in_body, with_local, body_context, AreWellTypedFunctions, AreWellTypedGlobals, IsWellTypedProgram, IsLeft, IsMade, IsSide, IsThrown, IsCaught, WellTypedClauses, with_caught, behind_clause, with_opened, with_key_opened, with_region, IsPlace}
+use Rattle.cyc_types.specs.Numbered.{Numbering, signatures_of, IsSignature, argument_count, numbering_of, IsWithin}
+use Rattle.cyc_types.specs.Texts.{is_comparison, are_sums, stands_alone}
 use Rattle.cyc_meaning.specs.Pointers.{result_kind as operator_kind}
-use Rattle.cyc_lower.specs.Lowerable.{IsLowerable, IsLowerableConverted, AreLowerableArguments, AreLowerableOperations, IsLowerableReturn, IsLowerableInitial, IsLowerableStatement, AreLowerableItems, AreLowerableFunctions, IsLowerableProgram, is_comparison, are_sums, stands_alone, IsLowerableCell, IsLowerableObject, IsLowerableSide, IsLowerableThrown, IsLowerableCaught, AreLowerableClauses, is_converted, is_pointer}
+use Rattle.cyc_lower.specs.Lowerable.{IsLowerable, IsLowerableConverted, AreLowerableArguments, AreLowerableOperations, IsLowerableReturn, IsLowerableInitial, IsLowerableStatement, AreLowerableItems, AreLowerableFunctions, IsLowerableProgram, IsLowerableCell, IsLowerableObject, IsLowerableSide, IsLowerableThrown, IsLowerableCaught, AreLowerableClauses, is_converted, is_pointer}
 use Rattle.cyc_store.specs.declared.range.TheConstants.{MOST_BLOCK_WORDS}
 use Rattle.cyc_meaning.specs.Values.{kind_of, is_thin, words_of_kind}
 use Rattle.cyc_meaning.specs.FrameCount.{result_words, words_of_all, operand_words}
 use Rattle.cyc_lower.specs.Slots.{Types, counted, global_types}
-use Rattle.cyc_lower.specs.Lowering.{types_of, passed_words, all_passed, results_of, left_kind, scopes_of, is_handle, may_open, scopes_if, lower_globals}
-use Rattle.cyc_lower.proofs.Widths.{kind_of_result, result_kind, called_kind, given, passed_kind, type_words, HasRoom, HasGlobal, chain_kind, HasField}
+use Rattle.cyc_lower.specs.Lowering.{types_of, passed_words, all_passed, results_of, left_kind, scopes_of, is_handle, may_open, scopes_if, lower_globals, words_behind}
+use Rattle.cyc_lower.proofs.Widths.{kind_of_result, result_kind, called_kind, given, passed_kind, type_words, HasRoom, HasGlobal, chain_kind, HasField, HasVariable}
 use Rattle.cyc_lower.proofs.Slots.{words-there, words_positive}
 use Rattle.cyc_plain.proofs.Placed.{below_of_get}
 use Rattle.std.specs.List.{list_any}
@@ -45,6 +46,11 @@ module _ (b : Numbering) (types : Types) where
   abbrev pub FitsPlace : Lvalue → Kind → Type 0
   FitsPlace (Local p n) kind = (n < b.locals) × HasRoom types n kind
   FitsPlace (Global n) kind = HasGlobal types n kind
+
+  -- A variable whose address is taken. It has as many words as the pointer to it leads to.
+  abbrev pub FitsAddress : Lvalue → Ty → Type 0
+  FitsAddress (Local p n) t = (n < b.locals) × HasVariable types.locals n t
+  FitsAddress (Global n) t = HasVariable types.globals n t
 
 module _ (b : Numbering) where
   abbrev mutual
@@ -69,9 +75,9 @@ module _ (b : Numbering) where
     Fits types (New OnHeap i t) = FitsObject types i
     Fits types (New AsUnique i t) = FitsObject types i
     Fits types (New (ByHandle a) i t) = (given b.functions a ≡ kinds.Handle) × Fits types a × FitsObject types i
+    Fits types (AddressOf l t) = FitsAddress b types l t
     Fits types (AddressOfCell x t) = FitsCell types x
     Fits types (Store x c t) = FitsCell types x × FitsConverted types c
-    Fits types a = ⊥
 
     pub FitsCell : (types : Types) → Dereference → Type 0
     FitsCell types (Element a i t) = (given b.functions a ≡ kinds.Fat) × (3 ≤ operand_words (type_of a)) × Fits types a × Fits types i
@@ -146,7 +152,7 @@ module _ (b : Numbering) (types : Types) where
     pub FitItems : Bool → Items → Type 0
     FitItems l NoItems = Unit {0}
     FitItems l (MoreItems (Execute s) js) = FitsStatement l s × FitItems l js
-    FitItems l (MoreItems (Declare n t v) js) = (n < b.locals) × FitsInitial n v × FitItems l js
+    FitItems l (MoreItems (Declare n t v) js) = (n < b.locals) × HasRoom types n (kind_of t) × FitsInitial n v × FitItems l js
     FitItems l (MoreItems (DeclareRegion r n) js) = IsCounting types.scopes × (n < b.locals) × HasRoom types n kinds.Handle × FitItems l js
     FitItems l (MoreItems (OpenRegion r n w k) js) =
         (n < b.locals) × HasRoom types n kinds.Handle × (k < b.locals) × HasRoom types k kinds.Handle × FitItems l js
@@ -354,6 +360,21 @@ module _ (b : Numbering) (types : Types) where
   global_in c n t kind suits at same =
       omega (arith, words-there types.globals n t (ap (λ (ts : List Ty). slice_get ts n) (sym suits.globals) ∙ at), type_words t, ap words_of_kind same)
 
+  -- a variable has the words that a pointer to it leads to
+  pointed_words : (mark : PointerKind) (t : Ty) (r : Region) (pointer : Ty) → pointer ≡ type_forms.Pointer mark t r → words_behind pointer ≡ words_of t
+  pointed_words mark type_forms.Int r pointer is = ap words_behind is
+  pointed_words mark (type_forms.Pointer marks.Nullable u s) r pointer is = ap words_behind is
+  pointed_words mark (type_forms.Pointer marks.NonNull u s) r pointer is = ap words_behind is
+  pointed_words mark (type_forms.Pointer marks.Fat u s) r pointer is = ap words_behind is
+  pointed_words mark (type_forms.Handle s) r pointer is = ap words_behind is
+  pointed_words mark (type_forms.Key s) r pointer is = ap words_behind is
+  pointed_words mark (type_forms.Struct n rs) r pointer is = ap words_behind is
+
+  address_fits : (l : Lvalue) (c : Context) (pointer t : Ty) (r : Region) → Suits c → IsWithin b l → IsPlace c l t r → words_behind pointer ≡ words_of t → FitsAddress b types l pointer
+  address_fits (Local p n) c pointer t r suits few (m, place, home, there) words =
+      (few, (t, ap (λ (ts : List Ty). slice_get ts n) (sym suits.variables) ∙ there, words))
+  address_fits (Global n) c pointer t r suits few (home, there) words = (t, ap (λ (ts : List Ty). slice_get ts n) (sym suits.globals) ∙ there, words)
+
   same_signature : (f : Callee) (c : Context) (s u : Signature) → Suits c → IsCallee c f s → IsSignature b f u → s ≡ u
   same_signature callees.Putchar c s u suits is also = is ∙ sym also
   same_signature callees.Getchar c s u suits is also = is ∙ sym also
@@ -460,6 +481,8 @@ module _ (b : Numbering) where
     fits types (Load x) c v suits numbered (u, r, cell, flat, shared, is) =
         let (same, fitting) = fits_cell types x c u r suits numbered cell in
         (subst (IsGiven (kind_of (type_of_place x))) (sym (is ∙ ap Value same)) refl, fitting)
+    fits types (AddressOf l t) c v suits few (u, r, place, stays, t_is, is) =
+        (pointer_given b types marks.NonNull u r t v refl t_is is, address_fits b types l c t u r suits few place (pointed_words b types marks.NonNull u r t t_is))
     fits types (AddressOfCell x t) c v suits numbered (u, r, cell, stays, shared, t_is, is) =
         (subst (IsGiven kinds.NonNull) (sym (is ∙ ap Value t_is)) refl, (fits_cell types x c u r suits numbered cell).1)
     fits types (Store x d u) c v suits (place, numbered) (t, r, cell, converted, u_is, is) =
@@ -489,7 +512,6 @@ module _ (b : Numbering) where
     fits types (New (ByHandle a) (Array p level n kind x) t) c v suits (handle, numbered) (mark, u, r, (well, live), (level_is, length, element, unlocked, kind_is, mark_is), t_is, is) =
         let (given_is, fitting) = fits types a c (Value (type_forms.Handle r)) suits handle well in
         (array_given b types mark u r t v mark_is t_is is, (given_is, fitting, fits_object types (Array p level n kind x) c mark u suits numbered (level_is, length, element, unlocked, kind_is, mark_is)))
-    fits types a c v suits numbered well = absurd numbered
 
     fits_object : (types : Types) → (i : Initial) (c : Context) (mark : PointerKind) (u : Ty) → Suits b types c → IsLowerableObject b i → IsMade c i mark u → FitsObject b types i
     fits_object types (Plain kind a) c mark u suits numbered (well, unlocked, kind_is, mark_is) =
@@ -622,6 +644,7 @@ module _ (b : Numbering) (types : Types) where
         (fits_statement s l c suits one well, fit_items js l (behind c s) (suits_behind s c suits) all rest)
     fit_items (MoreItems (Declare n t v) js) l c suits (few, one, all) ((next, there, live), well, rest) = (
       few,
+      room_in b types c n t (kind_of t) suits there refl,
       fits_initial v n t c suits there one well,
       fit_items js l (with_local true t c) (record { functions = suits.functions; structs = suits.structs; variables = suits.variables; globals = suits.globals; counters = suits.counters; result = suits.result; scopes = suits.scopes }) all rest,
     )

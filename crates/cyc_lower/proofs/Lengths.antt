@@ -10,7 +10,7 @@ use Rattle.cyc_types.specs.declared.typed.Operator.{Operator}
 use Rattle.cyc_types.specs.declared.typed.Operator.TheVariants as operators
 use Rattle.cyc_types.specs.declared.typed.PointerOperator.{PointerOperator}
 use Rattle.cyc_types.specs.declared.typed.PointerOperator.TheVariants as pointers
-use Rattle.cyc_types.specs.TypedTrees.{Load, New, OnHeap, Initial, Plain, Fields, Array, Dereference, Target, Member, Element, Lvalue, Local, Global, Expression, Copy, Call, Unary, Binary, Assign, Converted, Convert, Arguments, NoArguments, MoreArguments, Operations, NoOperations, ThenCompute, ThenTest, ThenPointer, ThenPointerPeek, Statement, Block, Empty, Evaluate, If, While, Return, Break, Continue, Items, NoItems, MoreItems, Execute, Declare, StructType, Function, Move, Peek, AddressOfCell, Store, AsUnique, FreeUnique, Side, VariableSide, CellSide, Swap, Throw, Try, Clauses, NoClauses, Default, Case, NumberOfElements, type_of_place, ByHandle, FreeKey, DeclareRegion, OpenRegion, DeclareAlias, DeclareKey}
+use Rattle.cyc_types.specs.TypedTrees.{Load, New, OnHeap, Initial, Plain, Fields, Array, Dereference, Target, Member, Element, Lvalue, Local, Global, Expression, Copy, Call, Unary, Binary, Assign, Converted, Convert, Arguments, NoArguments, MoreArguments, Operations, NoOperations, ThenCompute, ThenTest, ThenPointer, ThenPointerPeek, Statement, Block, Empty, Evaluate, If, While, Return, Break, Continue, Items, NoItems, MoreItems, Execute, Declare, StructType, Function, Move, Peek, AddressOf, AddressOfCell, Store, AsUnique, FreeUnique, Side, VariableSide, CellSide, Swap, Throw, Try, Clauses, NoClauses, Default, Case, NumberOfElements, type_of_place, ByHandle, FreeKey, DeclareRegion, OpenRegion, DeclareAlias, DeclareKey}
 use Rattle.cyc_types.specs.Types.{words_of}
 use Rattle.cyc_plain.specs.declared.instruction.Operand.{Operand}
 use Rattle.cyc_plain.specs.declared.instruction.Operand.TheVariants as operands
@@ -206,6 +206,8 @@ module _ (raises : ℕ) where
     expression_long starts (Assign (Global n) c ty) p q d e t same =
         joined _ _ _ _ (joined _ _ _ _ (converted_operand_long starts c p q t) (λ i. length (global_code (passed_words c) (global_of starts n) (same_converted starts raises c t i)))) (λ i. length (copy_code (passed_words c) (same_converted starts raises c t i) (same i)))
     expression_long starts (Load x) p q d e t same = joined _ _ _ _ (place_long starts x p q t) (λ i. length (loaded_code (words_of (type_of_place x)) (same_place starts raises x t i) (same_offset starts raises x i) (same i) t))
+    expression_long starts (AddressOf (Local w n) ty) p q d e t same = refl
+    expression_long starts (AddressOf (Global n) ty) p q d e t same = refl
     expression_long starts (AddressOfCell x ty) p q d e t same = joined _ _ _ _ (place_long starts x p q t) (λ i. length (address_code (same_place starts raises x t i) (same_offset starts raises x i) (same i)))
     expression_long starts (Store x c ty) p q d e t same =
         joined _ _ _ _

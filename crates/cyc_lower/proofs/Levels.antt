@@ -117,7 +117,7 @@ module _ (source : Program) where
     dropped_arrays g p frames k stack = absurd stack
 
     ahead_arrays : (g : ℕ) (locals : ℕ → Option ℕ) (kind : Kind) (n p : ℕ) (frames : List Frame) (k : List Entry) → AheadStack source g locals kind n p frames k → AllCount k
-    ahead_arrays g locals kind n p frames (Needs (ConvertTo from to target) ∷ k) (quiet, stack) = ahead_arrays g locals to n p frames k stack
+    ahead_arrays g locals kind n p frames (Needs (ConvertTo from to target) ∷ k) (quiet, wide, stack) = ahead_arrays g locals to n p frames k stack
     ahead_arrays g locals kind n p frames (Needs (Chain NoOperations) ∷ k) stack = ahead_arrays g locals kind n p frames k stack
     ahead_arrays g locals kind n p frames (Needs (BesideHandle region) ∷ k) stack = ahead_arrays g locals kind n p frames k stack
     ahead_arrays g locals kind n p frames (Needs (Store place) ∷ k) (number, object, is, found, same, room, hands) =

@@ -8,6 +8,15 @@ pub mod Lowerings
 pub mod Routines
 pub mod Lengths
 -- a run of the plain program is one of the source
+pub mod Known
+pub mod Moving
+pub mod Rows
+pub mod WaitingData
+pub mod Leads
+pub mod Named
+pub mod Apart
+pub mod Sources
+pub mod GlobalRows
 pub mod Relation
 pub mod Matched
 pub mod Closings
@@ -30,6 +39,7 @@ pub mod UniqueBlocks
 pub mod Keys
 pub mod PlaceWords
 pub mod CellLoads
+pub mod StoredWords
 mod CellReads
 pub mod AddressSteps
 pub mod SwapSteps
@@ -52,6 +62,7 @@ pub mod WaysOut
 pub mod StatementSteps
 pub mod Keeping
 pub mod Levels
+pub mod Pinned
 pub mod Whole
 -- the rest of the promise: it is well formed, of words, and small
 pub mod WellFormed

@@ -1,38 +1,29 @@
--- A well typed program that is built is lowered.
-use Rattle.std.proofs.Common.{◌≡◌, ◌⊎◌, inl, inr, ℕ, suc, ◌*◌, ◌<◌, ◌≤◌, true, ◌&&◌, List, [], ◌∷◌, Option, Some, None, map, length, slice_get, refl, sym, ap, subst, ◌∙◌, arith, length-append, Bool, false}
-use Rattle.std.specs.Prelude.{nat_le, not}
-use Rattle.std.specs.List.{list_all}
-use Rattle.std.proofs.lemmas.Bool.{and_parts, leb-true}
+-- The typed program of a text can be lowered.
+use Rattle.std.proofs.Common.{◌≡◌, ◌⊎◌, inl, inr, ℕ, suc, ◌*◌, ◌<◌, ◌≤◌, true, List, [], ◌∷◌, Option, Some, None, map, length, slice_get, refl, ap, subst, ◌∙◌, arith, length-append, Bool, false}
 use Rattle.std.proofs.lemmas.Option.{slice_get_within}
 use Rattle.std.proofs.lemmas.List.{length-map}
-use Rattle.cyc_words.specs.Word.{IsWord}
 use Rattle.cyc_types.specs.declared.region.Region.{Region}
 use Rattle.cyc_types.specs.declared.region.Region.TheVariants.{Variable}
 use Rattle.cyc_types.specs.declared.scope.ScopeKind.TheVariants as scopes
 use Rattle.cyc_types.specs.declared.typed.Callee.{Callee}
 use Rattle.cyc_types.specs.declared.typed.Callee.TheVariants as callees
 use Rattle.cyc_types.specs.declared.typed.Kind.{Kind}
-use Rattle.cyc_types.specs.declared.typed.PointerOperator.{PointerOperator}
-use Rattle.cyc_types.specs.declared.typed.PointerOperator.TheVariants as pointers
 use Rattle.cyc_types.specs.declared.typed.UnaryOperator.{UnaryOperator}
 use Rattle.cyc_types.specs.declared.typed.UnaryOperator.TheVariants as unary
 use Rattle.cyc_syntax.specs.declared.tree.PointerKind.{PointerKind}
 use Rattle.cyc_syntax.specs.declared.tree.PointerKind.TheVariants as marks
 use Rattle.cyc_types.specs.Types.{Ty, Int, Pointer, Handle, Key, Struct, ValueType, Null, Value, substituted_ty}
-use Rattle.cyc_types.specs.TypedTrees.{Lvalue, Local, Global, Expression, Number, NullPointer, HeapRegion, Counter, NumberOfElements, Copy, Move, Peek, FreeUnique, FreeKey, Load, AddressOfCell, Call, Unary, Binary, Assign, Store, New, Dereference, Target, Member, Element, OnHeap, AsUnique, ByHandle, Initial, Plain, Fields, Converted, Convert, Arguments, NoArguments, MoreArguments, Operations, NoOperations, ThenCompute, ThenTest, ThenPointer, ThenPointerPeek, Side, VariableSide, CellSide, Statement, Block, Empty, Evaluate, Swap, If, While, Return, Break, Continue, Items, NoItems, MoreItems, Execute, Declare, DeclareRegion, OpenRegion, DeclareAlias, DeclareKey, GlobalVariable, Signature, Function, Program, Throw, Try, Clauses, NoClauses, Default, Case, Array}
-use Rattle.cyc_types.specs.Built.{is_built_operator, is_built_expression, is_built_place, is_built_size, is_built_initial, is_built_converted, are_built_arguments, are_built_operations, is_built_value, is_built_side, is_built_statement, are_built_items, is_built_function, is_built, is_built_tag, is_built_thrown, are_built_clauses}
+use Rattle.cyc_types.specs.TypedTrees.{Lvalue, Local, Global, Expression, Number, NullPointer, HeapRegion, Counter, NumberOfElements, Copy, Move, Peek, FreeUnique, FreeKey, Load, AddressOf, AddressOfCell, Call, Unary, Binary, Assign, Store, New, Dereference, Target, Member, Element, OnHeap, AsUnique, ByHandle, Initial, Plain, Fields, Converted, Convert, Arguments, NoArguments, MoreArguments, Operations, NoOperations, ThenCompute, ThenTest, ThenPointer, ThenPointerPeek, Side, VariableSide, CellSide, Statement, Block, Empty, Evaluate, Swap, If, While, Return, Break, Continue, Items, NoItems, MoreItems, Execute, Declare, DeclareRegion, OpenRegion, DeclareAlias, DeclareKey, GlobalVariable, Signature, Function, Program, Throw, Try, Clauses, NoClauses, Default, Case, Array}
+use Rattle.cyc_types.specs.Texts.{IsOfText, IsOfTextCell, IsOfTextObject, IsOfTextConverted, AreOfTextArguments, AreOfTextOperations, IsOfTextValue, IsOfTextSide, IsOfTextThrown, IsOfTextStatement, AreOfTextItems, AreOfTextClauses, AreOfTextFunctions, IsOfTextProgram}
 use Rattle.cyc_types.specs.Numbered.{signatures_of, Numbering, IsSignature, argument_count, IsWithin, numbering_of}
-use Rattle.cyc_types.specs.typing.Tests.{is_thin_mark, is_pointer, is_int, kind_of_mark, kind_of, kind_of_value}
-use Rattle.cyc_types.specs.typing.WellTyped.{PointerOperation, adds, subtracts, equals, differs, thin_null, thin_there, fat_null, fat_there, null_is, null_is_not, Converts, with_counter, Context, IsVariable, IsPlace, IsCallee, WellTyped, IsPeek, IsLeft, IsSide, IsUnaryOperand, IsConverted, ArePassed, IsCell, IsMade, IsChain, IsCondition, behind, in_block, in_body, with_local, with_opened, with_key_opened, with_region, IsInitial, IsReturned, WellTypedStatement, WellTypedItems, body_context, AreWellTypedFunctions, IsWellTypedProgram, IsThrown, IsCaught, behind_clause, WellTypedClauses}
+use Rattle.cyc_types.specs.typing.Tests.{is_thin_mark, kind_of_mark, kind_of, kind_of_value}
+use Rattle.cyc_types.specs.typing.WellTyped.{Converts, with_counter, Context, IsVariable, IsPlace, IsCallee, WellTyped, IsPeek, IsLeft, IsSide, IsUnaryOperand, IsConverted, ArePassed, IsCell, IsMade, IsChain, IsCondition, behind, in_block, in_body, with_local, with_opened, with_key_opened, with_region, IsInitial, IsReturned, WellTypedStatement, WellTypedItems, body_context, AreWellTypedFunctions, IsWellTypedProgram, IsThrown, IsCaught, behind_clause, WellTypedClauses}
 use Rattle.cyc_meaning.specs.Values.{is_thin, words_of_kind}
 use Rattle.cyc_lower.specs.Lowering.{all_passed}
-use Rattle.cyc_lower.specs.Lowerable.{is_comparison, are_sums, stands_alone, is_converted, IsLowerable, IsLowerableObject, IsLowerableSide, IsLowerableCell, IsLowerableConverted, AreLowerableArguments, AreLowerableOperations, IsLowerableReturn, IsLowerableInitial, IsLowerableStatement, AreLowerableItems, AreLowerableFunctions, IsLowerableProgram, IsLowerableThrown, IsLowerableCaught, AreLowerableClauses}
+use Rattle.cyc_lower.specs.Lowerable.{is_converted, IsLowerable, IsLowerableObject, IsLowerableSide, IsLowerableCell, IsLowerableConverted, AreLowerableArguments, AreLowerableOperations, IsLowerableReturn, IsLowerableInitial, IsLowerableStatement, AreLowerableItems, AreLowerableFunctions, IsLowerableProgram, IsLowerableThrown, IsLowerableCaught, AreLowerableClauses}
 use Rattle.cyc_lower.proofs.Widths.{kind_few}
 
--- ---- tags and objects
-
-word_tag : (n : ℕ) → is_built_tag n ≡ true → IsWord n
-word_tag n i = let few = leb-true n 4294967295 i in omega (arith, few)
+-- ---- objects
 
 -- no value has more than three words
 all_few : (cs : Arguments) → all_passed cs ≤ 3 * argument_count cs
@@ -67,67 +58,6 @@ types_converted c (Value (Handle r)) (Handle s) converts = refl
 types_converted c (Value (Key r)) (Key s) converts = refl
 types_converted c Null (Pointer l u s) converts = pointers_converted marks.Nullable l
 types_converted c v t converts = absurd converts
-
--- ---- chains
-
--- an int is no operand on the left of what is done with pointers
-pointer_left : (c : Context) (o : PointerOperator) (left right result : ValueType) → PointerOperation c o left right result → is_int left ≡ false
-pointer_left c pointers.AddFat left right result (adds t r other) = refl
-pointer_left c pointers.SubtractFat left right result (subtracts t r other) = refl
-pointer_left c pointers.EqualThin left right result (equals k l t r s is also live other) = refl
-pointer_left c pointers.NotEqualThin left right result (differs k l t r s is also live other) = refl
-pointer_left c pointers.ThinIsNull left right result (thin_null k t r is) = refl
-pointer_left c pointers.ThinIsNotNull left right result (thin_there k t r is) = refl
-pointer_left c pointers.FatIsNull left right result (fat_null k t r is) = refl
-pointer_left c pointers.FatIsNotNull left right result (fat_there k t r is) = refl
-pointer_left c pointers.NullIs left right result (null_is k t r) = refl
-pointer_left c pointers.NullIsNot left right result (null_is_not k t r) = refl
-
-int_type : (u : Ty) → is_int (Value u) ≡ true → is_pointer u ≡ false
-int_type (Pointer m t r) int = absurd (cc)
-int_type u int = refl
-
--- so what is computed of an int is no pointer
-int_chain : (c : Context) (left : ValueType) (os : Operations) (u : Ty) → is_int left ≡ true → IsChain c left os u → is_pointer u ≡ false
-int_chain c left NoOperations u int w = int_type u (sym (ap is_int w) ∙ int)
-int_chain c left (ThenCompute o a os) u int (l, w, ws) = int_chain c (Value Int) os u refl ws
-int_chain c left (ThenTest o a os) u int (l, w, ws) = int_chain c (Value Int) os u refl ws
-int_chain c left (ThenPointer o a os) u int (v, x, w, operation, ws) = absurd (let f : true ≡ false = sym int ∙ pointer_left c o left v x operation in cc)
-int_chain c left (ThenPointerPeek n o a os) u int (v, x, w, operation, ws) = absurd (let f : true ≡ false = sym int ∙ pointer_left c o left v x operation in cc)
-
--- a sum, or what compares
-sum_or_int : (c : Context) (o : PointerOperator) (left right result : ValueType) → PointerOperation c o left right result → (is_comparison o ≡ false) ⊎ (is_int result ≡ true)
-sum_or_int c pointers.AddFat left right result operation = inl refl
-sum_or_int c pointers.SubtractFat left right result operation = inl refl
-sum_or_int c pointers.EqualThin left right result (equals k l t r s is also live other) = inr refl
-sum_or_int c pointers.NotEqualThin left right result (differs k l t r s is also live other) = inr refl
-sum_or_int c pointers.ThinIsNull left right result (thin_null k t r is) = inr refl
-sum_or_int c pointers.ThinIsNotNull left right result (thin_there k t r is) = inr refl
-sum_or_int c pointers.FatIsNull left right result (fat_null k t r is) = inr refl
-sum_or_int c pointers.FatIsNotNull left right result (fat_there k t r is) = inr refl
-sum_or_int c pointers.NullIs left right result (null_is k t r) = inr refl
-sum_or_int c pointers.NullIsNot left right result (null_is_not k t r) = inr refl
-
-sum_first : (c : Context) (o : PointerOperator) (x : ValueType) (os : Operations) (u : Ty) → is_pointer u ≡ true → (is_comparison o ≡ false) ⊎ (is_int x ≡ true) → IsChain c x os u → are_sums os ≡ true
-    → (not (is_comparison o) && are_sums os) ≡ true
-sum_first c o x os u there (inl sum) ws rest = ap (λ b. not b && are_sums os) sum ∙ rest
-sum_first c o x os u there (inr int) ws rest = absurd (let f : true ≡ false = sym there ∙ int_chain c x os u int ws in cc)
-
--- a chain whose value is a pointer has sums alone
-sums_alone : (c : Context) (left : ValueType) (os : Operations) (u : Ty) → is_pointer u ≡ true → IsChain c left os u → are_sums os ≡ true
-sums_alone c left NoOperations u there w = refl
-sums_alone c left (ThenCompute o a os) u there (l, w, ws) = absurd (let f : true ≡ false = sym there ∙ int_chain c (Value Int) os u refl ws in cc)
-sums_alone c left (ThenTest o a os) u there (l, w, ws) = absurd (let f : true ≡ false = sym there ∙ int_chain c (Value Int) os u refl ws in cc)
-sums_alone c left (ThenPointer o a os) u there (v, x, w, operation, ws) = sum_first c o x os u there (sum_or_int c o left v x operation) ws (sums_alone c x os u there ws)
-sums_alone c left (ThenPointerPeek n o a os) u there (v, x, w, operation, ws) = sum_first c o x os u there (sum_or_int c o left v x operation) ws (sums_alone c x os u there ws)
-
--- a sum of a pointer and an int stands among sums
-alone : (c : Context) (o : PointerOperator) (x : ValueType) (os : Operations) (u : Ty) → is_built_operator u o ≡ true → IsChain c x os u → stands_alone o os ≡ true
-alone c pointers.AddFat x os (Pointer m t r) i w = sums_alone c x os (Pointer m t r) refl w
-alone c pointers.SubtractFat x os (Pointer m t r) i w = sums_alone c x os (Pointer m t r) refl w
-alone c pointers.AddFat x os u i w = absurd (cc)
-alone c pointers.SubtractFat x os u i w = absurd (cc)
-alone c o x os u i w = refl
 
 -- ---- forms that are looked at
 
@@ -193,7 +123,7 @@ module _ (b : Numbering) where
   callee c k (callees.Function n) s is = subst (λ ss. slice_get ss n ≡ Some s) k.functions is
 
   mutual
-    lowerable : (c : Context) → Agrees b c → (a : Expression) (t : ValueType) → is_built_expression a ≡ true → WellTyped c a t → IsLowerable b a
+    lowerable : (c : Context) → Agrees b c → (a : Expression) (t : ValueType) → IsOfText a → WellTyped c a t → IsLowerable b a
     lowerable c k (Number n) t i w = tt
     lowerable c k NullPointer t i w = tt
     lowerable c k HeapRegion t i w = tt
@@ -202,6 +132,7 @@ module _ (b : Numbering) where
     lowerable c k (Move p n u) t i (v, moved, eq) = within c k (Local p n) u v
     lowerable c k (Peek p n u) t i w = absurd w
     lowerable c k (Load d) t i (u, r, cell, whole, shared, eq) = cell_lowerable c k d u r i cell
+    lowerable c k (AddressOf l u) t i (v, r, place, moved, is, eq) = placed c k l v r place
     lowerable c k (AddressOfCell d u) t i (v, r, cell, moved, shared, is, eq) = cell_lowerable c k d v r i cell
     lowerable c k (NumberOfElements a) t i (u, r, w, eq) = let v = Value (Pointer marks.Fat u r) in seen c k a v (λ h. lowerable c k a v i h) w
     lowerable c k (FreeUnique a) t i (m, u, w, eq) = lowerable c k a _ i w
@@ -210,79 +141,66 @@ module _ (b : Numbering) where
         let (count, all) = passed_lowerable c k (map (substituted_ty m) s.parameters) ds i passed in
         (s, callee c k f s is, count ∙ length-map s.parameters (substituted_ty m), all)
     lowerable c k (Unary o a) t i (v, w, eq) = seen c k a v (λ h. lowerable c k a v i h) (operand_seen c o a v w)
-    lowerable c k (Binary a os u) t i (v, w, chain, eq) =
-        let (first, rest) = and_parts (is_built_expression a) (are_built_operations u os) i in
+    lowerable c k (Binary a os u) t (first, rest) (v, w, chain, eq) =
         (seen c k a v (λ h. lowerable c k a v first h) (left_seen c a v os w), chain_lowerable c k v os u rest chain)
     lowerable c k (Assign l d u) t i (v, r, place, w, same, eq) = (placed c k l v r place, converted_lowerable c k d v i w)
-    lowerable c k (Store d e u) t i (v, r, cell, w, same, eq) =
-        let (place, value) = and_parts (is_built_place d) (is_built_converted e) i in
+    lowerable c k (Store d e u) t (place, value) (v, r, cell, w, same, eq) =
         (cell_lowerable c k d v r place cell, converted_lowerable c k e v value w)
-    lowerable c k (New OnHeap m u) t i (l, v, r, there, made, is, eq) = made_lowerable c k m l v i made
-    lowerable c k (New AsUnique m u) t i (l, v, r, there, made, is, eq) = made_lowerable c k m l v i made
-    lowerable c k (New (ByHandle a) m u) t i (l, v, r, (there, live), made, is, eq) =
-        let (handle, values) = and_parts (is_built_expression a) (is_built_initial m) i in (lowerable c k a (Value (Handle r)) handle there, made_lowerable c k m l v values made)
-    lowerable c k a t i w = absurd (cc)
+    lowerable c k (New OnHeap m u) t (placed, values) (l, v, r, there, made, is, eq) = made_lowerable c k m l v values made
+    lowerable c k (New AsUnique m u) t (placed, values) (l, v, r, there, made, is, eq) = made_lowerable c k m l v values made
+    lowerable c k (New (ByHandle a) m u) t (handle, values) (l, v, r, (there, live), made, is, eq) =
+        (lowerable c k a (Value (Handle r)) handle there, made_lowerable c k m l v values made)
 
-    cell_lowerable : (c : Context) → Agrees b c → (d : Dereference) (t : Ty) (r : Region) → is_built_place d ≡ true → IsCell c d t r → IsLowerableCell b d
+    cell_lowerable : (c : Context) → Agrees b c → (d : Dereference) (t : Ty) (r : Region) → IsOfTextCell d → IsCell c d t r → IsLowerableCell b d
     cell_lowerable c k (Target l a u) t r i (m, w, live, mark, eq) =
         let v = Value (Pointer m u r) in seen c k a v (λ h. lowerable c k a v i h) w
     cell_lowerable c k (Member l a n f u) t r i (m, rs, s, x, w, thin, live, mark, struct, field, is, eq) =
         let v = Value (Pointer m (Struct n rs) r) in (thin_kind l m mark thin, seen c k a v (λ h. lowerable c k a v i h) w)
-    cell_lowerable c k (Element a j u) t r i (w, index, live, eq) =
-        let v = Value (Pointer marks.Fat u r) in
-        let (first, second) = and_parts (is_built_expression a) (is_built_expression j) i in (seen c k a v (λ h. lowerable c k a v first h) w, lowerable c k j (Value Int) second index)
+    cell_lowerable c k (Element a j u) t r (first, second) (w, index, live, eq) =
+        let v = Value (Pointer marks.Fat u r) in (seen c k a v (λ h. lowerable c k a v first h) w, lowerable c k j (Value Int) second index)
 
-    made_lowerable : (c : Context) → Agrees b c → (m : Initial) (l : PointerKind) (t : Ty) → is_built_initial m ≡ true → IsMade c m l t → IsLowerableObject b m
+    made_lowerable : (c : Context) → Agrees b c → (m : Initial) (l : PointerKind) (t : Ty) → IsOfTextObject m → IsMade c m l t → IsLowerableObject b m
     made_lowerable c k (Plain l a) m t i (w, key, kind, mark) = lowerable c k a (Value t) i w
-    made_lowerable c k (Fields ds) m t i (n, rs, s, struct, long, passed, is, mark) =
-        let (size, values) = and_parts (is_built_size (argument_count ds)) (are_built_arguments ds) i in
-        let (some, few) = and_parts (nat_le 1 (argument_count ds)) (nat_le (argument_count ds) 64) size in
-        let most : argument_count ds ≤ 64 = leb-true (argument_count ds) 64 few in
+    made_lowerable c k (Fields ds) m t (some, few, values) (n, rs, s, struct, long, passed, is, mark) =
         let words : all_passed ds ≤ 3 * argument_count ds = all_few ds in
-        (leb-true 1 (argument_count ds) some, omega (arith, most, words), (passed_lowerable c k (map (substituted_ty rs) s.fields) ds values passed).1)
-    made_lowerable c k (Array p level n l a) m t i (is, count, w, key, kind, mark) =
-        let (length, element) = and_parts (is_built_expression n) (is_built_expression a) i in
+        (some, omega (arith, few, words), (passed_lowerable c k (map (substituted_ty rs) s.fields) ds values passed).1)
+    made_lowerable c k (Array p level n l a) m t (length, element) (is, count, w, key, kind, mark) =
         (lowerable c k n (Value Int) length count, lowerable (with_counter c) (counting c k) a (Value t) element w)
 
-    converted_lowerable : (c : Context) → Agrees b c → (d : Converted) (t : Ty) → is_built_converted d ≡ true → IsConverted c d t → IsLowerableConverted b d
+    converted_lowerable : (c : Context) → Agrees b c → (d : Converted) (t : Ty) → IsOfTextConverted d → IsConverted c d t → IsLowerableConverted b d
     converted_lowerable c k (Convert from to a) t i (v, w, converts, given, wanted) =
         (ap (λ l. is_converted l to) given ∙ ap (λ l. is_converted (kind_of_value v) l) wanted ∙ types_converted c v t converts, lowerable c k a v i w)
 
-    passed_lowerable : (c : Context) → Agrees b c → (ts : List Ty) (ds : Arguments) → are_built_arguments ds ≡ true → ArePassed c ts ds → (argument_count ds ≡ length ts) × AreLowerableArguments b ds
+    passed_lowerable : (c : Context) → Agrees b c → (ts : List Ty) (ds : Arguments) → AreOfTextArguments ds → ArePassed c ts ds → (argument_count ds ≡ length ts) × AreLowerableArguments b ds
     passed_lowerable c k [] NoArguments i w = (refl, tt)
-    passed_lowerable c k (t ∷ ts) (MoreArguments d ds) i (w, ws) =
-        let (first, rest) = and_parts (is_built_converted d) (are_built_arguments ds) i in
+    passed_lowerable c k (t ∷ ts) (MoreArguments d ds) (first, rest) (w, ws) =
         let (count, all) = passed_lowerable c k ts ds rest ws in (ap suc count, (converted_lowerable c k d t first w, all))
     passed_lowerable c k ts ds i w = absurd w
 
-    chain_lowerable : (c : Context) → Agrees b c → (left : ValueType) (os : Operations) (u : Ty) → are_built_operations u os ≡ true → IsChain c left os u → AreLowerableOperations b os
+    chain_lowerable : (c : Context) → Agrees b c → (left : ValueType) (os : Operations) (u : Ty) → AreOfTextOperations os → IsChain c left os u → AreLowerableOperations b os
     chain_lowerable c k left NoOperations u i w = tt
-    chain_lowerable c k left (ThenCompute o a os) u i (l, w, ws) =
-        let (first, rest) = and_parts (is_built_expression a) (are_built_operations u os) i in (lowerable c k a (Value Int) first w, chain_lowerable c k (Value Int) os u rest ws)
-    chain_lowerable c k left (ThenTest o a os) u i (l, (v, w, tested), ws) =
-        let (first, rest) = and_parts (is_built_expression a) (are_built_operations u os) i in (seen c k a v (λ h. lowerable c k a v first h) w, chain_lowerable c k (Value Int) os u rest ws)
-    chain_lowerable c k left (ThenPointer o a os) u i (v, x, w, operation, ws) =
-        let (operator, more) = and_parts (is_built_operator u o) (is_built_expression a && are_built_operations u os) i in
-        let (first, rest) = and_parts (is_built_expression a) (are_built_operations u os) more in
-        (alone c o x os u operator ws, seen c k a v (λ h. lowerable c k a v first h) w, chain_lowerable c k x os u rest ws)
-    chain_lowerable c k left (ThenPointerPeek n o a os) u i (v, x, w, operation, ws) =
-        let (operator, more) = and_parts (is_built_operator u o) (is_built_expression a && are_built_operations u os) i in
-        let (first, rest) = and_parts (is_built_expression a) (are_built_operations u os) more in
-        (alone c o x os u operator ws, seen c k a v (λ h. lowerable c k a v first h) w, chain_lowerable c k x os u rest ws)
+    chain_lowerable c k left (ThenCompute o a os) u (first, rest) (l, w, ws) =
+        (lowerable c k a (Value Int) first w, chain_lowerable c k (Value Int) os u rest ws)
+    chain_lowerable c k left (ThenTest o a os) u (first, rest) (l, (v, w, tested), ws) =
+        (seen c k a v (λ h. lowerable c k a v first h) w, chain_lowerable c k (Value Int) os u rest ws)
+    chain_lowerable c k left (ThenPointer o a os) u (alone, first, rest) (v, x, w, operation, ws) =
+        (alone, seen c k a v (λ h. lowerable c k a v first h) w, chain_lowerable c k x os u rest ws)
+    chain_lowerable c k left (ThenPointerPeek n o a os) u (alone, first, rest) (v, x, w, operation, ws) =
+        (alone, seen c k a v (λ h. lowerable c k a v first h) w, chain_lowerable c k x os u rest ws)
 
-  condition_lowerable : (c : Context) → Agrees b c → (a : Expression) → is_built_expression a ≡ true → IsCondition c a → IsLowerable b a
+  condition_lowerable : (c : Context) → Agrees b c → (a : Expression) → IsOfText a → IsCondition c a → IsLowerable b a
   condition_lowerable c k a i (v, w, tested) = seen c k a v (λ h. lowerable c k a v i h) w
 
-  initial_lowerable : (c : Context) → Agrees b c → (v : Option Converted) (t : Ty) → is_built_value v ≡ true → IsInitial c v t → IsLowerableInitial b v
+  initial_lowerable : (c : Context) → Agrees b c → (v : Option Converted) (t : Ty) → IsOfTextValue v → IsInitial c v t → IsLowerableInitial b v
   initial_lowerable c k None t i w = tt
   initial_lowerable c k (Some d) t i w = converted_lowerable c k d t i w
 
-  returned_lowerable : (c : Context) → Agrees b c → (r : Option Ty) (v : Option Converted) → is_built_value v ≡ true → IsReturned c r v → IsLowerableReturn b r v
+  returned_lowerable : (c : Context) → Agrees b c → (r : Option Ty) (v : Option Converted) → IsOfTextValue v → IsReturned c r v → IsLowerableReturn b r v
   returned_lowerable c k None None i w = tt
   returned_lowerable c k (Some t) (Some d) i w = converted_lowerable c k d t i w
   returned_lowerable c k r v i w = absurd w
 
-  thrown_lowerable : (c : Context) → Agrees b c → (v : Option Expression) (has : Bool) → is_built_thrown v ≡ true → IsThrown c has v → IsLowerableThrown b v
+  thrown_lowerable : (c : Context) → Agrees b c → (v : Option Expression) (has : Bool) → IsOfTextThrown v → IsThrown c has v → IsLowerableThrown b v
   thrown_lowerable c k None has i w = tt
   thrown_lowerable c k (Some a) true i w = lowerable c k a (Value Int) i w
   thrown_lowerable c k (Some a) false i w = absurd w
@@ -292,37 +210,33 @@ module _ (b : Numbering) where
   caught_lowerable c k (Some n) true (next, known) = let l : n < length c.variables = slice_get_within c.variables n Int known in omega (arith, l, k.variables)
   caught_lowerable c k (Some n) false w = absurd w
 
-  side_lowerable : (c : Context) → Agrees b c → (x : Side) (t : Ty) → is_built_side x ≡ true → IsSide c x t → IsLowerableSide b x
+  side_lowerable : (c : Context) → Agrees b c → (x : Side) (t : Ty) → IsOfTextSide x → IsSide c x t → IsLowerableSide b x
   side_lowerable c k (VariableSide l u) t i (r, place, eq) = placed c k l u r place
   side_lowerable c k (CellSide d) t i (r, cell) = cell_lowerable c k d t r i cell
 
   mutual
-    statement_lowerable : (c : Context) → Agrees b c → (s : Statement) → is_built_statement s ≡ true → WellTypedStatement c s → IsLowerableStatement b c.in_loop s
+    statement_lowerable : (c : Context) → Agrees b c → (s : Statement) → IsOfTextStatement s → WellTypedStatement c s → IsLowerableStatement b c.in_loop s
     statement_lowerable c k (Block r js) i (next, w) = items_lowerable (in_block c) (entered c k) js i w
     statement_lowerable c k Empty i w = tt
     statement_lowerable c k (Evaluate a) i (t, w) = lowerable c k a t i w
-    statement_lowerable c k (Swap x y) i (t, left, right, flat) =
-        let (first, second) = and_parts (is_built_side x) (is_built_side y) i in (side_lowerable c k x t first left, side_lowerable c k y t second right)
-    statement_lowerable c k (If a s t) i (w, x, y) =
-        let (first, more) = and_parts (is_built_expression a) (is_built_statement s && is_built_statement t) i in
-        let (second, third) = and_parts (is_built_statement s) (is_built_statement t) more in
+    statement_lowerable c k (Swap x y) (first, second) (t, left, right, flat) =
+        (side_lowerable c k x t first left, side_lowerable c k y t second right)
+    statement_lowerable c k (If a s t) (first, second, third) (w, x, y) =
         (condition_lowerable c k a first w, statement_lowerable c k s second x, statement_lowerable (behind c s) (passed_by c k s) t third y)
-    statement_lowerable c k (While p a s) i (w, x) =
-        let (first, second) = and_parts (is_built_expression a) (is_built_statement s) i in (condition_lowerable c k a first w, statement_lowerable (in_body c) (looping c k) s second x)
+    statement_lowerable c k (While p a s) (first, second) (w, x) =
+        (condition_lowerable c k a first w, statement_lowerable (in_body c) (looping c k) s second x)
     statement_lowerable c k (Return v) i w = subst (λ r. IsLowerableReturn b r v) k.result (returned_lowerable c k c.result v i w)
     statement_lowerable c k Break i w = w
     statement_lowerable c k Continue i w = w
-    statement_lowerable c k (Throw n v) i (has, known, w) =
-        let (tag, thrown) = and_parts (is_built_tag n) (is_built_thrown v) i in (word_tag n tag, thrown_lowerable c k v has thrown w)
-    statement_lowerable c k (Try s cs) i (w, ws) =
-        let (first, rest) = and_parts (is_built_statement s) (are_built_clauses cs) i in (statement_lowerable c k s first w, clauses_lowerable (behind c s) (passed_by c k s) cs rest ws)
+    statement_lowerable c k (Throw n v) (tag, thrown) (has, known, w) = (tag, thrown_lowerable c k v has thrown w)
+    statement_lowerable c k (Try s cs) (first, rest) (w, ws) =
+        (statement_lowerable c k s first w, clauses_lowerable (behind c s) (passed_by c k s) cs rest ws)
 
-    items_lowerable : (c : Context) → Agrees b c → (js : Items) → are_built_items js ≡ true → WellTypedItems c js → AreLowerableItems b c.in_loop js
+    items_lowerable : (c : Context) → Agrees b c → (js : Items) → AreOfTextItems js → WellTypedItems c js → AreLowerableItems b c.in_loop js
     items_lowerable c k NoItems i w = tt
-    items_lowerable c k (MoreItems (Execute s) js) i (w, ws) =
-        let (first, rest) = and_parts (is_built_statement s) (are_built_items js) i in (statement_lowerable c k s first w, items_lowerable (behind c s) (passed_by c k s) js rest ws)
-    items_lowerable c k (MoreItems (Declare n t v) js) i ((is, known, live), w, ws) =
-        let (first, rest) = and_parts (is_built_value v) (are_built_items js) i in
+    items_lowerable c k (MoreItems (Execute s) js) (first, rest) (w, ws) =
+        (statement_lowerable c k s first w, items_lowerable (behind c s) (passed_by c k s) js rest ws)
+    items_lowerable c k (MoreItems (Declare n t v) js) (first, rest) ((is, known, live), w, ws) =
         (named k t known, initial_lowerable c k v t first w, items_lowerable (with_local true t c) (declared c k t) js rest ws)
     items_lowerable c k (MoreItems (DeclareRegion r n) js) i (next, (is, known, live), ws) =
         (named k (Handle (Variable r)) known, items_lowerable (with_local false (Handle (Variable r)) (with_opened scopes.Lexical c)) (record { globals = k.globals; functions = k.functions; variables = k.variables; result = k.result }) js i ws)
@@ -339,17 +253,13 @@ module _ (b : Numbering) where
     items_lowerable c k (MoreItems (DeclareKey r n) js) i (next, (is, known, live), ws) =
         (named k (Key (Variable r)) known, items_lowerable (with_local true (Key (Variable r)) (with_region c)) (record { globals = k.globals; functions = k.functions; variables = k.variables; result = k.result }) js i ws)
 
-    clauses_lowerable : (c : Context) → Agrees b c → (cs : Clauses) → are_built_clauses cs ≡ true → WellTypedClauses c cs → AreLowerableClauses b c.in_loop cs
+    clauses_lowerable : (c : Context) → Agrees b c → (cs : Clauses) → AreOfTextClauses cs → WellTypedClauses c cs → AreLowerableClauses b c.in_loop cs
     clauses_lowerable c k NoClauses i w = tt
     clauses_lowerable c k (Default r js) i (next, w) = items_lowerable (in_block c) (entered c k) js i w
-    clauses_lowerable c k (Case n None r js cs) i (has, known, caught, next, w, ws) =
-        let (tag, more) = and_parts (is_built_tag n) (are_built_items js && are_built_clauses cs) i in
-        let (first, rest) = and_parts (are_built_items js) (are_built_clauses cs) more in
-        (word_tag n tag, caught_lowerable c k None has caught, items_lowerable (in_block c) (entered c k) js first w, clauses_lowerable (behind_clause c None js) (left c k None js) cs rest ws)
-    clauses_lowerable c k (Case n (Some y) r js cs) i (has, known, caught, next, w, ws) =
-        let (tag, more) = and_parts (is_built_tag n) (are_built_items js && are_built_clauses cs) i in
-        let (first, rest) = and_parts (are_built_items js) (are_built_clauses cs) more in
-        (word_tag n tag, caught_lowerable c k (Some y) has caught, items_lowerable (with_local true Int (in_block c)) (declared (in_block c) (entered c k) Int) js first w, clauses_lowerable (behind_clause c (Some y) js) (left c k (Some y) js) cs rest ws)
+    clauses_lowerable c k (Case n None r js cs) (tag, first, rest) (has, known, caught, next, w, ws) =
+        (tag, caught_lowerable c k None has caught, items_lowerable (in_block c) (entered c k) js first w, clauses_lowerable (behind_clause c None js) (left c k None js) cs rest ws)
+    clauses_lowerable c k (Case n (Some y) r js cs) (tag, first, rest) (has, known, caught, next, w, ws) =
+        (tag, caught_lowerable c k (Some y) has caught, items_lowerable (with_local true Int (in_block c)) (declared (in_block c) (entered c k) Int) js first w, clauses_lowerable (behind_clause c (Some y) js) (left c k (Some y) js) cs rest ws)
 
 -- ---- programs
 
@@ -357,13 +267,12 @@ count_types : (gs : List GlobalVariable) → length (map (λ (g : GlobalVariable
 count_types [] = refl
 count_types (g ∷ gs) = ap suc (count_types gs)
 
-functions_lowerable : (p : Program) (hs : List Function) → list_all is_built_function hs ≡ true → AreWellTypedFunctions p hs → AreLowerableFunctions (length p.globals) (signatures_of p.functions) hs
+functions_lowerable : (p : Program) (hs : List Function) → AreOfTextFunctions hs → AreWellTypedFunctions p hs → AreLowerableFunctions (length p.globals) (signatures_of p.functions) hs
 functions_lowerable p [] i w = tt
-functions_lowerable p (h ∷ hs) i (w, ws) =
-    let (first, rest) = and_parts (is_built_function h) (list_all is_built_function hs) i in
+functions_lowerable p (h ∷ hs) (first, rest) (w, ws) =
     let b : Numbering = numbering_of (length p.globals) (signatures_of p.functions) h in
     let agrees : Agrees b (body_context p h) = record { globals = count_types p.globals; functions = refl; variables = length-append h.parameters h.locals; result = refl } in
     (items_lowerable b (body_context p h) agrees h.body first w.body, functions_lowerable p hs rest ws)
 
-pub lowerable_program : (p : Program) → IsWellTypedProgram p → is_built p ≡ true → IsLowerableProgram p
+pub lowerable_program : (p : Program) → IsWellTypedProgram p → IsOfTextProgram p → IsLowerableProgram p
 lowerable_program p w i = record { functions = functions_lowerable p p.functions i w.functions; main = w.main }

@@ -23,6 +23,7 @@ use Rattle.cyc_lower.proofs.Sizes.{function_size}
 use Rattle.cyc_lower.proofs.WellFormed.{all_counted, well_formed}
 use Rattle.cyc_lower.proofs.WordLemmas.{has_words}
 use Rattle.cyc_lower.proofs.Whole.{follows}
+use Rattle.cyc_meaning.proofs.Rising.{functions_rise}
 
 functions_lowered : (structs : List StructType) (globals : List ℕ) (scopes : Option ℕ) (hs : List Function) → AreLoweredFunctions hs (map (lower_function structs globals scopes) hs)
 functions_lowered structs globals scopes [] = tt
@@ -34,8 +35,8 @@ is_lowered source well fit = record {
   words = has_words source fit.of_words;
   functions = functions_lowered source.structs (globals_of source) (scopes_of source) source.functions;
   globals = omega (arith, all_counted source);
-  follows = λ pages calls store input new some_page few_pages some_call bytes.
-      follows source (is_fitting_program source fit.lowerable well) (has_words source fit.of_words) pages calls store input new some_page few_pages some_call bytes;
+  follows = λ pages calls base store input new some_page few_pages some_call bytes below.
+      follows source (is_fitting_program source fit.lowerable well) fit.of_words (functions_rise source well) fit.few_globals (has_words source fit.of_words) pages calls base store input new some_page few_pages some_call bytes below;
 }
 
 functions_small : (structs : List StructType) (globals : List ℕ) (scopes : Option ℕ) (hs : List Function) → sum_by size (map (lower_function structs globals scopes) hs) ≤ size_per_weight * sum_of function_weight hs

@@ -19,10 +19,11 @@ use Rattle.cyc_objects.specs.Tables.{Tables}
 use Rattle.cyc_objects.specs.Words.{words_of_kinds, before, words_from, Points, IsPartOf, Is}
 use Rattle.cyc_objects.proofs.Values.{Is-same, before-inside}
 use Rattle.cyc_objects.specs.Related.{Related}
-use Rattle.cyc_objects.proofs.Cells.{found-alive, cell-live}
 use Rattle.cyc_lower.specs.Slots.{bytes_from}
 use Rattle.cyc_lower.proofs.Widths.{type_words}
-use Rattle.cyc_objects.proofs.Pointers.{thinned, member-points, pointer-word, Is-put_three}
+use Rattle.cyc_objects.proofs.Pointers.{thinned, member-points, pointer-word}
+use Rattle.cyc_plain.proofs.MemoryLaws.{store_word_in, store_word}
+use Rattle.cyc_plain.specs.Memory.{Range, OfGlobals, OfStore, OfSlots, range_of}
 
 -- ---- what does not wrap
 
@@ -133,6 +134,14 @@ there_still s m x old found = elim (cases_eq (x % 4) 0) [
     still None e = absurd (let f : None ≡ Some old = e in cc)
     still (Some h) e = refl
 
+pub stored_still : (s : StoreState) (m : Memory) (x old : ℕ) → store_word s x ≡ Some old → store_word (record s { memory = m }) x ≡ Some (m x)
+stored_still s m x old found = go (range_of x) found
+  where
+    go : (range : Range) → store_word_in s x range ≡ Some old → store_word_in (record s { memory = m }) x range ≡ Some (m x)
+    go OfGlobals e = absurd (let f : None ≡ Some old = e in cc)
+    go OfStore e = there_still s m x old e
+    go OfSlots e = absurd (let f : None ≡ Some old = e in cc)
+
 -- the memory after the three words of a cell at w are written, in this order
 abbrev pub three_put : Memory → (w a b c : ℕ) → Memory
 three_put m w a b c = put (put (put m (w + 4 * 0) a) (w + 4 * 1) b) (w + 4 * 2) c
@@ -175,11 +184,6 @@ three_of t v words p is = Is-same t kinds.Fat v words (λ j. if j == 0 then word
     each (suc (suc zero)) below = refl
     each (suc (suc (suc j))) below = absurd (omega (arith, below))
 
--- Three words are loaded into slots, the first one last, since its slot may have been the address.
-pub three_loaded : (t : Tables) (v : Value) (m : Memory) (w : ℕ) (slots : ℕ → ℕ) (d : ℕ) → Is t kinds.Fat v (words_from m w) 0
-    → Is t kinds.Fat v (put (put (put slots (d + 2) (m (w + 4 * 2))) (d + 1) (m (w + 4 * 1))) d (m (w + 4 * 0))) d
-three_loaded t v m w slots d is = Is-put_three t v slots d (m (w + 4 * 0)) (m (w + 4 * 1)) (m (w + 4 * 2)) (three_of t v (words_from m w) 0 is)
-
 -- ---- cells that the source finds
 
 module _ {t : Tables} {w : World} {s : StoreState} (related : Related t w s) where
@@ -189,19 +193,6 @@ module _ {t : Tables} {w : World} {s : StoreState} (related : Related t w s) whe
       let (there, cell) = cell_found w o k at found in
       ap (λ ks. slice_get ks k) (related.shapes o p.address p.kinds at.object there p.row)
       ∙ slice_get-map (λ (z : Cell). z.kind) at.object.cells k at.cell cell
-
-  -- each word of the cell is there, at the address that the code computes, and is what memory holds behind the cell's own address
-  pub word_there : {o k a : ℕ} (at : Located) (p : Points t o k a) (j : ℕ) → cell_at w o k ≡ Found at → j < words_of_kind at.cell.kind
-      → word_at s (add_of a (4 * j)) ≡ Some (s.memory (a + 4 * j))
-  word_there {o} {k} {a} at p j found below =
-      let (h, alive, cell) = found-alive related o k a at found p in
-      ap (word_at s) (word_is p at.cell.kind j (cell_kind at p found) below) ∙ cell-live related alive p cell j below
-
-  -- the same once other words of the cell were written
-  pub word_there_still : {o k a : ℕ} (at : Located) (p : Points t o k a) (m : Memory) (j : ℕ) → cell_at w o k ≡ Found at
-      → j < words_of_kind at.cell.kind → word_at (record s { memory = m }) (add_of a (4 * j)) ≡ Some (m (add_of a (4 * j)))
-  word_there_still {o} {k} {a} at p m j found below =
-      there_still s m (add_of a (4 * j)) (s.memory (a + 4 * j)) (word_there at p j found below)
 
   -- the fields of an object have the kinds that the source tests, so a field's place is known without its object
   pub field_there : {o a : ℕ} (p : Points t o 0 a) (x : Object) (fields : List Kind) (field : ℕ) → slice_get w.objects o ≡ Some x

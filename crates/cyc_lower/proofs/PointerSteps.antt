@@ -29,16 +29,19 @@ use Rattle.cyc_objects.specs.Words.{Is}
 use Rattle.cyc_objects.specs.Related as objects
 use Rattle.cyc_objects.proofs.Pointers.{not-null, part-not-null, ThinIs, thin_null, thin_cell, fat-moved}
 use Rattle.cyc_objects.proofs.Comparing.{thin-compared}
-use Rattle.cyc_lower.specs.Lowerable.{is_comparison}
+use Rattle.cyc_types.specs.Texts.{is_comparison}
 use Rattle.cyc_lower.specs.Lowering.{left_kind, behind_left, pointer_operator, lower_program}
 use Rattle.cyc_lower.proofs.Widths.{same_kind, Outside}
 use Rattle.cyc_lower.proofs.Moves.{copied_elsewhere}
 use Rattle.cyc_lower.proofs.Stands.{FirstTwoAt, IndexAt, PointerAt, ValueAt}
-use Rattle.cyc_lower.proofs.Relation.{types_on, IsIn, silent, Holds, held, DataIn, SharedAt, LandsStack, in_temporary, in_local, EvaluatingAt, as_operand, Matches, code_of, bounds_at, top, floor}
+use Rattle.cyc_lower.proofs.Relation.{types_on, IsIn, silent, Holds, held, DataIn, SharedAt, LandsStack, in_temporary, in_local, EvaluatingAt, as_operand, Matches, code_of, bounds_at, top, floor, callers}
 use Rattle.cyc_lower.proofs.Data.{height-least, in_words, floor-least}
 use Rattle.cyc_lower.proofs.Accesses.{IsWell}
 use Rattle.cyc_lower.proofs.Matched.{IsMatched, by_one, by_two}
 use Rattle.cyc_lower.proofs.Evaluations.{landed, landed_word}
+use Rattle.cyc_objects.specs.Related.{AreApart}
+use Rattle.cyc_lower.proofs.Apart.{variables-apart}
+use Rattle.cyc_lower.proofs.Leads.{AreNamed}
 
 -- ---- the words of a left operand
 
@@ -185,7 +188,7 @@ module _ (k : List Entry) (e : Environment) (w : World) where
 
   -- ---- all comparisons
 
-  module _ (t : Tables) (s : StoreState) (related : objects.Related t (silent w) s) where
+  module _ (t : Tables) (s : StoreState) (related : objects.Related t (silent w) s) (apart : AreApart t (silent w)) where
     compares_thin : (negated : Bool) (i j : Kind) (left v : Value) (words others : Words) (p q : ℕ) → Is t i left words p → Is t j v others q
         → IsWell (tells negated (compared w left v) k e w) → tells negated (compared w left v) k e w ≡ gives_told negated (words p) (others q)
     compares_thin negated i j left v words others p q is_left is well =
@@ -193,7 +196,7 @@ module _ (k : List Entry) (e : Environment) (w : World) where
         let (left_thin, thin) = are_thin w left v equal found in
         ap (λ x. tells negated x k e w) found
         ∙ tells_found negated equal (words p) (others q)
-        (thin-compared related kinds.Nullable kinds.Nullable left v (words p) (others q) equal (thin_is t i left words p is_left left_thin) (thin_is t j v others q is thin) (same_compared w left v ∙ found))
+        (thin-compared related apart kinds.Nullable kinds.Nullable left v (words p) (others q) equal (thin_is t i left words p is_left left_thin) (thin_is t j v others q is thin) (same_compared w left v ∙ found))
 
     -- what is tested for null is a pointer
     is_pointer : (negated : Bool) (v : Value) → IsWell (computed kinds.Int (null_test negated v) k e w) → IsPointer v
@@ -293,18 +296,18 @@ module _ (source : Program) (pages calls : ℕ) where
 
   -- both operands are there, and are compared
   compares_pointers : (u : PointerOperator) (peek : Option ℕ) (left v : Kinded) (o : Operand) (d q : ℕ) (k : List Entry) (e : Environment) (w : World) (c : Configuration)
-      → is_comparison u ≡ true → IsWell (applies_pointer u left.value v.value k e w)
+      → AreNamed source e.locals (callers k) w c.active.function c.active.base c.frames c.store → is_comparison u ≡ true → IsWell (applies_pointer u left.value v.value k e w)
       → (shared : SharedAt source pages calls k e w c) → DataIn source shared.tables c.active.slots k e w c → IsIn shared.tables v c.active.slots o
       → Is shared.tables left.kind left.value c.active.slots (top source c.active.function k) → Holds shared.tables c.active.slots (floor source c.active.function k) (held k)
       → At (code_of source c.active.function) c.active.next (instructions.Binary (pointer_operator u) d (operands.Slot (top source c.active.function k)) o) → c.active.next + 1 ≡ q
       → LandsStack source c.active.function e.locals kinds.Int d q c.frames k
       → IsMatched source pages calls (Running (Given v) (Needs (ApplyPointer peek u left) ∷ k) e w) (plain.Running c)
-  compares_pointers u peek left v o d q k e w c test well shared facts is is_left holds here end lands =
+  compares_pointers u peek left v o d q k e w c names test well shared facts is is_left holds here end lands =
       let slots = c.active.slots in
       let free = top source c.active.function k in
       let (others, p, same, is_right) = in_words shared.tables v slots o is in
       let n = told (is_negated u) (slots free) (operand_word slots o) in
-      let does = applies_told k e w shared.tables c.store shared.related u left.kind v.kind left.value v.value slots others free p test is_left is_right well ∙ ap (λ x. gives_told k e w (is_negated u) (slots free) x) same in
+      let does = applies_told k e w shared.tables c.store shared.related (variables-apart source c.active.slots c.globals names shared.related facts.0) u left.kind v.kind left.value v.value slots others free p test is_left is_right well ∙ ap (λ x. gives_told k e w (is_negated u) (slots free) x) same in
       by_one source pages calls does shared here
       (λ choice. subst (Matches source pages calls (Running (Given (record { kind = kinds.Int; value = Int n })) k e w)) (sym (compares_words u (operands.Slot free) o d choice c test))
       (landed_word source pages calls n n d k e w c q refl shared facts holds end lands))
@@ -402,23 +405,24 @@ module _ (source : Program) (pages calls : ℕ) where
   takes_from peek left j v o d q k e w c well shared facts is is_left holds here lands = absurd (well refl)
 
   -- both operands are there
-  pub applies_pointers : (u : PointerOperator) (peek : Option ℕ) (left v : Kinded) (o : Operand) (d q : ℕ) (k : List Entry) (e : Environment) (w : World) (c : Configuration)
+  pub applies_pointers : (u : PointerOperator) (peek : Option ℕ) (left v : Kinded) (o : Operand) (d q : ℕ) (k : List Entry) (e : Environment) (w : World) (c : Configuration) → AreNamed source e.locals (callers k) w c.active.function c.active.base c.frames c.store
+     
       → IsWell (step source (Running (Given v) (Needs (ApplyPointer peek u left) ∷ k) e w))
       → (shared : SharedAt source pages calls k e w c) → DataIn source shared.tables c.active.slots k e w c → IsIn shared.tables v c.active.slots o
       → Is shared.tables left.kind left.value c.active.slots (top source c.active.function k) → Holds shared.tables c.active.slots (floor source c.active.function k) (held k)
       → PointerAt (code_of source c.active.function) (bounds_at source c.active.function) (types_on source c.active.function k) u o (top source c.active.function k) d c.active.next q
       → LandsStack source c.active.function e.locals (operator_kind u) d q c.frames k
       → IsMatched source pages calls (Running (Given v) (Needs (ApplyPointer peek u left) ∷ k) e w) (plain.Running c)
-  applies_pointers pointers.AddFat peek left v o d q k e w c well shared facts is is_left holds here lands = adds_to peek left v.kind v.value o d q k e w c well shared facts is is_left holds here lands
-  applies_pointers pointers.SubtractFat peek left v o d q k e w c well shared facts is is_left holds here lands = takes_from peek left v.kind v.value o d q k e w c well shared facts is is_left holds here lands
-  applies_pointers pointers.ThinIsNull peek left v o d q k e w c well shared facts is is_left holds (here, end) lands = compares_pointers pointers.ThinIsNull peek left v o d q k e w c refl well shared facts is is_left holds here end lands
-  applies_pointers pointers.ThinIsNotNull peek left v o d q k e w c well shared facts is is_left holds (here, end) lands = compares_pointers pointers.ThinIsNotNull peek left v o d q k e w c refl well shared facts is is_left holds here end lands
-  applies_pointers pointers.FatIsNull peek left v o d q k e w c well shared facts is is_left holds (here, end) lands = compares_pointers pointers.FatIsNull peek left v o d q k e w c refl well shared facts is is_left holds here end lands
-  applies_pointers pointers.FatIsNotNull peek left v o d q k e w c well shared facts is is_left holds (here, end) lands = compares_pointers pointers.FatIsNotNull peek left v o d q k e w c refl well shared facts is is_left holds here end lands
-  applies_pointers pointers.NullIs peek left v o d q k e w c well shared facts is is_left holds (here, end) lands = compares_pointers pointers.NullIs peek left v o d q k e w c refl well shared facts is is_left holds here end lands
-  applies_pointers pointers.NullIsNot peek left v o d q k e w c well shared facts is is_left holds (here, end) lands = compares_pointers pointers.NullIsNot peek left v o d q k e w c refl well shared facts is is_left holds here end lands
-  applies_pointers pointers.EqualThin peek left v o d q k e w c well shared facts is is_left holds (here, end) lands = compares_pointers pointers.EqualThin peek left v o d q k e w c refl well shared facts is is_left holds here end lands
-  applies_pointers pointers.NotEqualThin peek left v o d q k e w c well shared facts is is_left holds (here, end) lands = compares_pointers pointers.NotEqualThin peek left v o d q k e w c refl well shared facts is is_left holds here end lands
+  applies_pointers pointers.AddFat peek left v o d q k e w c names well shared facts is is_left holds here lands = adds_to peek left v.kind v.value o d q k e w c well shared facts is is_left holds here lands
+  applies_pointers pointers.SubtractFat peek left v o d q k e w c names well shared facts is is_left holds here lands = takes_from peek left v.kind v.value o d q k e w c well shared facts is is_left holds here lands
+  applies_pointers pointers.ThinIsNull peek left v o d q k e w c names well shared facts is is_left holds (here, end) lands = compares_pointers pointers.ThinIsNull peek left v o d q k e w c names refl well shared facts is is_left holds here end lands
+  applies_pointers pointers.ThinIsNotNull peek left v o d q k e w c names well shared facts is is_left holds (here, end) lands = compares_pointers pointers.ThinIsNotNull peek left v o d q k e w c names refl well shared facts is is_left holds here end lands
+  applies_pointers pointers.FatIsNull peek left v o d q k e w c names well shared facts is is_left holds (here, end) lands = compares_pointers pointers.FatIsNull peek left v o d q k e w c names refl well shared facts is is_left holds here end lands
+  applies_pointers pointers.FatIsNotNull peek left v o d q k e w c names well shared facts is is_left holds (here, end) lands = compares_pointers pointers.FatIsNotNull peek left v o d q k e w c names refl well shared facts is is_left holds here end lands
+  applies_pointers pointers.NullIs peek left v o d q k e w c names well shared facts is is_left holds (here, end) lands = compares_pointers pointers.NullIs peek left v o d q k e w c names refl well shared facts is is_left holds here end lands
+  applies_pointers pointers.NullIsNot peek left v o d q k e w c names well shared facts is is_left holds (here, end) lands = compares_pointers pointers.NullIsNot peek left v o d q k e w c names refl well shared facts is is_left holds here end lands
+  applies_pointers pointers.EqualThin peek left v o d q k e w c names well shared facts is is_left holds (here, end) lands = compares_pointers pointers.EqualThin peek left v o d q k e w c names refl well shared facts is is_left holds here end lands
+  applies_pointers pointers.NotEqualThin peek left v o d q k e w c names well shared facts is is_left holds (here, end) lands = compares_pointers pointers.NotEqualThin peek left v o d q k e w c names refl well shared facts is is_left holds here end lands
 
   -- the right operand stands behind the left one
   pub right_follows : (peek : Option ℕ) (u : PointerOperator) (b : Expression) (os : Operations) (v : Kinded) (k : List Entry) (e : Environment) (w : World) (c : Configuration) (r : Operand) (m d q : ℕ) → takes_kind u v.kind ≡ true

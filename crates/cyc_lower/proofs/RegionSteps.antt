@@ -144,10 +144,10 @@ module _ (source : Program) (pages calls : ℕ) where
     data_opened : DataIn source grown told.active.slots (CloseLexical (length w.regions) ∷ k) e (opened_as Lexical w) told
     data_opened =
         let g = c.active.function in
-        let (written, stand) = data_written source shared.tables g w.objects e.locals k c.active.slots told.active.slots c.active.handlers c.globals c.frames t 3 (omega arith) elsewhere facts in (
-          subst (λ o. DataAt source grown g w.objects e.locals (callers k) told.active.slots (told_in o c.globals (added.active.slots (t + 2))) c.frames) told_there
-              (data_told source pages calls grown g w.objects e.locals (callers k) told.active.slots c.globals c.frames (added.active.slots (t + 2))
-              (data_grows shared.tables grown grows source g w.objects e.locals (callers k) told.active.slots c.globals c.frames written)),
+        let (written, stand) = data_written source shared.tables g c.active.base w.objects e.locals k c.active.slots told.active.slots c.active.handlers c.globals c.frames t 3 (omega arith) elsewhere facts in (
+          subst (λ o. DataAt source grown g c.active.base w.objects e.locals (callers k) told.active.slots (told_in o c.globals (added.active.slots (t + 2))) c.frames) told_there
+              (data_told source pages calls grown g c.active.base w.objects e.locals (callers k) told.active.slots c.globals c.frames (added.active.slots (t + 2))
+              (data_grows shared.tables grown grows source g c.active.base w.objects e.locals (callers k) told.active.slots c.globals c.frames written)),
           (mark_is, stand),
         )
 
@@ -233,7 +233,7 @@ module _ (source : Program) (pages calls : ℕ) where
       (λ choice allowed. (
         settled source pages calls own k e new c (scopes_in k) q choice (omega (arith, many, now)) refl allowed (shared_behind source pages calls (Some own) number k e w c ends has tt ahead),
         behind_statement outer
-            (data_told source pages calls shared.tables g w.objects e.locals (callers k) c.active.slots c.globals c.frames (scopes_in k) facts, stand) stack,
+            (data_told source pages calls shared.tables g c.active.base w.objects e.locals (callers k) c.active.slots c.globals c.frames (scopes_in k) facts, stand) stack,
       ))
     where
       told_somewhere : (o : Option ℕ) (globals : Words) (n : ℕ) → IsTold o globals (suc n) → HasScopes o
@@ -284,11 +284,11 @@ module _ (source : Program) (pages calls : ℕ) where
               fits = shared.fits;
               counters = shared.counters;
             } in
-            let (written, stand) = data_written source shared.tables g w.objects e.locals k c.active.slots after.active.slots c.active.handlers c.globals c.frames t 1 (omega arith)
+            let (written, stand) = data_written source shared.tables g c.active.base w.objects e.locals k c.active.slots after.active.slots c.active.handlers c.globals c.frames t 1 (omega arith)
             (λ i out. put_elsewhere c.active.slots t choice.handle 1 i (omega arith) out) facts in (
               (
                 shared_new,
-                (data_grows shared.tables grown grows source g w.objects e.locals (callers k) after.active.slots c.globals c.frames written, stand),
+                (data_grows shared.tables grown grows source g c.active.base w.objects e.locals (callers k) after.active.slots c.globals c.frames written, stand),
                 (
                   exits,
                   q,

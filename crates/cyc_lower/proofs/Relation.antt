@@ -1,7 +1,7 @@
 -- What a state of the source and one of the plain program have in common while the one is matched by the other.
 use Rattle.std.proofs.Common.{max, ◌≡◌, ◌⊎◌, ℕ, suc, ◌+◌, ◌*◌, ◌≤◌, ◌<◌, true, List, [], ◌∷◌, ◌++◌, length, Option, None, Some, slice_get, ◌^◌, false, Bool}
 use Rattle.cyc_words.specs.Word.{add_of, IsWord as IsNumber}
-use Rattle.std.specs.Prelude.{◌==◌, if◌then◌else◌, option_map}
+use Rattle.std.specs.Prelude.{◌==◌, ◌&&◌, nat_le, if◌then◌else◌, option_map}
 use Rattle.cyc_types.specs.declared.typed.Kind.{Kind}
 use Rattle.cyc_types.specs.declared.typed.Kind.TheVariants as kinds
 use Rattle.cyc_types.specs.declared.typed.Callee.{Callee}
@@ -14,7 +14,7 @@ use Rattle.cyc_types.specs.Numbered.{Numbering, argument_count, numbering_of, si
 use Rattle.cyc_store.specs.State.{StoreState, demand, lexical_count}
 use Rattle.cyc_store.specs.Soundness.{IsSound}
 use Rattle.cyc_store.specs.declared.range.TheConstants.{HEAP, UNIQUE, MOST_BLOCK_WORDS}
-use Rattle.cyc_objects.specs.Tables.{Variable, Placed, Tables}
+use Rattle.cyc_objects.specs.Tables.{Row, Variable, Placed, Tables}
 use Rattle.cyc_objects.specs.Words.{words_of_kinds, InRange, Is, Points, before}
 use Rattle.cyc_objects.specs.Related as objects
 use Rattle.cyc_objects.specs.Related.{scopes, closed_to}
@@ -32,6 +32,7 @@ use Rattle.cyc_plain.specs.Program.{routine_at}
 use Rattle.cyc_plain.specs.State.{Words, Activation, Frame, Configuration}
 use Rattle.cyc_plain.specs.Step.{operand_word, throws}
 use Rattle.cyc_plain.specs.State as plain
+use Rattle.cyc_plain.specs.Memory.{slots_base, is_pinned}
 use Rattle.cyc_plain.specs.Straight.{At}
 use Rattle.cyc_meaning.specs.Values.{Fat, Value, Null, Thin, Handle, Operand as Kinded, Cell, kinds_of, words_of_kind, is_thin}
 use Rattle.cyc_meaning.specs.Allocation.{writes_from, blanks_of}
@@ -47,6 +48,7 @@ use Rattle.cyc_lower.specs.Slots.{Types, Starts, starts_of, slot_of, global_of, 
 use Rattle.cyc_lower.specs.Lowering.{unary_operator, failing_comparison, operand_of, move_of, low_byte, converts_there, all_passed, compared_of, break_target, continue_target, results_of, lower_program, outside_loops, slot_types, raises_of, right_slot, tag_operand, followed_operand, reached_operand, globals_of, scopes_of, nothing_opened, with_handler, with_mark, inside_try, inside_region, behind_record_in}
 use Rattle.cyc_lower.proofs.Widths.{kind_of_result, given, called_kind, HasRoom, Outside, chain_kind, HasGlobal, made_kind}
 use Rattle.cyc_lower.proofs.Stands.{BegunAt, ElementsAt, CheckAt, ConversionAt, PlaceAt, OperatorAt, TruthAt, CopyAt, ExpressionAt, ArgumentsAt, OperationsAt, ValueAt, ConditionAt, FailingAt, ComparesAt, DiscardedAt, StatementAt, ItemsAt, PointerAt, StoresAt, ObjectAt, AddressAt, ConvertedOperandAt, FreedAt, HasSide, SideAt, ReadAt, WriteAt, ExchangeAt, LeaveAt, ClausesAt, CountAt, SavedAt, LoadedAt, FollowedAt, ReachedAt, GlobalAt, ClosedAt, MarksAt, RestoredAt, MadeAt, NamedAt}
+use Rattle.cyc_lower.proofs.Known.{IsGlobalRow}
 
 -- ---- values in slots
 
@@ -215,20 +217,35 @@ content_of (Some x) = content_of_cell (slice_get x.cells 0)
 abbrev pub contents : List Object → ℕ → Option Kinded
 contents objects number = content_of (slice_get objects number)
 
+-- the code of a call, and the address of its first slot
+pub record CallSlots : Type 0 where
+  pub code : List Instruction
+  pub base : ℕ
+
+-- Where a variable of this kind stands that has its words from a slot on: there, if the code takes its address.
+abbrev pub row_of : CallSlots → (slot : ℕ) → Kind → Row
+row_of s slot kind = if is_pinned s.code slot && nat_le slots_base s.base then Placed (s.base + 4 * slot) (kind ∷ []) else Variable
+
+-- the row of a local, whose words have room in its slots
+pub record IsLocalRow (t : Tables) (types : Types) (s : CallSlots) (number object : ℕ) : Type 0 where
+  pub kind : Kind
+  pub room : HasRoom types number kind
+  pub row : slice_get t.rows object ≡ Some (row_of s (slot_of (starts_of types) number) kind)
+
 -- The locals of a call, which have these types and whose objects are all from `low` on and below `high`: the slots of each have what
--- it holds, and there is room for it.
-pub record LocalsHold (t : Tables) (types : Types) (objects : List Object) (locals : ℕ → Option ℕ) (low high : ℕ) (slots : Words) : Type 0 where
+-- it holds, there is room for it, and they are its object's words where that has an address.
+pub record LocalsHold (t : Tables) (types : Types) (s : CallSlots) (objects : List Object) (locals : ℕ → Option ℕ) (low high : ℕ) (slots : Words) : Type 0 where
   pub within : (number object : ℕ) → locals number ≡ Some object → (number < length types.locals) × (low ≤ object) × (object < high)
   pub apart : (number other object : ℕ) → locals number ≡ Some object → locals other ≡ Some object → number ≡ other
-  pub rows : (number object : ℕ) → locals number ≡ Some object → slice_get t.rows object ≡ Some Variable
+  pub rows : (number object : ℕ) → locals number ≡ Some object → IsLocalRow t types s number object
   pub holds : (number object : ℕ) (v : Kinded) → locals number ≡ Some object → contents objects object ≡ Some v
       → Is t v.kind v.value slots (slot_of (starts_of types) number) × HasRoom types number v.kind
 
--- the words of each global, which has one of these types, have what it holds, and there is room for it
+-- the words of each global, which has one of these types, have what it holds, and there is room for it; they are its object's
 abbrev pub GlobalsHold : Tables → Types → List Object → Words → Type 0
 GlobalsHold t types objects words =
     (number : ℕ) → number < length types.globals
-    → (slice_get t.rows number ≡ Some Variable)
+    → IsGlobalRow t types.globals number
     × ((v : Kinded) → contents objects number ≡ Some v → Is t v.kind v.value words (global_of (starts_of types) number) × HasGlobal types number v.kind)
 
 -- The first temporary of the running call, whose locals end at a slot: what is kept of the handlers that it has open and of its lexical
@@ -423,18 +440,21 @@ module _ (source : Program) where
 
   -- ---- data
 
+  abbrev pub call_slots : (g base : ℕ) → CallSlots
+  call_slots g base = record { code = code_of g; base = base }
+
   -- the calls that wait, whose objects lie apart by order: those of an older call have smaller numbers
   abbrev pub FramesHold : Tables → List Object → (high : ℕ) → List Frame → List Waiting → Type 0
   FramesHold t objects high [] [] = length (global_types source.globals) ≤ high
   FramesHold t objects high (f ∷ frames) (x ∷ outer) =
-      (low : ℕ) × (low ≤ high) × (LocalsHold t (types_at f.caller.function) objects x.locals low high f.caller.slots × Holds t f.caller.slots (x.temporaries (scopes_of source) (base_of f.caller.function)) x.values)
+      (low : ℕ) × (low ≤ high) × (LocalsHold t (types_at f.caller.function) (call_slots f.caller.function f.caller.base) objects x.locals low high f.caller.slots × Holds t f.caller.slots (x.temporaries (scopes_of source) (base_of f.caller.function)) x.values)
       × FramesHold t objects low frames outer
   FramesHold t objects high [] (x ∷ outer) = ⊥
   FramesHold t objects high (f ∷ frames) [] = ⊥
 
-  abbrev pub DataAt : Tables → ℕ → List Object → (ℕ → Option ℕ) → List Waiting → Words → Words → List Frame → Type 0
-  DataAt t g objects locals outer slots globals frames = (low : ℕ) × (low ≤ length objects)
-      × LocalsHold t (types_at g) objects locals low (length objects) slots
+  abbrev pub DataAt : Tables → (g base : ℕ) → List Object → (ℕ → Option ℕ) → List Waiting → Words → Words → List Frame → Type 0
+  DataAt t g base objects locals outer slots globals frames = (low : ℕ) × (low ≤ length objects)
+      × LocalsHold t (types_at g) (call_slots g base) objects locals low (length objects) slots
       × FramesHold t objects low frames outer
       × GlobalsHold t (types_at g) objects globals
 
@@ -701,7 +721,7 @@ module _ (source : Program) where
 
     -- the same for a value that stands already in the slot n of a local, which is about to get it
     pub AheadStack : (g : ℕ) → (ℕ → Option ℕ) → Kind → (n p : ℕ) → List Frame → List Entry → Type 0
-    AheadStack g locals kind n p frames (Needs (ConvertTo from to target) ∷ k) = (converts_there from to ≡ true) × AheadStack g locals to n p frames k
+    AheadStack g locals kind n p frames (Needs (ConvertTo from to target) ∷ k) = (converts_there from to ≡ true) × (words_of_kind kind ≡ words_of_kind to) × AheadStack g locals to n p frames k
     AheadStack g locals kind n p frames (Needs (Chain NoOperations) ∷ k) = AheadStack g locals kind n p frames k
     AheadStack g locals kind n p frames (Needs (BesideHandle region) ∷ k) = AheadStack g locals kind n p frames k
     AheadStack g locals kind n p frames (Needs (Store place) ∷ k) =
@@ -829,7 +849,7 @@ module _ (source : Program) where
   FocusAt t (Writing writes (Some pointer)) k locals g p slots frames =
       (object : ℕ) × (done : List Kind) × (values : List Kinded) × (address : ℕ) × (slot : ℕ) × (d : ℕ) × (m : ℕ) × (q : ℕ)
       × (writes ≡ writes_from object (length done) values) × (pointer ≡ record { kind = kinds.NonNull; value = Thin object 0 })
-      × IsObject t object (slots address) (done ++ kinds_of (blanks_of values)) × (length values ≤ words_held values)
+      × IsObject t object (slots address) (done ++ kinds_of (blanks_of values)) × (length values ≤ words_held values) × (base_of g ≤ address) × (base_of g ≤ slot)
       × HoldsFrom t slots slot values × StoresAt (code_of g) (bounds_at g) (types_on g k) (words_held values) address (4 * words_of_kinds done) slot p m
       × At (code_of g) m (instructions.Move d (operands.Slot address)) × (m + 1 ≡ q)
       × Holds t slots (floor g k) (held k) × LandsMade g locals kinds.NonNull d q frames k
@@ -916,7 +936,7 @@ module _ (source : Program) where
   -- the data of the running call and of those that wait, where the running one has these slots, and the handlers of these entries
   abbrev pub DataFor : Tables → (slots : Words) → (handled k : List Entry) → Environment → World → Configuration → Type 0
   DataFor t slots handled k e w c =
-      DataAt t c.active.function w.objects e.locals (callers k) slots c.globals c.frames × HandlersStand c.active.function slots c.active.handlers c.frames handled
+      DataAt t c.active.function c.active.base w.objects e.locals (callers k) slots c.globals c.frames × HandlersStand c.active.function slots c.active.handlers c.frames handled
 
   abbrev pub DataIn : Tables → (slots : Words) → List Entry → Environment → World → Configuration → Type 0
   DataIn t slots k e w c = DataFor t slots k k e w c
@@ -960,7 +980,7 @@ module _ (source : Program) where
       (shared : SharedBy (scopes_of source) pages calls k e w c) × (calls_in k ≤ calls) × IsNumber tag
       × (x : Operand) × (o : Operand) × At (code_of c.active.function) c.active.next (instructions.Throw x o) × (operand_word c.active.slots x ≡ tag) × (operand_word c.active.slots o ≡ value)
       × (a : Activation) × (rest : List Frame) × (length rest ≤ length c.frames) × (throws c tag value c.active c.frames ≡ throws c tag value a rest)
-      × DataAt shared.tables a.function w.objects e.locals (callers k) a.slots c.globals rest × CaughtBy a rest k
+      × DataAt shared.tables a.function a.base w.objects e.locals (callers k) a.slots c.globals rest × CaughtBy a rest k
 
   -- Entries are left, and lexical regions among them: the plain program closes them all where the source leaves the outermost of them. Until
   -- then it stands before that, with their mark in a slot.

@@ -1,14 +1,9 @@
 -- The lexical regions that are open, as entries end them: how many the store has.
-use Rattle.std.proofs.Common.{◌≡◌, ℕ, suc, ◌+◌, ◌≤◌, List, sym, subst, ◌∙◌, arith}
+use Rattle.std.proofs.Common.{◌≡◌, suc, ◌+◌, ◌≤◌, List, ◌∙◌, arith}
 use Rattle.std.specs.Prelude.{◌%◌, ◌^◌}
-use Rattle.cyc_types.specs.TypedTrees.{Program}
 use Rattle.cyc_store.specs.State.{StoreState, lexical_count}
-use Rattle.cyc_meaning.specs.State.{World, Environment, Entry, State}
-use Rattle.cyc_meaning.specs.Nesting.{IsNested, Nests}
-use Rattle.cyc_meaning.specs.Step.{step}
-use Rattle.cyc_meaning.specs.Run.{limited_step}
-use Rattle.cyc_meaning.proofs.RunLaws.{limited_either}
-use Rattle.cyc_meaning.proofs.Nested.{nests_step}
+use Rattle.cyc_meaning.specs.State.{World, Environment, Entry}
+use Rattle.cyc_meaning.specs.Nesting.{IsNested}
 use Rattle.cyc_objects.specs.Tables.{Tables}
 use Rattle.cyc_objects.specs.Related as objects
 use Rattle.cyc_objects.proofs.Closing.{scopes-same}
@@ -27,8 +22,3 @@ module _ (t : Tables) (w : World) (s : StoreState) (related : objects.Related t 
   scopes_small k e nested =
       let few : scopes_in k ≤ 65536 = omega (arith, scopes_there k e nested, lexicals-within s related.sound, related.few) in
       omega (arith, few)
-
--- what the source keeps at each step, also where it is full
-pub nests_kept : (source : Program) (pages calls : ℕ) (old new : State) → Nests old → new ≡ limited_step source pages calls old → Nests new
-nests_kept source pages calls old new nests is =
-    subst Nests (sym is) (limited_either Nests pages calls old (step source old) (λ within. nests_step source old nests) (λ full. tt))

@@ -7,49 +7,51 @@ use Rattle.cyc_plain.specs.State.{Words, Configuration}
 use Rattle.cyc_meaning.specs.Values.{Value}
 use Rattle.cyc_meaning.specs.State.{Awaiting, Needs, Stack, Region, World, globals_number, Environment, Located, variable, made, written, opened, closed, with_local, Entry, CloseRegion, Caller}
 use Rattle.cyc_meaning.specs.Step.{inside, region_end}
-use Rattle.cyc_objects.specs.Tables.{Variable, with_row, with_handle}
-use Rattle.cyc_objects.specs.Related.{Related, scopes}
+use Rattle.cyc_objects.specs.Tables.{Row, with_row, with_handle}
+use Rattle.cyc_objects.specs.Related.{Related, scopes, HasKinds, IsOfVariable}
 use Rattle.cyc_objects.proofs.Closing.{scopes-same, related-unclosed}
 use Rattle.cyc_store.specs.State.{demand}
 use Rattle.cyc_store.proofs.CountLemmas.{demand-part}
 use Rattle.cyc_store.proofs.HolderLemmas.{IsPart-down_to}
 use Rattle.cyc_objects.proofs.Values.{Grows-row, Grows-handle}
-use Rattle.cyc_objects.proofs.Variables.{declared, assigned, opened-variables, closed-variables, handle-made}
+use Rattle.cyc_objects.proofs.Variables.{declared, assigned-away, opened-variables, closed-variables, handle-made}
 use Rattle.cyc_lower.proofs.Relation.{homes, IsTold, HasScopes, SharedAt, SharedBy, ScopesBy, store_by, scopes_in, silent}
 use Rattle.cyc_lower.specs.Lowering.{scopes_of}
 use Rattle.cyc_lower.proofs.Counters.{counted_less}
 use Rattle.cyc_lower.proofs.Data.{append_seam, variables_grow}
+use Rattle.cyc_lower.proofs.Known.{IsVariableRow, row-away}
+use Rattle.cyc_lower.specs.Slots.{global_types}
 
 module _ (source : Program) (pages calls : ℕ) (k : List Entry) (e : Environment) (w : World) (c : Configuration) (s : SharedAt source pages calls k e w c) where
-  -- a variable is declared
-  abbrev pub shared_declared : (n : ℕ) (r : Region) (kind : Kind) (content : Option Value) → slice_get w.regions e.home ≡ Some r
+  -- a variable is declared, which stands where this row says
+  abbrev pub shared_declared : (n : ℕ) (r : Region) (kind : Kind) (content : Option Value) (row : Row) → slice_get w.regions e.home ≡ Some r → HasKinds (variable e.home kind content).cells row → IsOfVariable row
       → SharedAt source pages calls k (with_local e n (length w.objects)) (made w (variable e.home kind content)) c
-  shared_declared n r kind content there = record {
-    tables = with_row s.tables Variable;
+  shared_declared n r kind content row there fits outside = record {
+    tables = with_row s.tables row;
     same_output = s.same_output;
     same_input = s.same_input;
     same_pages = s.same_pages;
-    related = declared s.related e.home r kind content there s.variables.0;
+    related = declared s.related e.home r kind content row there s.variables.0 fits outside;
     globals = s.globals;
-    variables = variables_grow s.tables (with_row s.tables Variable) (Grows-row s.tables Variable) (e.home ∷ homes k) s.variables;
+    variables = variables_grow s.tables (with_row s.tables row) (Grows-row s.tables row) (e.home ∷ homes k) s.variables;
     few_pages = s.few_pages;
     fits = s.fits;
     counters = s.counters;
   }
 
   -- its row is the last one
-  pub row_declared : slice_get (with_row s.tables Variable).rows (length w.objects) ≡ Some Variable
-  row_declared = ap (slice_get (with_row s.tables Variable).rows) (sym s.related.rows) ∙ append_seam s.tables.rows Variable
+  pub row_declared : (row : Row) → slice_get (with_row s.tables row).rows (length w.objects) ≡ Some row
+  row_declared row = ap (slice_get (with_row s.tables row).rows) (sym s.related.rows) ∙ append_seam s.tables.rows row
 
   -- a variable is assigned
   abbrev pub shared_written : (object : ℕ) (at : Located) (v : Value) → slice_get w.objects object ≡ Some at.object → slice_get at.object.cells 0 ≡ Some at.cell
-      → slice_get s.tables.rows object ≡ Some Variable → SharedAt source pages calls k e (written w object 0 at v) c
+      → IsVariableRow s.tables (global_types source.globals) object → SharedAt source pages calls k e (written w object 0 at v) c
   shared_written object at v there cell row = record {
     tables = s.tables;
     same_output = s.same_output;
     same_input = s.same_input;
     same_pages = s.same_pages;
-    related = assigned s.related object 0 at.object at.cell v there cell row;
+    related = assigned-away s.related object 0 at.object at.cell v there cell (λ h alive. row-away s.related (global_types source.globals) object h at.object row alive);
     globals = s.globals;
     variables = s.variables;
     few_pages = s.few_pages;

@@ -14,7 +14,7 @@ use Rattle.cyc_types.specs.declared.typed.PointerOperator.{PointerOperator}
 use Rattle.cyc_types.specs.declared.typed.PointerOperator.TheVariants as pointers
 use Rattle.cyc_types.specs.declared.typed.LogicalOperator.{LogicalOperator}
 use Rattle.cyc_types.specs.declared.typed.LogicalOperator.TheVariants as logical
-use Rattle.cyc_types.specs.TypedTrees.{Load, New, OnHeap, AsUnique, ByHandle, Initial, Plain, Fields, Array, Dereference, Target, Member, Element, Lvalue, Local, Global, Expression, Number, Copy, Call, Unary, Binary, Assign, Converted, Convert, Arguments, NoArguments, MoreArguments, Operations, NoOperations, ThenCompute, ThenTest, ThenPointer, ThenPointerPeek, Statement, Block, Empty, Evaluate, If, While, Return, Break, Continue, Items, NoItems, MoreItems, Execute, Declare, StructType, Function, Move, Peek, AddressOfCell, Store, FreeUnique, Side, VariableSide, CellSide, Swap, Throw, Try, Clauses, NoClauses, Default, Case, NumberOfElements, type_of_place, DeclareRegion, OpenRegion, DeclareAlias, DeclareKey, FreeKey}
+use Rattle.cyc_types.specs.TypedTrees.{Load, New, OnHeap, AsUnique, ByHandle, Initial, Plain, Fields, Array, Dereference, Target, Member, Element, Lvalue, Local, Global, Expression, Number, Copy, Call, Unary, Binary, Assign, Converted, Convert, Arguments, NoArguments, MoreArguments, Operations, NoOperations, ThenCompute, ThenTest, ThenPointer, ThenPointerPeek, Statement, Block, Empty, Evaluate, If, While, Return, Break, Continue, Items, NoItems, MoreItems, Execute, Declare, StructType, Function, Move, Peek, AddressOfCell, Store, FreeUnique, Side, VariableSide, CellSide, Swap, Throw, Try, Clauses, NoClauses, Default, Case, NumberOfElements, type_of_place, DeclareRegion, OpenRegion, DeclareAlias, DeclareKey, FreeKey, AddressOf}
 use Rattle.cyc_types.specs.Types.{Ty, words_of}
 use Rattle.cyc_types.proofs.WeightLemmas.{some_token}
 use Rattle.cyc_types.specs.Weight.{expression_weight, dereference_weight, initial_weight, converted_weight, arguments_weight, more_arguments_weight, operations_weight, else_weight, statement_weight, items_weight, function_weight, side_weight, clauses_weight}
@@ -379,6 +379,8 @@ mutual
       let o = place_operand starts x t in
       let words = words_of (type_of_place x) in
       omega (arith, both (place_code starts x p t) (loaded_code words o (place_offset starts x) d t), place_size starts x p t, loaded_size (words == 1) o (place_offset starts x) d t)
+  expression_size starts (AddressOf (Local w n) ty) p d t = omega arith
+  expression_size starts (AddressOf (Global n) ty) p d t = omega arith
   expression_size starts (AddressOfCell x ty) p d t =
       let address = address_code (place_operand starts x t) (place_offset starts x) d in
       omega (arith, both (place_code starts x p t) address, place_size starts x p t, address_size (place_operand starts x t) (place_offset starts x) d)

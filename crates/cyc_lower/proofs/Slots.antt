@@ -73,7 +73,7 @@ starts-from (t ∷ ts) slot (suc n) inside = omega (arith, starts-from ts (slot 
 pub starts-are : (ts : Types) (n : ℕ) → n < length ts.locals → slot_of (starts_of ts) n ≡ slot_in ts.locals n
 starts-are ts n inside = omega (arith, starts-from ts.locals 0 n inside)
 
-type-there : (ts : List Ty) (n : ℕ) → n < length ts → (t : Ty) × (slice_get ts n ≡ Some t)
+pub type-there : (ts : List Ty) (n : ℕ) → n < length ts → (t : Ty) × (slice_get ts n ≡ Some t)
 type-there [] n inside = absurd (omega (arith, inside))
 type-there (t ∷ ts) zero inside = (t, refl)
 type-there (t ∷ ts) (suc n) inside = type-there ts n (omega (arith, inside))

@@ -1,5 +1,5 @@
 -- Where in a function's code the code of a construct stands, with all places between its parts left open.
-use Rattle.std.proofs.Common.{◌≡◌, ℕ, suc, ◌+◌, ◌<◌, Bool, true, false, List, length, Option, None, Some, zero, ◌≤◌, max, slice_get}
+use Rattle.std.proofs.Common.{◌≡◌, ℕ, suc, ◌+◌, ◌<◌, Bool, true, false, List, length, Option, None, Some, zero, ◌≤◌, max, slice_get, ◌⊎◌}
 use Rattle.std.specs.Prelude.{◌==◌}
 use Rattle.cyc_words.specs.Word.{IsWord}
 use Rattle.cyc_types.specs.declared.typed.Kind.{Kind}
@@ -9,8 +9,8 @@ use Rattle.cyc_types.specs.declared.typed.Operator.{Operator}
 use Rattle.cyc_types.specs.declared.typed.Operator.TheVariants as operators
 use Rattle.cyc_types.specs.declared.typed.PointerOperator.{PointerOperator}
 use Rattle.cyc_types.specs.declared.typed.PointerOperator.TheVariants as pointers
-use Rattle.cyc_types.specs.TypedTrees.{Array, Counter, type_of_place, Load, Dereference, Target, Lvalue, Local, Global, Expression, Number, NullPointer, Copy, Call, Unary, Binary, Assign, Converted, Convert, Arguments, NoArguments, MoreArguments, Operations, NoOperations, ThenCompute, ThenTest, ThenPointer, Statement, Block, Empty, Evaluate, If, While, Return, Break, Continue, Items, NoItems, MoreItems, Execute, Declare, Move, Peek, ThenPointerPeek, New, OnHeap, Initial, Plain, Fields, AddressOfCell, Store, Member, AsUnique, ByHandle, FreeUnique, FreeKey, HeapRegion, Side, VariableSide, CellSide, Swap, Throw, Try, Clauses, NoClauses, Default, Case, NumberOfElements, Element, DeclareRegion, OpenRegion, DeclareAlias, DeclareKey}
-use Rattle.cyc_types.specs.Types.{words_of}
+use Rattle.cyc_types.specs.TypedTrees.{Array, Counter, type_of_place, Load, Dereference, Target, Lvalue, Local, Global, Expression, Number, NullPointer, Copy, Call, Unary, Binary, Assign, Converted, Convert, Arguments, NoArguments, MoreArguments, Operations, NoOperations, ThenCompute, ThenTest, ThenPointer, Statement, Block, Empty, Evaluate, If, While, Return, Break, Continue, Items, NoItems, MoreItems, Execute, Declare, Move, Peek, ThenPointerPeek, New, OnHeap, Initial, Plain, Fields, AddressOfCell, Store, Member, AsUnique, ByHandle, FreeUnique, FreeKey, HeapRegion, Side, VariableSide, CellSide, Swap, Throw, Try, Clauses, NoClauses, Default, Case, NumberOfElements, Element, DeclareRegion, OpenRegion, DeclareAlias, DeclareKey, AddressOf}
+use Rattle.cyc_types.specs.Types.{words_of, Ty}
 use Rattle.cyc_types.specs.typing.Expressions.{type_of_side}
 use Rattle.cyc_types.specs.Numbered.{Numbering, argument_count}
 use Rattle.cyc_plain.specs.declared.limits.TheConstants.{RECORD_WORDS}
@@ -31,8 +31,8 @@ use Rattle.cyc_meaning.specs.Values.{is_thin, words_of_kind, kind_of}
 use Rattle.cyc_lower.specs.declared.statements.Exits.{Exits}
 use Rattle.cyc_lower.specs.declared.statements.Opened.{Opened}
 use Rattle.cyc_lower.specs.Slots.{counted, Types, starts_of, slot_of, field_of, global_of}
-use Rattle.cyc_lower.specs.Lowering.{most_elements, unary_operator, binary_operator, operand_of, source_of, source_slot, failing_comparison, left_with, left_of, value_slot, next_slot, slot_with, left_slot, is_in, move_of, test_jump, are_as_wide, converts_there, passed_words, all_passed, compared_of, low_byte, break_target, continue_target, results_of, behind_left, inside_loop, inside_try, behind_record_in, pointer_operator, raising, jump_if_zero, right_slot, tag_operand, other_jump, goes_on, span_of, span_in, followed_operand, scale_of, pointer_of, reached_operand, load_word, store_word, load_at, inside_region}
-use Rattle.cyc_lower.proofs.Widths.{kind_of_result, given, passed_kind, HasRoom, HasField, HasGlobal}
+use Rattle.cyc_lower.specs.Lowering.{most_elements, unary_operator, binary_operator, operand_of, source_of, source_slot, failing_comparison, left_with, left_of, value_slot, next_slot, slot_with, left_slot, is_in, move_of, test_jump, are_as_wide, converts_there, passed_words, all_passed, compared_of, low_byte, break_target, continue_target, results_of, behind_left, inside_loop, inside_try, behind_record_in, pointer_operator, raising, jump_if_zero, right_slot, tag_operand, other_jump, goes_on, span_of, span_in, followed_operand, scale_of, pointer_of, reached_operand, load_word, store_word, load_at, inside_region, address_of_global}
+use Rattle.cyc_lower.proofs.Widths.{kind_of_result, given, passed_kind, HasRoom, HasField, HasGlobal, words_in}
 
 -- ---- expressions
 
@@ -223,9 +223,14 @@ module _ (code : List Instruction) (bounds : Numbering) (types : Types) where
       At code h (instructions.Branch comparisons.Equal (operands.Slot (t + 2)) (operands.Slot (t + 1)) s) × (h < s) × evaluated × FilledAt words t h r s
       × At code s (instructions.Move (t + 2) (operands.Word 0)) × CopyAt code 3 (operands.Slot t) d (s + 1) q
 
+  -- the words of a value that is stored by an address stand behind that, or in a local, if they are several
+  abbrev pub StandsApart : (words address n : ℕ) → Type 0
+  StandsApart words address n =
+      (words ≡ 1) ⊎ ((address < n) ⊎ ((number : ℕ) × (number < length types.locals) × (slot_of (starts_of types) number ≡ n) × (words ≤ words_in types.locals number)))
+
   -- a value of so many words comes to the cell whose address is in a slot
   abbrev pub SavedAt : (words address : ℕ) → Operand → (p q : ℕ) → Type 0
-  SavedAt words address (operands.Slot n) p q = StoresAt words address 0 n p q
+  SavedAt words address (operands.Slot n) p q = StoresAt words address 0 n p q × StandsApart words address n
   SavedAt words address (operands.Word n) p q = At code p (instructions.Store (operands.Slot address) 0 (operands.Word n)) × (p + 1 ≡ q)
 
   -- An object of so many cells is made, of the words that stand in the slots from t on. Its address comes to slot d.
@@ -283,13 +288,16 @@ module _ (code : List Instruction) (bounds : Numbering) where
     ExpressionAt types (New AsUnique i ty) d t p q = MadeAt types i (operands.Word UNIQUE) d t p q
     -- the handle stays in slot t
     ExpressionAt types (New (ByHandle a) i ty) d t p q = (m : ℕ) × ExpressionAt types a t t p m × MadeAt types i (operands.Slot t) d (suc t) m q
+    ExpressionAt types (AddressOf (Local w n) ty) d t p q =
+        (v : Ty) × (slice_get types.locals n ≡ Some v) × At code p (instructions.AddressOf d (slot_of (starts_of types) n) (words_of v)) × (p + 1 ≡ q)
+    ExpressionAt types (AddressOf (Global n) ty) d t p q =
+        (v : Ty) × (slice_get types.globals n ≡ Some v) × At code p (instructions.Move d (operands.Word (address_of_global (global_of (starts_of types) n)))) × (p + 1 ≡ q)
     ExpressionAt types (AddressOfCell x ty) d t p q = (o : Operand) × (c : ℕ) × (r : ℕ) × PlaceAt types x o c t p r × AddressAt code o c d r q
     ExpressionAt types (Store x v ty) d t p q =
         (o : Operand) × (m : ℕ)
         × ((a : Operand) × (c : ℕ) × (r : ℕ) × (s : ℕ) × (u : ℕ) × PlaceAt types x a c t p r × AddressAt code a c t r s × ConvertedOperandAt types v (t + 1) o s u
         × SavedAt code bounds types (passed_words v) t o u m)
         × CopyAt code (passed_words v) o d m q
-    ExpressionAt types a d t p q = ⊥
 
     -- a new object in the region of this handle
     pub MadeAt : (types : Types) → Initial → (handle : Operand) → (d t p q : ℕ) → Type 0
@@ -547,7 +555,7 @@ module _ (code : List Instruction) (bounds : Numbering) (types : Types) where
     pub ItemsAt : Items → Exits → (t p q : ℕ) → Type 0
     ItemsAt NoItems exits t p q = p ≡ q
     ItemsAt (MoreItems (Execute s) js) exits t p q = (m : ℕ) × StatementAt s exits t p m × ItemsAt js exits t m q
-    ItemsAt (MoreItems (Declare n ty v) js) exits t p q = (m : ℕ) × DeclarationAt n v t p m × ItemsAt js exits t m q
+    ItemsAt (MoreItems (Declare n ty v) js) exits t p q = (m : ℕ) × HasRoom types n (kind_of ty) × DeclarationAt n v t p m × ItemsAt js exits t m q
     ItemsAt (MoreItems (DeclareRegion r n) js) exits t p q =
         (m : ℕ) × (u : ℕ) × OpenedAt n t p m × ItemsAt js (inside_region exits t) (t + 1) m u × ClosedAt t u q
     ItemsAt (MoreItems (OpenRegion r n w key) js) exits t p q =

@@ -32,12 +32,12 @@ use Rattle.cyc_lower.proofs.Widths.{HasRoom, Outside}
 use Rattle.cyc_lower.proofs.Moves.{copied_is, copied_elsewhere}
 use Rattle.cyc_lower.specs.Lowering.{counter_operand, operand_of, are_as_wide, converts_there, break_target, continue_target, scopes_of, inside_loop, results_of, lower_function, lower_program, globals_of, null_of}
 use Rattle.cyc_lower.proofs.Stands.{OperandBy, ExpressionAt, InitialAt, InitialBy, ReturnedAt, ItemsAt}
-use Rattle.cyc_objects.specs.Tables.{Variable, Tables, with_row, with_handle}
+use Rattle.cyc_objects.specs.Tables.{Tables, with_row, with_handle}
 use Rattle.cyc_objects.specs.Related.{scopes}
 use Rattle.cyc_objects.specs.Words.{Is}
 use Rattle.cyc_objects.proofs.Values.{Grows-row, Grows-handle}
 use Rattle.cyc_lower.proofs.Sharing.{shared_declared, row_declared, shared_opened, shared_closed}
-use Rattle.cyc_lower.proofs.Relation.{kept, counters_of, CountsBy, opened_by, types_on, starts_on, types_at, starts_at, given_at, returned_at, Holds, held, callers, homes, Shared, DataAt, SharedAt, in_temporary, in_local, ValueStack, AheadStack, StatementStack, LandsStack, Related, EvaluatingAt, as_operand, into_slot, for_effect, as_condition, in_operand, ahead, behind_statement, behind_call, behind_wrong, Below, IsLast, Arrives, in_place, by_jump, code_of, bounds_in, bounds_at, top, behind_records, by_jumps, HandlersStand, DataIn, Matches, floor}
+use Rattle.cyc_lower.proofs.Relation.{kept, counters_of, CountsBy, opened_by, types_on, starts_on, types_at, starts_at, given_at, returned_at, Holds, held, callers, homes, Shared, DataAt, SharedAt, in_temporary, in_local, ValueStack, AheadStack, StatementStack, LandsStack, Related, EvaluatingAt, as_operand, into_slot, for_effect, as_condition, in_operand, ahead, behind_statement, behind_call, behind_wrong, Below, IsLast, Arrives, in_place, by_jump, code_of, bounds_in, bounds_at, top, behind_records, by_jumps, HandlersStand, DataIn, Matches, floor, row_of, call_slots}
 use Rattle.cyc_lower.proofs.Data.{height-least, Holds-same, Holds-above, data_declared, data_returned, data_grows, held_by_caller, floor-least, handlers_same, calls_counted}
 use Rattle.cyc_lower.proofs.Values.{int_at}
 use Rattle.cyc_lower.proofs.Accesses.{IsWell, is_declared, is_closed, home_there}
@@ -50,12 +50,14 @@ use Rattle.cyc_lower.proofs.Matched.{IsMatched, silently, by_one, by_two}
 use Rattle.cyc_lower.proofs.ExceptionSteps.{begins, ends, throws_none, throws_some}
 use Rattle.cyc_lower.proofs.Evaluations.{IsStep, sources}
 use Rattle.cyc_lower.proofs.RegionSteps.{local_there, opens_region, opens_by, aliases_local, declares_key, closes_region, ends_loan}
+use Rattle.cyc_lower.proofs.Rows.{row-fits, row-variable}
 
 module _ (source : Program) (pages calls : ℕ) where
   -- ---- calls
 
   -- one call less waits
-  abbrev pub shared_returned : (w : World) (regions : List ℕ) (counting : Type 0) (output input : List ℕ) (store : StoreState) (home waiting : ℕ) → Shared pages calls w (home ∷ regions) counting output input store (suc waiting) → Shared pages calls w regions counting output input store waiting
+  abbrev pub shared_returned : (w : World) (regions : List ℕ) (counting : Type 0) (output input : List ℕ) (store : StoreState) (home waiting : ℕ) → Shared pages calls w (home ∷ regions) counting output input store (suc waiting)
+      → Shared pages calls w regions counting output input store waiting
   shared_returned w regions counting output input store home waiting s = record {
     tables = s.tables;
     same_output = s.same_output;
@@ -102,7 +104,7 @@ module _ (source : Program) (pages calls : ℕ) where
       silently source pages calls (Running (Executing (Block r js)) k e w) (Running Proceeding (Rest js ∷ region_end e w ∷ k) (inside e w) (opened w)) (plain.Running c) refl (
         shared_opened source pages calls k e w c shared,
         behind_statement exits
-            (data_grows shared.tables (with_handle shared.tables None) (Grows-handle shared.tables None) source c.active.function w.objects e.locals (callers k) c.active.slots c.globals c.frames facts.0, facts.1)
+            (data_grows shared.tables (with_handle shared.tables None) (Grows-handle shared.tables None) source c.active.function c.active.base w.objects e.locals (callers k) c.active.slots c.globals c.frames facts.0, facts.1)
             (q, items, (q, in_place refl, stack)),
       )
       (omega arith)
@@ -146,19 +148,19 @@ module _ (source : Program) (pages calls : ℕ) where
   Waits kind outer k f rest = LandsStack source f.caller.function outer.locals kind f.result f.caller.next rest k
 
   -- the caller goes on behind the call, with a temporary written
-  comes_back : (t : Tables) (g value results : ℕ) (slots globals : Words) (f : Frame) (frames : List Frame) (k : List Entry) (locals : ℕ → Option ℕ) (outer : Environment) (w : World)
-      → DataAt source t g w.objects locals (callers (Caller outer ∷ k)) slots globals (f ∷ frames)
+  comes_back : (t : Tables) (g from value results : ℕ) (slots globals : Words) (f : Frame) (frames : List Frame) (k : List Entry) (locals : ℕ → Option ℕ) (outer : Environment) (w : World)
+      → DataAt source t g from w.objects locals (callers (Caller outer ∷ k)) slots globals (f ∷ frames)
       → HandlersStand source f.caller.function f.caller.slots f.caller.handlers frames k
       → top source f.caller.function k ≤ f.result
-      → (DataAt source t f.caller.function w.objects outer.locals (callers k) (copied slots value results f.caller.slots f.result) globals frames
+      → (DataAt source t f.caller.function f.caller.base w.objects outer.locals (callers k) (copied slots value results f.caller.slots f.result) globals frames
       × HandlersStand source f.caller.function (copied slots value results f.caller.slots f.result) f.caller.handlers frames k)
       × Holds t (copied slots value results f.caller.slots f.result) (floor source f.caller.function k) (held k)
-  comes_back t g value results slots globals f frames k locals outer w facts stand least =
+  comes_back t g from value results slots globals f frames k locals outer w facts stand least =
       let now = copied slots value results f.caller.slots f.result in
       let base = floor source f.caller.function k in
-      let holds = held_by_caller t source g w.objects locals (record { locals = outer.locals; temporaries = behind_records k; values = held k }) (callers k) slots globals f frames facts in (
+      let holds = held_by_caller t source g from w.objects locals (record { locals = outer.locals; temporaries = behind_records k; values = held k }) (callers k) slots globals f frames facts in (
         (
-          data_returned t source g w.objects locals (record { locals = outer.locals; temporaries = behind_records k; values = held k }) (callers k) slots now globals f frames
+          data_returned t source g from w.objects locals (record { locals = outer.locals; temporaries = behind_records k; values = held k }) (callers k) slots now globals f frames
               (λ n less. copied-below slots f.caller.slots value results f.result n (omega (arith, less, least, height-least base (held k), floor-least source f.caller.function k))) facts,
           handlers_same source f.caller.function f.caller.slots now f.caller.handlers frames k
               (λ n from less. copied-below slots f.caller.slots value results f.result n (omega (arith, less, least, height-least base (held k)))) stand,
@@ -178,7 +180,7 @@ module _ (source : Program) (pages calls : ℕ) where
   leaves_call : (focus : Focus) (active : Activation) (frames : List Frame) (globals : Words) (store : StoreState) (output input : List ℕ) (k : List Entry) (e outer : Environment) (w : World) (s : ℕ)
       → step source (Running focus (Caller outer ∷ k) e w) ≡ Running Proceeding k outer w
       → (shared : SharedAt source pages calls (Caller outer ∷ k) e w (record { active = active; frames = frames; globals = globals; store = store; output = output; input = input }))
-      → DataAt source shared.tables active.function w.objects e.locals (callers (Caller outer ∷ k)) active.slots globals frames × HandlersStand source active.function active.slots active.handlers frames (Caller outer ∷ k)
+      → DataAt source shared.tables active.function active.base w.objects e.locals (callers (Caller outer ∷ k)) active.slots globals frames × HandlersStand source active.function active.slots active.handlers frames (Caller outer ∷ k)
       → At (code_of source active.function) active.next (instructions.Finish s)
       → Below source frames (Waits (returned_at source active.function) outer k)
       → IsMatched source pages calls (Running focus (Caller outer ∷ k) e w) (plain.Running (record { active = active; frames = frames; globals = globals; store = store; output = output; input = input }))
@@ -186,7 +188,7 @@ module _ (source : Program) (pages calls : ℕ) where
   leaves_call focus active (f ∷ frames) globals store output input k e outer w s does shared (facts, (none, stand)) here (in_temporary least stack) =
       let c : Configuration = record { active = active; frames = f ∷ frames; globals = globals; store = store; output = output; input = input } in
       let results = (routine_at (lower_program source) active.function).results in
-      let back = comes_back shared.tables active.function s results active.slots globals f frames k e.locals outer w facts stand least in
+      let back = comes_back shared.tables active.function active.base s results active.slots globals f frames k e.locals outer w facts stand least in
       by_one source pages calls does shared here
       (λ choice. finished (Running Proceeding k outer w) c s choice none
       (shared_returned w (outer.home ∷ homes k) (CountsBy source None outer k globals store (scopes w.regions)) output input store e.home (length frames) shared, behind_call (returned_at source active.function) (operands.Slot f.result) back.0 stack))
@@ -199,7 +201,7 @@ module _ (source : Program) (pages calls : ℕ) where
   -- with a value
   hands_back : (v : Kinded) (active : Activation) (frames : List Frame) (globals : Words) (store : StoreState) (output input : List ℕ) (k : List Entry) (e outer : Environment) (w : World) (s : ℕ)
       → (shared : SharedAt source pages calls (Caller outer ∷ k) e w (record { active = active; frames = frames; globals = globals; store = store; output = output; input = input }))
-      → DataAt source shared.tables active.function w.objects e.locals (callers (Caller outer ∷ k)) active.slots globals frames × HandlersStand source active.function active.slots active.handlers frames (Caller outer ∷ k)
+      → DataAt source shared.tables active.function active.base w.objects e.locals (callers (Caller outer ∷ k)) active.slots globals frames × HandlersStand source active.function active.slots active.handlers frames (Caller outer ∷ k)
       → At (code_of source active.function) active.next (instructions.Finish s) → Is shared.tables v.kind v.value active.slots s → (routine_at (lower_program source) active.function).results ≡ words_of_kind v.kind
       → Below source frames (Waits v.kind outer k)
       → IsMatched source pages calls (Running (Returning (Some v)) (Caller outer ∷ k) e w) (plain.Running (record { active = active; frames = frames; globals = globals; store = store; output = output; input = input }))
@@ -207,7 +209,7 @@ module _ (source : Program) (pages calls : ℕ) where
   hands_back v active (f ∷ frames) globals store output input k e outer w s shared (facts, (none, stand)) here is wide (in_temporary least stack) =
       let c : Configuration = record { active = active; frames = f ∷ frames; globals = globals; store = store; output = output; input = input } in
       let results = (routine_at (lower_program source) active.function).results in
-      let back = comes_back shared.tables active.function s results active.slots globals f frames k e.locals outer w facts stand least in
+      let back = comes_back shared.tables active.function active.base s results active.slots globals f frames k e.locals outer w facts stand least in
       by_one source pages calls refl shared here
       (λ choice. finished (Running (Given v) k outer w) c s choice none (
         shared_returned w (outer.home ∷ homes k) (CountsBy source None outer k globals store (scopes w.regions)) output input store e.home (length frames) shared,
@@ -218,7 +220,7 @@ module _ (source : Program) (pages calls : ℕ) where
       let results = (routine_at (lower_program source) active.function).results in
       let base = floor source f.caller.function k in
       let d = f.result in
-      let holds = held_by_caller shared.tables source active.function w.objects e.locals (record { locals = outer.locals; temporaries = behind_records k; values = held k }) (callers k) active.slots globals f frames facts in
+      let holds = held_by_caller shared.tables source active.function active.base w.objects e.locals (record { locals = outer.locals; temporaries = behind_records k; values = held k }) (callers k) active.slots globals f frames facts in
       let now = copied active.slots s results f.caller.slots d in
       let elsewhere : (n : ℕ) → Outside d (words_of_kind v.kind) n → now n ≡ f.caller.slots n =
       λ n out. copied_elsewhere active.slots f.caller.slots s results d n (subst (λ many. Outside d many n) (sym wide) out) in
@@ -229,7 +231,7 @@ module _ (source : Program) (pages calls : ℕ) where
           f.caller.slots,
           λ n out. sym (elsewhere n out),
           (
-            data_returned shared.tables source active.function w.objects e.locals (record { locals = outer.locals; temporaries = behind_records k; values = held k }) (callers k) active.slots f.caller.slots globals f frames (λ n less. refl) facts,
+            data_returned shared.tables source active.function active.base w.objects e.locals (record { locals = outer.locals; temporaries = behind_records k; values = held k }) (callers k) active.slots f.caller.slots globals f frames (λ n less. refl) facts,
             stand,
           ),
         )
@@ -252,22 +254,23 @@ module _ (source : Program) (pages calls : ℕ) where
   declares : (n : ℕ) (t : Ty) (js : Items) (k : List Entry) (e : Environment) (w : World) (c : Configuration) (exits : Exits) (m q : ℕ)
       → IsWell (step source (Running Proceeding (Rest (MoreItems (Declare n t None) js) ∷ k) e w))
       → (shared : SharedAt source pages calls k e w c) → DataIn source shared.tables c.active.slots k e w c
-      → n < length (types_at source c.active.function).locals → c.active.next ≡ m
+      → n < length (types_at source c.active.function).locals → HasRoom (types_at source c.active.function) n (kind_of t) → c.active.next ≡ m
       → ItemsAt (code_of source c.active.function) (bounds_at source c.active.function) (types_at source c.active.function) js exits (floor source c.active.function k) m q
       → StatementStack source c.active.function exits q c.frames k
       → IsMatched source pages calls (Running Proceeding (Rest (MoreItems (Declare n t None) js) ∷ k) e w) (plain.Running c)
-  declares n t js k e w c exits m q well shared facts few end items stack =
+  declares n t js k e w c exits m q well shared facts few room end items stack =
       let g = c.active.function in
       let x = variable e.home (kind_of t) None in
       let (r, home) = home_there Proceeding n (kind_of t) None (Rest js ∷ k) e w well in
-      let grown = with_row shared.tables Variable in
-      let more = data_grows shared.tables grown (Grows-row shared.tables Variable) source g w.objects e.locals (callers k) c.active.slots c.globals c.frames facts.0 in
+      let row = row_of (call_slots source g c.active.base) (slot_of (starts_at source g) n) (kind_of t) in
+      let grown = with_row shared.tables row in
+      let more = data_grows shared.tables grown (Grows-row shared.tables row) source g c.active.base w.objects e.locals (callers k) c.active.slots c.globals c.frames facts.0 in
       silently source pages calls (Running Proceeding (Rest (MoreItems (Declare n t None) js) ∷ k) e w)
       (Running Proceeding (Rest js ∷ k) (with_local e n (length w.objects)) (made w x)) (plain.Running c)
       (is_declared (region_at w e.home) Proceeding n (kind_of t) None (Rest js ∷ k) e w well) (
-        shared_declared source pages calls k e w c shared n r (kind_of t) None home,
+        shared_declared source pages calls k e w c shared n r (kind_of t) None row home (row-fits (call_slots source g c.active.base) (slot_of (starts_at source g) n) (kind_of t) e.home None) (row-variable (call_slots source g c.active.base) (slot_of (starts_at source g) n) (kind_of t)),
         behind_statement exits
-            (data_declared grown source g w.objects e (callers k) c.active.slots c.active.slots c.globals c.frames n 0 x few (omega arith) (row_declared source pages calls k e w c shared) (λ m out. refl) (λ v has. absurd (none-some v has)) more, facts.1)
+            (data_declared grown source g c.active.base w.objects e (callers k) c.active.slots c.active.slots c.globals c.frames n 0 x few (omega arith) (record { kind = kind_of t; room = room; row = row_declared source pages calls k e w c shared row }) (λ m out. refl) (λ v has. absurd (none-some v has)) more, facts.1)
             (q, subst (λ p. ItemsAt (code_of source g) (bounds_at source g) (types_at source g) js exits (floor source g k) p q) (sym end) items, stack),
       )
       (omega arith)
@@ -299,7 +302,7 @@ module _ (source : Program) (pages calls : ℕ) where
   initial_by true n ty from to a js k e w c exits m q lands shared facts room (wide, at_a) items stack =
       let g = c.active.function in
       let inside = slot-room (types_at source g) n (room-inside (types_at source g) n to room) in
-      (shared, facts, into_slot (slot_of (starts_at source g) n) m at_a tt (in_local (omega (arith, inside, room, wide)) (lands, (exits, q, refl, room, items, stack))))
+      (shared, facts, into_slot (slot_of (starts_at source g) n) m at_a tt (in_local (omega (arith, inside, room, wide)) (lands, wide, (exits, q, refl, room, items, stack))))
   initial_by false n ty from to a js k e w c exits m q lands shared facts room (o, s, r, at_a, at_to, move, end) items stack =
       let g = c.active.function in
       let rest = subst (λ p. ItemsAt (code_of source g) (bounds_at source g) (types_at source g) js exits (floor source g k) p q) (sym end) items in
@@ -329,9 +332,9 @@ module _ (source : Program) (pages calls : ℕ) where
       silently source pages calls (Running Proceeding (Rest (MoreItems (Execute s) js) ∷ k) e w) (Running (Executing s) (Rest js ∷ k) e w) (plain.Running c) refl
       (shared, facts, (exits, m, at_s, (q, items, stack)))
       (omega arith)
-  after_statement (Rest (MoreItems (Declare n t None) js) ∷ k) e w c exits nested well shared facts (q, (m, (few, end), items), stack) =
-      declares n t js k e w c exits m q well shared facts (local_there source pages calls c.active.function n few) end items stack
-  after_statement (Rest (MoreItems (Declare n t (Some (Convert from to a))) js) ∷ k) e w c exits nested well shared facts (q, (m, (few, room, at), items), stack) =
+  after_statement (Rest (MoreItems (Declare n t None) js) ∷ k) e w c exits nested well shared facts (q, (m, room, (few, end), items), stack) =
+      declares n t js k e w c exits m q well shared facts (local_there source pages calls c.active.function n few) room end items stack
+  after_statement (Rest (MoreItems (Declare n t (Some (Convert from to a))) js) ∷ k) e w c exits nested well shared facts (q, (m, there, (few, room, at), items), stack) =
       initial n t from to a js k e w c exits m q shared facts room at items stack
   after_statement (Rest (MoreItems (DeclareRegion r n) js) ∷ k) e w c exits nested well shared facts (q, items, stack) =
       opens_region source pages calls r n js k e w c exits q shared facts nested items stack

@@ -1,47 +1,50 @@
 -- The steps of a swap: its places are found, both are read, and then both are written. Each of them is a local, a global or a cell.
-use Rattle.std.proofs.Common.{◌≡◌, ℕ, zero, suc, ◌+◌, ◌*◌, ◌≤◌, ◌<◌, Bool, true, false, List, [], ◌∷◌, length, Option, None, Some, slice_get, refl, sym, ap, subst, ◌∙◌, arith, inl, inr}
+use Rattle.std.proofs.Common.{◌≡◌, ℕ, zero, suc, ◌+◌, ◌*◌, ◌≤◌, ◌<◌, Bool, true, false, List, [], ◌∷◌, length, Option, None, Some, refl, sym, ap, subst, ◌∙◌, arith, inl, inr}
 use Rattle.std.specs.Prelude.{◌==◌, if◌then◌else◌}
 use Rattle.std.proofs.lemmas.Bool.{eqb-true}
 use Rattle.std.proofs.lemmas.Option.{same_Some}
-use Rattle.cyc_store.specs.State.{word_at}
 use Rattle.cyc_words.specs.Word.{add_of}
 use Rattle.cyc_types.specs.declared.typed.Kind.{Kind}
 use Rattle.cyc_types.specs.declared.typed.Kind.TheVariants as kinds
 use Rattle.cyc_types.specs.TypedTrees.{Local, Global, Dereference, Side, VariableSide, CellSide, type_of_place, peeked, Swap, Program}
 use Rattle.cyc_plain.specs.declared.instruction.Operand.TheVariants as operands
 use Rattle.cyc_plain.specs.State as plain
-use Rattle.cyc_plain.specs.State.{Words, put, Configuration, with_memory}
+use Rattle.cyc_plain.specs.State.{Words, put, Configuration}
 use Rattle.cyc_plain.specs.Step.{with_slots, advanced, at}
 use Rattle.cyc_plain.proofs.SlotLaws.{put-same}
-use Rattle.cyc_meaning.proofs.WorldLaws.{cell_found}
 use Rattle.cyc_meaning.specs.Values.{Value, Thin, Operand as Kinded, is_kind, kind_of, words_of_kind}
 use Rattle.cyc_meaning.specs.State.{World, Access, Found, Closed, Missing, Located, cell_at, written, Environment, SwapLeft, SwapRight, Entry, NeedsPlace, Write, Focus, Locating, GivenPlace, Executing, Proceeding, Writing, Swapping, State, Running}
 use Rattle.cyc_meaning.specs.Step.{wrong, stored_at, object_of, step}
 use Rattle.cyc_meaning.specs.Swaps.{finds_right_object, finds_left_object, swap_read, swap_content, swap_loaded}
 use Rattle.cyc_objects.specs.Tables.{Tables}
-use Rattle.cyc_objects.specs.Words.{words_from, Points, Is}
+use Rattle.cyc_objects.specs.Words.{Points, Is}
 use Rattle.cyc_lower.specs.declared.statements.Exits.{Exits}
 use Rattle.cyc_lower.specs.Lowering.{right_slot, move_of, load_word, load_at, lower_program}
-use Rattle.cyc_lower.specs.Slots.{slot_of, global_of}
+use Rattle.cyc_lower.specs.Slots.{slot_of, global_of, global_types}
 use Rattle.cyc_lower.proofs.Widths.{same_kind, kind_positive, wide_kind, Outside}
 use Rattle.cyc_lower.proofs.Slots.{slot-room, global-inside}
 use Rattle.cyc_lower.proofs.Moves.{put_elsewhere, moved_slots, moves, moved_elsewhere, moved_is}
 use Rattle.cyc_lower.proofs.Weights.{focus_weight, stack_weight}
 use Rattle.cyc_lower.proofs.Stands.{EachAt, StoresAt, HasSide, SideAt, ReadAt, WriteAt, ExchangeAt, PlaceAt}
-use Rattle.cyc_lower.proofs.Relation.{base_of, floor, IsWord, Holds, held, contents, content_of, content_of_cell, with_kind, callers, behind_statement, IsSideAt, IsLeft, WritesAt, StatementStack, DataIn, SharedAt, Matches, code_of, bounds_at, types_at, starts_at, base_of, scopes_in}
+use Rattle.cyc_lower.proofs.Relation.{base_of, floor, IsWord, Holds, held, contents, callers, behind_statement, IsSideAt, IsLeft, WritesAt, StatementStack, DataIn, SharedAt, Matches, code_of, bounds_at, types_at, starts_at, base_of, scopes_in}
 use Rattle.cyc_lower.proofs.Data.{Is-same, one_word, data_written, data_assigned, data_assigned_global, handlers_beside, floor-least, told_beside}
 use Rattle.cyc_lower.proofs.Sharing.{shared_written, shared_beside}
 use Rattle.cyc_lower.proofs.Accesses.{IsWell, is_stored, written_here, written_elsewhere, written_length}
-use Rattle.cyc_lower.proofs.CellWrites.{cell_is_there, saves_there, shared_saved, data_saved}
-use Rattle.cyc_lower.proofs.PlaceWords.{stays, cell_kind, word_is, word_there}
+use Rattle.cyc_lower.proofs.CellWrites.{cell_is_there, saves_there, shared_saved, data_saved, with_word, above_there, frames_there}
+use Rattle.cyc_lower.proofs.PlaceWords.{stays, cell_kind, word_is}
 use Rattle.cyc_lower.proofs.Paths.{Link, is_quiet, end_of, IsPath}
 use Rattle.cyc_lower.proofs.GlobalSteps.{each_put, each-outside, each_is, load_links, load_end, load_path, stored_globals, stored_elsewhere, stored_is, global_links, is_stored_by, by_links}
 use Rattle.cyc_lower.proofs.CellLoads.{word_links, word_end, word_path}
-use Rattle.cyc_lower.proofs.WideCells.{all_links, all_path, shared_stored, data_stored}
+use Rattle.cyc_lower.proofs.WideCells.{all_links, all_path, shared_stored, data_stored, stored, above_stored, frames_stored}
 use Rattle.cyc_lower.proofs.AddressSteps.{Brought, in_slot, by_word}
 use Rattle.cyc_lower.proofs.Matched.{IsMatched, silently, by_one}
 use Rattle.cyc_lower.proofs.Evaluations.{IsStep, object_of_same}
-use Rattle.cyc_lower.proofs.CellReads.{cell_words}
+use Rattle.cyc_lower.proofs.CellReads.{held_there, cell_reads, read_there, low_same}
+use Rattle.cyc_plain.specs.Memory.{memory_at}
+use Rattle.cyc_lower.proofs.Known.{IsGlobalRow}
+use Rattle.cyc_lower.proofs.Rows.{local-row}
+use Rattle.cyc_lower.proofs.Leads.{AreNamed}
+use Rattle.cyc_lower.proofs.Moving.{statement_moves}
 
 -- ---- what is read
 
@@ -67,13 +70,6 @@ is_swapped kind (Found at) left right before k e w well =
     by false content told well = absurd (well refl)
     by true None told well = absurd (well refl)
     by true (Some v) told well = (same_kind at.cell.kind kind told, v, refl, refl)
-
--- a variable that is found holds it
-held_there : (w : World) (object : ℕ) (at : Located) (kind : Kind) (v : Value) → cell_at w object 0 ≡ Found at → at.cell.kind ≡ kind → at.cell.content ≡ Some v
-    → contents w.objects object ≡ Some (record { kind = kind; value = v })
-held_there w object at kind v found same has =
-    let (object_there, cell_there) = cell_found w object 0 at found in
-    ap content_of object_there ∙ ap content_of_cell cell_there ∙ ap (with_kind at.cell.kind) has ∙ ap (λ (i : Kind). with_kind i (Some v)) same
 
 module _ (source : Program) (pages calls : ℕ) where
   -- ---- sides stay where they are
@@ -133,30 +129,29 @@ module _ (source : Program) (pages calls : ℕ) where
       }
 
   -- those of a cell, whose address is in slot s
-  reads_cell : (t : Tables) (kind : Kind) (v : Value) (address s d q words : ℕ) (c : Configuration) → 1 ≤ words → words_of_kind kind ≡ words → c.active.slots s ≡ address → s < d
-      → ((j : ℕ) → j < words → word_at c.store (add_of address (4 * j)) ≡ Some (words_from c.store.memory address j)) → Is t kind v (words_from c.store.memory address) 0
+  reads_cell : (t : Tables) (kind : Kind) (v : Value) (address s d q words bound : ℕ) (c : Configuration) → 1 ≤ words → words_of_kind kind ≡ words → c.active.slots s ≡ address → s < d → bound ≤ d
+      → (word : ℕ → ℕ) → ((slots : Words) (next j : ℕ) → ((n : ℕ) → n < bound → slots n ≡ c.active.slots n) → j < words → memory_at (lower_program source) (at (with_slots c slots) next) (add_of address (4 * j)) ≡ Some (word j)) → Is t kind v word 0
       → EachAt (code_of source c.active.function) (load_at s) words 0 d c.active.next q → IsSideRead t kind v d q c
-  reads_cell t kind v address s d q zero c some wide same before there is here = absurd (omega (arith, some))
-  reads_cell t kind v address s d q (suc words) c some wide same before there is here =
-      let (path, end) = word_path source c address (suc words) 0 s d q same before (λ j below. there j (omega (arith, below))) here in
-      let from = words_from c.store.memory address in
-      let slots = each_put from c.active.slots (suc words) 0 d in
+  reads_cell t kind v address s d q zero bound c some wide same before least word there is here = absurd (omega (arith, some))
+  reads_cell t kind v address s d q (suc words) bound c some wide same before least word there is here =
+      let (path, end) = word_path source word c address (suc words) 0 s d q bound same before least (λ slots next j low below. there slots next j low (omega (arith, below))) here in
+      let slots = each_put word c.active.slots (suc words) 0 d in
       let last : c.active.next + words + 1 ≡ q = omega (arith, end) in
       record {
-        links = word_links c address (suc words) 0 s d;
+        links = word_links word c (suc words) 0 s d;
         some = omega arith;
         path = path;
         slots = slots;
-        leads = word_end c address words 0 s d ∙ ap (λ (n : ℕ). at (with_slots c slots) n) last;
-        is = each_is t (record { kind = kind; value = v }) from c.active.slots (suc words) 0 d wide is;
-        elsewhere = λ m out. each-outside from c.active.slots (suc words) 0 d m (subst (λ n. Outside d n m) wide out);
+        leads = word_end word c words 0 s d ∙ ap (λ (n : ℕ). at (with_slots c slots) n) last;
+        is = each_is t (record { kind = kind; value = v }) word c.active.slots (suc words) 0 d wide is;
+        elsewhere = λ m out. each-outside word c.active.slots (suc words) 0 d m (subst (λ n. Outside d n m) wide out);
       }
 
   reads_side : (a : Side) (s d q object offset : ℕ) (kind : Kind) (v : Value) (k : List Entry) (e : Environment) (w : World) (c : Configuration) (shared : SharedAt source pages calls k e w c)
-      → DataIn source shared.tables c.active.slots k e w c → (found : Located) → cell_at w object offset ≡ Found found → found.cell.kind ≡ kind → found.cell.content ≡ Some v → s < d
+      → DataIn source shared.tables c.active.slots k e w c → (found : Located) → cell_at w object offset ≡ Found found → found.cell.kind ≡ kind → found.cell.content ≡ Some v → s < d → base_of source c.active.function ≤ d → AreNamed source e.locals (callers k) w c.active.function c.active.base c.frames c.store
       → IsSideAt source shared.tables e.locals c.active.slots a s object offset → HasSide (code_of source c.active.function) (bounds_at source c.active.function) (types_at source c.active.function) a kind
       → ReadAt (code_of source c.active.function) (bounds_at source c.active.function) (types_at source c.active.function) a (words_of_kind kind) s d c.active.next q → IsSideRead shared.tables kind v d q c
-  reads_side (VariableSide (Local p n) ty) s d q object offset kind v k e w c shared facts found there same has before (first, is_there) room (here, end) =
+  reads_side (VariableSide (Local p n) ty) s d q object offset kind v k e w c shared facts found there same has before least names (first, is_there) room (here, end) =
       let g = c.active.function in
       let slot = slot_of (starts_at source g) n in
       let x : Kinded = record { kind = kind; value = v } in
@@ -171,18 +166,19 @@ module _ (source : Program) (pages calls : ℕ) where
         is = moved_is shared.tables x c.active.slots d (operands.Slot slot) (facts.0.2.holds n object x is_there holds).0;
         elsewhere = λ m out. moved_elsewhere c.active.slots (words_of_kind kind) d (operands.Slot slot) m (kind_positive kind) out;
       }
-  reads_side (VariableSide (Global n) ty) s d q object offset kind v k e w c shared facts found there same has before (first, is_there) room (inside, here) =
+  reads_side (VariableSide (Global n) ty) s d q object offset kind v k e w c shared facts found there same has before least names (first, is_there) room (inside, here) =
       let x : Kinded = record { kind = kind; value = v } in
       let holds = held_there w object found kind v (subst (λ i. cell_at w object i ≡ Found found) first there) same has in
       let is_n : n ≡ object = same_Some n object is_there in
       reads_global shared.tables kind v (global_of (starts_at source c.active.function) n) d q (words_of_kind kind) c (kind_positive kind) refl
       ((facts.0.4 n inside).1 x (ap (contents w.objects) is_n ∙ holds)).0 here
-  reads_side (CellSide x) s d q object offset kind v k e w c shared facts found there same has before points tt here =
+  reads_side (CellSide x) s d q object offset kind v k e w c shared facts found there same has before least names points none here =
       let g = c.active.function in
       let address = c.active.slots s in
-      reads_cell shared.tables kind v address s d q (words_of_kind kind) c (kind_positive kind) refl refl before
-      (λ j below. word_there shared.related found points j there (omega (arith, below, ap words_of_kind same)))
-      (subst (λ i. Is shared.tables i v (words_from c.store.memory address) 0) same (cell_words shared.related object offset address found v there points has)) here
+      let reads = cell_reads source c shared.related names facts.0 object offset address found there points in
+      reads_cell shared.tables kind v address s d q (words_of_kind kind) (base_of source g) c (kind_positive kind) refl refl before least reads.word
+      (λ slots next j low below. read_there source c shared.related found there points reads slots next j (low_same source g found.cell.kind reads.here c.active.slots slots reads.own low) (omega (arith, below, ap words_of_kind same)))
+      (subst (λ i. Is shared.tables i v reads.word 0) same (reads.is v has)) here
 
   -- ---- both sides are read
 
@@ -194,19 +190,19 @@ module _ (source : Program) (pages calls : ℕ) where
   right_below base (VariableSide l ty) = omega arith
   right_below base (CellSide x) = omega arith
 
-  pub swapping : (kind : Kind) (left right : Value) (before : Option Kinded) (k : List Entry) (e : Environment) (w : World) (c : Configuration) → IsStep source pages calls (Swapping kind left right before) k e w c
-  swapping kind (Thin object offset) (Thin other beside) None k e w c well (shared, facts, (exits, q, a, b, has_a, has_b, is_a, is_b, (m, r, u, read, next, first, second), stack)) =
+  pub swapping : (kind : Kind) (left right : Value) (before : Option Kinded) (k : List Entry) (e : Environment) (w : World) (c : Configuration) → AreNamed source e.locals (callers k) w c.active.function c.active.base c.frames c.store → IsStep source pages calls (Swapping kind left right before) k e w c
+  swapping kind (Thin object offset) (Thin other beside) None k e w c names well (shared, facts, (exits, q, a, b, has_a, has_b, is_a, is_b, (m, r, u, read, next, first, second), stack)) =
       let g = c.active.function in
       let base = floor source g k in
       let d = base + 2 in
       let words = words_of_kind kind in
       let found = is_swapped kind (cell_at w object offset) (Thin object offset) (Thin other beside) None k e w well in
-      let reads = reads_side a base d m object offset kind found.value k e w c shared facts found.at found.there found.same found.has (omega arith) is_a has_a read in
+      let reads = reads_side a base d m object offset kind found.value k e w c shared facts found.at found.there found.same found.has (omega arith) (omega (arith, floor-least source g k)) names is_a has_a read in
       let behind : State = Running (Swapping kind (Thin object offset) (Thin other beside) (Some (record { kind = kind; value = found.value }))) k e w in
       by_links source pages calls (Swapping kind (Thin object offset) (Thin other beside) None) k e w c behind reads.links reads.some found.gives shared reads.path
       (subst (λ (x : Configuration). Matches source pages calls behind (plain.Running x)) (sym reads.leads) (
         shared,
-        data_written source shared.tables g w.objects e.locals k c.active.slots reads.slots c.active.handlers c.globals c.frames d words (omega arith) reads.elsewhere facts,
+        data_written source shared.tables g c.active.base w.objects e.locals k c.active.slots reads.slots c.active.handlers c.globals c.frames d words (omega arith) reads.elsewhere facts,
         (
           exits,
           q,
@@ -222,20 +218,20 @@ module _ (source : Program) (pages calls : ℕ) where
           stack,
         ),
       ))
-  swapping kind (Thin object offset) (Thin other beside) (Some before) k e w c well (shared, facts, (exits, q, a, b, has_a, has_b, is_a, is_b, same_before, is_before, (m, r, read, first, second), stack)) =
+  swapping kind (Thin object offset) (Thin other beside) (Some before) k e w c names well (shared, facts, (exits, q, a, b, has_a, has_b, is_a, is_b, same_before, is_before, (m, r, read, first, second), stack)) =
       let g = c.active.function in
       let base = floor source g k in
       let words = words_of_kind kind in
       let d = base + 2 + words in
       let above = floor-least source g k in
       let found = is_swapped kind (cell_at w other beside) (Thin object offset) (Thin other beside) (Some before) k e w well in
-      let reads = reads_side b (right_slot a base) d m other beside kind found.value k e w c shared facts found.at found.there found.same found.has (omega (arith, right_below base a)) is_b has_b read in
+      let reads = reads_side b (right_slot a base) d m other beside kind found.value k e w c shared facts found.at found.there found.same found.has (omega (arith, right_below base a)) (omega (arith, floor-least source g k)) names is_b has_b read in
       let writes : List Write = record { place = Thin object offset; operand = record { kind = kind; value = found.value } } ∷ record { place = Thin other beside; operand = before } ∷ [] in
       let has_before : HasSide (code_of source g) (bounds_at source g) (types_at source g) b before.kind = subst (HasSide (code_of source g) (bounds_at source g) (types_at source g) b) (sym same_before) has_b in
       by_links source pages calls (Swapping kind (Thin object offset) (Thin other beside) (Some before)) k e w c (Running (Writing writes None) k e w) reads.links reads.some found.gives shared reads.path
       (subst (λ (x : Configuration). Matches source pages calls (Running (Writing writes None) k e w) (plain.Running x)) (sym reads.leads) (
         shared,
-        data_written source shared.tables g w.objects e.locals k c.active.slots reads.slots c.active.handlers c.globals c.frames d words (omega arith) reads.elsewhere facts,
+        data_written source shared.tables g c.active.base w.objects e.locals k c.active.slots reads.slots c.active.handlers c.globals c.frames d words (omega arith) reads.elsewhere facts,
         (
           exits,
           q,
@@ -274,11 +270,12 @@ module _ (source : Program) (pages calls : ℕ) where
           stack,
         ),
       ))
-  swapping kind left right before k e w c well (shared, facts, at) = absurd at
+  swapping kind left right before k e w c names well (shared, facts, at) = absurd at
 
   -- ---- a cell is written
 
   module _ (x : Write) (writes : List Write) (object offset s v r q : ℕ) (exits : Exits) (k : List Entry) (e : Environment) (w : World) (c : Configuration) (words : plain.HoldsWords (plain.Running c))
+      (names : AreNamed source e.locals (callers k) w c.active.function c.active.base c.frames c.store) (high : base_of source c.active.function ≤ s) (above : base_of source c.active.function ≤ v)
       (shared : SharedAt source pages calls k e w c) (facts : DataIn source shared.tables c.active.slots k e w c)
       (does : stored_at x.place x.operand (Writing writes None) k e w ≡ stored_at (Thin object offset) x.operand (Writing writes None) k e w)
       (well : IsWell (stored_at (Thin object offset) x.operand (Writing writes None) k e w)) (points : Points shared.tables object offset (c.active.slots s))
@@ -292,12 +289,18 @@ module _ (source : Program) (pages calls : ℕ) where
         let address = add_of (c.active.slots s) 0 in
         let (cell, found, same, gives) = cell_is_there (cell_at w object offset) object offset x.operand (Writing writes None) k e w well in
         let is_word = subst (λ i. IsWord shared.tables i x.operand.value (c.active.slots v)) (sym same) (one_word shared.tables x.operand.kind x.operand.value c.active.slots v one value) in
+        let after = with_word source pages calls k e w c shared names facts object offset address (c.active.slots v) cell x.operand.value found (stays points) is_word (words.0 v) in
         by_one source pages calls (does ∙ gives) shared store
         (λ choice. subst (Matches source pages calls (Running (Writing writes None) k e (written w object offset cell x.operand.value)))
-        (sym (saves_there source pages calls k e w c shared object offset address (c.active.slots v) cell x.operand.value found (stays points) is_word (words.0 v))) (
-          shared_saved source pages calls k e w c shared object offset address (c.active.slots v) cell x.operand.value found (stays points) is_word (words.0 v),
-          data_saved source pages calls k e w c shared object offset address (c.active.slots v) cell x.operand.value found (stays points) is_word (words.0 v) facts,
-          (exits, q, subst (λ m. WritesAt source shared.tables e.locals g c.active.slots writes m q) (sym end) rest, stack),
+        (sym (saves_there source pages calls k e w c shared names facts object offset address (c.active.slots v) cell x.operand.value found (stays points) is_word (words.0 v))) (
+          shared_saved source pages calls k e w c shared names facts object offset address (c.active.slots v) cell x.operand.value found (stays points) is_word (words.0 v),
+          data_saved source pages calls k e w c shared names facts object offset address (c.active.slots v) cell x.operand.value found (stays points) is_word (words.0 v),
+          (
+            exits,
+            q,
+            writes_same shared.tables e.locals g c.active.slots after.active.slots writes (c.active.next + 1) q (above_there source pages calls k e w c shared names facts object offset address (c.active.slots v) cell x.operand.value found (stays points) is_word (words.0 v)) (subst (λ m. WritesAt source shared.tables e.locals g c.active.slots writes m q) (sym end) rest),
+            statement_moves source g exits q c.frames after.frames (frames_there source pages calls k e w c shared names facts object offset address (c.active.slots v) cell x.operand.value found (stays points) is_word (words.0 v)) k stack,
+          ),
         ))
 
     writes_words : x.operand.kind ≡ kinds.Fat → IsMatched source pages calls (Running (Writing (x ∷ writes) None) k e w) (plain.Running c)
@@ -314,12 +317,18 @@ module _ (source : Program) (pages calls : ℕ) where
         let second = behind 1 (omega arith) in
         let third = behind 2 (omega arith) in
         let next = Running (Writing writes None) k e (written w object offset cell x.operand.value) in
+        let after = stored source pages calls k e w c shared names facts object offset address s 0 v high (inl above) cell x.operand.value found points wide fat_is words first second third in
         by_links source pages calls (Writing (x ∷ writes) None) k e w c next
-        (all_links source pages calls k e w c shared object offset address s 0 v cell x.operand.value found points wide fat_is words first second third) (omega arith) (does ∙ gives) shared
-        (all_path source pages calls k e w c shared object offset address s 0 v cell x.operand.value found points wide fat_is words first second third at_first at_second at_third) (
-          shared_stored source pages calls k e w c shared object offset address s 0 v cell x.operand.value found points wide fat_is words first second third,
-          data_stored source pages calls k e w c shared object offset address s 0 v cell x.operand.value found points wide fat_is words first second third facts,
-          (exits, q, subst (λ m. WritesAt source shared.tables e.locals g c.active.slots writes m q) (sym end) rest, stack),
+        (all_links source pages calls k e w c shared names facts object offset address s 0 v high (inl above) cell x.operand.value found points wide fat_is words first second third) (omega arith) (does ∙ gives) shared
+        (all_path source pages calls k e w c shared names facts object offset address s 0 v high (inl above) cell x.operand.value found points wide fat_is words first second third at_first at_second at_third) (
+          shared_stored source pages calls k e w c shared names facts object offset address s 0 v high (inl above) cell x.operand.value found points wide fat_is words first second third,
+          data_stored source pages calls k e w c shared names facts object offset address s 0 v high (inl above) cell x.operand.value found points wide fat_is words first second third,
+          (
+            exits,
+            q,
+            writes_same shared.tables e.locals g c.active.slots after.active.slots writes (c.active.next + 1 + 1 + 1) q (above_stored source pages calls k e w c shared names facts object offset address s 0 v high (inl above) cell x.operand.value found points wide fat_is words first second third) (subst (λ m. WritesAt source shared.tables e.locals g c.active.slots writes m q) (sym end) rest),
+            statement_moves source g exits q c.frames after.frames (frames_stored source pages calls k e w c shared names facts object offset address s 0 v high (inl above) cell x.operand.value found points wide fat_is words first second third) k stack,
+          ),
         )
 
     writes_cell : (narrow : Bool) → (words_of_kind x.operand.kind == 1) ≡ narrow → IsMatched source pages calls (Running (Writing (x ∷ writes) None) k e w) (plain.Running c)
@@ -329,12 +338,12 @@ module _ (source : Program) (pages calls : ℕ) where
   -- ---- a side is written
 
   -- the next one, and behind the last the statement ends
-  pub writing_sides : (writes : List Write) (k : List Entry) (e : Environment) (w : World) (c : Configuration) → plain.HoldsWords (plain.Running c) → IsStep source pages calls (Writing writes None) k e w c
-  writing_sides [] k e w c words well (shared, facts, (exits, q, end, stack)) =
+  pub writing_sides : (writes : List Write) (k : List Entry) (e : Environment) (w : World) (c : Configuration) → plain.HoldsWords (plain.Running c) → AreNamed source e.locals (callers k) w c.active.function c.active.base c.frames c.store → IsStep source pages calls (Writing writes None) k e w c
+  writing_sides [] k e w c words names well (shared, facts, (exits, q, end, stack)) =
       silently source pages calls (Running (Writing [] None) k e w) (Running Proceeding k e w) (plain.Running c) refl
       (shared, behind_statement exits facts (subst (λ p. StatementStack source c.active.function exits p c.frames k) (sym end) stack))
       (omega arith)
-  writing_sides (x ∷ writes) k e w c words well (shared, facts, (exits, q, (VariableSide (Local p n) ty, object, offset, s, v, r, (here, end), room, high, above, place, (first, found), value, rest), stack)) =
+  writing_sides (x ∷ writes) k e w c words names well (shared, facts, (exits, q, (VariableSide (Local p n) ty, object, offset, s, v, r, (here, end), room, high, above, place, (first, found), value, rest), stack)) =
       let g = c.active.function in
       let slot = slot_of (starts_at source g) n in
       let own = words_of_kind x.operand.kind in
@@ -347,9 +356,9 @@ module _ (source : Program) (pages calls : ℕ) where
       let next = written w object 0 stored.at x.operand.value in
       by_one source pages calls (does ∙ stored.gives) shared here
       (λ choice. subst (Matches source pages calls (Running (Writing writes None) k e next)) (sym (moves (lower_program source) choice c own slot (operands.Slot v))) (
-        shared_written source pages calls k e w after shared object stored.at x.operand.value stored.object_there stored.cell_there (facts.0.2.rows n object found),
+        shared_written source pages calls k e w after shared object stored.at x.operand.value stored.object_there stored.cell_there (local-row (global_types source.globals) (facts.0.2.rows n object found)),
         (
-          data_assigned shared.tables source g w.objects next.objects e.locals (callers k) c.active.slots slots c.globals c.frames n object x.operand found
+          data_assigned shared.tables source g c.active.base w.objects next.objects e.locals (callers k) c.active.slots slots c.globals c.frames n object x.operand found
               (written_here w object stored.at x.operand.value stored.object_there stored.cell_there x.operand.kind stored.same) (written_elsewhere w object stored.at x.operand.value stored.object_there stored.cell_there)
               (written_length w object stored.at x.operand.value stored.object_there stored.cell_there) room
               (moved_is shared.tables x.operand c.active.slots slot (operands.Slot v) value) elsewhere facts.0,
@@ -363,7 +372,7 @@ module _ (source : Program) (pages calls : ℕ) where
           stack,
         ),
       ))
-  writing_sides (x ∷ writes) k e w c words well (shared, facts, (exits, q, (VariableSide (Global n) ty, object, offset, s, v, r, here, room, high, above, place, (first, found), value, rest), stack)) =
+  writing_sides (x ∷ writes) k e w c words names well (shared, facts, (exits, q, (VariableSide (Global n) ty, object, offset, s, v, r, here, room, high, above, place, (first, found), value, rest), stack)) =
       let g = c.active.function in
       let own = words_of_kind x.operand.kind in
       let does : stored_at x.place x.operand (Writing writes None) k e w ≡ stored_at (Thin object 0) x.operand (Writing writes None) k e w = ap (λ p. stored_at p x.operand (Writing writes None) k e w) (place ∙ ap (Thin object) first) in
@@ -379,9 +388,9 @@ module _ (source : Program) (pages calls : ℕ) where
       (subst (λ (y : Configuration). Matches source pages calls (Running (Writing writes None) k e next) (plain.Running y)) (sym by.leads) (
         shared_written source pages calls k e w after
             (shared_beside source pages calls k e w c shared globals (told_beside source g n x.operand.kind c.globals globals (scopes_in k) room (λ m out. stored_elsewhere c.active.slots c.globals own place_of (operands.Slot v) m (kind_positive x.operand.kind) out) shared.counters.1))
-            object stored.at x.operand.value stored.object_there stored.cell_there (ap (slice_get shared.tables.rows) (sym same) ∙ (facts.0.4 n few).0),
+            object stored.at x.operand.value stored.object_there stored.cell_there (inr (inl (subst (IsGlobalRow shared.tables (global_types source.globals)) same (facts.0.4 n few).0))),
         (
-          data_assigned_global shared.tables source g w.objects next.objects e.locals (callers k) c.active.slots c.globals globals c.frames n x.operand room
+          data_assigned_global shared.tables source g c.active.base w.objects next.objects e.locals (callers k) c.active.slots c.globals globals c.frames n x.operand room
               (ap (contents next.objects) same ∙ written_here w object stored.at x.operand.value stored.object_there stored.cell_there x.operand.kind stored.same)
               (λ i other. written_elsewhere w object stored.at x.operand.value stored.object_there stored.cell_there i (λ equal. other (equal ∙ sym same)))
               (written_length w object stored.at x.operand.value stored.object_there stored.cell_there) (stored_is shared.tables x.operand c.active.slots c.globals place_of (operands.Slot v) value)
@@ -390,8 +399,8 @@ module _ (source : Program) (pages calls : ℕ) where
         ),
         (exits, q, subst (λ m. WritesAt source shared.tables e.locals g c.active.slots writes m q) (sym by.end) rest, stack),
       ))
-  writing_sides (x ∷ writes) k e w c words well (shared, facts, (exits, q, (CellSide y, object, offset, s, v, r, here, has, high, above, place, points, value, rest), stack)) =
-      writes_cell x writes object offset s v r q exits k e w c words shared facts
+  writing_sides (x ∷ writes) k e w c words names well (shared, facts, (exits, q, (CellSide y, object, offset, s, v, r, here, has, high, above, place, points, value, rest), stack)) =
+      writes_cell x writes object offset s v r q exits k e w c words names high above shared facts
       (ap (λ p. stored_at p x.operand (Writing writes None) k e w) place) (subst IsWell (ap (λ p. stored_at p x.operand (Writing writes None) k e w) place) well)
       points value here rest stack (words_of_kind x.operand.kind == 1) refl
 
@@ -422,7 +431,7 @@ module _ (source : Program) (pages calls : ℕ) where
 
   slots_above : (t : Tables) (d q : ℕ) (slots : Words) (k : List Entry) (e : Environment) (w : World) (c : Configuration) → floor source c.active.function k ≤ d → ((m : ℕ) → Outside d 1 m → slots m ≡ c.active.slots m)
       → DataIn source t c.active.slots k e w c → DataIn source t slots k e w (at (with_slots c slots) q)
-  slots_above t d q slots k e w c above same facts = data_written source t c.active.function w.objects e.locals k c.active.slots slots c.active.handlers c.globals c.frames d 1 above same facts
+  slots_above t d q slots k e w c above same facts = data_written source t c.active.function c.active.base w.objects e.locals k c.active.slots slots c.active.handlers c.globals c.frames d 1 above same facts
 
   -- the left one is a cell, and the right one is sought
   pub left_found : (object offset : ℕ) (kind : Kind) (peek : Option ℕ) (right : Side) (k : List Entry) (e : Environment) (w : World) (c : Configuration) {m : ℕ}

@@ -63,7 +63,7 @@ module _ (source : Program) (pages calls : ℕ) where
         reaches_cell source pages calls (Given v) waiting k e w c null (Some words) n (n + 2) n q shared here words refl (Running (Given (record { kind = to; value = Thin object (start + index) })) k e w) (omega arith) (part-not-null part) less does (
           shared,
           in_operand (operands.Slot n)
-              (data_written source shared.tables g w.objects e.locals k slots after c.active.handlers c.globals c.frames n 3 (omega (arith, there, height-least (floor source g k) (held k))) (λ x out. elsewhere slots n bytes address x out) facts)
+              (data_written source shared.tables g c.active.base w.objects e.locals k slots after c.active.handlers c.globals c.frames n 3 (omega (arith, there, height-least (floor source g k) (held k))) (λ x out. elsewhere slots n bytes address x out) facts)
               (thin after (subst (Points shared.tables object (start + index)) (sym (put-same (put slots (n + 2) bytes) n address)) points))
               (kept_holds _ _ _ k (Holds-same shared.tables slots after (floor source g k) (held k) (λ x short. elsewhere slots n bytes address x (inl (omega (arith, short, there)))) holds)) stack,
         )

@@ -1,9 +1,6 @@
--- The constants of a typed tree are words, where those of the tree that it is of are; and so a tree that is built has all its numbers
--- in words.
-use Rattle.std.proofs.Common.{◌≡◌, ℕ, ◌≤◌, Bool, true, false, cond, ◌&&◌, List, [], ◌∷◌, Option, Some, None, sym, ap, subst, ◌∙◌, arith}
-use Rattle.std.specs.Prelude.{nat_le}
-use Rattle.std.specs.List.{list_all}
-use Rattle.std.proofs.lemmas.Bool.{and_parts, leb-true}
+-- The constants of a typed tree are words, where those of the tree that it is of are; and so the typed tree of a text has all its
+-- numbers in words.
+use Rattle.std.proofs.Common.{◌≡◌, ℕ, Bool, true, false, cond, List, [], ◌∷◌, Option, Some, None, sym, ap, subst, ◌∙◌, arith}
 use Rattle.cyc_syntax.specs.declared.tree.PrefixOperator.TheVariants as prefixes
 use Rattle.cyc_syntax.specs.declared.tree.BinaryOperator.{BinaryOperator}
 use Rattle.cyc_syntax.specs.declared.tree.BinaryOperator.TheVariants as operators
@@ -17,8 +14,7 @@ use Rattle.cyc_types.specs.Types as types
 use Rattle.cyc_types.specs.TypedTrees.{Lvalue, Side, VariableSide, CellSide, Converted, type_of}
 use Rattle.cyc_types.specs.TypedTrees as typed
 use Rattle.cyc_types.specs.Rules.{Rule, Derives}
-use Rattle.cyc_types.specs.Numbered.{argument_count}
-use Rattle.cyc_types.specs.Built.{is_built_operator, is_built_size, is_built_expression, is_built_place, is_built_initial, is_built_converted, are_built_arguments, are_built_operations, is_built_value, is_built_side, is_built_statement, are_built_items, is_built_function, is_built, is_built_tag, is_built_thrown, are_built_clauses}
+use Rattle.cyc_types.specs.Texts.{IsOfText, IsOfTextCell, IsOfTextObject, IsOfTextConverted, AreOfTextArguments, AreOfTextOperations, IsOfTextValue, IsOfTextSide, IsOfTextThrown, IsOfTextStatement, AreOfTextItems, AreOfTextClauses, AreOfTextFunctions, IsOfTextProgram}
 use Rattle.cyc_types.specs.typing.Scopes.{Meaning, Unknown, Fixed, Counter, Routine, Scope, meaning_of, behind, in_block, in_labelled, in_body, counted, with_counter}
 use Rattle.cyc_types.specs.typing.Scopes as scopes
 use Rattle.cyc_types.specs.typing.Tests.{is_unique, is_moved, is_pointer}
@@ -435,130 +431,105 @@ globals_constants k (Exceptions cs ∷ tree) (w, ws) = globals_constants k tree 
 globals_constants k (Global t x v ∷ tree) (w, ws) = (global_constants _ v w, globals_constants k tree ws)
 globals_constants k (Function r x ps b ∷ tree) (w, ws) = globals_constants k tree ws
 
--- ---- what is built
+-- ---- in texts
 
 mutual
-  built_words : (a : typed.Expression) → is_built_expression a ≡ true → HasWords a → IsOfWords a
-  built_words (typed.Number n) i w = w
-  built_words typed.NullPointer i w = tt
-  built_words typed.HeapRegion i w = tt
-  built_words (typed.Counter l) i w = tt
-  built_words (typed.Copy l t) i w = tt
-  built_words (typed.Move p n t) i w = tt
-  built_words (typed.Peek p n t) i w = tt
-  built_words (typed.Load d) i w = built_cell d i w
-  built_words (typed.AddressOfCell d t) i w = built_cell d i w
-  built_words (typed.NumberOfElements a) i w = built_words a i w
-  built_words (typed.FreeUnique a) i w = built_words a i w
-  built_words (typed.FreeKey a) i w = built_words a i w
-  built_words (typed.Call f cs t) i w = built_arguments cs i w
-  built_words (typed.Unary o a) i w = built_words a i w
-  built_words (typed.Binary a os t) i (w, ws) =
-      let (first, rest) = and_parts (is_built_expression a) (are_built_operations t os) i in (built_words a first w, built_operations t os rest ws)
-  built_words (typed.Assign l c t) i w = built_converted c i w
-  built_words (typed.Store d c t) i (w, ws) =
-      let (place, value) = and_parts (is_built_place d) (is_built_converted c) i in (built_cell d place w, built_converted c value ws)
-  built_words (typed.New typed.OnHeap m t) i (placed, w) = built_initial m i w
-  built_words (typed.New typed.AsUnique m t) i (placed, w) = built_initial m i w
-  built_words (typed.New (typed.ByHandle a) m t) i (placed, w) =
-      let (handle, values) = and_parts (is_built_expression a) (is_built_initial m) i in (built_words a handle placed, built_initial m values w)
-  built_words a i w = absurd (cc)
+  of_words : (a : typed.Expression) → IsOfText a → HasWords a → IsOfWords a
+  of_words (typed.Number n) i w = w
+  of_words typed.NullPointer i w = tt
+  of_words typed.HeapRegion i w = tt
+  of_words (typed.Counter l) i w = tt
+  of_words (typed.Copy l t) i w = tt
+  of_words (typed.Move p n t) i w = tt
+  of_words (typed.Peek p n t) i w = tt
+  of_words (typed.Load d) i w = cell_of_words d i w
+  of_words (typed.AddressOf l t) i w = tt
+  of_words (typed.AddressOfCell d t) i w = cell_of_words d i w
+  of_words (typed.NumberOfElements a) i w = of_words a i w
+  of_words (typed.FreeUnique a) i w = of_words a i w
+  of_words (typed.FreeKey a) i w = of_words a i w
+  of_words (typed.Call f cs t) i w = arguments_of_words cs i w
+  of_words (typed.Unary o a) i w = of_words a i w
+  of_words (typed.Binary a os t) (i, is) (w, ws) = (of_words a i w, operations_of_words os is ws)
+  of_words (typed.Assign l c t) i w = converted_of_words c i w
+  of_words (typed.Store d c t) (i, is) (w, ws) = (cell_of_words d i w, converted_of_words c is ws)
+  of_words (typed.New typed.OnHeap m t) (i, is) (placed, w) = object_of_words m is w
+  of_words (typed.New typed.AsUnique m t) (i, is) (placed, w) = object_of_words m is w
+  of_words (typed.New (typed.ByHandle a) m t) (i, is) (placed, w) = (of_words a i placed, object_of_words m is w)
 
-  built_cell : (d : typed.Dereference) → is_built_place d ≡ true → CellHasWords d → IsOfWordsCell d
-  built_cell (typed.Target k a t) i w = built_words a i w
-  built_cell (typed.Member k a s f t) i w = built_words a i w
-  built_cell (typed.Element a j t) i (w, ws) =
-      let (first, second) = and_parts (is_built_expression a) (is_built_expression j) i in (built_words a first w, built_words j second ws)
+  cell_of_words : (d : typed.Dereference) → IsOfTextCell d → CellHasWords d → IsOfWordsCell d
+  cell_of_words (typed.Target k a t) i w = of_words a i w
+  cell_of_words (typed.Member k a s f t) i w = of_words a i w
+  cell_of_words (typed.Element a j t) (i, is) (w, ws) = (of_words a i w, of_words j is ws)
 
-  built_initial : (m : typed.Initial) → is_built_initial m ≡ true → InitialHasWords m → IsOfWordsObject m
-  built_initial (typed.Plain k a) i w = built_words a i w
-  built_initial (typed.Fields cs) i w =
-      let (size, values) = and_parts (is_built_size (argument_count cs)) (are_built_arguments cs) i in
-      let few : argument_count cs ≤ 64 = leb-true (argument_count cs) 64 (and_parts (nat_le 1 (argument_count cs)) (nat_le (argument_count cs) 64) size).1 in
-      (omega (arith, few), built_arguments cs values w)
-  built_initial (typed.Array p l n k a) i (w, ws) =
-      let (first, second) = and_parts (is_built_expression n) (is_built_expression a) i in (built_words n first w, built_words a second ws)
+  object_of_words : (m : typed.Initial) → IsOfTextObject m → InitialHasWords m → IsOfWordsObject m
+  object_of_words (typed.Plain k a) i w = of_words a i w
+  object_of_words (typed.Fields cs) (some, few, is) w = (omega (arith, few), arguments_of_words cs is w)
+  object_of_words (typed.Array p l n k a) (i, is) (w, ws) = (of_words n i w, of_words a is ws)
 
-  built_converted : (c : Converted) → is_built_converted c ≡ true → ConvertedHasWords c → IsOfWordsConverted c
-  built_converted (typed.Convert from to a) i w = built_words a i w
+  converted_of_words : (c : Converted) → IsOfTextConverted c → ConvertedHasWords c → IsOfWordsConverted c
+  converted_of_words (typed.Convert from to a) i w = of_words a i w
 
-  built_arguments : (cs : typed.Arguments) → are_built_arguments cs ≡ true → ArgumentsHaveWords cs → AreOfWordsArguments cs
-  built_arguments typed.NoArguments i w = tt
-  built_arguments (typed.MoreArguments c cs) i (w, ws) =
-      let (first, rest) = and_parts (is_built_converted c) (are_built_arguments cs) i in (built_converted c first w, built_arguments cs rest ws)
+  arguments_of_words : (cs : typed.Arguments) → AreOfTextArguments cs → ArgumentsHaveWords cs → AreOfWordsArguments cs
+  arguments_of_words typed.NoArguments i w = tt
+  arguments_of_words (typed.MoreArguments c cs) (i, is) (w, ws) = (converted_of_words c i w, arguments_of_words cs is ws)
 
-  built_operations : (t : Ty) (os : typed.Operations) → are_built_operations t os ≡ true → OperationsHaveWords os → AreOfWordsOperations os
-  built_operations t typed.NoOperations i w = tt
-  built_operations t (typed.ThenCompute o a os) i (w, ws) =
-      let (first, rest) = and_parts (is_built_expression a) (are_built_operations t os) i in (built_words a first w, built_operations t os rest ws)
-  built_operations t (typed.ThenTest o a os) i (w, ws) =
-      let (first, rest) = and_parts (is_built_expression a) (are_built_operations t os) i in (built_words a first w, built_operations t os rest ws)
-  built_operations t (typed.ThenPointer o a os) i (w, ws) =
-      let (operator, more) = and_parts (is_built_operator t o) (is_built_expression a && are_built_operations t os) i in
-      let (first, rest) = and_parts (is_built_expression a) (are_built_operations t os) more in (built_words a first w, built_operations t os rest ws)
-  built_operations t (typed.ThenPointerPeek n o a os) i (w, ws) =
-      let (operator, more) = and_parts (is_built_operator t o) (is_built_expression a && are_built_operations t os) i in
-      let (first, rest) = and_parts (is_built_expression a) (are_built_operations t os) more in (built_words a first w, built_operations t os rest ws)
+  operations_of_words : (os : typed.Operations) → AreOfTextOperations os → OperationsHaveWords os → AreOfWordsOperations os
+  operations_of_words typed.NoOperations i w = tt
+  operations_of_words (typed.ThenCompute o a os) (i, is) (w, ws) = (of_words a i w, operations_of_words os is ws)
+  operations_of_words (typed.ThenTest o a os) (i, is) (w, ws) = (of_words a i w, operations_of_words os is ws)
+  operations_of_words (typed.ThenPointer o a os) (alone, i, is) (w, ws) = (of_words a i w, operations_of_words os is ws)
+  operations_of_words (typed.ThenPointerPeek n o a os) (alone, i, is) (w, ws) = (of_words a i w, operations_of_words os is ws)
 
-built_side : (x : Side) → is_built_side x ≡ true → SideHasWords x → IsOfWordsSide x
-built_side (VariableSide l t) i w = tt
-built_side (CellSide d) i w = built_cell d i w
+side_of_words : (x : Side) → IsOfTextSide x → SideHasWords x → IsOfWordsSide x
+side_of_words (VariableSide l t) i w = tt
+side_of_words (CellSide d) i w = cell_of_words d i w
 
-built_value : (v : Option Converted) → is_built_value v ≡ true → ValueHasWords v → IsOfWordsInitial v
-built_value None i w = tt
-built_value (Some c) i w = built_converted c i w
+value_of_words : (v : Option Converted) → IsOfTextValue v → ValueHasWords v → IsOfWordsInitial v
+value_of_words None i w = tt
+value_of_words (Some c) i w = converted_of_words c i w
 
-built_thrown : (v : Option typed.Expression) → is_built_thrown v ≡ true → ThrownHasWords v → IsOfWordsThrown v
-built_thrown None i w = tt
-built_thrown (Some a) i w = built_words a i w
+thrown_of_words : (v : Option typed.Expression) → IsOfTextThrown v → ThrownHasWords v → IsOfWordsThrown v
+thrown_of_words None i w = tt
+thrown_of_words (Some a) i w = of_words a i w
 
 mutual
-  built_statement : (s : typed.Statement) → is_built_statement s ≡ true → StatementHasWords s → IsOfWordsStatement s
-  built_statement (typed.Block r js) i w = built_items js i w
-  built_statement typed.Empty i w = tt
-  built_statement (typed.Evaluate a) i w = built_words a i w
-  built_statement (typed.Swap x y) i (w, ws) = let (left, right) = and_parts (is_built_side x) (is_built_side y) i in (built_side x left w, built_side y right ws)
-  built_statement (typed.If a s t) i (w, x, y) =
-      let (first, more) = and_parts (is_built_expression a) (is_built_statement s && is_built_statement t) i in
-      let (second, third) = and_parts (is_built_statement s) (is_built_statement t) more in (built_words a first w, built_statement s second x, built_statement t third y)
-  built_statement (typed.While p a s) i (w, ws) =
-      let (first, second) = and_parts (is_built_expression a) (is_built_statement s) i in (built_words a first w, built_statement s second ws)
-  built_statement (typed.Return v) i w = built_value v i w
-  built_statement typed.Break i w = tt
-  built_statement typed.Continue i w = tt
-  built_statement (typed.Throw n v) i w = built_thrown v (and_parts (is_built_tag n) (is_built_thrown v) i).1 w
-  built_statement (typed.Try s cs) i (w, ws) =
-      let (first, rest) = and_parts (is_built_statement s) (are_built_clauses cs) i in (built_statement s first w, built_clauses cs rest ws)
+  statement_of_words : (s : typed.Statement) → IsOfTextStatement s → StatementHasWords s → IsOfWordsStatement s
+  statement_of_words (typed.Block r js) i w = items_of_words js i w
+  statement_of_words typed.Empty i w = tt
+  statement_of_words (typed.Evaluate a) i w = of_words a i w
+  statement_of_words (typed.Swap x y) (i, is) (w, ws) = (side_of_words x i w, side_of_words y is ws)
+  statement_of_words (typed.If a s t) (i, j, k) (w, x, y) = (of_words a i w, statement_of_words s j x, statement_of_words t k y)
+  statement_of_words (typed.While p a s) (i, is) (w, ws) = (of_words a i w, statement_of_words s is ws)
+  statement_of_words (typed.Return v) i w = value_of_words v i w
+  statement_of_words typed.Break i w = tt
+  statement_of_words typed.Continue i w = tt
+  statement_of_words (typed.Throw n v) (tag, i) w = thrown_of_words v i w
+  statement_of_words (typed.Try s cs) (i, is) (w, ws) = (statement_of_words s i w, clauses_of_words cs is ws)
 
-  built_items : (js : typed.Items) → are_built_items js ≡ true → ItemsHaveWords js → AreOfWordsItems js
-  built_items typed.NoItems i w = tt
-  built_items (typed.MoreItems (typed.Execute s) js) i (w, ws) =
-      let (first, rest) = and_parts (is_built_statement s) (are_built_items js) i in (built_statement s first w, built_items js rest ws)
-  built_items (typed.MoreItems (typed.Declare n t v) js) i (w, ws) =
-      let (first, rest) = and_parts (is_built_value v) (are_built_items js) i in (built_value v first w, built_items js rest ws)
-  built_items (typed.MoreItems (typed.DeclareRegion r n) js) i w = built_items js i w
-  built_items (typed.MoreItems (typed.OpenRegion r n p k) js) i w = built_items js i w
-  built_items (typed.MoreItems (typed.DeclareAlias r n t p m) js) i w = built_items js i w
-  built_items (typed.MoreItems (typed.DeclareKey r n) js) i w = built_items js i w
+  items_of_words : (js : typed.Items) → AreOfTextItems js → ItemsHaveWords js → AreOfWordsItems js
+  items_of_words typed.NoItems i w = tt
+  items_of_words (typed.MoreItems (typed.Execute s) js) (i, is) (w, ws) = (statement_of_words s i w, items_of_words js is ws)
+  items_of_words (typed.MoreItems (typed.Declare n t v) js) (i, is) (w, ws) = (value_of_words v i w, items_of_words js is ws)
+  items_of_words (typed.MoreItems (typed.DeclareRegion r n) js) i w = items_of_words js i w
+  items_of_words (typed.MoreItems (typed.OpenRegion r n p k) js) i w = items_of_words js i w
+  items_of_words (typed.MoreItems (typed.DeclareAlias r n t p m) js) i w = items_of_words js i w
+  items_of_words (typed.MoreItems (typed.DeclareKey r n) js) i w = items_of_words js i w
 
-  built_clauses : (cs : typed.Clauses) → are_built_clauses cs ≡ true → ClausesHaveWords cs → AreOfWordsClauses cs
-  built_clauses typed.NoClauses i w = tt
-  built_clauses (typed.Default r js) i w = built_items js i w
-  built_clauses (typed.Case n x r js cs) i (w, ws) =
-      let (tag, more) = and_parts (is_built_tag n) (are_built_items js && are_built_clauses cs) i in
-      let (first, rest) = and_parts (are_built_items js) (are_built_clauses cs) more in (built_items js first w, built_clauses cs rest ws)
+  clauses_of_words : (cs : typed.Clauses) → AreOfTextClauses cs → ClausesHaveWords cs → AreOfWordsClauses cs
+  clauses_of_words typed.NoClauses i w = tt
+  clauses_of_words (typed.Default r js) i w = items_of_words js i w
+  clauses_of_words (typed.Case n x r js cs) (tag, i, is) (w, ws) = (items_of_words js i w, clauses_of_words cs is ws)
 
-built_functions : (hs : List typed.Function) → list_all is_built_function hs ≡ true → FunctionsHaveWords hs → AreOfWordsFunctions hs
-built_functions [] i w = tt
-built_functions (h ∷ hs) i (w, ws) =
-    let (first, rest) = and_parts (is_built_function h) (list_all is_built_function hs) i in
-    (built_items h.body first w, built_functions hs rest ws)
+functions_of_words : (hs : List typed.Function) → AreOfTextFunctions hs → FunctionsHaveWords hs → AreOfWordsFunctions hs
+functions_of_words [] i w = tt
+functions_of_words (h ∷ hs) (i, is) (w, ws) = (items_of_words h.body i w, functions_of_words hs is ws)
 
-pub typed_constants : (texts : List (List ℕ)) (tree : List Declaration) (p : typed.Program) → IsTypedProgram texts tree p → is_built p ≡ true → IsOfWordsTree tree → IsOfWordsProgram p
+pub typed_constants : (texts : List (List ℕ)) (tree : List Declaration) (p : typed.Program) → IsTypedProgram texts tree p → IsOfTextProgram p → IsOfWordsTree tree → IsOfWordsProgram p
 typed_constants texts tree p (u, heads_kept, (v, main, (fs, functions, (x, eq)))) i w =
     let q : Program = program_known texts tree in
     let same : p.functions ≡ fs = ap (λ (z : typed.Program). z.functions) eq in
     record {
-      functions = built_functions p.functions i (functions_constants q tree p.functions w (subst (Derives (rule_functions q tree)) (sym same) functions));
+      functions = functions_of_words p.functions i (functions_constants q tree p.functions w (subst (Derives (rule_functions q tree)) (sym same) functions));
       globals = subst AreOfWordsGlobals (sym (ap (λ (z : typed.Program). z.globals) eq)) (globals_constants q.known tree w);
     }

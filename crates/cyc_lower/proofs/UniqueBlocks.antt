@@ -27,7 +27,6 @@ use Rattle.cyc_meaning.specs.State.{Region, Owner, InRegion, Unique, Object, Wor
 use Rattle.cyc_meaning.specs.Step.{wrong, step}
 use Rattle.cyc_objects.specs.Tables.{Placed, Tables}
 use Rattle.cyc_objects.specs.Words.{before, IsPartOf, Is}
-use Rattle.cyc_objects.proofs.Cells.{not-placed}
 use Rattle.cyc_objects.proofs.Pointers.{not-null, part-not-null}
 use Rattle.cyc_objects.proofs.Services.{refusal-free, freed-unique}
 use Rattle.cyc_lower.specs.Lowering.{lower_program}
@@ -36,6 +35,10 @@ use Rattle.cyc_lower.proofs.Data.{calls_counted, in_words, get_set_other, null_i
 use Rattle.cyc_lower.proofs.Accesses.{IsWell, is_fitting}
 use Rattle.cyc_lower.proofs.CellWrites.{SameVariables, data_beside}
 use Rattle.cyc_lower.proofs.Matched.{IsMatched, by_places, by_one, executes, shared_way, shared_within, place_in, known, apart, Executes}
+use Rattle.cyc_lower.specs.Slots.{global_types}
+use Rattle.cyc_lower.proofs.Known.{row-away}
+use Rattle.cyc_objects.specs.Related.{lies_in}
+use Rattle.cyc_store.specs.declared.range.TheConstants.{UNIQUE}
 
 -- ---- what is freed
 
@@ -145,10 +148,13 @@ module _ (source : Program) (pages calls : ℕ) where
     pub data_freed : DataIn source shared.tables c.active.slots k e (freed w number x) after
     data_freed =
         let many : length (set w.objects number gone) ≡ length w.objects = length-set w.objects number gone in
-        (data_beside shared.tables source c.active.function w.objects (set w.objects number gone) e.locals (callers k) c.active.slots c.globals c.frames (omega (arith, many)) beside facts.0, facts.1)
+        (data_beside shared.tables source c.active.function c.active.base w.objects (set w.objects number gone) e.locals (callers k) c.active.slots c.globals c.frames (omega (arith, many)) beside facts.0, facts.1)
       where
-        beside : SameVariables shared.tables w.objects (set w.objects number gone)
-        beside o variable = ap content_of (get_set_other w.objects number o gone (λ same. not-placed (sym (ap (slice_get shared.tables.rows) same) ∙ variable) row))
+        beside : SameVariables shared.tables (global_types source.globals) w.objects (set w.objects number gone)
+        beside o variable =
+            ap content_of
+            (get_set_other w.objects number o gone
+            (λ same. row-away shared.related (global_types source.globals) o UNIQUE x variable (record { at = ap (slice_get w.objects) same ∙ there; lies = ap (lies_in shared.tables.handles w.regions) owned })))
 
   -- a live object is freed
   frees_object_at : (v : Kinded) (o : Operand) (k : List Entry) (e : Environment) (w : World) (c : Configuration) → (shared : SharedAt source pages calls k e w c) → DataIn source shared.tables c.active.slots k e w c

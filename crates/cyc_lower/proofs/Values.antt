@@ -1,5 +1,5 @@
 -- The steps that hand a value on.
-use Rattle.std.proofs.Common.{◌≡◌, ◌≢◌, ℕ, zero, suc, ◌+◌, ◌<◌, Bool, true, false, not, List, [], ◌∷◌, Option, None, Some, slice_get, refl, sym, ap, subst, ◌∙◌, arith, inl, inr, length, ◌*◌, ◌++◌}
+use Rattle.std.proofs.Common.{◌≡◌, ◌≢◌, ℕ, zero, suc, ◌+◌, ◌<◌, Bool, true, false, not, List, [], ◌∷◌, Option, None, Some, slice_get, refl, sym, ap, subst, ◌∙◌, arith, inl, inr, length, ◌*◌, ◌++◌, ◌≤◌}
 use Rattle.std.specs.Prelude.{ℤ, nat_lt, ◌==◌, ◌&&◌, ◌<ℤ◌, ◌≤ℤ◌, int_le, int_lt, if◌then◌else◌, ◌%◌, ◌^◌, option_map}
 use Rattle.std.proofs.lemmas.Int.{ints}
 use Rattle.std.proofs.lemmas.Bool.{eqb-true, false_from_ne_true, eqb-false, and_parts}
@@ -28,7 +28,7 @@ use Rattle.cyc_plain.specs.declared.instruction.UnaryOperator.TheVariants as pla
 use Rattle.cyc_plain.specs.Operators.{truth, compares}
 use Rattle.cyc_plain.specs.Operators as plain_operators
 use Rattle.cyc_plain.specs.State as plain
-use Rattle.cyc_plain.specs.State.{Words, put, Frame, Configuration, with_memory}
+use Rattle.cyc_plain.specs.State.{Words, put, Frame, Configuration}
 use Rattle.cyc_plain.specs.Step.{Choice, operand_word, with_slots, at, advanced, gives, performed}
 use Rattle.cyc_plain.specs.Step as plain_step
 use Rattle.cyc_plain.specs.Program.{CodePlace, no_routine}
@@ -49,7 +49,7 @@ use Rattle.cyc_meaning.specs.Allocation.{makes_by}
 use Rattle.cyc_meaning.specs.State.{status_of}
 use Rattle.cyc_meaning.specs.SourceMachine.{status_in}
 use Rattle.cyc_lower.specs.declared.statements.Exits.{Exits}
-use Rattle.cyc_lower.specs.Slots.{slot_of, Types, global_of}
+use Rattle.cyc_lower.specs.Slots.{slot_of, Types, global_of, global_types}
 use Rattle.cyc_lower.proofs.Slots.{slot-room, room-inside, global-inside}
 use Rattle.cyc_lower.proofs.Widths.{kind_positive, same_kind, HasRoom, Outside, chain_kind, wide_kind, made_kind}
 use Rattle.cyc_lower.proofs.Moves.{moved_slots, moves, put_elsewhere, moved_elsewhere, moved_is}
@@ -58,15 +58,15 @@ use Rattle.cyc_lower.proofs.Stands.{OperandBy, CopyBy, CopyAt, CheckAt, CheckedA
 use Rattle.cyc_objects.specs.Tables.{Tables}
 use Rattle.cyc_objects.specs.Words.{Points, Is}
 use Rattle.cyc_objects.proofs.Pointers.{not-null, part-not-null, pointer-word}
-use Rattle.cyc_objects.specs.Tables.{Variable, with_row}
+use Rattle.cyc_objects.specs.Tables.{with_row}
 use Rattle.cyc_objects.proofs.Values.{Grows-row, Is-grows}
 use Rattle.cyc_lower.proofs.Sharing.{shared_declared, row_declared, shared_written, shared_beside}
-use Rattle.cyc_lower.proofs.Relation.{types_on, starts_on, IsWord, IsIn, with_kind, types_at, starts_at, Holds, held, kept, contents, callers, in_place, by_jump, in_temporary, in_local, drops, leaves, copies, DataIn, SharedAt, StoreAt, to_slot, to_jump, ValueStack, ConditionStack, DroppedStack, AheadStack, LandsStack, HandsOnStack, AppliedStack, ReadyAt, as_operand, into_slot, as_right, in_operand, nowhere, ahead, compared, with_left, behind_statement, Related, Matches, code_of, bounds_at, top, floor, PlaceStack, scopes_in}
+use Rattle.cyc_lower.proofs.Relation.{types_on, starts_on, IsWord, IsIn, with_kind, types_at, starts_at, Holds, held, kept, contents, callers, in_place, by_jump, in_temporary, in_local, drops, leaves, copies, DataIn, SharedAt, StoreAt, to_slot, to_jump, ValueStack, ConditionStack, DroppedStack, AheadStack, LandsStack, HandsOnStack, AppliedStack, ReadyAt, as_operand, into_slot, as_right, in_operand, nowhere, ahead, compared, with_left, behind_statement, Related, Matches, code_of, bounds_at, top, floor, PlaceStack, scopes_in, row_of, call_slots, base_of}
 use Rattle.cyc_lower.proofs.Handles.{kept_holds}
-use Rattle.cyc_lower.proofs.Data.{in_words, IsWord-is, one_word, height-least, Holds-same, Holds-above, data_assigned, data_assigned_global, data_declared, data_grows, null_is, points_in, null_at, points_at, floor-least, handlers_beside, data_written, told_beside}
+use Rattle.cyc_lower.proofs.Data.{in_words, IsWord-is, one_word, height-least, Holds-same, Holds-above, data_assigned, data_assigned_global, data_declared, data_grows, null_is, points_in, null_at, points_at, floor-least, handlers_beside, data_written, told_beside, Is-same}
 use Rattle.cyc_lower.proofs.Accesses.{IsWell, is_fitting, is_stored, written_here, written_elsewhere, written_length, is_declared, home_there, is_member}
 use Rattle.cyc_lower.proofs.PlaceWords.{stays, member_there, cell_kind, word_is}
-use Rattle.cyc_lower.proofs.CellWrites.{cell_is_there, saves_there, shared_saved, data_saved}
+use Rattle.cyc_lower.proofs.CellWrites.{cell_is_there, with_word, saves_there, shared_saved, data_saved, above_there, frames_there, word_stays}
 use Rattle.cyc_lower.proofs.Weights.{weight}
 use Rattle.cyc_lower.proofs.Relation.{types_on, starts_on, StatementStack}
 use Rattle.cyc_lower.proofs.Matched.{IsMatched, silently, by_one, by_two, by_three, shared_way, shared_within, by_two_known, output_way}
@@ -78,13 +78,17 @@ use Rattle.cyc_lower.proofs.FatSteps.{counts, widens}
 use Rattle.cyc_lower.proofs.ThinSteps.{narrows}
 use Rattle.cyc_lower.proofs.Elements.{follows_parts, follows_fat, indexes_pointer, advances_pointer}
 use Rattle.cyc_lower.proofs.Paths.{Link, IsPath, end_of, by_path}
-use Rattle.cyc_lower.proofs.WideCells.{stage_quiet, two_put, store_links, stored, store_path, store_last, shared_stored, data_stored}
+use Rattle.cyc_lower.proofs.WideCells.{store_links, stored, store_path, all_path, store_last, shared_stored, data_stored, IsStanding, above_stored, frames_stored, value_stays}
 use Rattle.cyc_lower.proofs.Allocations.{plain_made, fields_made}
 use Rattle.cyc_lower.proofs.Arrays.{array_sized, array_filled}
 use Rattle.cyc_lower.proofs.Evaluations.{IsStep, landed_word, landed_moved, lands_at, passes_related, passes_weight, object_of_same, made_of, lands_made}
 use Rattle.cyc_lower.proofs.Paths.{Link, IsPath, end_of, by_path}
 use Rattle.cyc_lower.proofs.GlobalSteps.{stored_globals, stored_elsewhere, stored_is, global_links, is_stored_by, by_links}
 use Rattle.cyc_lower.proofs.RegionSteps.{opened_given, aliased_given}
+use Rattle.cyc_lower.proofs.Known.{IsGlobalRow}
+use Rattle.cyc_lower.proofs.Rows.{row-fits, row-variable, local-row}
+use Rattle.cyc_lower.proofs.Leads.{AreNamed}
+use Rattle.cyc_lower.proofs.Moving.{hands_moves}
 
 -- an operand of a kind, and an int
 abbrev pub of_kind : Kind → Value → Kinded
@@ -584,7 +588,7 @@ module _ (source : Program) (pages calls : ℕ) where
       let slots = put c.active.slots free x in
       landed_word source pages calls t (truth (slots free == 0)) d k e w (negated c k) q
       (ap (λ y. truth (y == 0)) (put-same c.active.slots free x) ∙ truth_twice (c.active.slots free == 0) ∙ sym t_is)
-      shared (data_written source shared.tables c.active.function w.objects e.locals k c.active.slots slots c.active.handlers c.globals c.frames free 1 (height-least base (held k)) (λ m out. put_elsewhere c.active.slots free x 1 m (omega arith) out) facts)
+      shared (data_written source shared.tables c.active.function c.active.base w.objects e.locals k c.active.slots slots c.active.handlers c.globals c.frames free 1 (height-least base (held k)) (λ m out. put_elsewhere c.active.slots free x 1 m (omega arith) out) facts)
       (Holds-same shared.tables c.active.slots slots base (held k) (λ m below. put_elsewhere c.active.slots free x 1 m (omega arith) (inl below)) holds) end lands
 
   decides_truth : (v : Kinded) (o : Operand) (k : List Entry) (e : Environment) (w : World) (c : Configuration) → IsWell (step source (Running (Given v) (Needs Decide ∷ k) e w)) → Stands v o k e w c
@@ -851,9 +855,9 @@ module _ (source : Program) (pages calls : ℕ) where
       let next = written w object 0 stored.at v.value in
       hands_behind v k e next c after stored.gives shared shared here (λ choice. moves (lower_program source) choice c words slot o) (λ same. omega (arith, same))
       (handed v to k e next after q end (
-        shared_written source pages calls k e w after shared object stored.at v.value stored.object_there stored.cell_there (facts.0.2.rows n object found),
+        shared_written source pages calls k e w after shared object stored.at v.value stored.object_there stored.cell_there (local-row (global_types source.globals) (facts.0.2.rows n object found)),
         (
-          data_assigned shared.tables source g w.objects next.objects e.locals (callers k) c.active.slots slots c.globals c.frames n object v found
+          data_assigned shared.tables source g c.active.base w.objects next.objects e.locals (callers k) c.active.slots slots c.globals c.frames n object v found
               (written_here w object stored.at v.value stored.object_there stored.cell_there v.kind stored.same) (written_elsewhere w object stored.at v.value stored.object_there stored.cell_there)
               (written_length w object stored.at v.value stored.object_there stored.cell_there) room moved elsewhere facts.0,
           handlers_beside source g c.active.slots slots c.active.handlers c.frames k slot words (omega (arith, inside, room)) elsewhere facts.1,
@@ -876,9 +880,9 @@ module _ (source : Program) (pages calls : ℕ) where
       (handed v to k e next after q by.end (
         shared_written source pages calls k e w after
             (shared_beside source pages calls k e w c shared globals (told_beside source g n v.kind c.globals globals (scopes_in k) room (λ m out. stored_elsewhere c.active.slots c.globals words first o m (kind_positive v.kind) out) shared.counters.1))
-            object stored.at v.value stored.object_there stored.cell_there (ap (slice_get shared.tables.rows) (sym same) ∙ (facts.0.4 n few).0),
+            object stored.at v.value stored.object_there stored.cell_there (inr (inl (subst (IsGlobalRow shared.tables (global_types source.globals)) same (facts.0.4 n few).0))),
         (
-          data_assigned_global shared.tables source g w.objects next.objects e.locals (callers k) c.active.slots c.globals globals c.frames n v room
+          data_assigned_global shared.tables source g c.active.base w.objects next.objects e.locals (callers k) c.active.slots c.globals globals c.frames n v room
               (ap (contents next.objects) same ∙ written_here w object stored.at v.value stored.object_there stored.cell_there v.kind stored.same)
               (λ i other. written_elsewhere w object stored.at v.value stored.object_there stored.cell_there i (λ equal. other (equal ∙ sym same)))
               (written_length w object stored.at v.value stored.object_there stored.cell_there) (stored_is shared.tables v c.active.slots c.globals first o is)
@@ -906,12 +910,17 @@ module _ (source : Program) (pages calls : ℕ) where
       (holds_at HasWord (code_of source g) p (instructions.Store address bytes (operands.Word n))
       (of_words.functions g no_routine (function_known (lower_program source) place (instructions.Store address bytes (operands.Word n)) here)) here).2
 
+  -- what an operand of one word holds, it holds also where that word is written
+  stays_in : (t : Tables) (v : Kinded) (o : Operand) (slots other : Words) → ((n : ℕ) → slots n ≡ operand_word slots o → other n ≡ operand_word slots o) → IsWord t v.kind v.value (operand_word slots o) → IsIn t v slots o → IsIn t v other o
+  stays_in t v (operands.Slot n) slots other same tells is = IsWord-is t v.kind v.value (slots n) other n (same n refl) tells
+  stays_in t v (operands.Word w) slots other same tells is = is
+
   -- a value is stored in a cell by the word that tells it, where its address waits in a temporary, and then it is handed on
-  stores_word : (peek : Option ℕ) (object offset : ℕ) (v : Kinded) (o : Operand) (q : ℕ) (k : List Entry) (e : Environment) (w : World) (c : Configuration) → HasWords (lower_program source) → plain.HoldsWords (plain.Running c)
+  stores_word : (peek : Option ℕ) (object offset : ℕ) (v : Kinded) (o : Operand) (q : ℕ) (k : List Entry) (e : Environment) (w : World) (c : Configuration) → HasWords (lower_program source) → plain.HoldsWords (plain.Running c) → AreNamed source e.locals (callers k) w c.active.function c.active.base c.frames c.store
       → IsWell (step source (Running (Given v) (Needs (StoreCell peek (Thin object offset)) ∷ k) e w)) → Stands v o (Needs (StoreCell peek (Thin object offset)) ∷ k) e w c
       → IsWordNow c v o → At (code_of source c.active.function) c.active.next (instructions.Store (operands.Slot (top source c.active.function k)) 0 o) → c.active.next + 1 ≡ q
       → HandsOnStack source c.active.function e.locals v.kind o q c.frames k → GoesBehind v (Needs (StoreCell peek (Thin object offset)) ∷ k) e w c
-  stores_word peek object offset v o q k e w c of_words words well (shared, facts, is, (is_place, holds)) tells here end hands =
+  stores_word peek object offset v o q k e w c of_words words names well (shared, facts, is, (is_place, holds)) tells here end hands =
       let g = c.active.function in
       let free = top source g k in
       let address = add_of (c.active.slots free) 0 in
@@ -920,23 +929,30 @@ module _ (source : Program) (pages calls : ℕ) where
       let (at, found, same, gives) = cell_is_there (cell_at w object offset) object offset v (Given v) k e w well in
       let is_word = subst (λ i. IsWord shared.tables i v.value word) (sym same) (tells shared.tables is) in
       let fits = stored_word c of_words words c.active.next (operands.Slot free) 0 o here in
-      let after : Configuration = advanced (with_memory c address word) in
+      let after : Configuration = advanced (with_word source pages calls k e w c shared names facts object offset address word at v.value found points is_word fits) in
       let next = written w object offset at v.value in
-      let saved = saves_there source pages calls k e w c shared object offset address word at v.value found points is_word fits in
-      let kept : SharedAt source pages calls k e next after = shared_saved source pages calls k e w c shared object offset address word at v.value found points is_word fits in
-      let facts_kept : DataIn source shared.tables c.active.slots k e next after = data_saved source pages calls k e w c shared object offset address word at v.value found points is_word fits facts in
+      let saved = saves_there source pages calls k e w c shared names facts object offset address word at v.value found points is_word fits in
+      let kept : SharedAt source pages calls k e next after = shared_saved source pages calls k e w c shared names facts object offset address word at v.value found points is_word fits in
+      let facts_kept : DataIn source shared.tables after.active.slots k e next after = data_saved source pages calls k e w c shared names facts object offset address word at v.value found points is_word fits in
       hands_saved v (Needs (StoreCell peek (Thin object offset)) ∷ k) k e w next c after gives shared (shared_within source pages calls k e next after kept) shared.same_output here (λ choice. saved)
-      (λ equal. omega (arith, equal)) (handed v o k e next after q end (kept, facts_kept, is, holds) hands)
+      (λ equal. omega (arith, equal))
+      (handed v o k e next after q end (
+        kept,
+        facts_kept,
+        stays_in shared.tables v o c.active.slots after.active.slots (λ m holds. word_stays source pages calls k e w c shared names facts object offset address word at v.value found points is_word fits m holds) (tells shared.tables is) is,
+        Holds-above shared.tables c.active.slots after.active.slots (floor source g k) (held k) (λ m above. above_there source pages calls k e w c shared names facts object offset address word at v.value found points is_word fits m (omega (arith, above, floor-least source g k))) holds,
+      ) (hands_moves source g e.locals v.kind o q c.frames after.frames (frames_there source pages calls k e w c shared names facts object offset address word at v.value found points is_word fits) k hands))
 
   -- the same by three words
-  stores_words : (peek : Option ℕ) (object offset : ℕ) (v : Kinded) (n q : ℕ) (k : List Entry) (e : Environment) (w : World) (c : Configuration) → plain.HoldsWords (plain.Running c)
+  stores_words : (peek : Option ℕ) (object offset : ℕ) (v : Kinded) (n q : ℕ) (k : List Entry) (e : Environment) (w : World) (c : Configuration) → plain.HoldsWords (plain.Running c) → AreNamed source e.locals (callers k) w c.active.function c.active.base c.frames c.store
       → IsWell (step source (Running (Given v) (Needs (StoreCell peek (Thin object offset)) ∷ k) e w)) → Stands v (operands.Slot n) (Needs (StoreCell peek (Thin object offset)) ∷ k) e w c
-      → v.kind ≡ kinds.Fat → StoresAt (code_of source c.active.function) (bounds_at source c.active.function) (types_on source c.active.function k) 3 (top source c.active.function k) 0 n c.active.next q
+      → IsStanding source c.active.function n → v.kind ≡ kinds.Fat → StoresAt (code_of source c.active.function) (bounds_at source c.active.function) (types_on source c.active.function k) 3 (top source c.active.function k) 0 n c.active.next q
       → HandsOnStack source c.active.function e.locals v.kind (operands.Slot n) q c.frames k → GoesBehind v (Needs (StoreCell peek (Thin object offset)) ∷ k) e w c
-  stores_words peek object offset v n q k e w c words well (shared, facts, is, (is_place, holds)) fat (at_first, (at_second, (at_third, end))) hands =
+  stores_words peek object offset v n q k e w c words names well (shared, facts, is, (is_place, holds)) standing fat (at_first, (at_second, (at_third, end))) hands =
       let g = c.active.function in
       let free = top source g k in
       let place = c.active.slots free in
+      let temporary : base_of source g ≤ free = omega (arith, floor-least source g k, height-least (floor source g k) (held k)) in
       let (cell, found, same, gives) = cell_is_there (cell_at w object offset) object offset v (Given v) k e w well in
       let wide = same ∙ fat in
       let fat_is = subst (λ i. Is shared.tables i v.value c.active.slots n) fat is in
@@ -945,55 +961,51 @@ module _ (source : Program) (pages calls : ℕ) where
       let first = behind 0 (omega arith) in
       let second = behind 1 (omega arith) in
       let third = behind 2 (omega arith) in
-      let after = stored source pages calls k e w c shared object offset place free 0 n cell v.value found is_place wide fat_is words first second third in
+      let after = stored source pages calls k e w c shared names facts object offset place free 0 n temporary standing cell v.value found is_place wide fat_is words first second third in
       let next = written w object offset cell v.value in
-      let kept : SharedAt source pages calls k e next after = shared_stored source pages calls k e w c shared object offset place free 0 n cell v.value found is_place wide fat_is words first second third in
-      let facts_kept : DataIn source shared.tables c.active.slots k e next after = data_stored source pages calls k e w c shared object offset place free 0 n cell v.value found is_place wide fat_is words first second third facts in
+      let kept : SharedAt source pages calls k e next after = shared_stored source pages calls k e w c shared names facts object offset place free 0 n temporary standing cell v.value found is_place wide fat_is words first second third in
+      let facts_kept : DataIn source shared.tables after.active.slots k e next after = data_stored source pages calls k e w c shared names facts object offset place free 0 n temporary standing cell v.value found is_place wide fat_is words first second third in
       hands_stored v (Needs (StoreCell peek (Thin object offset)) ∷ k) k e w next c after
-      (store_links source pages calls k e w c shared object offset place free 0 n cell v.value found is_place wide fat_is words first second third)
+      (store_links source pages calls k e w c shared names facts object offset place free 0 n temporary standing cell v.value found is_place wide fat_is words first second third)
       gives shared
-      (store_path source pages calls k e w c shared object offset place free 0 n cell v.value found is_place wide fat_is words first second third at_first at_second)
-      at_third (store_last source pages calls k e w c shared object offset place free 0 n cell v.value found is_place wide fat_is words first second third)
-      (λ path. (
-        path.0,
-        path.1,
-        path.2,
-        path.3,
-        (
-          path.4.0,
-          path.4.1,
-          path.4.2,
-          path.4.3,
-          (
-            at_third,
-            store_last source pages calls k e w c shared object offset place free 0 n cell v.value found is_place wide fat_is words first second third,
-            omega arith,
-            stage_quiet c (two_put source pages calls k e w c shared object offset place free 0 n cell v.value found is_place wide fat_is words first second third) after.store.memory (c.active.next + 1 + 1) (c.active.next + 1 + 1 + 1),
-            tt,
-          ),
-        ),
-      )) refl
-      (handed v (operands.Slot n) k e next after q end (kept, facts_kept, is, holds) hands)
+      (store_path source pages calls k e w c shared names facts object offset place free 0 n temporary standing cell v.value found is_place wide fat_is words first second third at_first at_second)
+      at_third (store_last source pages calls k e w c shared names facts object offset place free 0 n temporary standing cell v.value found is_place wide fat_is words first second third)
+      (λ path. all_path source pages calls k e w c shared names facts object offset place free 0 n temporary standing cell v.value found is_place wide fat_is words first second third at_first at_second at_third) refl
+      (handed v (operands.Slot n) k e next after q end (
+        kept,
+        facts_kept,
+        Is-same shared.tables v.kind v.value c.active.slots after.active.slots n n (λ j below. value_stays source pages calls k e w c shared names facts object offset place free 0 n temporary standing cell v.value found is_place wide fat_is words first second third j (omega (arith, below, ap words_of_kind fat))) is,
+        Holds-above shared.tables c.active.slots after.active.slots (floor source g k) (held k) (λ m above. above_stored source pages calls k e w c shared names facts object offset place free 0 n temporary standing cell v.value found is_place wide fat_is words first second third m (omega (arith, above, floor-least source g k))) holds,
+      ) (hands_moves source g e.locals v.kind (operands.Slot n) q c.frames after.frames (frames_stored source pages calls k e w c shared names facts object offset place free 0 n temporary standing cell v.value found is_place wide fat_is words first second third) k hands))
 
-  stores_cell : (peek : Option ℕ) (place : Value) (v : Kinded) (o : Operand) (k : List Entry) (e : Environment) (w : World) (c : Configuration) → HasWords (lower_program source) → plain.HoldsWords (plain.Running c)
+  stores_cell : (peek : Option ℕ) (place : Value) (v : Kinded) (o : Operand) (k : List Entry) (e : Environment) (w : World) (c : Configuration) → HasWords (lower_program source) → plain.HoldsWords (plain.Running c) → AreNamed source e.locals (callers k) w c.active.function c.active.base c.frames c.store
       → IsWell (step source (Running (Given v) (Needs (StoreCell peek place) ∷ k) e w)) → Stands v o (Needs (StoreCell peek place) ∷ k) e w c
       → ValueStack source c.active.function e.locals v.kind o c.active.next c.frames (Needs (StoreCell peek place) ∷ k) → GoesBehind v (Needs (StoreCell peek place) ∷ k) e w c
-  stores_cell peek (Thin object offset) v (operands.Word x) k e w c of_words words well stands (q, (here, end), hands) =
-      stores_word peek object offset v (operands.Word x) q k e w c of_words words well stands (λ t is. is) here end hands
-  stores_cell peek (Thin object offset) v (operands.Slot n) k e w c of_words words well stands (q, here, hands) = by (words_of_kind v.kind == 1) refl
+  stores_cell peek (Thin object offset) v (operands.Word x) k e w c of_words words names well stands (q, (here, end), hands) =
+      stores_word peek object offset v (operands.Word x) q k e w c of_words words names well stands (λ t is. is) here end hands
+  stores_cell peek (Thin object offset) v (operands.Slot n) k e w c of_words words names well stands (q, (here, apart), hands) = by (words_of_kind v.kind == 1) refl
     where
+      stands_where : v.kind ≡ kinds.Fat → IsStanding source c.active.function n
+      stands_where fat = elim apart [
+        | inl one ↦ absurd (omega (arith, one, ap words_of_kind fat))
+        | inr several ↦ elim several [
+          | inl behind ↦ inl (omega (arith, behind, floor-least source c.active.function k, height-least (floor source c.active.function k) (held k)))
+          | inr (number, inside, start, room) ↦ inr (number, inside, start, omega (arith, room, ap words_of_kind fat))
+        ]
+      ]
+
       by : (narrow : Bool) → (words_of_kind v.kind == 1) ≡ narrow → GoesBehind v (Needs (StoreCell peek (Thin object offset)) ∷ k) e w c
       by true narrow =
           let g = c.active.function in
           let one = eqb-true (words_of_kind v.kind) 1 narrow in
           let (store, end) = subst (λ m. StoresAt (code_of source g) (bounds_at source g) (types_on source g k) m (top source g k) 0 n c.active.next q) one here in
-          stores_word peek object offset v (operands.Slot n) q k e w c of_words words well stands (λ t is. one_word t v.kind v.value c.active.slots n one is) store end hands
+          stores_word peek object offset v (operands.Slot n) q k e w c of_words words names well stands (λ t is. one_word t v.kind v.value c.active.slots n one is) store end hands
       by false wide =
           let g = c.active.function in
           let fat = wide_kind v.kind wide in
-          stores_words peek object offset v n q k e w c words well stands fat
+          stores_words peek object offset v n q k e w c words names well stands (stands_where fat) fat
           (subst (λ i. StoresAt (code_of source g) (bounds_at source g) (types_on source g k) (words_of_kind i) (top source g k) 0 n c.active.next q) fat here) hands
-  stores_cell peek place v o k e w c of_words words well stands stack = absurd (well refl)
+  stores_cell peek place v o k e w c of_words words names well stands stack = absurd (well refl)
 
   -- the local has the value already
   catches_up : (object n : ℕ) (old : Words) (v : Kinded) (k : List Entry) (e : Environment) (w : World) (c : Configuration) (shared : SharedAt source pages calls k e w c)
@@ -1009,9 +1021,9 @@ module _ (source : Program) (pages calls : ℕ) where
       let inside = slot-room (types_on source g k) n (facts.0.2.within n object found).0 in
       hands_at_once v (Needs (Store (Thin object 0)) ∷ k) k e w next c stored.gives shared (omega arith)
       (handed v (operands.Slot (slot_of (starts_on source g k) n)) k e next c c.active.next refl (
-        shared_written source pages calls k e w c shared object stored.at v.value stored.object_there stored.cell_there (facts.0.2.rows n object found),
+        shared_written source pages calls k e w c shared object stored.at v.value stored.object_there stored.cell_there (local-row (global_types source.globals) (facts.0.2.rows n object found)),
         (
-          data_assigned shared.tables source g w.objects next.objects e.locals (callers k) old c.active.slots c.globals c.frames n object v found
+          data_assigned shared.tables source g c.active.base w.objects next.objects e.locals (callers k) old c.active.slots c.globals c.frames n object v found
               (written_here w object stored.at v.value stored.object_there stored.cell_there v.kind stored.same) (written_elsewhere w object stored.at v.value stored.object_there stored.cell_there)
               (written_length w object stored.at v.value stored.object_there stored.cell_there) room is (λ m out. sym (same m out)) facts.0,
           handlers_beside source g old c.active.slots c.active.handlers c.frames k (slot_of (starts_on source g k) n) (words_of_kind v.kind) (omega (arith, inside, room)) (λ m out. sym (same m out)) facts.1,
@@ -1052,6 +1064,11 @@ module _ (source : Program) (pages calls : ℕ) where
       ap (λ (b : Bool). if b then made_it else wrong w) (is_fitting (is_kind v.kind kind) made_it w well) in
       does ∙ is_declared (region_at w e.home) Proceeding n kind (Some v.value) (Rest js ∷ k) e w (subst IsWell does well)
 
+  -- of the kind of the value
+  local_kind : (n : ℕ) (kind : Kind) (js : Items) (v : Kinded) (k : List Entry) (e : Environment) (w : World) → IsWell (step source (Running (Given v) (Needs (Initialise n kind js) ∷ k) e w)) → v.kind ≡ kind
+  local_kind n kind js v k e w well =
+      same_kind v.kind kind (is_fitting (is_kind v.kind kind) (declared (region_at w e.home) Proceeding n kind (Some v.value) (Rest js ∷ k) e w) w well)
+
   -- in a region that is there
   makes_home : (n : ℕ) (kind : Kind) (js : Items) (v : Kinded) (k : List Entry) (e : Environment) (w : World) → IsWell (step source (Running (Given v) (Needs (Initialise n kind js) ∷ k) e w))
       → (r : Region) × (slice_get w.regions e.home ≡ Some r)
@@ -1079,18 +1096,19 @@ module _ (source : Program) (pages calls : ℕ) where
       let words = words_of_kind v.kind in
       let slot = slot_of (starts_on source g k) n in
       let (r, home) = makes_home n kind js v k e w well in
-      let grown = with_row shared.tables Variable in
-      let grows = Grows-row shared.tables Variable in
+      let row = row_of (call_slots source g c.active.base) (slot_of (starts_at source g) n) kind in
+      let grown = with_row shared.tables row in
+      let grows = Grows-row shared.tables row in
       let slots = moved_slots c.active.slots words slot o in
       let local = room-inside (types_at source g) n v.kind room in
       let elsewhere : (m : ℕ) → Outside slot words m → slots m ≡ c.active.slots m = λ m out. moved_elsewhere c.active.slots words slot o m (kind_positive v.kind) out in
       by_one source pages calls (makes_local n kind js v k e w well) shared here
       (λ choice. subst (Matches source pages calls (Running Proceeding (Rest js ∷ k) (with_local e n (length w.objects)) (made w (variable e.home kind (Some v.value))))) (sym (moves (lower_program source) choice c words slot o)) (
-        shared_declared source pages calls k e w (advanced (with_slots c slots)) shared n r kind (Some v.value) home,
+        shared_declared source pages calls k e w (advanced (with_slots c slots)) shared n r kind (Some v.value) row home (row-fits (call_slots source g c.active.base) (slot_of (starts_at source g) n) kind e.home (Some v.value)) (row-variable (call_slots source g c.active.base) (slot_of (starts_at source g) n) kind),
         behind_statement exits (
-          data_declared grown source g w.objects e (callers k) c.active.slots slots c.globals c.frames n words (variable e.home kind (Some v.value)) local room (row_declared source pages calls k e w c shared) elsewhere
+          data_declared grown source g c.active.base w.objects e (callers k) c.active.slots slots c.globals c.frames n words (variable e.home kind (Some v.value)) local room (record { kind = kind; room = subst (HasRoom (types_at source g) n) (local_kind n kind js v k e w well) room; row = row_declared source pages calls k e w c shared row }) elsewhere
               (made_value grown n kind js v k e w slots slot (types_at source g) well room (Is-grows grows v.kind v.value slots slot (moved_is shared.tables v c.active.slots slot o is)))
-              (data_grows shared.tables grown grows source g w.objects e.locals (callers k) c.active.slots c.globals c.frames facts.0),
+              (data_grows shared.tables grown grows source g c.active.base w.objects e.locals (callers k) c.active.slots c.globals c.frames facts.0),
           handlers_beside source g c.active.slots slots c.active.handlers c.frames k slot words (omega (arith, slot-room (types_on source g k) n local, room)) elsewhere facts.1,
         )
             (q, items, stack),
@@ -1105,18 +1123,19 @@ module _ (source : Program) (pages calls : ℕ) where
   initialises_ahead n old kind js v k e w c exits shared well same facts room is stack =
       let g = c.active.function in
       let (r, home) = makes_home n kind js v k e w well in
-      let grown = with_row shared.tables Variable in
-      let grows = Grows-row shared.tables Variable in
+      let row = row_of (call_slots source g c.active.base) (slot_of (starts_at source g) n) kind in
+      let grown = with_row shared.tables row in
+      let grows = Grows-row shared.tables row in
       let slot = slot_of (starts_on source g k) n in
       let local = room-inside (types_at source g) n v.kind room in
       silently source pages calls (Running (Given v) (Needs (Initialise n kind js) ∷ k) e w)
       (Running Proceeding (Rest js ∷ k) (with_local e n (length w.objects)) (made w (variable e.home kind (Some v.value)))) (plain.Running c)
       (makes_local n kind js v k e w well) (
-        shared_declared source pages calls k e w c shared n r kind (Some v.value) home,
+        shared_declared source pages calls k e w c shared n r kind (Some v.value) row home (row-fits (call_slots source g c.active.base) (slot_of (starts_at source g) n) kind e.home (Some v.value)) (row-variable (call_slots source g c.active.base) (slot_of (starts_at source g) n) kind),
         behind_statement exits (
-          data_declared grown source g w.objects e (callers k) old c.active.slots c.globals c.frames n (words_of_kind v.kind) (variable e.home kind (Some v.value)) local room (row_declared source pages calls k e w c shared)
+          data_declared grown source g c.active.base w.objects e (callers k) old c.active.slots c.globals c.frames n (words_of_kind v.kind) (variable e.home kind (Some v.value)) local room (record { kind = kind; room = subst (HasRoom (types_at source g) n) (local_kind n kind js v k e w well) room; row = row_declared source pages calls k e w c shared row })
               (λ m out. sym (same m out)) (made_value grown n kind js v k e w c.active.slots slot (types_at source g) well room (Is-grows grows v.kind v.value c.active.slots slot is))
-              (data_grows shared.tables grown grows source g w.objects e.locals (callers k) old c.globals c.frames facts.0),
+              (data_grows shared.tables grown grows source g c.active.base w.objects e.locals (callers k) old c.globals c.frames facts.0),
           handlers_beside source g old c.active.slots c.active.handlers c.frames k slot (words_of_kind v.kind) (omega (arith, slot-room (types_on source g k) n local, room)) (λ m out. sym (same m out)) facts.1,
         )
             stack,
@@ -1256,53 +1275,53 @@ module _ (source : Program) (pages calls : ℕ) where
       × Holds shared.tables c.active.slots (floor source c.active.function k) (kept k)
 
   -- where the value stands in an operand
-  stands_given : (v : Kinded) (o : Operand) (k : List Entry) (e : Environment) (w : World) (c : Configuration) → HasWords (lower_program source) → plain.HoldsWords (plain.Running c) → IsWell (step source (Running (Given v) k e w)) → IsGiven v o k e w c
+  stands_given : (v : Kinded) (o : Operand) (k : List Entry) (e : Environment) (w : World) (c : Configuration) → HasWords (lower_program source) → plain.HoldsWords (plain.Running c) → AreNamed source e.locals (callers k) w c.active.function c.active.base c.frames c.store → IsWell (step source (Running (Given v) k e w)) → IsGiven v o k e w c
       → ValueStack source c.active.function e.locals v.kind o c.active.next c.frames k → GoesBehind v k e w c
-  stands_given v o [] e w c of_words words well stands stack = absurd stack
-  stands_given v o (Needs (ConvertTo from to target) ∷ k) e w c of_words words well stands stack = converts from to target v o k e w c well stands stack
-  stands_given v o (Needs (Operate u) ∷ k) e w c of_words words well stands stack = operates u v o k e w c well stands stack
-  stands_given v o (Needs (Chain os) ∷ k) e w c of_words words well stands stack = chains os v o k e w c well stands stack
-  stands_given v o (Needs (Apply u left) ∷ k) e w c of_words words well (shared, facts, is, (is_left, holds)) applied =
+  stands_given v o [] e w c of_words words names well stands stack = absurd stack
+  stands_given v o (Needs (ConvertTo from to target) ∷ k) e w c of_words words names well stands stack = converts from to target v o k e w c well stands stack
+  stands_given v o (Needs (Operate u) ∷ k) e w c of_words words names well stands stack = operates u v o k e w c well stands stack
+  stands_given v o (Needs (Chain os) ∷ k) e w c of_words words names well stands stack = chains os v o k e w c well stands stack
+  stands_given v o (Needs (Apply u left) ∷ k) e w c of_words words names well (shared, facts, is, (is_left, holds)) applied =
       applies u left v k e w c well shared facts (operands.Slot (top source c.active.function k), o, is_left, is, holds, applied)
-  stands_given v o (Needs (ApplyPointer peek u left) ∷ k) e w c of_words words well (shared, facts, is, (is_left, holds)) (d, q, here, lands) =
-      applies_pointers source pages calls u peek left v o d q k e w c well shared facts is is_left holds here lands
-  stands_given v o (Needs CountElements ∷ k) e w c of_words words well (shared, facts, is, holds) (d, q, here, lands) = counts source pages calls v o d q k e w c words well shared facts is holds here lands
-  stands_given v o (Needs Decide ∷ k) e w c of_words words well stands stack = decides_truth v o k e w c well stands stack
-  stands_given v o (Needs (Store place) ∷ k) e w c of_words words well stands stack = stores_at place v o k e w c well stands stack
-  stands_given v o (Needs (StoreCell peek place) ∷ k) e w c of_words words well stands stack = stores_cell peek place v o k e w c of_words words well stands stack
-  stands_given v o (Needs (Pass f before cs) ∷ k) e w c of_words words well stands stack = hands_on f before cs v o k e w c stands stack
-  stands_given v o (Needs (PlaceBy initial) ∷ k) e w c of_words words well stands stack = places initial v o k e w c well stands stack
-  stands_given v o (Needs (BesideHandle region) ∷ k) e w c of_words words well (shared, facts, is, holds) stack =
+  stands_given v o (Needs (ApplyPointer peek u left) ∷ k) e w c of_words words names well (shared, facts, is, (is_left, holds)) (d, q, here, lands) =
+      applies_pointers source pages calls u peek left v o d q k e w c names well shared facts is is_left holds here lands
+  stands_given v o (Needs CountElements ∷ k) e w c of_words words names well (shared, facts, is, holds) (d, q, here, lands) = counts source pages calls v o d q k e w c words well shared facts is holds here lands
+  stands_given v o (Needs Decide ∷ k) e w c of_words words names well stands stack = decides_truth v o k e w c well stands stack
+  stands_given v o (Needs (Store place) ∷ k) e w c of_words words names well stands stack = stores_at place v o k e w c well stands stack
+  stands_given v o (Needs (StoreCell peek place) ∷ k) e w c of_words words names well stands stack = stores_cell peek place v o k e w c of_words words names well stands stack
+  stands_given v o (Needs (Pass f before cs) ∷ k) e w c of_words words names well stands stack = hands_on f before cs v o k e w c stands stack
+  stands_given v o (Needs (PlaceBy initial) ∷ k) e w c of_words words names well stands stack = places initial v o k e w c well stands stack
+  stands_given v o (Needs (BesideHandle region) ∷ k) e w c of_words words names well (shared, facts, is, holds) stack =
       silently source pages calls (Running (Given v) (Needs (BesideHandle region) ∷ k) e w) (Running (Given v) k e w) (plain.Running c) refl
       (shared, in_operand o facts is holds stack)
       (omega arith)
-  stands_given v o (Needs (MakePlain owner kind) ∷ k) e w c of_words words well (shared, facts, is, holds) stack = plain_made source pages calls owner kind v o k e w c well shared facts is holds stack
-  stands_given v o (Needs (MakeArray owner level wanted element) ∷ k) e w c of_words words well (shared, facts, is, holds) stack = array_sized source pages calls owner level wanted element v o k e w c well shared facts is holds stack
-  stands_given v o (Needs (FillElement object count index level wanted element) ∷ k) e w c of_words words well (shared, facts, is, holds) stack = array_filled source pages calls object count index level wanted element v o k e w c words well shared facts is holds stack
-  stands_given v o (Needs (MakeFields owner before cs) ∷ k) e w c of_words words well (shared, facts, is, holds) stack = fields_made source pages calls owner before cs v o k e w c well shared facts is holds stack
-  stands_given v o (Needs (Initialise n kind js) ∷ k) e w c of_words words well stands stack = initialises n kind js v o k e w c well stands stack
-  stands_given v o (Needs (Choose s t) ∷ k) e w c of_words words well (shared, facts, is, holds) stack =
+  stands_given v o (Needs (MakePlain owner kind) ∷ k) e w c of_words words names well (shared, facts, is, holds) stack = plain_made source pages calls owner kind v o k e w c well shared facts is holds stack
+  stands_given v o (Needs (MakeArray owner level wanted element) ∷ k) e w c of_words words names well (shared, facts, is, holds) stack = array_sized source pages calls owner level wanted element v o k e w c well shared facts is holds stack
+  stands_given v o (Needs (FillElement object count index level wanted element) ∷ k) e w c of_words words names well (shared, facts, is, holds) stack = array_filled source pages calls object count index level wanted element v o k e w c words names well shared facts is holds stack
+  stands_given v o (Needs (MakeFields owner before cs) ∷ k) e w c of_words words names well (shared, facts, is, holds) stack = fields_made source pages calls owner before cs v o k e w c well shared facts is holds stack
+  stands_given v o (Needs (Initialise n kind js) ∷ k) e w c of_words words names well stands stack = initialises n kind js v o k e w c well stands stack
+  stands_given v o (Needs (Choose s t) ∷ k) e w c of_words words names well (shared, facts, is, holds) stack =
       chooses s t v (operand_word c.active.slots o == 0) comparisons.Equal o (operands.Word 0) k e w c (zero_is shared.tables v c.active.slots o (λ none. well (ap (λ x. status_in (status_of (chosen x s t k e w))) none)) is) refl shared facts stack
-  stands_given v o (Needs (Test a s) ∷ k) e w c of_words words well (shared, facts, is, holds) stack =
+  stands_given v o (Needs (Test a s) ∷ k) e w c of_words words names well (shared, facts, is, holds) stack =
       loops a s v (operand_word c.active.slots o == 0) comparisons.Equal o (operands.Word 0) k e w c (zero_is shared.tables v c.active.slots o (λ none. well (ap (λ x. status_in (status_of (looped x a s k e w))) none)) is) refl shared facts stack
-  stands_given v o (Needs Return ∷ k) e w c of_words words well (shared, facts, is, holds) (exits, q, s, r, there, (u, closing, marks), here, single, stack) =
+  stands_given v o (Needs Return ∷ k) e w c of_words words names well (shared, facts, is, holds) (exits, q, s, r, there, (u, closing, marks), here, single, stack) =
       leaving source pages calls false (Given v) (Returning (Some v)) (Needs Return ∷ k) k e w c exits.in_function u r refl shared (omega arith) (record_left source c.active.function exits q c.frames k stack).1 closing marks facts.1
       (λ handlers stand marks_there marked. (shared_leaving source pages calls false k e w c shared, (facts.0, stand), r, marks_there, marked, (exits, q, s, here, subst (IsIn shared.tables v c.active.slots) there is, single, stack)))
-  stands_given v o (Needs (ThrowWith tag) ∷ k) e w c of_words words well stands stack = throws_with tag v.kind v.value o k e w c well stands stack
-  stands_given v o (Needs FreeObject ∷ k) e w c of_words words well (shared, facts, is, holds) stack = frees_value source pages calls v.kind v.value o k e w c well shared facts is stack
-  stands_given v o (Needs CloseByKey ∷ k) e w c of_words words well (shared, facts, is, holds) stack = closes_by_key source pages calls v.kind v.value o k e w c well shared facts is stack
-  stands_given v o (Needs (Follow pointer target) ∷ k) e w c of_words words well stands stack = follows pointer target v o k e w c well stands stack
-  stands_given v o (Needs (Index peek target i) ∷ k) e w c of_words words well (shared, facts, is, holds) stack = indexes_pointer source pages calls peek target i v o k e w c well shared facts is holds stack
-  stands_given v o (Needs (Advance peek target base) ∷ k) e w c of_words words well (shared, facts, is, (is_base, holds)) (q, sum, reached, place) =
+  stands_given v o (Needs (ThrowWith tag) ∷ k) e w c of_words words names well stands stack = throws_with tag v.kind v.value o k e w c well stands stack
+  stands_given v o (Needs FreeObject ∷ k) e w c of_words words names well (shared, facts, is, holds) stack = frees_value source pages calls v.kind v.value o k e w c well shared facts is stack
+  stands_given v o (Needs CloseByKey ∷ k) e w c of_words words names well (shared, facts, is, holds) stack = closes_by_key source pages calls v.kind v.value o k e w c well shared facts is stack
+  stands_given v o (Needs (Follow pointer target) ∷ k) e w c of_words words names well stands stack = follows pointer target v o k e w c well stands stack
+  stands_given v o (Needs (Index peek target i) ∷ k) e w c of_words words names well (shared, facts, is, holds) stack = indexes_pointer source pages calls peek target i v o k e w c well shared facts is holds stack
+  stands_given v o (Needs (Advance peek target base) ∷ k) e w c of_words words names well (shared, facts, is, (is_base, holds)) (q, sum, reached, place) =
       advances_pointer source pages calls peek target base v.kind v.value k e w c well shared facts (top source c.active.function k, o, q, is, is_base, omega arith, holds, (sum, reached, place))
-  stands_given v o (Needs (FollowMember pointer fields field) ∷ k) e w c of_words words well stands stack = follows_member pointer fields field v.kind v.value o k e w c well stands stack
-  stands_given v o (Needs (OpenBy number lent js) ∷ k) e w c of_words words well (shared, facts, is, holds) stack = opened_given source pages calls v.kind v.value o number lent js k e w c well shared facts is stack
-  stands_given v o (Needs (AliasOf number lent js) ∷ k) e w c of_words words well (shared, facts, is, holds) stack = aliased_given source pages calls v o number lent js k e w c shared facts is stack
-  stands_given v o (Discard ∷ k) e w c of_words words well (shared, facts, is, holds) (exits, stack) =
+  stands_given v o (Needs (FollowMember pointer fields field) ∷ k) e w c of_words words names well stands stack = follows_member pointer fields field v.kind v.value o k e w c well stands stack
+  stands_given v o (Needs (OpenBy number lent js) ∷ k) e w c of_words words names well (shared, facts, is, holds) stack = opened_given source pages calls v.kind v.value o number lent js k e w c well shared facts is stack
+  stands_given v o (Needs (AliasOf number lent js) ∷ k) e w c of_words words names well (shared, facts, is, holds) stack = aliased_given source pages calls v o number lent js k e w c shared facts is stack
+  stands_given v o (Discard ∷ k) e w c of_words words names well (shared, facts, is, holds) (exits, stack) =
       silently source pages calls (Running (Given v) (Discard ∷ k) e w) (Running Proceeding k e w) (plain.Running c) refl
       (shared, behind_statement exits facts stack)
       (omega arith)
-  stands_given v o (entry ∷ k) e w c of_words words well stands stack = absurd (well refl)
+  stands_given v o (entry ∷ k) e w c of_words words names well stands stack = absurd (well refl)
 
   dropped_given : (v : Kinded) (k : List Entry) (e : Environment) (w : World) (c : Configuration) → (shared : SharedAt source pages calls k e w c) → DataIn source shared.tables c.active.slots k e w c
       → DroppedStack source c.active.function c.active.next c.frames k → GoesBehind v k e w c
@@ -1316,7 +1335,7 @@ module _ (source : Program) (pages calls : ℕ) where
       → ((m : ℕ) → Outside n (words_of_kind v.kind) m → old m ≡ c.active.slots m) → DataIn source shared.tables old k e w c
       → Is shared.tables v.kind v.value c.active.slots n → Holds shared.tables c.active.slots (floor source c.active.function k) (kept k)
       → AheadStack source c.active.function e.locals v.kind n c.active.next c.frames k → GoesBehind v k e w c
-  ahead_given v n old (Needs (ConvertTo from to target) ∷ k) e w c well shared same facts is holds (quiet, stack) =
+  ahead_given v n old (Needs (ConvertTo from to target) ∷ k) e w c well shared same facts is holds (quiet, wide, stack) =
       let (does, now, wide) = converts_ahead shared.tables from to target v n k e w c well quiet is in
       silently source pages calls (Running (Given v) (Needs (ConvertTo from to target) ∷ k) e w) (Running (Given (of_kind to v.value)) k e w) (plain.Running c) does
       (shared, ahead n (old, subst (λ many. (m : ℕ) → Outside n many m → old m ≡ c.active.slots m) wide same, facts) now (kept_holds _ _ _ k holds) stack)
@@ -1361,9 +1380,9 @@ module _ (source : Program) (pages calls : ℕ) where
       (λ wells. follows_parts source pages calls v.kind target n m q k e w c v.value wells shared facts is holds low here place) well
   left_given v k e w c well shared facts ready = absurd ready
 
-  pub given : (v : Kinded) (k : List Entry) (e : Environment) (w : World) (c : Configuration) → HasWords (lower_program source) → plain.HoldsWords (plain.Running c) → IsStep source pages calls (Given v) k e w c
-  given v k e w c of_words words well (shared, in_operand o facts is holds stack) = stands_given v o k e w c of_words words well (shared, facts, is, holds) stack
-  given v k e w c of_words words well (shared, nowhere facts stack) = dropped_given v k e w c shared facts stack
-  given v k e w c of_words words well (shared, ahead n (old, same, facts) is holds stack) = ahead_given v n old k e w c well shared same facts is holds stack
-  given v k e w c of_words words well (shared, compared failing l r facts fails stack) = compared_given v failing l r k e w c shared facts fails stack
-  given v k e w c of_words words well (shared, with_left facts ready) = left_given v k e w c well shared facts ready
+  pub given : (v : Kinded) (k : List Entry) (e : Environment) (w : World) (c : Configuration) → HasWords (lower_program source) → plain.HoldsWords (plain.Running c) → AreNamed source e.locals (callers k) w c.active.function c.active.base c.frames c.store → IsStep source pages calls (Given v) k e w c
+  given v k e w c of_words words names well (shared, in_operand o facts is holds stack) = stands_given v o k e w c of_words words names well (shared, facts, is, holds) stack
+  given v k e w c of_words words names well (shared, nowhere facts stack) = dropped_given v k e w c shared facts stack
+  given v k e w c of_words words names well (shared, ahead n (old, same, facts) is holds stack) = ahead_given v n old k e w c well shared same facts is holds stack
+  given v k e w c of_words words names well (shared, compared failing l r facts fails stack) = compared_given v failing l r k e w c shared facts fails stack
+  given v k e w c of_words words names well (shared, with_left facts ready) = left_given v k e w c well shared facts ready

@@ -27,7 +27,7 @@ module _ (source : Program) (pages calls : ℕ) (loop : Bool) (focus : Focus) (r
 
   -- the outermost of them is closed, or the source goes on to it
   by_mark : (o : Option ℕ) → (opened_by source loop g k).mark ≡ o → (shared : SharedBy source (outermost o (floor source g k)) pages calls (CloseLexical region ∷ k) e w c)
-      → DataAt source shared.tables g w.objects e.locals (callers k) c.active.slots c.globals c.frames → HandlersStand source g c.active.slots c.active.handlers c.frames (left_by loop k)
+      → DataAt source shared.tables g c.active.base w.objects e.locals (callers k) c.active.slots c.globals c.frames → HandlersStand source g c.active.slots c.active.handlers c.frames (left_by loop k)
       → (r : ℕ) → MarksAt (code_of source g) (bounds_at source g) (types_at source g) (outermost o (floor source g k)) c.active.next r
       → IsMark source (outermost o (floor source g k)) c.active.slots (scopes_in (left_by loop k)) → FocusAt source shared.tables focus k e.locals g r c.active.slots c.frames
       → IsMatched source pages calls (Running focus (CloseLexical region ∷ k) e w) (plain.Running c)
@@ -44,7 +44,7 @@ module _ (source : Program) (pages calls : ℕ) (loop : Bool) (focus : Focus) (r
       (subst (λ (closing : Option ℕ). Leaves source loop closing pages calls focus k e (closed w region ends.region) (closed_down (scopes_of source) c choice many r)) (sym none) (
         settled source pages calls own k e (closed w region ends.region) c many r choice (omega (arith, left, counted, now)) (sym left) allowed
             (shared_behind source pages calls (Some own) region k e w c ends shared.counters.1.0 tt shared),
-        (data_told source pages calls shared.tables g w.objects e.locals (callers k) c.active.slots c.globals c.frames many facts, stand),
+        (data_told source pages calls shared.tables g c.active.base w.objects e.locals (callers k) c.active.slots c.globals c.frames many facts, stand),
         r,
         refl,
         tt,
@@ -58,7 +58,7 @@ module _ (source : Program) (pages calls : ℕ) (loop : Bool) (focus : Focus) (r
       (lighter (closed w region ends.region))
 
   pub leaves_region : (shared : SharedBy source (opened_by source loop g (CloseLexical region ∷ k)).mark pages calls (CloseLexical region ∷ k) e w c)
-      → DataAt source shared.tables g w.objects e.locals (callers k) c.active.slots c.globals c.frames × HandlersStand source g c.active.slots c.active.handlers c.frames (left_by loop k)
+      → DataAt source shared.tables g c.active.base w.objects e.locals (callers k) c.active.slots c.globals c.frames × HandlersStand source g c.active.slots c.active.handlers c.frames (left_by loop k)
       → (r : ℕ) → MarksAt (code_of source g) (bounds_at source g) (types_at source g) (opened_by source loop g (CloseLexical region ∷ k)).mark c.active.next r
       → IsMark source (opened_by source loop g (CloseLexical region ∷ k)).mark c.active.slots (scopes_in (left_by loop k)) → FocusAt source shared.tables focus k e.locals g r c.active.slots c.frames
       → IsMatched source pages calls (Running focus (CloseLexical region ∷ k) e w) (plain.Running c)

@@ -1,6 +1,6 @@
 -- The weight of a source state, which falls with each step that the plain program makes no step for.
 use Rattle.std.proofs.Common.{ℕ, suc, ◌+◌, List, [], ◌∷◌, Option, None, Some, length}
-use Rattle.cyc_types.specs.TypedTrees.{Array, Load, New, ByHandle, Initial, HeapRegion, FreeKey, Plain, Fields, Dereference, Target, Expression, Number, NullPointer, Copy, Call, Unary, Binary, Assign, Converted, Convert, Arguments, NoArguments, MoreArguments, Operations, NoOperations, ThenCompute, ThenTest, ThenPointer, Statement, Block, Empty, Evaluate, If, While, Break, Continue, Items, NoItems, MoreItems, Execute, Declare, OpenRegion, DeclareAlias, Move, Peek, ThenPointerPeek, AddressOfCell, Member, FreeUnique, Side, VariableSide, CellSide, Swap, Clauses, NoClauses, Default, Case, NumberOfElements, Element}
+use Rattle.cyc_types.specs.TypedTrees.{Array, Load, New, ByHandle, Initial, HeapRegion, FreeKey, Plain, Fields, Dereference, Target, Expression, Number, NullPointer, Copy, Call, Unary, Binary, Assign, Converted, Convert, Arguments, NoArguments, MoreArguments, Operations, NoOperations, ThenCompute, ThenTest, ThenPointer, Statement, Block, Empty, Evaluate, If, While, Break, Continue, Items, NoItems, MoreItems, Execute, Declare, OpenRegion, DeclareAlias, Move, Peek, ThenPointerPeek, AddressOfCell, Member, FreeUnique, Side, VariableSide, CellSide, Swap, Clauses, NoClauses, Default, Case, NumberOfElements, Element, AddressOf}
 use Rattle.cyc_types.specs.TypedTrees as typed
 use Rattle.cyc_meaning.specs.State.{Awaiting, Chain, Pass, PlaceBy, MakeFields, Initialise, OpenBy, AliasOf, Entry, Needs, Rest, Focus, Evaluating, Locating, Executing, Entering, Binding, State, Running, AwaitingPlace, StoreTo, NeedsPlace, SwapLeft, Writing, Catching, Index}
 
@@ -24,9 +24,9 @@ abbrev mutual
   expression_weight (FreeKey a) = suc (suc (expression_weight a))
   expression_weight (New (ByHandle a) i t) = suc (suc (suc (suc (expression_weight a + object_weight i))))
   expression_weight (New w i t) = suc (suc (object_weight i))
+  expression_weight (AddressOf l t) = 1
   expression_weight (AddressOfCell x t) = suc (suc (dereference_weight x))
   expression_weight (typed.Store x c t) = suc (suc (suc (dereference_weight x + converted_weight c)))
-  expression_weight a = 0
 
   pub dereference_weight : Dereference → ℕ
   dereference_weight (Target k a t) = suc (suc (expression_weight a))

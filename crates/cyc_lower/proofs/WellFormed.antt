@@ -13,7 +13,7 @@ use Rattle.cyc_types.specs.declared.typed.PointerOperator.TheVariants as pointer
 use Rattle.cyc_types.specs.declared.typed.LogicalOperator.{LogicalOperator}
 use Rattle.cyc_types.specs.declared.typed.LogicalOperator.TheVariants as logical
 use Rattle.cyc_types.specs.Types.{Ty, words_of, ValueType, Void, Null, Value}
-use Rattle.cyc_types.specs.TypedTrees.{Counter, Load, New, OnHeap, AsUnique, ByHandle, Initial, Plain, Fields, Array, Dereference, Target, type_of_place, Lvalue, Local, Global, Expression, Number, NullPointer, Copy, Call, Unary, Binary, Assign, Converted, Convert, Arguments, NoArguments, MoreArguments, Operations, NoOperations, ThenCompute, ThenTest, ThenPointer, type_of, Statement, Block, Empty, Evaluate, If, While, Return, Break, Continue, Items, NoItems, MoreItems, Execute, Declare, Signature, StructType, Function, Program, Move, Peek, ThenPointerPeek, AddressOfCell, Store, Member, FreeUnique, Side, VariableSide, CellSide, Swap, Throw, Try, Clauses, NoClauses, Default, Case, NumberOfElements, Element, HeapRegion, FreeKey, DeclareRegion, OpenRegion, DeclareAlias, DeclareKey}
+use Rattle.cyc_types.specs.TypedTrees.{Counter, Load, New, OnHeap, AsUnique, ByHandle, Initial, Plain, Fields, Array, Dereference, Target, type_of_place, Lvalue, Local, Global, Expression, Number, NullPointer, Copy, Call, Unary, Binary, Assign, Converted, Convert, Arguments, NoArguments, MoreArguments, Operations, NoOperations, ThenCompute, ThenTest, ThenPointer, type_of, Statement, Block, Empty, Evaluate, If, While, Return, Break, Continue, Items, NoItems, MoreItems, Execute, Declare, Signature, StructType, Function, Program, Move, Peek, ThenPointerPeek, AddressOfCell, Store, Member, FreeUnique, Side, VariableSide, CellSide, Swap, Throw, Try, Clauses, NoClauses, Default, Case, NumberOfElements, Element, HeapRegion, FreeKey, DeclareRegion, OpenRegion, DeclareAlias, DeclareKey, AddressOf}
 use Rattle.cyc_types.specs.typing.WellTyped.{signature_of}
 use Rattle.cyc_types.specs.Numbered.{Numbering, signatures_of, numbering_of}
 use Rattle.cyc_plain.specs.declared.instruction.Comparison.{Comparison}
@@ -37,8 +37,8 @@ use Rattle.cyc_lower.specs.declared.statements.Exits.{Exits}
 use Rattle.cyc_meaning.specs.Pointers.{result_kind as operator_kind}
 use Rattle.cyc_objects.proofs.NumberLemmas.{slice_get-there}
 use Rattle.cyc_lower.proofs.Counters.{found_last}
-use Rattle.cyc_lower.specs.Slots.{counted, starts_of, slot_of, Types, global_of, global_types}
-use Rattle.cyc_lower.specs.Lowering.{begun_code, filled_code, ended_code, elements_code, counter_operand, types_of, spare_slots, are_as_wide, converts_there, passed_words, all_passed, source_of, source_slot, moved_by, move_of, unary_operator, binary_operator, operand_of, operand_or, code_unless, slot_or, code_unless_slot, left_with, left_of, value_slot, next_slot, slot_with, left_slot, value_operand, converted_operand, printed_operand, check_code, conversion_code, divisor_code, checked_code, operator_code, truth_code, load_code, low_byte, test_code, is_in, copy_code, expression_code, arguments_code, converted_code, converted_operand_code, printed_code, initial_code, assignment_code, operations_code, discarded_code, failing_comparison, compared_or, first_operand, first_code, second_code, pair_code, condition_code, condition_of, failing_jump, break_target, continue_target, return_code, declaration_code, statement_code, items_code, first_temporary, results_of, lower_function, lower_program, pointer_operator, left_kind, behind_left, pointer_code, outside_loops, inside_loop, index_code, pointer_instructions, stores_code, object_code, made_code, place_operand, place_offset, place_code, address_code, addressed_by, store_address_code, store_code, guard_code, blocks, free_code, right_slot, side_code, read_side, write_side, exchange_code, swap_code, leave_code, tag_operand, clause_code, thrown_code, thrown_operand, caught_code, clauses_code, count_code, span_of, null_of, tested_code, widened_code, conversion_by, saved_code, loaded_code, bounds_code, stepped_code, bounded_code, thinned_code, reached_code, followed_code, followed_operand, span_in, pointer_of, pointer_slot, reached_operand, word_by_word, load_word, store_word, global_code, globals_of, lower_globals, load_at, opened_code, closed_code, named_code, dynamic_code, scopes_code, scopes_code_in, handlers_code, marks_code, kept_code, kept_code_in, restored_code, restored_code_in, behind_record, behind_record_in, inside_try, inside_region, outermost, scopes_of, scopes_if, scopes_words, may_open, closing_code}
+use Rattle.cyc_lower.specs.Slots.{counted, starts_of, slot_of, Types, global_of, global_types, slot_in}
+use Rattle.cyc_lower.specs.Lowering.{begun_code, filled_code, ended_code, elements_code, counter_operand, types_of, spare_slots, are_as_wide, converts_there, passed_words, all_passed, source_of, source_slot, moved_by, move_of, unary_operator, binary_operator, operand_of, operand_or, code_unless, slot_or, code_unless_slot, left_with, left_of, value_slot, next_slot, slot_with, left_slot, value_operand, converted_operand, printed_operand, check_code, conversion_code, divisor_code, checked_code, operator_code, truth_code, load_code, low_byte, test_code, is_in, copy_code, expression_code, arguments_code, converted_code, converted_operand_code, printed_code, initial_code, assignment_code, operations_code, discarded_code, failing_comparison, compared_or, first_operand, first_code, second_code, pair_code, condition_code, condition_of, failing_jump, break_target, continue_target, return_code, declaration_code, statement_code, items_code, first_temporary, results_of, lower_function, lower_program, pointer_operator, left_kind, behind_left, pointer_code, outside_loops, inside_loop, index_code, pointer_instructions, stores_code, object_code, made_code, place_operand, place_offset, place_code, address_code, addressed_by, store_address_code, store_code, guard_code, blocks, free_code, right_slot, side_code, read_side, write_side, exchange_code, swap_code, leave_code, tag_operand, clause_code, thrown_code, thrown_operand, caught_code, clauses_code, count_code, span_of, null_of, tested_code, widened_code, conversion_by, saved_code, loaded_code, bounds_code, stepped_code, bounded_code, thinned_code, reached_code, followed_code, followed_operand, span_in, pointer_of, pointer_slot, reached_operand, word_by_word, load_word, store_word, global_code, globals_of, lower_globals, load_at, opened_code, closed_code, named_code, dynamic_code, scopes_code, scopes_code_in, handlers_code, marks_code, kept_code, kept_code_in, restored_code, restored_code_in, behind_record, behind_record_in, inside_try, inside_region, outermost, scopes_of, scopes_if, scopes_words, may_open, closing_code, slot_types, function_code}
 use Rattle.cyc_lower.proofs.Widths.{kind_positive, kind_few, type_words, kind_of_result, result_kind, given, passed_kind, words_in, chain_kind, made_kind, wide_kind, same_kind, more_words, HasGlobal, HasRoom}
 use Rattle.cyc_lower.proofs.Fitting.{FitsPlace, FitsCell, Fits, FitsConverted, FitArguments, FitOperations, FitsReturn, FitsInitial, FitsStatement, FitItems, AreFitting, IsFitting, FitsObject, FitsSide, FitsThrown, FitsCaught, FitClauses}
 use Rattle.cyc_lower.specs.Words.{AreOfWordsItems, AreOfWordsFunctions, IsOfWordsProgram}
@@ -47,8 +47,9 @@ use Rattle.cyc_lower.specs.Lowerable.{is_converted, is_pointer}
 use Rattle.cyc_lower.proofs.Lengths.{body_long, past_long}
 use Rattle.cyc_types.specs.typing.Expressions.{type_of_side}
 use Rattle.cyc_lower.proofs.Values.{as_wide}
-use Rattle.cyc_lower.proofs.Slots.{words_positive, slot-room, slot_types-many, slots-few, global-room, global-inside, globals_counted}
+use Rattle.cyc_lower.proofs.Slots.{words_positive, slot-room, slot_types-many, slots-few, global-room, global-inside, globals_counted, starts-are, words-there}
 use Rattle.cyc_lower.specs.declared.statements.Opened.{Opened}
+use Rattle.cyc_plain.proofs.Placed.{below_of_get}
 
 -- ---- lists
 
@@ -119,12 +120,38 @@ record AreGlobals (program : PlainProgram) (globals : List Ty) (scopes : Option 
   pub room : words_of_all globals ≤ length program.globals
   pub inside : (global : ℕ) → scopes ≡ Some global → global < length program.globals
 
+-- The address of a slot is taken only as that of a whole local, whose slots it is the first of.
+abbrev pub TakesLocal : (locals : List Ty) → Instruction → Type 0
+TakesLocal locals (instructions.AddressOf d first count) = (n : ℕ) × (t : Ty) × (slice_get locals n ≡ Some t) × (first ≡ slot_in locals n) × (count ≡ words_of t)
+TakesLocal locals i = Unit {0}
+
+-- such an instruction, all whose parts are there
+abbrev IsIn : PlainProgram → Routine → (locals : List Ty) → Instruction → Type 0
+IsIn program r locals (instructions.AddressOf d first count) = (d < r.slots) × (first + count ≤ r.slots) × TakesLocal locals (instructions.AddressOf d first count)
+IsIn program r locals i = IsInRange program r i
+
+in_range : (program : PlainProgram) (r : Routine) (locals : List Ty) (code : List Instruction) → AllByRecursion (IsIn program r locals) code → AllByRecursion (IsInRange program r) code
+in_range program r locals [] inside = tt
+in_range program r locals (i ∷ code) (first, rest) = (by i first, in_range program r locals code rest)
+  where
+    by : (i : Instruction) → IsIn program r locals i → IsInRange program r i
+    by (instructions.AddressOf d slot count) (there, few, (n, t, at, first, count_is)) = (there, omega (arith, count_is, words_positive t), few)
+    by i inside = inside
+
+takes_locals : (program : PlainProgram) (r : Routine) (locals : List Ty) (code : List Instruction) → AllByRecursion (IsIn program r locals) code → AllByRecursion (TakesLocal locals) code
+takes_locals program r locals [] inside = tt
+takes_locals program r locals (i ∷ code) (first, rest) = (by i first, takes_locals program r locals code rest)
+  where
+    by : (i : Instruction) → IsIn program r locals i → TakesLocal locals i
+    by (instructions.AddressOf d slot count) (there, few, takes) = takes
+    by i inside = tt
+
 module _ (program : PlainProgram) (r : Routine) (b : Numbering) (types : Types) (locals : (n : ℕ) → n < b.locals → slot_of (starts_of types) n + words_in types.locals n ≤ r.slots) (levels : (l slot : ℕ) → slice_get types.counters l ≡ Some slot → slot < r.slots) (globals : AreGlobals program types.globals types.scopes) (called : (n : ℕ) (s : Signature) → slice_get b.functions n ≡ Some s → IsKnown program n s) (results : r.results ≡ results_of b.result) (behind : types.raises + 4 < length r.code) where
   abbrev AreIn : List Instruction → Type 0
-  AreIn code = AllByRecursion (IsInRange program r) code
+  AreIn code = AllByRecursion (IsIn program r types.locals) code
 
   append : (x y : List Instruction) → AreIn x → AreIn y → AreIn (x ++ y)
-  append x y first rest = all_append (IsInRange program r) x y first rest
+  append x y first rest = all_append (IsIn program r types.locals) x y first rest
 
   -- code that is left out where an operand is known
   unless_in : (known : Option Operand) (x : List Instruction) (p : ℕ) → p + length (code_unless known x) < length r.code → (p + length x < length r.code → AreIn x) → AreIn (code_unless known x)
@@ -206,9 +233,9 @@ module _ (program : PlainProgram) (r : Routine) (b : Numbering) (types : Types) 
   given_needs (New (ByHandle h) (Array p level n kind a) t) numbered = omega arith
   given_needs HeapRegion numbered = omega arith
   given_needs (FreeKey a) numbered = omega arith
+  given_needs (AddressOf l t) numbered = omega arith
   given_needs (AddressOfCell x t) numbered = omega arith
   given_needs (Store x (Convert from to a) t) numbered = omega arith
-  given_needs a numbered = absurd numbered
 
   slot_fits : (a : Expression) (t : ℕ) → Fits b types a → t + words_of_kind (kind_at a) ≤ r.slots → value_slot (starts_of types) a t + words_of_kind (kind_at a) ≤ r.slots
   slot_fits (Assign (Local w n) (Convert from to a) ty) t ((within, room), numbered) few = omega (arith, locals n within, room)
@@ -273,11 +300,11 @@ module _ (program : PlainProgram) (r : Routine) (b : Numbering) (types : Types) 
       printed_value_in cs (converted_operand (starts_of types) c t) t rest (converted_value_in c t first (omega (arith, few))) (omega (arith, few))
 
   -- a value is moved
-  move_in : (kind : Kind) (d : ℕ) (o : Operand) → d + words_of_kind kind ≤ r.slots → HasOperand o (words_of_kind kind) → IsInRange program r (move_of (words_of_kind kind) d o)
+  move_in : (kind : Kind) (d : ℕ) (o : Operand) → d + words_of_kind kind ≤ r.slots → HasOperand o (words_of_kind kind) → IsIn program r types.locals (move_of (words_of_kind kind) d o)
   move_in kind d (operands.Word w) room inside = (omega (arith, room, kind_positive kind), tt)
   move_in kind d (operands.Slot n) room inside = by (words_of_kind kind == 1)
     where
-      by : (one : Bool) → IsInRange program r (if one then instructions.Move d (operands.Slot n) else instructions.MoveWords d n (words_of_kind kind))
+      by : (one : Bool) → IsIn program r types.locals (if one then instructions.Move d (operands.Slot n) else instructions.MoveWords d n (words_of_kind kind))
       by true = (omega (arith, room, kind_positive kind), omega (arith, inside, kind_positive kind))
       by false = record { some = kind_positive kind; few = kind_few kind; destination_in_range = room; source_in_range = inside }
 
@@ -367,7 +394,7 @@ module _ (program : PlainProgram) (r : Routine) (b : Numbering) (types : Types) 
   stepped_in None n m t first index room = tt
   stepped_in (Some words) n m t first index room = (by (words == 1), ((omega (arith, room), first, omega (arith, room)), tt))
     where
-      by : (narrow : Bool) → IsInRange program r (if narrow then instructions.Binary plain_binary.ShiftLeft (t + 2) (operands.Slot m) (operands.Word 2) else instructions.Binary plain_binary.Multiply (t + 2) (operands.Slot m) (operands.Word 12))
+      by : (narrow : Bool) → IsIn program r types.locals (if narrow then instructions.Binary plain_binary.ShiftLeft (t + 2) (operands.Slot m) (operands.Word 2) else instructions.Binary plain_binary.Multiply (t + 2) (operands.Slot m) (operands.Word 12))
       by true = (omega (arith, room), index, tt)
       by false = (omega (arith, room), index, tt)
 
@@ -451,12 +478,12 @@ module _ (program : PlainProgram) (r : Routine) (b : Numbering) (types : Types) 
 
   load_in : (l : Lvalue) (t : Ty) (d : ℕ) → FitsPlace b types l (kind_of t) → d + words_of_kind (kind_of t) ≤ r.slots → AreIn (load_code (starts_of types) (words_of t) l d)
   load_in (Local w n) t d (within, room) few =
-      (subst (λ words. IsInRange program r (move_of words d (operands.Slot (slot_of (starts_of types) n)))) (type_words t) (move_in (kind_of t) d (operands.Slot (slot_of (starts_of types) n)) few (omega (arith, locals n within, room))), tt)
+      (subst (λ words. IsIn program r types.locals (move_of words d (operands.Slot (slot_of (starts_of types) n)))) (type_words t) (move_in (kind_of t) d (operands.Slot (slot_of (starts_of types) n)) few (omega (arith, locals n within, room))), tt)
   load_in (Global n) t d room few = loads_in (words_of t) (global_of (starts_of types) n) d (omega (arith, room, type_words t, global-room types n (global-inside types n (kind_of t) room), globals.room)) (omega (arith, few, type_words t))
 
   copy_in : (is : Bool) (c : Converted) (o : Operand) (d : ℕ) → HasOperand o (words_of_kind (passed_kind c)) → d + words_of_kind (passed_kind c) ≤ r.slots → AreIn (if is then [] else move_of (passed_words c) d o ∷ [])
   copy_in true c o d inside few = tt
-  copy_in false c o d inside few = (subst (λ words. IsInRange program r (move_of words d o)) (sym (passed_is c)) (move_in (passed_kind c) d o few inside), tt)
+  copy_in false c o d inside few = (subst (λ words. IsIn program r types.locals (move_of words d o)) (sym (passed_is c)) (move_in (passed_kind c) d o few inside), tt)
 
   -- a fat pointer comes to another slot
   pointer_copied : (d t : ℕ) → d + 3 ≤ r.slots → t + 3 ≤ r.slots → AreIn (copy_code 3 (operands.Slot t) d)
@@ -519,7 +546,7 @@ module _ (program : PlainProgram) (r : Routine) (b : Numbering) (types : Types) 
     ),
   )
     where
-      scaled : (narrow : Bool) → IsInRange program r (if narrow then instructions.Binary plain_binary.ShiftLeft (t + 3 + words) (operands.Slot (t + 2)) (operands.Word 2) else instructions.Binary plain_binary.Multiply (t + 3 + words) (operands.Slot (t + 2)) (operands.Word 12))
+      scaled : (narrow : Bool) → IsIn program r types.locals (if narrow then instructions.Binary plain_binary.ShiftLeft (t + 3 + words) (operands.Slot (t + 2)) (operands.Word 2) else instructions.Binary plain_binary.Multiply (t + 3 + words) (operands.Slot (t + 2)) (operands.Word 12))
       scaled true = (few, omega (arith, few), tt)
       scaled false = (few, omega (arith, few), tt)
 
@@ -732,6 +759,9 @@ module _ (program : PlainProgram) (r : Routine) (b : Numbering) (called : (n : �
         append program r b types locals levels globals called results behind (place_code (starts_of types) x p t) load
         (place_in types locals levels globals behind x own p t numbered some few (omega (arith, short, length-append (place_code (starts_of types) x p t) load)))
         (loaded_in program r b types locals levels globals called results behind (type_of_place x) (own == 1) (place_operand (starts_of types) x t) (place_offset (starts_of types) x) d t refl (place_operand_in program r b types locals levels globals called results behind x own t numbered some few) room (omega (arith, few, some, needed)))
+    expression_in types locals levels globals behind (AddressOf (Local w n) ty) p d t (within, (v, there, words)) room few short =
+        ((omega (arith, room), omega (arith, locals n within, words-there types.locals n v there, words), (n, v, there, starts-are types n (below_of_get types.locals n v there), words)), tt)
+    expression_in types locals levels globals behind (AddressOf (Global n) ty) p d t numbered room few short = ((omega (arith, room), tt), tt)
     expression_in types locals levels globals behind (AddressOfCell x ty) p d t numbered room few short =
         addressed_in program r b types locals levels globals called results behind x p d t numbered (omega (arith, room)) (omega (arith, few)) short (λ less. place_in types locals levels globals behind x place_words p t numbered (omega arith) (omega (arith, few)) less)
     expression_in types locals levels globals behind (Store x c ty) p d t (place, numbered) room few short =
@@ -776,7 +806,6 @@ module _ (program : PlainProgram) (r : Routine) (b : Numbering) (called : (n : �
         append program r b types locals levels globals called results behind front back
         (unless_in program r b types locals levels globals called results behind (operand_of (starts_of types) a) inner p (omega (arith, short, long)) (λ less. expression_in types locals levels globals behind a p slot t numbered (slot_fits program r b types locals levels globals called results behind a t numbered free) (omega (arith, few)) less))
         (record { answer_in_range = omega arith; first_in_range = value_in program r b types locals levels globals called results behind a t numbered free; second_in_range = tt }, tt)
-    expression_in types locals levels globals behind a p d t numbered room few short = absurd numbered
 
     -- behind a handle of so many words, which is in the first of these slots where it is in one
     made_in : (types : Types) (locals : (n : ℕ) → n < b.locals → slot_of (starts_of types) n + words_in types.locals n ≤ r.slots) (levels : (l slot : ℕ) → slice_get types.counters l ≡ Some slot → slot < r.slots) (globals : AreGlobals program types.globals types.scopes) (behind : types.raises + 4 < length r.code) → (i : Initial) (handle : Operand) (words first : ℕ) (ty : Ty) (p d t : ℕ) → FitsObject b types i → IsOperand r handle → d + words_of_kind (made_kind i) ≤ r.slots → t ≤ first + words → first + initial_value_need i words (words_of ty) ≤ r.slots → p + length (made_code (starts_of types) i handle p d t) < length r.code → AreIn program r b types locals levels globals called results behind (made_code (starts_of types) i handle p d t)
@@ -1334,7 +1363,7 @@ module _ (program : PlainProgram) (r : Routine) (b : Numbering) (types : Types) 
         let long = length-append front back in
         append program r b types locals levels globals called results behind front back (statement_in s in_loop p exits t numbered around outside (omega (arith, few)) (omega (arith, short, long)))
         (items_in js in_loop (p + length front) exits t rest around outside (omega (arith, few)) (omega (arith, short, long)))
-    items_in (MoreItems (Declare n ty v) js) in_loop p exits t (within, numbered, rest) around outside few short =
+    items_in (MoreItems (Declare n ty v) js) in_loop p exits t (within, room, numbered, rest) around outside few short =
         let front = declaration_code (starts_of types) n v p t in
         let back = items_code (starts_of types) js (p + length front) exits t in
         let long = length-append front back in
@@ -1422,28 +1451,41 @@ module _ (source : Program) (is_fitting : IsFitting source) where
     inside = λ global is. omega (arith, scopes_there (list_any may_open source.functions) (length (lower_globals source.globals)) global is, length-append (lower_globals source.globals) (scopes_words (scopes_of source)));
   }
 
-  function_well : (h : Function) → AreOfWordsItems h.body → FitItems (numbering_of (length source.globals) (signatures_of source.functions) h) (types_of source.structs (global_types source.globals) (scopes_of source) h) false h.body → IsRoutine (lower_program source) (lower_function source.structs (globals_of source) (scopes_of source) h)
-  function_well h words numbered_body =
+  -- all instructions of a function's code
+  code_in : (h : Function) → AreOfWordsItems h.body → FitItems (numbering_of (length source.globals) (signatures_of source.functions) h) (types_of source.structs (global_types source.globals) (scopes_of source) h) false h.body
+      → AllByRecursion (IsIn (lower_program source) (lower_function source.structs (globals_of source) (scopes_of source) h) (slot_types h)) (function_code source.structs (globals_of source) (scopes_of source) h)
+  code_in h words numbered_body =
       let d = first_temporary h in
       let r = lower_function source.structs (globals_of source) (scopes_of source) h in
       let b = numbering_of (length source.globals) (signatures_of source.functions) h in
       let types = types_of source.structs (global_types source.globals) (scopes_of source) h in
-      let starts = starts_of types in
-      let body = items_code starts h.body 0 outside_loops d in
+      let body = items_code (starts_of types) h.body 0 outside_loops d in
       let end = instructions.Finish d ∷ blocks in
       let long = length-append body end in
       let placed = body_long source.structs (globals_of source) (scopes_of source) h in
+      all_append (IsIn (lower_program source) r (slot_types h)) body end
+      (items_in (lower_program source) r b types (λ n within. omega (arith, slot-room types n (omega (arith, within, slot_types-many h)))) (λ l slot there. absurd (none-some slot there)) known_globals known_functions refl (omega (arith, long, placed)) (no_return source.structs (globals_of source) (scopes_of source) h words)
+      h.body false 0 outside_loops d numbered_body (λ inside. absurd (let f : false ≡ true = inside in cc)) ((tt, tt), (tt, tt)) (omega arith) (omega (arith, long)))
+      (omega (arith, results_few h.result), ((tt, tt), ((tt, tt), ((tt, tt), ((tt, tt), tt)))))
+
+  function_well : (h : Function) → AreOfWordsItems h.body → FitItems (numbering_of (length source.globals) (signatures_of source.functions) h) (types_of source.structs (global_types source.globals) (scopes_of source) h) false h.body → IsRoutine (lower_program source) (lower_function source.structs (globals_of source) (scopes_of source) h)
+  function_well h words numbered_body =
+      let r = lower_function source.structs (globals_of source) (scopes_of source) h in
+      let body = items_code (starts_of (types_of source.structs (global_types source.globals) (scopes_of source) h)) h.body 0 outside_loops (first_temporary h) in
+      let end = instructions.Finish (first_temporary h) ∷ blocks in
       record {
         parameters = omega (arith, slots-few h);
         results = omega (arith, results_few h.result);
         frame = omega (arith, slots-few h);
-        instructions = all_of (IsInRange (lower_program source) r) (body ++ end)
-            (all_append (IsInRange (lower_program source) r) body end
-            (items_in (lower_program source) r b types (λ n within. omega (arith, slot-room types n (omega (arith, within, slot_types-many h)))) (λ l slot there. absurd (none-some slot there)) known_globals known_functions refl (omega (arith, long, placed)) (no_return source.structs (globals_of source) (scopes_of source) h words)
-            h.body false 0 outside_loops d numbered_body (λ inside. absurd (let f : false ≡ true = inside in cc)) ((tt, tt), (tt, tt)) (omega arith) (omega (arith, long)))
-            (omega (arith, results_few h.result), ((tt, tt), ((tt, tt), ((tt, tt), ((tt, tt), tt))))));
+        instructions = all_of (IsInRange (lower_program source) r) (body ++ end) (in_range (lower_program source) r (slot_types h) (body ++ end) (code_in h words numbered_body));
         last = subst (λ (o : Option Instruction). IsSomeAnd o (λ i. leaves i ≡ true)) (sym (last_behind body end (omega arith))) refl;
       }
+
+  -- it takes the addresses of locals alone
+  pub function_takes : (h : Function) → AreOfWordsItems h.body → FitItems (numbering_of (length source.globals) (signatures_of source.functions) h) (types_of source.structs (global_types source.globals) (scopes_of source) h) false h.body
+      → AllByRecursion (TakesLocal (slot_types h)) (function_code source.structs (globals_of source) (scopes_of source) h)
+  function_takes h words numbered_body =
+      takes_locals (lower_program source) (lower_function source.structs (globals_of source) (scopes_of source) h) (slot_types h) (function_code source.structs (globals_of source) (scopes_of source) h) (code_in h words numbered_body)
 
   functions_well : (hs : List Function) → AreOfWordsFunctions hs → AreFitting source.structs source.globals (scopes_of source) (signatures_of source.functions) hs → AllByRecursion (IsRoutine (lower_program source)) (map (lower_function source.structs (globals_of source) (scopes_of source)) hs)
   functions_well [] words numbered_all = tt

@@ -22,6 +22,8 @@ use Rattle.cyc_plain.specs.Step as plain_step
 use Rattle.cyc_plain.proofs.RunLaws.{lawful}
 use Rattle.cyc_plain.proofs.WordLaws.{words_stay, words_at_start}
 use Rattle.cyc_plain.specs.WellFormed.{HasWords}
+use Rattle.cyc_plain.specs.Memory.{LieBelow, IsBelow, slots_end}
+use Rattle.cyc_plain.proofs.CallLaws.{below_step, below_start}
 use Rattle.cyc_store.specs.State as stores
 use Rattle.std.specs.List.{AllByRecursion, list_any}
 use Rattle.cyc_words.proofs.Simulation.{simulates}
@@ -31,14 +33,16 @@ use Rattle.cyc_meaning.specs.Step.{wrong, called, step}
 use Rattle.cyc_meaning.specs.Run.{start, is_within, limited_step}
 use Rattle.cyc_lower.specs.Lowering.{initial_word, lower_global, lower_program, lower_globals, scopes_of, scopes_if, scopes_words, may_open}
 use Rattle.cyc_lower.specs.Lowered.{FollowsSource}
+use Rattle.cyc_lower.specs.Words.{IsOfWordsProgram}
 use Rattle.cyc_meaning.specs.SourceMachine.{status_in}
-use Rattle.cyc_meaning.specs.Nesting.{IsNested, Nests}
+use Rattle.cyc_meaning.specs.Nesting.{IsNested}
 use Rattle.cyc_meaning.proofs.Nested.{nests_start}
-use Rattle.cyc_lower.proofs.Scoped.{nests_kept}
-use Rattle.cyc_objects.specs.Tables.{Variable, Tables, first_tables}
+use Rattle.cyc_meaning.specs.Variables.{FunctionsRise}
+use Rattle.cyc_meaning.proofs.VariableRuns.{NestsAndNames, both_kept, names_start}
+use Rattle.cyc_objects.specs.Tables.{Tables, first_tables}
 use Rattle.cyc_objects.specs.Related as objects
 use Rattle.cyc_objects.proofs.Start.{start-related}
-use Rattle.cyc_lower.proofs.Relation.{IsWord, silent, contents, Related, Matches, types_at, starts_at, IsTold}
+use Rattle.cyc_lower.proofs.Relation.{IsWord, silent, call_slots, callers, contents, Related, Matches, types_at, starts_at, IsTold}
 use Rattle.cyc_lower.proofs.Fitting.{IsFitting}
 use Rattle.cyc_lower.proofs.Data.{no_locals_hold, IsWord-is}
 use Rattle.cyc_lower.proofs.Accesses.{IsWell}
@@ -59,6 +63,10 @@ use Rattle.cyc_lower.proofs.Widths.{words_in, type_words, kind_positive}
 use Rattle.cyc_lower.proofs.Slots.{words_positive, globals-are, global-room, globals_counted}
 use Rattle.std.proofs.lemmas.List.{length-replicate, get_or-append_right, get_or_append_left}
 use Rattle.cyc_meaning.specs.FrameCount.{words_of_all}
+use Rattle.cyc_lower.proofs.GlobalRows.{global_rows, are_globals, start-rows}
+use Rattle.cyc_lower.proofs.Leads.{AreNamed}
+use Rattle.cyc_lower.proofs.Named.{names_there}
+use Rattle.cyc_plain.specs.declared.limits.TheConstants.{MOST_GLOBALS}
 
 -- ---- the globals at the start
 
@@ -115,41 +123,36 @@ none_open source = by (list_any may_open source.functions)
     by true = get_or-append_right xs (0 ∷ []) (length xs) (length xs) 0 refl (omega arith) ∙ ap (slice_index (0 ∷ [])) (let e : length xs - length xs ≡ 0 = omega arith in e)
     by false = refl
 
--- each global is a variable
-globals_rows : (gs : List GlobalVariable) (number : ℕ) → number < length (global_types gs) → slice_get (map (λ (g : GlobalVariable). Variable) gs) number ≡ Some Variable
-globals_rows [] number few = absurd (omega (arith, few))
-globals_rows (g ∷ gs) zero few = refl
-globals_rows (g ∷ gs) (suc number) few = globals_rows gs number (omega (arith, few))
-
 globals_many : (gs : List GlobalVariable) → length (global_types gs) ≤ length (map global_object gs)
 globals_many [] = omega arith
 globals_many (g ∷ gs) = omega (arith, globals_many gs)
 
-module _ (source : Program) (pages calls : ℕ) (well_typed : AreWellTypedGlobals source.globals) (stand : FunctionsStand source pages calls) (of_words : HasWords (lower_program source)) where
+module _ (source : Program) (pages calls : ℕ) (well_typed : AreWellTypedGlobals source.globals) (few_globals : words_of_all (global_types source.globals) ≤ MOST_GLOBALS) (stand : FunctionsStand source pages calls) (of_words : HasWords (lower_program source))
+    (fitting : IsFitting source) (typed_words : IsOfWordsProgram source) (rise : FunctionsRise source) (room : words_of_all (global_types source.globals) < MOST_GLOBALS) where
   -- ---- all steps
 
-  stepping : (focus : Focus) (k : List Entry) (e : Environment) (w : World) (c : Configuration) → IsWell (step source (Running focus k e w)) → IsNested k e w → plain.HoldsWords (plain.Running c) → Related source pages calls focus k e w c
+  stepping : (focus : Focus) (k : List Entry) (e : Environment) (w : World) (c : Configuration) → IsWell (step source (Running focus k e w)) → IsNested k e w → plain.HoldsWords (plain.Running c) → AreNamed source e.locals (callers k) w c.active.function c.active.base c.frames c.store → Related source pages calls focus k e w c
       → IsMatched source pages calls (Running focus k e w) (plain.Running c)
-  stepping (Evaluating a) k e w c well nested words related = evaluating source pages calls a k e w c well related
-  stepping (Locating x) k e w c well nested words related = locating source pages calls x k e w c well related
-  stepping (Given v) k e w c well nested words related = given source pages calls v k e w c of_words words well related
-  stepping (Executing s) k e w c well nested words related = executing source pages calls s k e w c well related
-  stepping Proceeding k e w c well nested words related = proceeding source pages calls k e w c nested well related
-  stepping (Calling f before) k e w c well nested words related = calling source pages calls stand f before k e w c well related
-  stepping (Entering h arguments) k e w c well nested words related = entering source pages calls h arguments k e w c well related
-  stepping (Binding n types arguments body) k e w c well nested words related = binding source pages calls n types arguments body k e w c well related
-  stepping Breaking k e w c well nested words related = breaking source pages calls k e w c nested well related
-  stepping Continuing k e w c well nested words related = continuing source pages calls k e w c nested well related
-  stepping (Returning v) k e w c well nested words related = returning source pages calls v k e w c nested well related
-  stepping (Throwing tag value) k e w c well nested words related = throwing source pages calls tag value k e w c nested well related
-  stepping (Catching tag value handler) k e w c well nested words related = catching source pages calls tag value handler k e w c well related
-  stepping (Naming n v js) k e w c well nested words related = naming source pages calls n v js k e w c well related
-  stepping (GivenPlace place) k e w c well nested words related = given_place source pages calls place k e w c well related
-  stepping (Writing writes (Some pointer)) k e w c well nested words related = writing source pages calls writes pointer k e w c words well related
-  stepping (Writing writes None) k e w c well nested words related = writing_sides source pages calls writes k e w c words well related
-  stepping (Beginning owner count level wanted element) k e w c well nested words related = beginning source pages calls owner count level wanted element k e w c well related
-  stepping (Repeating object count index level wanted element) k e w c well nested words related = repeating source pages calls object count index level wanted element k e w c well related
-  stepping (Swapping kind left right before) k e w c well nested words related = swapping source pages calls kind left right before k e w c well related
+  stepping (Evaluating a) k e w c well nested words names related = evaluating source pages calls a k e w c names well related
+  stepping (Locating x) k e w c well nested words names related = locating source pages calls x k e w c well related
+  stepping (Given v) k e w c well nested words names related = given source pages calls v k e w c of_words words names well related
+  stepping (Executing s) k e w c well nested words names related = executing source pages calls s k e w c well related
+  stepping Proceeding k e w c well nested words names related = proceeding source pages calls k e w c nested well related
+  stepping (Calling f before) k e w c well nested words names related = calling source pages calls stand f before k e w c well related
+  stepping (Entering h arguments) k e w c well nested words names related = entering source pages calls h arguments k e w c well related
+  stepping (Binding n types arguments body) k e w c well nested words names related = binding source pages calls n types arguments body k e w c well related
+  stepping Breaking k e w c well nested words names related = breaking source pages calls k e w c nested well related
+  stepping Continuing k e w c well nested words names related = continuing source pages calls k e w c nested well related
+  stepping (Returning v) k e w c well nested words names related = returning source pages calls v k e w c nested well related
+  stepping (Throwing tag value) k e w c well nested words names related = throwing source pages calls tag value k e w c nested well related
+  stepping (Catching tag value handler) k e w c well nested words names related = catching source pages calls tag value handler k e w c well related
+  stepping (Naming n v js) k e w c well nested words names related = naming source pages calls n v js k e w c well related
+  stepping (GivenPlace place) k e w c well nested words names related = given_place source pages calls place k e w c names well related
+  stepping (Writing writes (Some pointer)) k e w c well nested words names related = writing source pages calls writes pointer k e w c words names well related
+  stepping (Writing writes None) k e w c well nested words names related = writing_sides source pages calls writes k e w c words names well related
+  stepping (Beginning owner count level wanted element) k e w c well nested words names related = beginning source pages calls owner count level wanted element k e w c well related
+  stepping (Repeating object count index level wanted element) k e w c well nested words names related = repeating source pages calls object count index level wanted element k e w c well related
+  stepping (Swapping kind left right before) k e w c well nested words names related = swapping source pages calls kind left right before k e w c names well related
 
   -- what fails is within all limits
   failed_within : (s : State) → status_in (status_of s) ≡ Failed → is_within pages calls s ≡ true
@@ -162,45 +165,55 @@ module _ (source : Program) (pages calls : ℕ) (well_typed : AreWellTypedGlobal
   goes_well s never failed =
       never (step source s) (sym (ap (λ (b : Bool). if b then step source s else Ended Full (output_of s) (input_of s)) (failed_within (step source s) failed))) failed
 
-  -- values stay words
-  words_kept : (old new : plain.State) → plain.HoldsWords old → plain_step.Step (lower_program source) pages calls old new → plain.HoldsWords new
-  words_kept old new words stepped = words_stay (lower_program source) pages calls 1 old new of_words words (new, stepped, refl)
+  -- values stay words, and calls lie apart
+  abbrev Lies : plain.State → Type 0
+  Lies t = plain.HoldsWords t × LieBelow (lower_program source) t
 
-  -- a state of the plain program that matches one, and whose values are words
-  abbrev matching_words : Matching (above source pages calls) (below source pages calls)
-  matching_words = keeping (above source pages calls) (below source pages calls) (matching source pages calls) plain.HoldsWords words_kept
+  lies_kept : (old new : plain.State) → Lies old → plain_step.Step (lower_program source) pages calls old new → Lies new
+  lies_kept old new (words, lie) stepped = (words_stay (lower_program source) pages calls 1 old new of_words words (new, stepped, refl), below_step (lower_program source) pages calls old new lie stepped)
 
-  -- and of which the source's regions nest
-  abbrev matching_nested : Matching (above source pages calls) (below source pages calls)
-  matching_nested = keeping_above (above source pages calls) (below source pages calls) matching_words Nests (nests_kept source pages calls)
+  -- regions nest, and variables that are live have names
+  abbrev Named : State → Type 0
+  Named s = NestsAndNames (length source.globals) s
 
-  steps : Steps (above source pages calls) (below source pages calls) matching_nested
-  steps (Running focus k e w) (plain.Running c) ((related, words), nested) running never =
-      stepped_above (above source pages calls) (below source pages calls) matching_words Nests (nests_kept source pages calls) (Running focus k e w) (plain.Running c) nested
-      (stepped_keeping (above source pages calls) (below source pages calls) (matching source pages calls) plain.HoldsWords words_kept (Running focus k e w) (plain.Running c) words
-      (stepping focus k e w c (goes_well (Running focus k e w) never) nested words related))
-  steps (Running focus k e w) (plain.Ended ending output input) ((related, words), nested) running never = absurd related
-  steps (Running focus k e w) (plain.Stuck output input) ((related, words), nested) running never = absurd related
+  named_kept : (old new : State) → Named old → new ≡ limited_step source pages calls old → Named new
+  named_kept old new both is = both_kept (length source.globals) source rise pages calls old new both is
+
+  -- a state of the plain program that matches one, of which all this holds
+  abbrev matching_lies : Matching (above source pages calls) (below source pages calls)
+  matching_lies = keeping (above source pages calls) (below source pages calls) (matching source pages calls) Lies lies_kept
+
+  abbrev matching_named : Matching (above source pages calls) (below source pages calls)
+  matching_named = keeping_above (above source pages calls) (below source pages calls) matching_lies Named named_kept
+
+  steps : Steps (above source pages calls) (below source pages calls) matching_named
+  steps (Running focus k e w) (plain.Running c) ((related, (words, lie)), (nested, names)) running never =
+      stepped_above (above source pages calls) (below source pages calls) matching_lies Named named_kept (Running focus k e w) (plain.Running c) (nested, names)
+      (stepped_keeping (above source pages calls) (below source pages calls) (matching source pages calls) Lies lies_kept (Running focus k e w) (plain.Running c) (words, lie)
+      (stepping focus k e w c (goes_well (Running focus k e w) never) nested words
+      (names_there source fitting typed_words room k e.locals w c.active.function c.active.base c.frames c.store names.1.3 lie) related))
+  steps (Running focus k e w) (plain.Ended ending output input) ((related, lies), named) running never = absurd related
+  steps (Running focus k e w) (plain.Stuck output input) ((related, lies), named) running never = absurd related
   steps (Ended ending output input) t related running never = absurd (let f : simulation.Ended ending ≡ simulation.Running = running in cc)
-  steps (Dead output input) t ((related, words), nested) running never = absurd related
-  steps (Wrong output input) t ((related, words), nested) running never = absurd related
+  steps (Dead output input) t ((related, lies), named) running never = absurd related
+  steps (Wrong output input) t ((related, lies), named) running never = absurd related
 
   -- ---- the start
 
-  start_related : (h : Function) (store : StoreState) (input : List ℕ) → slice_get source.functions source.main ≡ Some h → IsNew pages store → 1 ≤ pages → pages ≤ MOST_PAGES → 1 ≤ calls
-      → Matches source pages calls (Running (Entering h []) (Main ∷ []) no_locals (first_world source input)) (plain_step.start (lower_program source) store input)
-  start_related h store input there new some_page few_pages some_call =
-      let t = first_tables source in
+  start_related : (h : Function) (base : ℕ) (store : StoreState) (input : List ℕ) → slice_get source.functions source.main ≡ Some h → IsNew pages store → 1 ≤ pages → pages ≤ MOST_PAGES → 1 ≤ calls
+      → Matches source pages calls (Running (Entering h []) (Main ∷ []) no_locals (first_world source input)) (plain_step.start (lower_program source) base store input)
+  start_related h base store input there new some_page few_pages some_call =
+      let t = first_tables (global_rows source few_globals) in
       let w = first_world source input in
       let words : ℕ → ℕ = λ global. slice_index (lower_program source).globals global in
       let slots : ℕ → ℕ = λ slot. 0 in
-      entered source pages calls stand source.main h [] (Main ∷ []) w slots words [] [] store [] input there
+      entered source pages calls stand source.main base h [] (Main ∷ []) w slots words [] [] store [] input there
       (record {
         tables = t;
         same_output = refl;
         same_input = refl;
         same_pages = ap (λ (s : StoreState). s.pages) new.2;
-        related = subst (objects.Related t (silent w)) (sym new.2) (start-related source [] pages new.0 new.1 some_page few_pages);
+        related = subst (objects.Related t (silent w)) (sym new.2) (start-related source (global_rows source few_globals) (are_globals source few_globals) [] pages new.0 new.1 some_page few_pages);
         globals = refl;
         variables = (refl, tt);
         few_pages = omega (arith, new_demand pages store new, some_page);
@@ -210,10 +223,10 @@ module _ (source : Program) (pages calls : ℕ) (well_typed : AreWellTypedGlobal
         (
           length w.objects,
           omega arith,
-          no_locals_hold t _ w.objects (length w.objects) (length w.objects) slots,
+          no_locals_hold t _ (call_slots source source.main base) w.objects (length w.objects) (length w.objects) slots,
           globals_many source.globals,
           λ number few. (
-            globals_rows source.globals number few,
+            start-rows source few_globals number few,
             λ v has.
                 let (is, room) = globals_start t source.globals number v well_typed has in
                 let first = global_of (starts_at source source.main) number in
@@ -241,21 +254,25 @@ module _ (source : Program) (pages calls : ℕ) (well_typed : AreWellTypedGlobal
         is,
       )
 
-  follows_source : (store : StoreState) (input : List ℕ) → IsNew pages store → 1 ≤ pages → pages ≤ MOST_PAGES → 1 ≤ calls → AllByRecursion (λ b. b < 256) input → FollowsSource source (lower_program source) pages calls store input
-  follows_source store input new some_page few_pages some_call bytes never =
+  follows_source : (base : ℕ) (store : StoreState) (input : List ℕ) → IsNew pages store → 1 ≤ pages → pages ≤ MOST_PAGES → 1 ≤ calls → AllByRecursion (λ b. b < 256) input
+      → IsBelow (lower_program source) (lower_program source).main base slots_end → FollowsSource source (lower_program source) pages calls base store input
+  follows_source base store input new some_page few_pages some_call bytes lies never =
       let (h, starts, there) = from_start (slice_get source.functions source.main) input refl some_call (never 0 (start source input) refl) in
-      simulates (above source pages calls) (below source pages calls) matching_nested steps (lawful (lower_program source) pages calls) [] (start source input) never
-      (plain_step.start (lower_program source) store input)
+      simulates (above source pages calls) (below source pages calls) matching_named steps (lawful (lower_program source) pages calls) [] (start source input) never
+      (plain_step.start (lower_program source) base store input)
       (ap (λ s. status_in (status_of s)) starts) (
         (
-          subst (λ s. Matches source pages calls s (plain_step.start (lower_program source) store input)) (sym starts) (start_related h store input there new some_page few_pages some_call),
-          words_at_start (lower_program source) store input of_words (subst (λ (s : StoreState). stores.AreWords s.memory) (sym new.2) new.1) bytes,
+          subst (λ s. Matches source pages calls s (plain_step.start (lower_program source) base store input)) (sym starts) (start_related h base store input there new some_page few_pages some_call),
+          (
+            words_at_start (lower_program source) base store input of_words (subst (λ (s : StoreState). stores.AreWords s.memory) (sym new.2) new.1) bytes,
+            below_start (lower_program source) base store input lies,
+          ),
         ),
-        nests_start source input,
+        (nests_start source input, names_start source input rise),
       )
 
 -- The lowered program of one that fits does what that does.
-pub follows : (source : Program) → IsFitting source → HasWords (lower_program source) → (pages calls : ℕ) (store : StoreState) (input : List ℕ) → IsNew pages store → 1 ≤ pages → pages ≤ MOST_PAGES → 1 ≤ calls → AllByRecursion (λ b. b < 256) input
-    → FollowsSource source (lower_program source) pages calls store input
-follows source fitting of_words pages calls store input new some_page few_pages some_call bytes =
-    follows_source source pages calls fitting.globals (functions_stand source pages calls fitting) of_words store input new some_page few_pages some_call bytes
+pub follows : (source : Program) → IsFitting source → IsOfWordsProgram source → FunctionsRise source → words_of_all (global_types source.globals) < MOST_GLOBALS → HasWords (lower_program source) → (pages calls base : ℕ) (store : StoreState) (input : List ℕ)
+    → IsNew pages store → 1 ≤ pages → pages ≤ MOST_PAGES → 1 ≤ calls → AllByRecursion (λ b. b < 256) input → IsBelow (lower_program source) (lower_program source).main base slots_end → FollowsSource source (lower_program source) pages calls base store input
+follows source fitting typed_words rise room of_words pages calls base store input new some_page few_pages some_call bytes lies =
+    follows_source source pages calls fitting.globals (omega (arith, room)) (functions_stand source pages calls fitting) of_words fitting typed_words rise room base store input new some_page few_pages some_call bytes lies

@@ -9,10 +9,11 @@ use Rattle.cyc_types.specs.declared.typed.Callee.{Callee}
 use Rattle.cyc_types.specs.declared.typed.Callee.TheVariants as callees
 use Rattle.cyc_types.specs.Types.{Ty, words_of, words_of_mark}
 use Rattle.cyc_types.specs.Types as types
-use Rattle.cyc_types.specs.TypedTrees.{Load, type_of_place, Expression, NullPointer, HeapRegion, Copy, Move, Peek, Call, Binary, Assign, Converted, Convert, Operations, NoOperations, ThenCompute, ThenTest, ThenPointer, ThenPointerPeek, Signature, New, Initial, Array, AddressOfCell, Store, StructType}
+use Rattle.cyc_types.specs.TypedTrees.{Load, type_of_place, Expression, NullPointer, HeapRegion, Copy, Move, Peek, Call, Binary, Assign, Converted, Convert, Operations, NoOperations, ThenCompute, ThenTest, ThenPointer, ThenPointerPeek, Signature, New, Initial, Array, AddressOfCell, Store, StructType, AddressOf}
 use Rattle.cyc_meaning.specs.Pointers.{result_kind as operator_kind}
 use Rattle.cyc_meaning.specs.Values.{kind_of, number_of_kind, is_kind, words_of_kind, are_kinds}
 use Rattle.cyc_lower.specs.Slots.{Types}
+use Rattle.cyc_lower.specs.Lowering.{words_behind}
 
 -- ---- kinds and their words
 
@@ -136,6 +137,7 @@ module _ (signatures : List Signature) where
   given (Peek p n t) = kind_of t
   given (Call f cs t) = called_kind f
   given (Binary a os t) = chain_kind (given a) os
+  given (AddressOf l t) = kinds.NonNull
   given (AddressOfCell x t) = kinds.NonNull
   given (Assign l (Convert from to a) t) = to
   given (Store x (Convert from to a) t) = to
@@ -159,6 +161,10 @@ HasRoom types n kind = words_of_kind kind ≤ words_in types.locals n
 -- and in the global of this number
 abbrev pub HasGlobal : Types → ℕ → Kind → Type 0
 HasGlobal types n kind = words_of_kind kind ≤ words_in types.globals n
+
+-- the local, or global, of this number has as many words as such a pointer leads to
+abbrev pub HasVariable : List Ty → ℕ → (pointer : Ty) → Type 0
+HasVariable ts n pointer = (t : Ty) × (slice_get ts n ≡ Some t) × (words_behind pointer ≡ words_of t)
 
 -- the struct of this number has a field of that number
 abbrev pub HasField : Types → (number field : ℕ) → Type 0

@@ -4,7 +4,7 @@ use Rattle.std.proofs.Common.{◌≡◌, ℕ, zero, suc, ◌+◌, ◌*◌, ◌�
 use Rattle.cyc_meaning.specs.Operators.{null_exception, division_by_zero, array_bounds, array_size}
 use Rattle.std.specs.List.{AllByRecursion}
 use Rattle.cyc_words.proofs.WordLemmas.{IsWord-add_of}
-use Rattle.cyc_words.specs.Word.{IsWord, add_of}
+use Rattle.cyc_words.specs.Word.{IsWord, add_of, mul_of}
 use Rattle.cyc_types.specs.declared.typed.Kind.{Kind}
 use Rattle.cyc_types.specs.declared.typed.Kind.TheVariants as kinds
 use Rattle.cyc_types.specs.declared.typed.Callee.TheVariants as callees
@@ -25,10 +25,10 @@ use Rattle.cyc_plain.specs.declared.instruction.Instruction.{Instruction}
 use Rattle.cyc_plain.specs.declared.instruction.Instruction.TheVariants as instructions
 use Rattle.cyc_plain.specs.WellFormed.{IsOfWord, HasWord, HasWords, is_return}
 use Rattle.cyc_lower.specs.Words.{IsOfWords, IsOfWordsCell, IsOfWordsObject, IsOfWordsConverted, AreOfWordsArguments, AreOfWordsOperations, IsOfWordsInitial, IsOfWordsStatement, AreOfWordsItems, IsOfWordsConstant, AreOfWordsGlobals, AreOfWordsFunctions, IsOfWordsProgram, IsOfWordsSide, IsOfWordsThrown, AreOfWordsClauses}
-use Rattle.cyc_plain.specs.declared.limits.TheConstants.{RECORD_WORDS}
+use Rattle.cyc_plain.specs.declared.limits.TheConstants.{RECORD_WORDS, GLOBALS_BASE}
 use Rattle.cyc_lower.specs.declared.statements.Exits.{Exits}
 use Rattle.cyc_lower.specs.Slots.{with_counter, slot_of, Starts, bytes_from, field_in, global_of}
-use Rattle.std.specs.Prelude.{◌==◌, if◌then◌else◌, replicate}
+use Rattle.std.specs.Prelude.{◌==◌, if◌then◌else◌, replicate, ◌%◌, ◌^◌}
 use Rattle.cyc_types.specs.Types.{words_of, Ty}
 use Rattle.cyc_types.specs.Numbered.{argument_count}
 use Rattle.cyc_store.specs.declared.range.TheConstants.{HEAP, UNIQUE}
@@ -415,7 +415,8 @@ mutual
       let front = expression_code starts h p t t in
       append front _ (expression_words starts h p t t handle) (made_words starts i (operands.Slot t) (p + length front) d (t + 1) tt words)
   expression_words starts HeapRegion p d t words = (omega arith, tt)
-  expression_words starts (AddressOf l ty) p d t words = (omega arith, tt)
+  expression_words starts (AddressOf (Local w n) ty) p d t words = (tt, tt)
+  expression_words starts (AddressOf (Global n) ty) p d t words = (IsWord-add_of GLOBALS_BASE (mul_of (global_of starts n % 2 ^ 32) 4), tt)
   expression_words starts (FreeKey a) p d t words =
       let slot = value_slot starts a t in
       let inner = expression_code starts a p slot t in

@@ -1,36 +1,17 @@
--- Which typed trees are lowered: those whose forms have code. Each number that such a tree has names something that is there, each call passes
--- as many arguments as its function has parameters, and a break or a continue stands in a loop. A tree of the int language is one.
-use Rattle.std.specs.Prelude.{◌≡◌, ℕ, ◌<◌, Bool, true, false, not, ◌&&◌, List, [], ◌∷◌, Option, Some, None, length, slice_get, ◌≤◌, if◌then◌else◌}
-use Rattle.cyc_types.specs.declared.typed.PointerOperator.{PointerOperator}
-use Rattle.cyc_types.specs.declared.typed.PointerOperator.TheVariants as pointers
+-- Which typed trees are lowered. Each number that such a tree has names something that is there, each call passes as many arguments as
+-- its function has parameters, and a break or a continue stands in a loop. The typed tree of a text is one.
+use Rattle.std.specs.Prelude.{◌≡◌, ℕ, ◌<◌, Bool, true, false, List, [], ◌∷◌, Option, Some, None, length, slice_get, ◌≤◌, if◌then◌else◌}
 use Rattle.cyc_types.specs.Types.{Ty}
-use Rattle.cyc_types.specs.TypedTrees.{Array, Counter, Load, New, OnHeap, ByHandle, Initial, Plain, Fields, Dereference, Target, Local, Expression, Number, NullPointer, HeapRegion, FreeKey, Copy, Call, Unary, Binary, Assign, Converted, Convert, Arguments, NoArguments, MoreArguments, Operations, NoOperations, ThenCompute, ThenTest, ThenPointer, Statement, Block, Empty, Evaluate, If, While, Return, Break, Continue, Items, NoItems, MoreItems, Execute, Declare, DeclareRegion, OpenRegion, DeclareAlias, DeclareKey, Signature, Function, Program, Move, Peek, ThenPointerPeek, AddressOfCell, Store, Member, AsUnique, FreeUnique, Side, VariableSide, CellSide, Swap, Throw, Try, Clauses, NoClauses, Default, Case, NumberOfElements, Element}
+use Rattle.cyc_types.specs.TypedTrees.{Array, Counter, Load, New, OnHeap, ByHandle, Initial, Plain, Fields, Dereference, Target, Local, Expression, Number, NullPointer, HeapRegion, FreeKey, Copy, Call, Unary, Binary, Assign, Converted, Convert, Arguments, NoArguments, MoreArguments, Operations, NoOperations, ThenCompute, ThenTest, ThenPointer, Statement, Block, Empty, Evaluate, If, While, Return, Break, Continue, Items, NoItems, MoreItems, Execute, Declare, DeclareRegion, OpenRegion, DeclareAlias, DeclareKey, Signature, Function, Program, Move, Peek, ThenPointerPeek, AddressOfCell, Store, Member, AsUnique, FreeUnique, Side, VariableSide, CellSide, Swap, Throw, Try, Clauses, NoClauses, Default, Case, NumberOfElements, Element, AddressOf}
 use Rattle.cyc_words.specs.Word.{IsWord}
 use Rattle.cyc_types.specs.declared.typed.Kind.{Kind}
 use Rattle.cyc_types.specs.declared.typed.Kind.TheVariants as kinds
 use Rattle.cyc_types.specs.typing.Scopes.{signature_of_ints}
+use Rattle.cyc_types.specs.Texts.{stands_alone}
 use Rattle.cyc_types.specs.Numbered.{Numbering, IsSignature, IsWithin, argument_count, numbering_of, signatures_of}
 use Rattle.cyc_store.specs.declared.range.TheConstants.{MOST_BLOCK_WORDS}
 use Rattle.cyc_meaning.specs.Values.{is_thin, is_kind}
 use Rattle.cyc_lower.specs.Lowering.{are_as_wide, all_passed}
-
--- pointers are compared, with one another or with `NULL`
-abbrev pub is_comparison : PointerOperator → Bool
-is_comparison pointers.AddFat = false
-is_comparison pointers.SubtractFat = false
-is_comparison o = true
-
--- Arithmetic on pointers stands in a chain of its own, as it is written: each operator behind it is one such.
-abbrev pub are_sums : Operations → Bool
-are_sums NoOperations = true
-are_sums (ThenPointer o a os) = not (is_comparison o) && are_sums os
-are_sums (ThenPointerPeek n o a os) = not (is_comparison o) && are_sums os
-are_sums os = false
-
-abbrev pub stands_alone : PointerOperator → Operations → Bool
-stands_alone pointers.AddFat os = are_sums os
-stands_alone pointers.SubtractFat os = are_sums os
-stands_alone o os = true
 
 -- a kind of pointers
 abbrev pub is_pointer : Kind → Bool
@@ -60,9 +41,9 @@ abbrev mutual
   IsLowerable b (New OnHeap i t) = IsLowerableObject b i
   IsLowerable b (New AsUnique i t) = IsLowerableObject b i
   IsLowerable b (New (ByHandle a) i t) = IsLowerable b a × IsLowerableObject b i
+  IsLowerable b (AddressOf l t) = IsWithin b l
   IsLowerable b (AddressOfCell x t) = IsLowerableCell b x
   IsLowerable b (Store x c t) = IsLowerableCell b x × IsLowerableConverted b c
-  IsLowerable b a = ⊥
 
   pub IsLowerableCell : Numbering → Dereference → Type 0
   IsLowerableCell b (Target k a t) = IsLowerable b a

@@ -22,6 +22,7 @@ use Rattle.cyc_lower.specs.Lowering.{span_of_place, scopes_of, scopes_words}
 use Rattle.cyc_lower.specs.Words.{IsOfWordsProgram}
 use Rattle.cyc_lower.specs.Lowerable.{IsLowerableProgram}
 use Rattle.cyc_lower.specs.declared.limits.TheConstants.{MOST_FUNCTIONS}
+use Rattle.cyc_plain.specs.Memory.{IsBelow, slots_end}
 
 -- ---- refusals
 
@@ -32,12 +33,12 @@ HasTooMany p f = (h : Function) × (slice_get p.functions MOST_FUNCTIONS ≡ Som
 
 -- ---- what the plain program does
 
--- Each run of the plain program from this store is one of the source, with these limits and this input, if no run of the source
--- fails. The steps of the plain program that match one of the source meet no place twice.
-abbrev pub FollowsSource : Program → PlainProgram → (pages calls : ℕ) → StoreState → (input : List ℕ) → Type 0
-FollowsSource source lowered pages calls store input =
+-- Each run of the plain program from this store, with the slots of `main` at this address, is one of the source, with these limits and
+-- this input, if no run of the source fails. The steps of the plain program that match one of the source meet no place twice.
+abbrev pub FollowsSource : Program → PlainProgram → (pages calls base : ℕ) → StoreState → (input : List ℕ) → Type 0
+FollowsSource source lowered pages calls base store input =
     NeverFails (source_machine source pages calls) (start source input)
-    → Follows (source_machine source pages calls) (machine lowered pages calls) [] (λ s. places_of lowered) (start source input) (plain.start lowered store input)
+    → Follows (source_machine source pages calls) (machine lowered pages calls) [] (λ s. places_of lowered) (start source input) (plain.start lowered base store input)
 
 -- ---- what is promised
 
@@ -65,10 +66,10 @@ pub record IsLowered (source : Program) (lowered : PlainProgram) : Type 0 where
   pub words : HasWords lowered
   pub functions : AreLoweredFunctions source.functions lowered.functions
   pub globals : length lowered.globals ≡ words_of_all (global_types source.globals) + length (scopes_words (scopes_of source))
-  pub follows : (pages calls : ℕ) (store : StoreState) (input : List ℕ) → IsNew pages store → 1 ≤ pages → pages ≤ MOST_PAGES → 1 ≤ calls → AllByRecursion (λ b. b < 256) input
-      → FollowsSource source lowered pages calls store input
+  pub follows : (pages calls base : ℕ) (store : StoreState) (input : List ℕ) → IsNew pages store → 1 ≤ pages → pages ≤ MOST_PAGES → 1 ≤ calls → AllByRecursion (λ b. b < 256) input
+      → IsBelow lowered lowered.main base slots_end → FollowsSource source lowered pages calls base store input
 
--- What is asked of the typed tree. That of a text that is built has it all: its forms are lowered and its numbers name what is there, its
+-- What is asked of the typed tree. That of a text has it all: its forms are lowered and its numbers name what is there, its
 -- constants are words, and its globals have no more words than it has tokens. One global more has room.
 pub record CanBeLowered (source : Program) : Type 0 where
   pub lowerable : IsLowerableProgram source

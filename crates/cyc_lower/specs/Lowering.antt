@@ -2,10 +2,10 @@
 -- for a place p. An expression brings its value to a slot d by its last instruction, so d may be the slot of a local that
 -- is read on the way. Else it writes to the slots from t on alone. Numbers and locals are operands where they are used.
 --
--- A value has as many slots as its kind has words, one behind the other, and a global as many words. There is code for the int language
--- and more; a form that is not built has a constant in its place, which nothing runs.
-use Rattle.std.specs.Prelude.{ℕ, zero, suc, ◌+◌, max, ◌==◌, Bool, false, if◌then◌else◌, List, [], ◌∷◌, ◌++◌, length, map, replicate, ◌-◌, Option, None, Some, slice_get, ◌%◌, ◌^◌, true, option_map, ◌*◌, ◌||◌}
+-- A value has as many slots as its kind has words, one behind the other, and a global as many words.
+use Rattle.std.specs.Prelude.{ℕ, zero, suc, ◌+◌, max, ◌==◌, Bool, false, if◌then◌else◌, List, [], ◌∷◌, ◌++◌, length, map, replicate, ◌-◌, Option, None, Some, slice_get, ◌%◌, ◌^◌, true, option_map, unwrap_or, ◌*◌, ◌||◌}
 use Rattle.std.specs.List.{list_any}
+use Rattle.cyc_words.specs.Word.{add_of, mul_of}
 use Rattle.cyc_words.specs.declared.span.Span.{Span}
 use Rattle.cyc_syntax.specs.Symbols.{Place}
 use Rattle.cyc_types.specs.declared.typed.Kind.{Kind}
@@ -19,7 +19,7 @@ use Rattle.cyc_types.specs.declared.typed.PointerOperator.{PointerOperator}
 use Rattle.cyc_types.specs.declared.typed.PointerOperator.TheVariants as pointers
 use Rattle.cyc_types.specs.declared.typed.LogicalOperator.{LogicalOperator}
 use Rattle.cyc_types.specs.declared.typed.LogicalOperator.TheVariants as logical
-use Rattle.cyc_types.specs.Types.{Ty, Handle, words_of}
+use Rattle.cyc_types.specs.Types.{Ty, Handle, Value, words_of}
 use Rattle.cyc_types.specs.typing.Expressions.{type_of_side}
 use Rattle.cyc_types.specs.TypedTrees.{Array, Counter, Load, New, OnHeap, Initial, Plain, Fields, Dereference, Target, Lvalue, Local, Global, Expression, Number, NullPointer, Copy, Call, Unary, Binary, Assign, Converted, Convert, Arguments, NoArguments, MoreArguments, Operations, NoOperations, ThenCompute, ThenTest, ThenPointer, ThenPointerPeek, Statement, Block, Empty, Evaluate, If, While, Return, Break, Continue, Items, NoItems, MoreItems, Execute, Declare, DeclareRegion, OpenRegion, DeclareAlias, DeclareKey, Constant, Word, Null, GlobalVariable, StructType, Function, Program, Move, Peek, AddressOfCell, Store, Member, Element, AsUnique, FreeUnique, Side, VariableSide, CellSide, Swap, Throw, Try, Clauses, NoClauses, Default, Case, NumberOfElements, type_of_place, HeapRegion, AddressOf, FreeKey, ByHandle}
 use Rattle.cyc_plain.specs.declared.instruction.UnaryOperator.{UnaryOperator as PlainUnary}
@@ -35,12 +35,12 @@ use Rattle.cyc_plain.specs.declared.instruction.Instruction.{Instruction}
 use Rattle.cyc_plain.specs.declared.instruction.Instruction.TheVariants as instructions
 use Rattle.cyc_plain.specs.Program.{Routine, Program as PlainProgram}
 use Rattle.cyc_store.specs.declared.range.TheConstants.{HEAP, UNIQUE}
-use Rattle.cyc_plain.specs.declared.limits.TheConstants.{RECORD_WORDS}
+use Rattle.cyc_plain.specs.declared.limits.TheConstants.{GLOBALS_BASE, RECORD_WORDS}
 use Rattle.cyc_meaning.specs.Values.{words_of_kind, is_thin}
 use Rattle.cyc_meaning.specs.Operators.{null_exception, array_size, division_by_zero, array_bounds}
 use Rattle.cyc_meaning.specs.FrameCount.{frame_count, items_need, words_of_all, kept_by_items}
 use Rattle.cyc_lower.specs.Slots.{Types, Starts, starts_from, slot_of, with_counter, counter_of, field_of, global_of, global_types}
-use Rattle.cyc_meaning.specs.Parts.{target_of, target_by}
+use Rattle.cyc_meaning.specs.Parts.{target_of, target_by, target_of_value}
 use Rattle.cyc_lower.specs.declared.operands.Condition.{Condition}
 use Rattle.cyc_lower.specs.declared.statements.Exits.{Exits}
 use Rattle.cyc_lower.specs.declared.statements.Opened.{Opened}
@@ -376,6 +376,19 @@ loaded_code words o bytes d t =
     ∷ instructions.Load (d + 1) (operands.Slot t) 4
     ∷ instructions.Load d (operands.Slot t) 0
     ∷ []
+
+-- the words of a variable that a value of this type leads to
+abbrev pub words_behind : Ty → ℕ
+words_behind t = unwrap_or (option_map words_of_kind (target_of_value (Value t))) 1
+
+-- the address of the global whose first word has this number
+abbrev pub address_of_global : (first : ℕ) → ℕ
+address_of_global first = add_of GLOBALS_BASE (mul_of (first % 2 ^ 32) 4)
+
+-- The address of a variable of so many words. That of a global is a number.
+abbrev pub address_of_code : Starts → Lvalue → (words d : ℕ) → List Instruction
+address_of_code starts (Local w n) words d = instructions.AddressOf d (slot_of starts n) words ∷ []
+address_of_code starts (Global n) words d = instructions.Move d (operands.Word (address_of_global (global_of starts n))) ∷ []
 
 -- ---- conversions
 
@@ -830,7 +843,7 @@ abbrev mutual
   expression_code starts (Assign (Global n) c ty) p d t =
       (converted_operand_code starts c p t ++ global_code (passed_words c) (global_of starts n) (converted_operand starts c t)) ++ copy_code (passed_words c) (converted_operand starts c t) d
   expression_code starts (Load x) p d t = place_code starts x p t ++ loaded_code (words_of (type_of_place x)) (place_operand starts x t) (place_offset starts x) d t
-  expression_code starts (AddressOf l ty) p d t = instructions.Move d (operands.Word 0) ∷ []
+  expression_code starts (AddressOf l ty) p d t = address_of_code starts l (words_behind ty) d
   expression_code starts (AddressOfCell x ty) p d t = addressed_by (place_code starts x p t) (place_operand starts x t) (place_offset starts x) d
   expression_code starts (Store x c ty) p d t =
       stored_by (addressed_by (place_code starts x p t) (place_operand starts x t) (place_offset starts x) t)

@@ -19,7 +19,7 @@ use crate::locals::{counter_of, field_of, slot_of, with_counter};
 use crate::objects::last_element;
 use crate::operands::{
     Condition, are_as_wide, converts_there, index_of, is_in, null_of, operand_of, pointer_of,
-    slot_behind, span_in, span_of, takes_operand, value_slot,
+    slot_behind, span_in, span_of, takes_operand, value_slot, words_behind,
 };
 use crate::operators::{
     binary_operator, failing_comparison, left_kind, move_of, pointer_operator, test_jump,
@@ -219,8 +219,9 @@ impl Emitter {
                     free,
                 )
             }
-            // not built yet
-            Expr::AddressOf { .. } => self.bring_word(0, slot),
+            Expr::AddressOf { place, of_type } => {
+                self.address_variable(starts, *place, words_behind(of_type), slot)
+            }
             Expr::AddressOfCell { place, .. } => self.take_address(starts, place, slot, free),
             Expr::Store { target, value, .. } => {
                 self.take_address(starts, target, free, free)?;

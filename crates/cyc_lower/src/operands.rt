@@ -6,7 +6,7 @@ ghost use Rattle.cyc_types.specs.TypedTrees.{type_of_place};
 ghost use Rattle.cyc_types.specs.TypeView.{view_ty, view_value_type};
 ghost use Rattle.cyc_meaning.specs.Parts.{target_of_value};
 ghost use Rattle.cyc_meaning.specs.Values.{is_thin, words_of_kind};
-ghost use Rattle.cyc_lower.specs.Lowering.{operand_of, null_of, pointer_of, reached_operand, span_in, span_of, value_slot, is_in, index_of, are_as_wide, converts_there};
+ghost use Rattle.cyc_lower.specs.Lowering.{operand_of, null_of, words_behind, pointer_of, reached_operand, span_in, span_of, value_slot, is_in, index_of, are_as_wide, converts_there};
 ghost use Rattle.cyc_lower.specs.Emission.{most_locals, takes_operand, view_starts};
 
 use crate::frame_count::words_of_kind;
@@ -156,6 +156,16 @@ fn span_behind(of_type: &Ty) -> Option<usize>
     match of_type {
         Ty::Pointer { target, .. } => span_in(target),
         Ty::Int | Ty::Handle { .. } | Ty::Key { .. } | Ty::Struct { .. } => None,
+    }
+}
+
+/// How many words a variable has that a value of this type leads to.
+pub(crate) fn words_behind(of_type: &Ty) -> usize
+    ensures { result ≡ words_behind (view_ty of_type.now) }
+{
+    match span_behind(of_type) {
+        Some(words) => words,
+        None => 1,
     }
 }
 

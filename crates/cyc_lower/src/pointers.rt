@@ -1,8 +1,9 @@
 //! The code of accesses by pointers, which stand in operands: their cells are reached, and read or written. A fat pointer has its address,
 //! its length and its index in slots one behind the other.
 ghost use Rattle.std.specs.Prelude.{◌≡◌, ◌+◌, ◌≤◌, ◌∷◌, length};
+ghost use Rattle.cyc_types.specs.TypedTreeView.{view_lvalue};
 ghost use Rattle.cyc_meaning.specs.Values.{is_thin, words_of_kind};
-ghost use Rattle.cyc_lower.specs.Lowering.{bounded_code, count_code, past_bounded, thinned_code, followed_code, followed_operand, loaded_code, reached_code, reached_operand, saved_code, stepped_code, widened_code};
+ghost use Rattle.cyc_lower.specs.Lowering.{address_of_code, address_of_global, bounded_code, count_code, past_bounded, thinned_code, followed_code, followed_operand, loaded_code, reached_code, reached_operand, saved_code, stepped_code, widened_code};
 ghost use Rattle.cyc_types.specs.declared.typed.Kind.TheVariants as kinds;
 ghost use Rattle.cyc_plain.specs.declared.instruction.BinaryOperator.TheVariants as plain_binary;
 ghost use Rattle.cyc_plain.specs.declared.instruction.Instruction.TheVariants as instructions;
@@ -12,11 +13,13 @@ ghost use Rattle.cyc_lower.specs.Emission.{Appends, Gives, view_starts};
 use crate::checks::{ARRAY_BOUNDS, NULL_EXCEPTION};
 use crate::emitter::Emitter;
 use crate::frame_count::words_of_kind;
+use crate::globals::global_of;
+use crate::locals::slot_of;
 use crate::operands::{is_thin, reached_operand, slot_behind};
 use crate::operators::{jump_if_zero, scale_of};
 use crate::starts::Starts;
-use cyc_plain::{BinaryOperator, Comparison, Instruction, Operand};
-use cyc_types::typed::Kind;
+use cyc_plain::{BinaryOperator, Comparison, GLOBALS_BASE, Instruction, Operand};
+use cyc_types::typed::{Kind, Lvalue};
 use std::alloc::AllocError;
 
 /// How long a jump is over the comparison of an index, and over what computes the address of the cell at it.
@@ -30,7 +33,40 @@ fn past_bounded(span: Option<usize>) -> usize
     }
 }
 
+/// The address of the global whose first word has this number.
+fn address_of_global(first: usize) -> u32
+    ensures { result ≡ address_of_global first }
+{
+    let number = (first % 0x1_0000_0000) as u32;
+    GLOBALS_BASE.wrapping_add(number.wrapping_mul(4))
+}
+
 impl Emitter {
+    /// The address of a variable of so many words comes to a slot.
+    pub(crate) fn address_variable(
+        &mut self,
+        starts: &Starts,
+        place: Lvalue,
+        words: usize,
+        slot: usize,
+    ) -> Result<(), AllocError>
+        ensures { Appends result self.old self.new (address_of_code (view_starts starts.now) (view_lvalue place) words slot) }
+    {
+        match place {
+            Lvalue::Local { number, .. } => self.emit(Instruction::AddressOf {
+                destination: slot,
+                slot: slot_of(starts, number),
+                count: words,
+            }),
+            Lvalue::Global { number } => self.emit(Instruction::Move {
+                destination: slot,
+                source: Operand::Word {
+                    word: address_of_global(global_of(starts, number)),
+                },
+            }),
+        }
+    }
+
     /// A thin pointer gets the length and the index of a fat one that leads to one cell. Of null the first word tells.
     pub(crate) fn widen(&mut self, pointer: Operand) -> Result<(), AllocError>
         ensures { Appends result self.old self.new (widened_code pointer) }

@@ -17,3 +17,10 @@ pub mod RegionExamples
 pub mod DeadExamples
 pub mod FrameExamples
 pub mod ValueExamples
+-- variables of blocks
+pub mod VariableLemmas
+pub mod VariableChanges
+pub mod VariableDeclared
+pub mod VariableSteps
+pub mod Rising
+pub mod VariableRuns

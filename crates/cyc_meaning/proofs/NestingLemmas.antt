@@ -63,7 +63,7 @@ set_open : (regions : List Region) (number : ℕ) (r s : Region) (ns : List ℕ)
 set_open regions number r s [] at keep h = tt
 set_open regions number r s (n ∷ ns) at keep (found, h) = (set_found regions number n r s at keep found, set_open regions number r s ns at keep h)
 
-globals_found : (regions : List Region) (stack : List Entry) → AreOpen regions (ends_of stack) → IsFound (found_region (slice_get regions globals_number))
+pub globals_found : (regions : List Region) (stack : List Entry) → AreOpen regions (ends_of stack) → IsFound (found_region (slice_get regions globals_number))
 globals_found regions [] h = h.0
 globals_found regions (CloseRegion region home ∷ stack) h = globals_found regions stack h.1
 globals_found regions (CloseLexical region ∷ stack) h = globals_found regions stack h.1

@@ -16,5 +16,6 @@ pub mod Run
 -- what the laws and the contracts of the compiler add to that
 pub mod Effects
 pub mod Nesting
+pub mod Variables
 pub mod SourceMachine
 pub mod FrameCount

@@ -1,17 +1,19 @@
 //! Laws of the definitions in `specs/`. Each function does nothing: its contract is the law, and so it is proved with
 //! the crate. The lemmas behind them stand in `proofs/` for other proofs to cite.
 
-ghost use Rattle.std.specs.Prelude.{◌≡◌, ◌≢◌, ℕ, suc, ◌+◌, ◌<◌, ◌≤◌, List, ◌++◌, length, true, false, drop};
+ghost use Rattle.std.specs.Prelude.{◌≡◌, ◌≢◌, ℕ, suc, ◌+◌, ◌<◌, ◌≤◌, List, ◌∷◌, ◌++◌, length, Some, true, false, drop};
 ghost use Rattle.std.specs.List.{AllByRecursion};
 ghost use Rattle.cyc_words.specs.Ending.{Full, Uncaught};
 ghost use Rattle.cyc_words.specs.Prefix.{IsPrefix};
 ghost use Rattle.cyc_words.specs.Word.{signed};
 ghost use Rattle.cyc_types.specs.TypedTrees.{Program};
+ghost use Rattle.cyc_types.specs.typing.WellTyped.{IsWellTypedProgram};
 ghost use Rattle.cyc_meaning.specs.State.{World, Environment, Entry, Focus, State, Throwing, Status, GoesOn, HasEnded, IsDead, output_of, input_of, status_of, depth};
 ghost use Rattle.cyc_meaning.specs.State as state;
 ghost use Rattle.cyc_meaning.specs.Step.{step};
 ghost use Rattle.cyc_meaning.specs.Effects.{printed_by, read_by, calls_after, Changes, DemandChanges, ChangesIn, StaysIn};
 ghost use Rattle.cyc_meaning.specs.Nesting.{Nests, is_access, IsUntried};
+ghost use Rattle.cyc_meaning.specs.Variables.{LivesIn, IsShut, waiting, IsLocal, HaveNames, AreDistinct, declared_by};
 ghost use Rattle.cyc_meaning.specs.Run.{start, steps, run, is_within, limited_steps, limited_run};
 
 /// The step is a function, so a program with an input has one run: two states after so many steps are one state, and a run
@@ -100,6 +102,21 @@ pub fn regions_nest()
     ensures dies { (program : Program) (input : List ℕ) (count : ℕ) (focus : Focus) (stack : List Entry) (e : Environment) (w : World)
         → run program input count ≡ state.Running focus stack e w → status_of (run program input (suc count)) ≡ IsDead
         → is_access focus stack ≡ true }
+{}
+
+/// In a program that the typing rules accept, each variable that is live is a global or a local of a call under way, as long as nothing else
+/// was made in its region. No two locals of calls under way are one object, and none is a global. Where a local is declared, what its number
+/// stood for before is in a block that was left.
+pub fn variables_have_names()
+    ensures named { (program : Program) (input : List ℕ) (count : ℕ) (focus : Focus) (stack : List Entry) (e : Environment) (w : World) → IsWellTypedProgram program
+        → run program input count ≡ state.Running focus stack e w → HaveNames (length program.globals) (e.locals ∷ waiting stack) w.objects w.regions }
+    ensures distinct { (program : Program) (input : List ℕ) (count : ℕ) (focus : Focus) (stack : List Entry) (e : Environment) (w : World) → IsWellTypedProgram program
+        → run program input count ≡ state.Running focus stack e w → AreDistinct (e.locals ∷ waiting stack) }
+    ensures apart { (program : Program) (input : List ℕ) (count : ℕ) (focus : Focus) (stack : List Entry) (e : Environment) (w : World) (call number object : ℕ) → IsWellTypedProgram program
+        → run program input count ≡ state.Running focus stack e w → IsLocal (e.locals ∷ waiting stack) call number object → length program.globals ≤ object }
+    ensures again { (program : Program) (input : List ℕ) (count : ℕ) (focus : Focus) (stack : List Entry) (e : Environment) (w : World) (number object region : ℕ) → IsWellTypedProgram program
+        → run program input count ≡ state.Running focus stack e w → declared_by focus stack ≡ Some number → e.locals number ≡ Some object → LivesIn w.objects object region
+        → IsShut w.regions region }
 {}
 
 /// An exception that no `try` is round leaves all that is under way, one entry a step, and then ends the run; nothing is printed or

@@ -5,7 +5,7 @@ use Rattle.std.proofs.lemmas.Bool.{cases_Bool, cond-false}
 use Rattle.cyc_types.specs.declared.typed.Kind.{Kind}
 use Rattle.cyc_words.specs.Demand.{class_of}
 use Rattle.cyc_store.specs.State.{Memory, put, AreWords, Block, StoreState, homes, word_at, has_saved, saved, room}
-use Rattle.cyc_store.specs.declared.range.TheConstants.{UNIQUE}
+use Rattle.cyc_store.specs.declared.range.TheConstants.{STORE_BASE, PAGE_WORDS, MOST_PAGES, UNIQUE}
 use Rattle.cyc_store.proofs.LookupLemmas.{cases_option, same_some}
 use Rattle.cyc_store.proofs.HolderLemmas.{covers_from}
 use Rattle.cyc_store.proofs.ServiceLemmas.{word-live, one_block}
@@ -16,11 +16,11 @@ use Rattle.cyc_meaning.proofs.ListLemmas.{map-set}
 use Rattle.cyc_meaning.proofs.WorldLaws.{cell_found}
 use Rattle.cyc_objects.specs.Tables.{Row, Variable, Placed, Tables}
 use Rattle.cyc_objects.specs.Words.{words_of_kinds, before, words_from, Points, IsPartOf, Is, IsContent, AreCells}
-use Rattle.cyc_objects.specs.Related.{sort_of, lies_in, Alive, Stands, Within, Related}
+use Rattle.cyc_objects.specs.Related.{sort_of, lies_in, Alive, Stands, IsOutside, IsOfVariable, IsVariableAt, LiveVariable, Within, Related}
 use Rattle.cyc_objects.proofs.NumberLemmas.{slice_get-set_cases, slice_get-map}
 use Rattle.cyc_objects.proofs.Values.{words-kinds, before-inside, Is-same, IsContent-same, AreCells-same}
 use Rattle.cyc_objects.proofs.Pointers.{same-row, fat-to_cell}
-use Rattle.cyc_objects.proofs.RegionLemmas.{sort-some, entry-found, lies-from}
+use Rattle.cyc_objects.proofs.RegionLemmas.{sort-some, entry-found, lies-from, lies-home}
 
 -- ---- what is there is live, or a variable
 
@@ -53,15 +53,25 @@ module _ {t : Tables} {w : World} {s : StoreState} (related : Related t w s) whe
         cc)
   ]
 
-  -- a cell that is there, and that a pointer leads to, is one of a live object
-  pub found-alive : (o k p : ℕ) (at : Located) → cell_at w o k ≡ Found at → Points t o k p
-      → (h : ℕ) × Alive t w o h at.object × (slice_get at.object.cells k ≡ Some at.cell)
-  found-alive o k p at found points =
+  -- what is live is one of the store's objects, or a variable
+  pub live-either : (o : ℕ) (x : Object) → slice_get w.objects o ≡ Some x → is_live w x.owner ≡ true → ((h : ℕ) × Alive t w o h x) ⊎ LiveVariable t w o x
+  live-either o x there live = elim (live-lies x.owner live) [
+    | inl (h, lies) ↦ inl (h, record { at = there; lies = lies })
+    | inr (n, owner, entry) ↦ inr (record { at = there; region = n; owner = owner; entry = entry; live = live })
+  ]
+
+  -- a cell that is there is one of a live object
+  pub found-either : (o k : ℕ) (at : Located) → cell_at w o k ≡ Found at
+      → (((h : ℕ) × Alive t w o h at.object) ⊎ LiveVariable t w o at.object) × (slice_get at.object.cells k ≡ Some at.cell)
+  found-either o k at found =
       let (there, cell) = cell_found w o k at found in
-      elim (live-lies at.object.owner (is-live-found o k at.object at found there)) [
-        | inl (h, lies) ↦ (h, record { at = there; lies = lies }, cell)
-        | inr (n, owner, entry) ↦ absurd (not-placed (related.variables o n at.object there owner entry) points.row)
-      ]
+      (live-either o at.object there (is-live-found o k at.object at found there), cell)
+
+  -- a row that says where a live variable stands is outside the store
+  pub variable-outside : (o a : ℕ) (ks : List Kind) (x : Object) → LiveVariable t w o x → slice_get t.rows o ≡ Some (Placed a ks) → IsOutside a ks
+  variable-outside o a ks x v placed =
+      let (row, at, outside) = related.variables o v.region x v.at v.owner v.entry in
+      subst IsOfVariable (same_some (sym at ∙ placed)) outside
 
   -- an element of a part that is there, by the kind of its cell
   pub element-found : {o start n p : ℕ} (i : ℕ) (at : Located) (part : IsPartOf t o start n p) → i < n → cell_at w o (start + i) ≡ Found at
@@ -75,6 +85,11 @@ module _ {t : Tables} {w : World} {s : StoreState} (related : Related t w s) whe
   -- a variable is no live object of the store
   pub variable-alone : (o h : ℕ) (x : Object) → slice_get t.rows o ≡ Some Variable → Alive t w o h x → ⊥
   variable-alone o h x row alive = let st : Stands t (homes s) s.memory h o x.cells = related.objects o h x alive in not-placed row st.row
+
+  pub variable-elsewhere : (o n h : ℕ) (x : Object) → x.owner ≡ InRegion n → slice_get t.handles n ≡ Some None → Alive t w o h x → ⊥
+  variable-elsewhere o n h x owner entry alive =
+      let (r, at, kept, other) = lies-home t.handles w.regions n h (ap (lies_in t.handles w.regions) (sym owner) ∙ alive.lies) in
+      let e : None ≡ Some h = same_some (sym entry ∙ other) in cc
 
 -- ---- one of several cells
 
@@ -165,6 +180,17 @@ module _ {t : Tables} {w : World} {s : StoreState} (related : Related t w s) {o 
 
   far : (j : ℕ) → p + 4 * j ≡ stands.address + 4 * (before k (kinds_of x.cells) + j)
   far j = let e : p ≡ stands.address + 4 * before k (kinds_of x.cells) = place in omega (arith, e)
+
+  -- its words lie in the store's range
+  pub cell-inside : (j : ℕ) → j < words_of_kind c.kind → (STORE_BASE ≤ p + 4 * j) × (p + 4 * j < STORE_BASE + 4 * (PAGE_WORDS * MOST_PAGES))
+  cell-inside j below =
+      let placed = related.sound.regions.placed h stands.address block stands.found in
+      let low : 536870912 ≤ stands.address = placed.low in
+      let high : stands.address + 4 * room h (block_size x.cells) ≤ 536870912 + 4 * (1024 * s.pages) = placed.high in
+      let most : s.pages ≤ 65536 = related.few in
+      let bound : before k (kinds_of x.cells) + words_of_kind c.kind ≤ room h (block_size x.cells) = inside in
+      let at : p + 4 * j ≡ stands.address + 4 * (before k (kinds_of x.cells) + j) = far j in
+      (omega (arith, low, at), omega (arith, high, most, bound, at, below))
 
   -- each of its words can be read
   pub cell-live : (j : ℕ) → j < words_of_kind c.kind → word_at s (p + 4 * j) ≡ Some (s.memory (p + 4 * j))
@@ -294,7 +320,7 @@ module _ {t : Tables} {w : World} {s : StoreState} (related : Related t w s) {o 
       ];
       variables = λ i n y there owner entry. elim (slice_get-set_cases w.objects o i x now y alive.at there) [
         | inl here ↦
-            subst (λ q. slice_get t.rows q ≡ Some Variable) (sym here.0)
+            subst (IsVariableAt t) (sym here.0)
             (related.variables o n x alive.at (sym (ap (λ (z : Object). z.owner) here.1) ∙ owner) entry)
         | inr other ↦ related.variables i n y other.1 owner entry
       ];

@@ -112,7 +112,7 @@ not-scope r out = elim (cases_Bool (is_scope r.sort r.is_open)) [
 
 pub scopes-same : {hs : List (Option ℕ)} {rs : List Region} {os : List Home} → Regions hs rs os → lexical_count os ≡ scopes rs
 scopes-same no_regions = refl
-scopes-same (passed {r} {regions = rs} out entry rest) =
+scopes-same (passed {r} {regions = rs} out entry empty rest) =
     scopes-same rest ∙ sym (cond-false (is_scope r.sort r.is_open) (suc (scopes rs)) (scopes rs) (not-scope r out))
 scopes-same (taken {r} {home = o} {regions = rs} {open_homes = os} m rest) =
     ap (λ b. if b then suc (lexical_count os) else lexical_count os) (scope-sort r.sort r.is_open o.sort m.sort m.kept)
@@ -153,9 +153,9 @@ down-newest : {hs : List (Option ℕ)} {rs : List Region} {os : List Home} → R
     → slice_get rs n ≡ Some r → is_scope r.sort r.is_open ≡ true → slice_get hs n ≡ Some (Some g) → IsNewest rs n → lexical_count os ≡ suc m
     → without handle_of os g ≡ down_to m os
 down-newest no_regions distinct n g m r there scope entry newest count = absurd (let e : None ≡ Some r = there in cc)
-down-newest (passed {r = q} out some rest) distinct zero g m r there scope entry newest count =
+down-newest (passed {r = q} out some empty rest) distinct zero g m r there scope entry newest count =
     absurd (not_true (not-scope q out) (ap (λ (z : Region). is_scope z.sort z.is_open) (same_some there) ∙ scope))
-down-newest (passed {r = q} {regions = rs} out some rest) distinct (suc n) g m r there scope entry newest count =
+down-newest (passed {r = q} {regions = rs} out some empty rest) distinct (suc n) g m r there scope entry newest count =
     down-newest rest distinct n g m r there scope entry (newest-rest q rs n newest) count
 down-newest (taken {handle = h} {r = q} {home = o} {regions = rs} {open_homes = os} found rest) distinct zero g m r there scope entry newest count =
     let same : o.handle ≡ g = found.named ∙ same_some (same_some entry) in

@@ -1,6 +1,6 @@
 -- Worked examples: a stale pointer and a new one may be one word. A block is freed, or its region is closed; the store gives out its address
 -- and its handle again; and the relation holds before and after, by the lemmas on each service.
-use Rattle.std.proofs.Common.{◌≡◌, ℕ, ◌+◌, ◌^◌, ◌<◌, ◌≤◌, length, true, false, List, [], ◌∷◌, None, Some, refl, ap, arith}
+use Rattle.std.proofs.Common.{◌≡◌, ℕ, ◌+◌, ◌^◌, ◌<◌, ◌≤◌, length, true, false, List, [], ◌∷◌, None, Some, refl, ap, arith, inr}
 use Rattle.std.specs.Prelude.{slice_get}
 use Rattle.cyc_types.specs.declared.typed.Kind.TheVariants as kinds
 use Rattle.cyc_store.specs.State.{StoreState, start, homes, sizes_in, block_at}
@@ -9,7 +9,7 @@ use Rattle.cyc_store.specs.declared.range.TheConstants.{HEAP, STORE_BASE, UNIQUE
 use Rattle.cyc_store.proofs.LookupLemmas.{not_both}
 use Rattle.cyc_store.proofs.ServiceLemmas.{start-sound}
 use Rattle.cyc_meaning.specs.Values.{Null, Thin, Handle, Cell, blank}
-use Rattle.cyc_meaning.specs.State.{Heap, Lexical, InRegion, Unique, World, Found, Closed, cell_at, new_region, opened_as, closed, first_classes, counted}
+use Rattle.cyc_meaning.specs.State.{Heap, Stack, Lexical, InRegion, Unique, World, Found, Closed, cell_at, new_region, opened_as, closed, variable, made, first_classes, counted}
 use Rattle.cyc_meaning.specs.Objects.{made_unique, freed}
 use Rattle.cyc_objects.specs.Tables.{Placed, Tables, with_row, with_handle}
 use Rattle.cyc_objects.specs.Words.{Points, Is}
@@ -17,6 +17,7 @@ use Rattle.cyc_objects.specs.Related.{lies_in, Related, taken, no_regions}
 use Rattle.cyc_objects.proofs.Pointers.{same-row}
 use Rattle.cyc_objects.proofs.Making.{allocated-unique}
 use Rattle.cyc_objects.proofs.Services.{freed-unique}
+use Rattle.cyc_objects.proofs.Variables.{declared, opened-variables}
 
 -- the heap alone, and three pages with nothing in them
 abbrev no_tables : Tables
@@ -119,7 +120,7 @@ points-to number row = record {
   address = STORE_BASE;
   kinds = kinds.Int ∷ [];
   row = row;
-  range = record { low = first; high = let fits : 536870916 < 4294967296 = omega arith in fits };
+  range = record { low = let some : 0 < 536870912 = omega arith in some; high = let fits : 536870916 < 4294967296 = omega arith in fits };
   inside = let one : 0 < 1 = omega arith in one;
   at = refl;
 }
@@ -191,3 +192,42 @@ not-behind points =
     let inside : 1 < length points.kinds = points.inside in
     let short : length points.kinds ≡ 1 = ap (λ l. length l) ks in
     omega (arith, inside, short)
+
+-- ---- a variable whose address is taken
+
+-- a block's region, and in it an int variable whose slot has this address
+abbrev in_block : World
+in_block = opened_as Stack empty
+
+abbrev block_tables : Tables
+block_tables = with_handle no_tables None
+
+abbrev declared_there : World
+declared_there = made in_block (variable 1 kinds.Int None)
+
+abbrev slot_address : ℕ
+slot_address = 0x7fffeff0
+
+abbrev with_variable : Tables
+with_variable = with_row block_tables (Placed slot_address (kinds.Int ∷ []))
+
+behind_store : 805306368 ≤ 2147479536
+behind_store = omega arith
+
+variable-related : Related with_variable declared_there new
+variable-related =
+    declared (opened-variables new-related Stack refl) 1 (new_region Stack) kinds.Int None (Placed slot_address (kinds.Int ∷ [])) refl refl refl (inr behind_store)
+
+variable-pointer : Is with_variable kinds.NonNull (Thin 0 0) (λ k. slot_address) 0
+variable-pointer = record {
+  address = slot_address;
+  kinds = kinds.Int ∷ [];
+  row = refl;
+  range = record { low = let some : 0 < 2147479536 = omega arith in some; high = let fits : 2147479540 < 4294967296 = omega arith in fits };
+  inside = let one : 0 < 1 = omega arith in one;
+  at = refl;
+}
+
+-- it is none of the store's objects
+variable-lies_nowhere : lies_in with_variable.handles declared_there.regions (InRegion 1) ≡ None
+variable-lies_nowhere = refl

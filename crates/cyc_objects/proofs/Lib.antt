@@ -11,6 +11,7 @@ pub mod Services
 pub mod Closing
 pub mod Scopes
 pub mod Start
+pub mod Inside
 -- what stands below
 pub mod NumberLemmas
 -- examples

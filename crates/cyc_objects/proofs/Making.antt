@@ -27,11 +27,11 @@ use Rattle.cyc_meaning.specs.Allocation.{blanks, blanks_of}
 use Rattle.cyc_meaning.specs.Effects.{pages_of}
 use Rattle.cyc_meaning.proofs.NestingLemmas.{region_found}
 use Rattle.cyc_meaning.proofs.ListLemmas.{slice_get-append, slice_get-end}
-use Rattle.cyc_objects.specs.Tables.{Row, Variable, Placed, Tables, with_row}
+use Rattle.cyc_objects.specs.Tables.{Row, Placed, Tables, with_row}
 use Rattle.cyc_objects.specs.Words.{words_of_kinds, words_from, InRange, Points, IsPartOf, AreBlank}
 use Rattle.cyc_objects.specs.Related.{has_home, Regions, lies_in, Alive, Stands, Within, Related}
 use Rattle.cyc_objects.proofs.NumberLemmas.{slice_get-below, slice_get-there, slice_get-last, slice_get-set_same}
-use Rattle.cyc_objects.proofs.Values.{words-kinds, Grows-row, AreCells-blank}
+use Rattle.cyc_objects.proofs.Values.{words-kinds, Grows-row, AreCells-blank, variable-grows}
 use Rattle.cyc_objects.proofs.Pointers.{same-row, first-points, whole-part}
 use Rattle.cyc_objects.proofs.RegionLemmas.{sort-some, entry-found, counted-same, HasHome, home-found, with_size, Regions-made, lies-from, lies-home, lies-set, same_entry}
 use Rattle.cyc_objects.proofs.Serving.{block-made_in, block-made_unique, words-stay, Stands-served}
@@ -41,7 +41,7 @@ use Rattle.cyc_objects.proofs.Serving.{block-made_in, block-made_unique, words-s
 -- a block that the store placed is in the range of addresses
 pub placed-range : (pages : ℕ) (b : Block) (ks : List Kind) → IsPlaced pages b → pages ≤ MOST_PAGES → words_of_kinds ks ≤ b.size → InRange b.address ks
 placed-range pages b ks placed few fits = record {
-  low = placed.low;
+  low = let low : 536870912 ≤ b.address = placed.low in omega (arith, low);
   high =
       let high : b.address + 4 * b.size ≤ 536870912 + 4 * (1024 * pages) = placed.high in
       let most : pages ≤ 65536 = few in
@@ -154,7 +154,7 @@ module _ {t : Tables} {w : World} {s r : StoreState} (related : Related t w s) (
           ∙ ap (λ (z : Object). kinds_of z.cells) (sym new.1)
     ];
     variables = λ o n y there owner entry. elim (slice_get-last w.objects x o y there) [
-      | inl old ↦ slice_get-append t.rows (Placed a (kinds_of x.cells) ∷ []) o Variable (related.variables o n y old owner entry)
+      | inl old ↦ variable-grows (Grows-row t (Placed a (kinds_of x.cells))) o (related.variables o n y old owner entry)
       | inr new ↦
           let (q, at, kept, other) = lies-home t.handles rs n g (ap (lies_in t.handles rs) (sym owner ∙ ap (λ (z : Object). z.owner) new.1) ∙ lies) in
           absurd (let e : None ≡ Some g = same_some (sym entry ∙ other) in cc)

@@ -24,13 +24,13 @@ module _ {t : Tables} where
   -- a pointer to a cell is not 0, whether its object is live or not
   pub not-null : {o k w : ℕ} → Points t o k w → w ≢ 0
   not-null p e =
-      let low : 536870912 ≤ p.address = p.range.low in
+      let low : 0 < p.address = p.range.low in
       let at : _ ≡ p.address + 4 * before _ p.kinds = p.at in
       omega (arith, low, at, e)
 
   pub part-not-null : {o start n w : ℕ} → IsPartOf t o start n w → w ≢ 0
   part-not-null p e =
-      let low : 536870912 ≤ p.address = p.range.low in
+      let low : 0 < p.address = p.range.low in
       let at : _ ≡ p.address + 4 * before _ p.kinds = p.at in
       omega (arith, low, at, e)
 

@@ -37,7 +37,7 @@ sort-some Dynamic some = refl
 
 pub counted-same : {hs : List (Option ℕ)} {rs : List Region} {os : List Home} → Regions hs rs os → counted rs ≡ sizes_in os
 counted-same no_regions = refl
-counted-same (passed {r} {regions = rs} out entry rest) = cond-false (has_home r) (r.blocks ∷ counted rs) (counted rs) out ∙ counted-same rest
+counted-same (passed {r} {regions = rs} out entry empty rest) = cond-false (has_home r) (r.blocks ∷ counted rs) (counted rs) out ∙ counted-same rest
 counted-same (taken {r} {home = o} {regions = rs} {open_homes = os} m rest) =
     cond-true (has_home r) (r.blocks ∷ counted rs) (counted rs) m.kept
     ∙ (ap (λ l. l ∷ counted rs) (sym m.sizes) ∙ ap (λ l. sizes_of o.blocks ∷ l) (counted-same rest))
@@ -46,18 +46,26 @@ counted-same (taken {r} {home = o} {regions = rs} {open_homes = os} m rest) =
 
 pub regions-length : {hs : List (Option ℕ)} {rs : List Region} {os : List Home} → Regions hs rs os → length hs ≡ length rs
 regions-length no_regions = refl
-regions-length (passed out entry rest) = ap suc (regions-length rest)
+regions-length (passed out entry empty rest) = ap suc (regions-length rest)
 regions-length (taken m rest) = ap suc (regions-length rest)
 
 -- a region of the store has or had a handle, and one of variables has none
 pub entry-found : {hs : List (Option ℕ)} {rs : List Region} {os : List Home} → Regions hs rs os → (n : ℕ) (r : Region) → slice_get rs n ≡ Some r
     → (h : Option ℕ) × (slice_get hs n ≡ Some h) × (is_some h ≡ is_some (sort_of r.sort))
 entry-found no_regions n r found = absurd (let e : None ≡ Some r = found in cc)
-entry-found (passed {handle = h} out entry rest) zero r found = (h, refl, entry ∙ ap (λ (q : Region). is_some (sort_of q.sort)) (same_some found))
-entry-found (passed out entry rest) (suc n) r found = entry-found rest n r found
+entry-found (passed {handle = h} out entry empty rest) zero r found = (h, refl, entry ∙ ap (λ (q : Region). is_some (sort_of q.sort)) (same_some found))
+entry-found (passed out entry empty rest) (suc n) r found = entry-found rest n r found
 entry-found (taken {handle = h} {r = q} m rest) zero r found =
     (Some h, refl, sym (ap (λ o. is_some o) m.sort) ∙ ap (λ (q : Region). is_some (sort_of q.sort)) (same_some found))
 entry-found (taken m rest) (suc n) r found = entry-found rest n r found
+
+-- no block was made in a region of variables
+pub variables-empty : {hs : List (Option ℕ)} {rs : List Region} {os : List Home} → Regions hs rs os → (n : ℕ) (r : Region) → slice_get hs n ≡ Some None → slice_get rs n ≡ Some r → r.blocks ≡ []
+variables-empty no_regions n r entry found = absurd (let e : None ≡ Some r = found in cc)
+variables-empty (passed out some empty rest) zero r entry found = sym (ap (λ (z : Region). z.blocks) (same_some found)) ∙ empty (same_some entry)
+variables-empty (passed out some empty rest) (suc n) r entry found = variables-empty rest n r entry found
+variables-empty (taken {handle = h} m rest) zero r entry found = absurd (let e : Some h ≡ None = same_some entry in cc)
+variables-empty (taken m rest) (suc n) r entry found = variables-empty rest n r entry found
 
 -- the store's region that a region of the source is
 pub record HasHome (hs : List (Option ℕ)) (os : List Home) (n : ℕ) (r : Region) : Type 0 where
@@ -70,8 +78,8 @@ pub record HasHome (hs : List (Option ℕ)) (os : List Home) (n : ℕ) (r : Regi
 pub home-found : {hs : List (Option ℕ)} {rs : List Region} {os : List Home} → Regions hs rs os → AreDistinct handle_of os → (n : ℕ) (r : Region)
     → slice_get rs n ≡ Some r → has_home r ≡ true → HasHome hs os n r
 home-found no_regions distinct n r found kept = absurd (let e : None ≡ Some r = found in cc)
-home-found (passed {r = q} out entry rest) distinct zero r found kept = absurd (not_true (sym (ap has_home (same_some found)) ∙ out) kept)
-home-found (passed out entry rest) distinct (suc n) r found kept =
+home-found (passed {r = q} out entry empty rest) distinct zero r found kept = absurd (not_true (sym (ap has_home (same_some found)) ∙ out) kept)
+home-found (passed out entry empty rest) distinct (suc n) r found kept =
     let is : HasHome _ _ n r = home-found rest distinct n r found kept in
     record { handle = is.handle; home = is.home; entry = is.entry; there = is.there; matches = is.matches }
 home-found (taken {handle = h} {r = q} {home = o} {open_homes = os} m rest) distinct zero r found kept = record {
@@ -106,9 +114,9 @@ pub handle-names : {hs : List (Option ℕ)} {rs : List Region} {os : List Home} 
     → slice_get rs n ≡ Some q → slice_get rs i ≡ Some r → has_home q ≡ true → has_home r ≡ true
     → slice_get hs n ≡ Some (Some g) → slice_get hs i ≡ Some (Some g) → n ≡ i
 handle-names no_regions distinct n i g q r at there first second e f = absurd (let k : None ≡ Some q = at in cc)
-handle-names (passed out entry rest) distinct zero i g q r at there first second e f = absurd (not_true (sym (ap has_home (same_some at)) ∙ out) first)
-handle-names (passed out entry rest) distinct (suc n) zero g q r at there first second e f = absurd (not_true (sym (ap has_home (same_some there)) ∙ out) second)
-handle-names (passed out entry rest) distinct (suc n) (suc i) g q r at there first second e f =
+handle-names (passed out entry empty rest) distinct zero i g q r at there first second e f = absurd (not_true (sym (ap has_home (same_some at)) ∙ out) first)
+handle-names (passed out entry empty rest) distinct (suc n) zero g q r at there first second e f = absurd (not_true (sym (ap has_home (same_some there)) ∙ out) second)
+handle-names (passed out entry empty rest) distinct (suc n) (suc i) g q r at there first second e f =
     ap suc (handle-names rest distinct n i g q r at there first second e f)
 handle-names (taken m rest) distinct zero zero g q r at there first second e f = refl
 handle-names (taken {home = o} m rest) distinct zero (suc i) g q r at there first second e f =
@@ -124,15 +132,15 @@ pub Regions-opened : {hs : List (Option ℕ)} {rs : List Region} {os : List Home
     → Regions (hs ++ Some h ∷ []) (rs ++ new_region sort ∷ []) (os ++ empty_home h is ∷ [])
 Regions-opened h sort is same no_regions =
     taken (record { kept = sort-some sort (ap (λ o. is_some o) same); named = refl; sort = same; sizes = refl }) no_regions
-Regions-opened h sort is same (passed out entry rest) = passed out entry (Regions-opened h sort is same rest)
+Regions-opened h sort is same (passed out entry empty rest) = passed out entry empty (Regions-opened h sort is same rest)
 Regions-opened h sort is same (taken m rest) = taken m (Regions-opened h sort is same rest)
 
 -- a region of variables
 pub Regions-variables : {hs : List (Option ℕ)} {rs : List Region} {os : List Home} (sort : Sort) → sort_of sort ≡ None → Regions hs rs os
     → Regions (hs ++ None ∷ []) (rs ++ new_region sort ∷ []) os
 Regions-variables sort none no_regions =
-    passed (sort-none sort true (ap (λ o. is_some o) none)) (sym (ap (λ o. is_some o) none)) no_regions
-Regions-variables sort none (passed out entry rest) = passed out entry (Regions-variables sort none rest)
+    passed (sort-none sort true (ap (λ o. is_some o) none)) (sym (ap (λ o. is_some o) none)) (λ is. refl) no_regions
+Regions-variables sort none (passed out entry empty rest) = passed out entry empty (Regions-variables sort none rest)
 Regions-variables sort none (taken m rest) = taken m (Regions-variables sort none rest)
 
 -- ---- a region that closes
@@ -149,11 +157,11 @@ without-none key (x ∷ xs) n none =
 pub Regions-shut : {hs : List (Option ℕ)} {rs : List Region} {os : List Home} → Regions hs rs os → (n : ℕ) (r : Region)
     → slice_get rs n ≡ Some r → slice_get hs n ≡ Some None → Regions hs (set rs n (shut r)) os
 Regions-shut no_regions n r found entry = absurd (let e : None ≡ Some r = found in cc)
-Regions-shut (passed {handle = h} {r = q} out some rest) zero r found entry =
+Regions-shut (passed {handle = h} {r = q} out some empty rest) zero r found entry =
     let none : is_some (sort_of r.sort) ≡ false =
     sym (ap (λ (z : Region). is_some (sort_of z.sort)) (same_some found)) ∙ (sym some ∙ ap (λ o. is_some o) (same_some entry)) in
-    passed (sort-none r.sort false none) (some ∙ ap (λ (z : Region). is_some (sort_of z.sort)) (same_some found)) rest
-Regions-shut (passed out some rest) (suc n) r found entry = passed out some (Regions-shut rest n r found entry)
+    passed (sort-none r.sort false none) (some ∙ ap (λ (z : Region). is_some (sort_of z.sort)) (same_some found)) (λ is. sym (ap (λ (z : Region). z.blocks) (same_some found)) ∙ empty is) rest
+Regions-shut (passed out some empty rest) (suc n) r found entry = passed out some empty (Regions-shut rest n r found entry)
 Regions-shut (taken {handle = h} m rest) zero r found entry = absurd (let e : Some h ≡ None = same_some entry in cc)
 Regions-shut (taken m rest) (suc n) r found entry = taken m (Regions-shut rest n r found entry)
 
@@ -161,14 +169,14 @@ pub Regions-closed : {hs : List (Option ℕ)} {rs : List Region} {os : List Home
     → slice_get rs n ≡ Some r → has_home r ≡ true → has_home (shut r) ≡ false → slice_get hs n ≡ Some (Some g)
     → Regions hs (set rs n (shut r)) (without handle_of os g)
 Regions-closed no_regions distinct n g r found kept ends entry = absurd (let e : None ≡ Some r = found in cc)
-Regions-closed (passed out some rest) distinct zero g r found kept ends entry = absurd (not_true (sym (ap has_home (same_some found)) ∙ out) kept)
-Regions-closed (passed out some rest) distinct (suc n) g r found kept ends entry = passed out some (Regions-closed rest distinct n g r found kept ends entry)
+Regions-closed (passed out some empty rest) distinct zero g r found kept ends entry = absurd (not_true (sym (ap has_home (same_some found)) ∙ out) kept)
+Regions-closed (passed out some empty rest) distinct (suc n) g r found kept ends entry = passed out some empty (Regions-closed rest distinct n g r found kept ends entry)
 Regions-closed (taken {handle = h} {r = q} {home = o} {handles = hs} {regions = rs} {open_homes = os} m rest) distinct zero g r found kept ends entry =
     let same : o.handle ≡ g = m.named ∙ same_some (same_some entry) in
     subst (Regions (Some h ∷ hs) (shut r ∷ rs))
     (sym (when_equal o.handle g (without handle_of os g) (o ∷ without handle_of os g) same
     ∙ without-none handle_of os g (subst (λ n. lookup handle_of os n ≡ None) same distinct.0)))
-    (passed ends (sym (ap (λ o. is_some o) m.sort) ∙ ap (λ (z : Region). is_some (sort_of z.sort)) (same_some found)) rest)
+    (passed ends (sym (ap (λ o. is_some o) m.sort) ∙ ap (λ (z : Region). is_some (sort_of z.sort)) (same_some found)) (λ is. absurd (let e : Some h ≡ None = is in cc)) rest)
 Regions-closed (taken {handle = h} {r = q} {home = o} {handles = hs} {regions = rs} {open_homes = os} m rest) distinct (suc n) g r found kept ends entry =
     subst (Regions (Some h ∷ hs) (q ∷ set rs n (shut r)))
     (sym (when_other o.handle g (without handle_of os g) (o ∷ without handle_of os g) (first-other o rest distinct n g r found kept entry)))
@@ -183,8 +191,8 @@ pub Regions-made : {hs : List (Option ℕ)} {rs : List Region} {os : List Home} 
     → slice_get rs n ≡ Some r → has_home r ≡ true → slice_get hs n ≡ Some (Some g)
     → Regions hs (set rs n (with_size b.size r)) (changed handle_of (with_block b) os g)
 Regions-made no_regions distinct n g r b found kept entry = absurd (let e : None ≡ Some r = found in cc)
-Regions-made (passed out some rest) distinct zero g r b found kept entry = absurd (not_true (sym (ap has_home (same_some found)) ∙ out) kept)
-Regions-made (passed out some rest) distinct (suc n) g r b found kept entry = passed out some (Regions-made rest distinct n g r b found kept entry)
+Regions-made (passed out some empty rest) distinct zero g r b found kept entry = absurd (not_true (sym (ap has_home (same_some found)) ∙ out) kept)
+Regions-made (passed out some empty rest) distinct (suc n) g r b found kept entry = passed out some empty (Regions-made rest distinct n g r b found kept entry)
 Regions-made (taken {handle = h} {r = q} {home = o} {handles = hs} {regions = rs} {open_homes = os} m rest) distinct zero g r b found kept entry =
     let same : o.handle ≡ g = m.named ∙ same_some (same_some entry) in
     let is : Matches h r o = subst (λ (z : Region). Matches h z o) (same_some found) m in

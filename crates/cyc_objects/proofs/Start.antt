@@ -9,13 +9,12 @@ use Rattle.cyc_store.proofs.LookupLemmas.{not_both, same_some}
 use Rattle.cyc_store.proofs.ServiceLemmas.{start-sound}
 use Rattle.cyc_meaning.specs.State.{Object, InRegion, globals_number, global_object, first_regions, first_world}
 use Rattle.cyc_meaning.specs.Objects.{live_in}
-use Rattle.cyc_objects.specs.Tables.{Variable, first_tables}
-use Rattle.cyc_objects.specs.Related.{lies_in, Alive, Within, Related, passed, taken, no_regions}
+use Rattle.cyc_objects.specs.Tables.{Row, Variable, first_tables, without_addresses}
+use Rattle.cyc_objects.specs.Related.{lies_in, IsOfVariable, HasKinds, AreGlobals, Alive, Within, Related, passed, taken, no_regions}
 use Rattle.cyc_objects.proofs.NumberLemmas.{slice_get-map}
-use Rattle.cyc_objects.proofs.Cells.{not-placed}
 
 -- what is found among images is the image of what is found
-slice_get-image : {A B : Type 0} (f : A → B) (xs : List A) (i : ℕ) (y : B) → slice_get (map f xs) i ≡ Some y → (x : A) × (slice_get xs i ≡ Some x) × (y ≡ f x)
+pub slice_get-image : {A B : Type 0} (f : A → B) (xs : List A) (i : ℕ) (y : B) → slice_get (map f xs) i ≡ Some y → (x : A) × (slice_get xs i ≡ Some x) × (y ≡ f x)
 slice_get-image f [] i y found = absurd (let e : None ≡ Some y = found in cc)
 slice_get-image f (x ∷ xs) zero y found = (x, refl, sym (same_some found))
 slice_get-image f (x ∷ xs) (suc i) y found = slice_get-image f xs i y found
@@ -24,31 +23,50 @@ none-unique : (class : ℕ) (globals : List GlobalVariable) → live_in class (m
 none-unique class [] = refl
 none-unique class (g ∷ globals) = none-unique class globals
 
-module _ (program : Program) (input : List ℕ) (pages : ℕ) (memory : Memory) where
+-- where the address of none is taken
+pub none-placed : (program : Program) → AreGlobals program (without_addresses program)
+none-placed program = record {
+  many = length-map program.globals (λ (g : GlobalVariable). Variable);
+  each = λ o g there. (Variable, slice_get-map (λ (g : GlobalVariable). Variable) program.globals o g there, tt, tt);
+}
+
+module _ (program : Program) (globals : List Row) (are : AreGlobals program globals) (input : List ℕ) (pages : ℕ) (memory : Memory) where
   -- each object is a global, and so a variable
-  first-row : (o : ℕ) (x : Object) → slice_get (map global_object program.globals) o ≡ Some x
-      → (x.owner ≡ InRegion globals_number) × (slice_get (first_tables program).rows o ≡ Some Variable)
+  record IsGlobal (o : ℕ) (x : Object) : Type 0 where
+    owner : x.owner ≡ InRegion globals_number
+    row : Row
+    at : slice_get globals o ≡ Some row
+    fits : HasKinds x.cells row
+    outside : IsOfVariable row
+
+  first-row : (o : ℕ) (x : Object) → slice_get (map global_object program.globals) o ≡ Some x → IsGlobal o x
   first-row o x at =
       let (g, there, same) = slice_get-image global_object program.globals o x at in
-      (ap (λ (z : Object). z.owner) same, slice_get-map (λ (g : GlobalVariable). Variable) program.globals o g there)
+      let (row, found, fits, outside) = are.each o g there in
+      record {
+        owner = ap (λ (z : Object). z.owner) same;
+        row = row;
+        at = found;
+        fits = subst (λ (z : Object). HasKinds z.cells row) (sym same) fits;
+        outside = outside;
+      }
 
-  none-alive : (o h : ℕ) (x : Object) → Alive (first_tables program) (first_world program input) o h x → ⊥
+  none-alive : (o h : ℕ) (x : Object) → Alive (first_tables globals) (first_world program input) o h x → ⊥
   none-alive o h x alive =
-      let owner : x.owner ≡ InRegion globals_number = (first-row o x alive.at).0 in
-      not_both (ap (lies_in (first_tables program).handles first_regions) owner) alive.lies
+      not_both (ap (lies_in (first_tables globals).handles first_regions) (first-row o x alive.at).owner) alive.lies
 
-  pub start-related : AreWords memory → 1 ≤ pages → pages ≤ MOST_PAGES → Related (first_tables program) (first_world program input) (start pages memory)
+  pub start-related : AreWords memory → 1 ≤ pages → pages ≤ MOST_PAGES → Related (first_tables globals) (first_world program input) (start pages memory)
   start-related words some few = record {
     sound = start-sound pages memory words some;
     few = few;
     heap = refl;
-    rows = length-map program.globals (λ (g : GlobalVariable). Variable) ∙ sym (length-map program.globals global_object);
-    regions = taken (record { kept = refl; named = refl; sort = refl; sizes = refl }) (passed refl refl no_regions);
+    rows = are.many ∙ sym (length-map program.globals global_object);
+    regions = taken (record { kept = refl; named = refl; sort = refl; sizes = refl }) (passed refl refl (λ is. refl) no_regions);
     classes = refl;
     uniques = λ class. sym (none-unique class program.globals);
-    owned = λ o x at. subst (Within 2) (sym (first-row o x at).0) (omega arith);
-    shapes = λ o a ks x at row. absurd (not-placed (first-row o x at).1 row);
-    variables = λ o n x at owner entry. (first-row o x at).1;
+    owned = λ o x at. subst (Within 2) (sym (first-row o x at).owner) (omega arith);
+    shapes = λ o a ks x at row. let g = first-row o x at in subst (HasKinds x.cells) (same_some (sym g.at ∙ row)) g.fits;
+    variables = λ o n x at owner entry. let g = first-row o x at in (g.row, g.at, g.outside);
     objects = λ o h x alive. absurd (none-alive o h x alive);
     alone = λ o i h g a x y ks ls first second row also. absurd (none-alive o h x first);
   }

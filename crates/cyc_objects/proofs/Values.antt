@@ -7,6 +7,7 @@ use Rattle.cyc_store.proofs.LookupLemmas.{same_some}
 use Rattle.cyc_meaning.specs.Values.{Value, Int, Null, Thin, Fat, Handle, Key, words_of_kind, Cell, blank, kinds_of, words_of_cells}
 use Rattle.cyc_meaning.proofs.ListLemmas.{slice_get-append}
 use Rattle.cyc_objects.specs.Tables.{Row, Placed, Tables, with_row, with_handle, Grows}
+use Rattle.cyc_objects.specs.Related.{IsVariableAt}
 use Rattle.cyc_objects.specs.Words.{words_of_kinds, before, Points, IsPartOf, Is, IsContent, AreCells, AreBlank}
 
 -- ---- tables that grow
@@ -27,6 +28,9 @@ Grows-later first second = record {
 }
 
 module _ {t u : Tables} (grows : Grows t u) where
+  pub variable-grows : (o : ℕ) → IsVariableAt t o → IsVariableAt u o
+  variable-grows o (row, at, outside) = (row, grows.rows o row at, outside)
+
   pub Points-grows : {o k w : ℕ} → Points t o k w → Points u o k w
   Points-grows {o} p = record {
     address = p.address;

@@ -9,14 +9,14 @@ use Rattle.cyc_store.proofs.LookupLemmas.{same_some}
 use Rattle.cyc_meaning.specs.Values.{Value, Cell, kinds_of, block_size}
 use Rattle.cyc_meaning.specs.State.{Sort, Heap, Globals, Stack, Lexical, Dynamic, Region, Owner, InRegion, Unique, Object, World, heap_number, has_pages, new_region, opened_as, closed, variable, made, written}
 use Rattle.cyc_meaning.proofs.ListLemmas.{slice_get-append, slice_get-end, map-set}
-use Rattle.cyc_objects.specs.Tables.{Variable, Placed, Tables, with_row, with_handle}
+use Rattle.cyc_objects.specs.Tables.{Row, Variable, Placed, Tables, with_row, with_handle}
 use Rattle.cyc_objects.specs.Words.{words_of_kinds}
-use Rattle.cyc_objects.specs.Related.{sort_of, lies_in, Alive, Within, Related}
+use Rattle.cyc_objects.specs.Related.{sort_of, lies_in, Alive, IsOfVariable, IsVariableAt, HasKinds, Within, Related}
 use Rattle.cyc_objects.proofs.NumberLemmas.{slice_get-below, slice_get-there, slice_get-last, slice_get-set_cases}
-use Rattle.cyc_objects.proofs.Values.{words-kinds, Grows-same, Grows-row, Grows-handle}
+use Rattle.cyc_objects.proofs.Values.{words-kinds, Grows-same, Grows-row, Grows-handle, variable-grows}
 use Rattle.cyc_objects.proofs.RegionLemmas.{regions-length, Regions-variables, shut, Regions-shut, lies-home, lies-set, lies-last}
 use Rattle.cyc_objects.proofs.Serving.{words-same, objects-inherited, alone-inherited}
-use Rattle.cyc_objects.proofs.Cells.{not-placed, variable-alone, live_in-set}
+use Rattle.cyc_objects.proofs.Cells.{variable-alone, variable-elsewhere, live_in-set}
 use Rattle.cyc_objects.proofs.Making.{live-last}
 
 pub shut-home : (sort : Sort) (flag : Bool) → has_pages sort false ≡ true → has_pages sort flag ≡ true
@@ -47,13 +47,13 @@ entry-older {t} {w} related e o n y at owner entry =
 module _ {t : Tables} {w : World} {s : StoreState} (related : Related t w s) where
   -- ---- a variable is declared
 
-  pub declared : (n : ℕ) (r : Region) (kind : Kind) (content : Option Value) → slice_get w.regions n ≡ Some r → slice_get t.handles n ≡ Some None
-      → Related (with_row t Variable) (made w (variable n kind content)) s
-  declared n r kind content there entry = record {
+  pub declared : (n : ℕ) (r : Region) (kind : Kind) (content : Option Value) (row : Row) → slice_get w.regions n ≡ Some r → slice_get t.handles n ≡ Some None
+      → HasKinds (variable n kind content).cells row → IsOfVariable row → Related (with_row t row) (made w (variable n kind content)) s
+  declared n r kind content row there entry fits outside = record {
     sound = related.sound;
     few = related.few;
     heap = related.heap;
-    rows = length_push t.rows Variable ∙ (ap (λ n. n + 1) related.rows ∙ sym (length_push w.objects (variable n kind content)));
+    rows = length_push t.rows row ∙ (ap (λ n. n + 1) related.rows ∙ sym (length_push w.objects (variable n kind content)));
     regions = related.regions;
     classes = related.classes;
     uniques = λ class. related.uniques class ∙ sym (live-last class w.objects (variable n kind content));
@@ -61,24 +61,26 @@ module _ {t : Tables} {w : World} {s : StoreState} (related : Related t w s) whe
       | inl old ↦ related.owned o y old
       | inr new ↦ subst (λ (z : Object). Within (length w.regions) z.owner) (sym new.1) (slice_get-below w.regions n r there)
     ];
-    shapes = λ o a ks y at row. elim (slice_get-last w.objects (variable n kind content) o y at) [
+    shapes = λ o a ks y at placed. elim (slice_get-last w.objects (variable n kind content) o y at) [
       | inl old ↦
           let (q, is) = slice_get-there t.rows o (subst (λ m. o < m) (sym related.rows) (slice_get-below w.objects o y old)) in
-          related.shapes o a ks y old (is ∙ (sym (slice_get-append t.rows (Variable ∷ []) o q is) ∙ row))
-      | inr new ↦ absurd (not-placed (row-new o new.0) row)
+          related.shapes o a ks y old (is ∙ (sym (slice_get-append t.rows (row ∷ []) o q is) ∙ placed))
+      | inr new ↦
+          subst (HasKinds (variable n kind content).cells) (same_some (sym (row-new o new.0) ∙ placed)) fits
+          ∙ ap (λ (z : Object). kinds_of z.cells) (sym new.1)
     ];
     variables = λ o m y at owner is. elim (slice_get-last w.objects (variable n kind content) o y at) [
-      | inl old ↦ slice_get-append t.rows (Variable ∷ []) o Variable (related.variables o m y old owner is)
-      | inr new ↦ row-new o new.0
+      | inl old ↦ variable-grows (Grows-row t row) o (related.variables o m y old owner is)
+      | inr new ↦ (row, row-new o new.0, outside)
     ];
-    objects = objects-inherited related (Grows-row t Variable) (words-same s) before (λ o h a ks y b alive row at. at);
-    alone = alone-inherited related (Grows-row t Variable) (words-same s) before (λ o h a ks y b alive row at. at);
+    objects = objects-inherited related (Grows-row t row) (words-same s) before (λ o h a ks y b alive placed at. at);
+    alone = alone-inherited related (Grows-row t row) (words-same s) before (λ o h a ks y b alive placed at. at);
   }
     where
-      row-new : (o : ℕ) → o ≡ length w.objects → slice_get (t.rows ++ Variable ∷ []) o ≡ Some Variable
-      row-new o is = subst (λ m. slice_get (t.rows ++ Variable ∷ []) m ≡ Some Variable) (related.rows ∙ sym is) (slice_get-end t.rows Variable)
+      row-new : (o : ℕ) → o ≡ length w.objects → slice_get (t.rows ++ row ∷ []) o ≡ Some row
+      row-new o is = subst (λ m. slice_get (t.rows ++ row ∷ []) m ≡ Some row) (related.rows ∙ sym is) (slice_get-end t.rows row)
 
-      before : (o h : ℕ) (y : Object) → Alive (with_row t Variable) (made w (variable n kind content)) o h y → Alive t w o h y
+      before : (o h : ℕ) (y : Object) → Alive (with_row t row) (made w (variable n kind content)) o h y → Alive t w o h y
       before o h y alive = elim (slice_get-last w.objects (variable n kind content) o y alive.at) [
         | inl old ↦ record { at = old; lies = alive.lies }
         | inr new ↦
@@ -88,9 +90,10 @@ module _ {t : Tables} {w : World} {s : StoreState} (related : Related t w s) whe
 
   -- ---- a variable is assigned
 
-  pub assigned : (o k : ℕ) (x : Object) (c : Cell) (v : Value) → slice_get w.objects o ≡ Some x → slice_get x.cells k ≡ Some c
-      → slice_get t.rows o ≡ Some Variable → Related t (written w o k (record { object = x; cell = c }) v) s
-  assigned o k x c v there at row = record {
+  -- (any object is assigned so that is not one of the store's)
+  pub assigned-away : (o k : ℕ) (x : Object) (c : Cell) (v : Value) → slice_get w.objects o ≡ Some x → slice_get x.cells k ≡ Some c
+      → ((h : ℕ) → Alive t w o h x → ⊥) → Related t (written w o k (record { object = x; cell = c }) v) s
+  assigned-away o k x c v there at away = record {
     sound = related.sound;
     few = related.few;
     heap = related.heap;
@@ -103,29 +106,40 @@ module _ {t : Tables} {w : World} {s : StoreState} (related : Related t w s) whe
       | inr other ↦ related.owned i y other.1
     ];
     shapes = λ i a ks y is placed. elim (slice_get-set_cases w.objects o i x (record x { cells = set x.cells k (record c { content = Some v }) }) y there is) [
-      | inl here ↦ absurd (not-placed row (subst (λ m. slice_get t.rows m ≡ Some (Placed a ks)) here.0 placed))
+      | inl here ↦
+          related.shapes o a ks x there (subst (λ m. slice_get t.rows m ≡ Some (Placed a ks)) here.0 placed)
+          ∙ (sym kinds ∙ ap (λ (z : Object). kinds_of z.cells) (sym here.1))
       | inr other ↦ related.shapes i a ks y other.1 placed
     ];
     variables = λ i n y is owner entry. elim (slice_get-set_cases w.objects o i x (record x { cells = set x.cells k (record c { content = Some v }) }) y there is) [
-      | inl here ↦ subst (λ m. slice_get t.rows m ≡ Some Variable) (sym here.0) row
+      | inl here ↦ subst (IsVariableAt t) (sym here.0) (related.variables o n x there (sym (ap (λ (z : Object). z.owner) here.1) ∙ owner) entry)
       | inr other ↦ related.variables i n y other.1 owner entry
     ];
     objects = objects-inherited related (Grows-same t) (words-same s) before (λ i h a ks y b alive placed found. found);
     alone = alone-inherited related (Grows-same t) (words-same s) before (λ i h a ks y b alive placed found. found);
   }
     where
+      kinds : kinds_of (set x.cells k (record c { content = Some v })) ≡ kinds_of x.cells
+      kinds = map-set (λ (z : Cell). z.kind) x.cells k c (record c { content = Some v }) at refl
+
       size : block_size (set x.cells k (record c { content = Some v })) ≡ block_size x.cells
       size =
-          let kinds : kinds_of (set x.cells k (record c { content = Some v })) ≡ kinds_of x.cells =
-          map-set (λ (z : Cell). z.kind) x.cells k c (record c { content = Some v }) at refl in
           ap (λ n. max 1 n) (sym (words-kinds (set x.cells k (record c { content = Some v }))) ∙ (ap words_of_kinds kinds ∙ words-kinds x.cells))
 
       before : (i h : ℕ) (y : Object) → Alive t (written w o k (record { object = x; cell = c }) v) i h y → Alive t w i h y
       before i h y alive = elim (slice_get-set_cases w.objects o i x (record x { cells = set x.cells k (record c { content = Some v }) }) y there alive.at) [
-        | inl here ↦ absurd (variable-alone related o h x row
-            (record { at = there; lies = sym (ap (λ (z : Object). lies_in t.handles w.regions z.owner) here.1) ∙ alive.lies }))
+        | inl here ↦ absurd (away h (record { at = there; lies = sym (ap (λ (z : Object). lies_in t.handles w.regions z.owner) here.1) ∙ alive.lies }))
         | inr other ↦ record { at = other.1; lies = alive.lies }
       ]
+
+  -- a variable whose address is never taken, and one in a region of variables
+  pub assigned : (o k : ℕ) (x : Object) (c : Cell) (v : Value) → slice_get w.objects o ≡ Some x → slice_get x.cells k ≡ Some c
+      → slice_get t.rows o ≡ Some Variable → Related t (written w o k (record { object = x; cell = c }) v) s
+  assigned o k x c v there at row = assigned-away o k x c v there at (λ h alive. variable-alone related o h x row alive)
+
+  pub assigned-variable : (o k n : ℕ) (x : Object) (c : Cell) (v : Value) → slice_get w.objects o ≡ Some x → slice_get x.cells k ≡ Some c
+      → x.owner ≡ InRegion n → slice_get t.handles n ≡ Some None → Related t (written w o k (record { object = x; cell = c }) v) s
+  assigned-variable o k n x c v there at owner entry = assigned-away o k x c v there at (λ h alive. variable-elsewhere related o n h x owner entry alive)
 
   -- ---- a region of variables opens and closes
 

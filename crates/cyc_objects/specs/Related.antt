@@ -1,18 +1,19 @@
 -- What the source's world and a store have in common while the one is carried out on the other. The store's open regions are the source's
 -- in their order, block for block; live objects stand in live blocks; and nothing is said of what is closed or freed, so that its
 -- addresses and handles may be given out again. (The regions are those of Grossman et al. 2002; the form is this project's own choice.)
-use Rattle.std.specs.Prelude.{◌≡◌, ℕ, suc, ◌<◌, ◌≤◌, Bool, true, false, if◌then◌else◌, List, [], ◌∷◌, length, Option, Some, None, is_some, slice_get}
+use Rattle.std.specs.Prelude.{◌≡◌, ◌⊎◌, ℕ, suc, ◌+◌, ◌*◌, ◌<◌, ◌≤◌, Bool, true, false, if◌then◌else◌, List, [], ◌∷◌, length, Option, Some, None, is_some, slice_get}
 use Rattle.cyc_types.specs.declared.typed.Kind.{Kind}
+use Rattle.cyc_types.specs.TypedTrees.{GlobalVariable, Program}
 use Rattle.cyc_store.specs.State as stores
 use Rattle.cyc_store.specs.State.{Memory, Home, sizes_of, StoreState, homes, block_at, down_to, room}
 use Rattle.cyc_store.specs.Soundness.{IsSound}
-use Rattle.cyc_store.specs.declared.range.TheConstants.{MOST_PAGES, HEAP, UNIQUE}
+use Rattle.cyc_store.specs.declared.range.TheConstants.{STORE_BASE, PAGE_WORDS, MOST_PAGES, HEAP, UNIQUE}
 use Rattle.cyc_meaning.specs.Values.{Cell, kinds_of, block_size}
-use Rattle.cyc_meaning.specs.State.{Sort, Heap, Globals, Stack, Lexical, Dynamic, Region, Owner, InRegion, Unique, Object, World, heap_number, has_pages}
+use Rattle.cyc_meaning.specs.State.{Sort, Heap, Globals, Stack, Lexical, Dynamic, Region, Owner, InRegion, Unique, Object, World, heap_number, has_pages, is_live, global_object}
 use Rattle.cyc_meaning.specs.Nesting.{is_scope}
 use Rattle.cyc_meaning.specs.Objects.{live_in}
-use Rattle.cyc_objects.specs.Tables.{Variable, Placed, Tables}
-use Rattle.cyc_objects.specs.Words.{words_of_kinds, words_from, AreCells}
+use Rattle.cyc_objects.specs.Tables.{Row, Variable, Placed, Tables}
+use Rattle.cyc_objects.specs.Words.{words_of_kinds, words_from, Points, AreCells}
 
 -- ---- regions
 
@@ -36,11 +37,11 @@ pub record Matches (handle : ℕ) (r : Region) (home : Home) : Type 0 where
   pub sizes : sizes_of home.blocks ≡ r.blocks
 
 -- The store has the source's regions in their order, but for those of variables and those that are closed. Each that it has or had has
--- its handle in the table.
+-- its handle in the table. No block is made in one of variables, which has none.
 pub data Regions : List (Option ℕ) → List Region → List Home → Type 0 where
   no_regions : Regions [] [] []
   passed : {handle : Option ℕ} {r : Region} {handles : List (Option ℕ)} {regions : List Region} {open_homes : List Home}
-      → has_home r ≡ false → is_some handle ≡ is_some (sort_of r.sort) → Regions handles regions open_homes
+      → has_home r ≡ false → is_some handle ≡ is_some (sort_of r.sort) → (handle ≡ None → r.blocks ≡ []) → Regions handles regions open_homes
       → Regions (handle ∷ handles) (r ∷ regions) open_homes
   taken : {handle : ℕ} {r : Region} {home : Home} {handles : List (Option ℕ)} {regions : List Region} {open_homes : List Home}
       → Matches handle r home → Regions handles regions open_homes
@@ -76,6 +77,43 @@ pub record Stands (t : Tables) (rs : List Home) (memory : Memory) (handle number
   pub enough : words_of_kinds (kinds_of cells) ≤ room handle (block_size cells)
   pub holds : AreCells t cells (words_from memory address) 0
 
+-- ---- variables
+
+-- A variable whose address is taken stands outside the store's range: a global before it, any other behind it.
+abbrev pub IsOutside : (address : ℕ) → List Kind → Type 0
+IsOutside address ks = (address + 4 * words_of_kinds ks ≤ STORE_BASE) ⊎ (STORE_BASE + 4 * (PAGE_WORDS * MOST_PAGES) ≤ address)
+
+abbrev pub IsOfVariable : Row → Type 0
+IsOfVariable Variable = Unit {0}
+IsOfVariable (Placed address kinds) = IsOutside address kinds
+
+-- the row of this number is that of a variable
+abbrev pub IsVariableAt : Tables → (number : ℕ) → Type 0
+IsVariableAt t number = (row : Row) × (slice_get t.rows number ≡ Some row) × IsOfVariable row
+
+-- cells that stand there have the kinds that the row says
+abbrev pub HasKinds : List Cell → Row → Type 0
+HasKinds cells Variable = Unit {0}
+HasKinds cells (Placed address kinds) = kinds ≡ kinds_of cells
+
+-- rows for the globals, each of a variable
+pub record AreGlobals (program : Program) (rows : List Row) : Type 0 where
+  pub many : length rows ≡ length program.globals
+  pub each : (o : ℕ) (g : GlobalVariable) → slice_get program.globals o ≡ Some g → (row : Row) × (slice_get rows o ≡ Some row) × HasKinds (global_object g).cells row × IsOfVariable row
+
+-- the object of this number is a variable, and it is live
+pub record LiveVariable (t : Tables) (w : World) (number : ℕ) (x : Object) : Type 0 where
+  pub at : slice_get w.objects number ≡ Some x
+  pub region : ℕ
+  pub owner : x.owner ≡ InRegion region
+  pub entry : slice_get t.handles region ≡ Some None
+  pub live : is_live w x.owner ≡ true
+
+-- No word is of two live variables. Who places them sees to it.
+abbrev pub AreApart : Tables → World → Type 0
+AreApart t w = (number other offset beside word : ℕ) (x y : Object) → LiveVariable t w number x → LiveVariable t w other y
+    → Points t number offset word → Points t other beside word → number ≡ other
+
 -- ---- the world and the store
 
 -- what a region owns, a region owns that was opened
@@ -98,7 +136,7 @@ pub record Related (t : Tables) (w : World) (s : StoreState) : Type 0 where
       → slice_get t.rows number ≡ Some (Placed address kinds) → kinds ≡ kinds_of x.cells
   -- what is in a region of variables is a variable
   pub variables : (number region : ℕ) (x : Object) → slice_get w.objects number ≡ Some x → x.owner ≡ InRegion region
-      → slice_get t.handles region ≡ Some None → slice_get t.rows number ≡ Some Variable
+      → slice_get t.handles region ≡ Some None → IsVariableAt t number
   pub objects : (number handle : ℕ) (x : Object) → Alive t w number handle x → Stands t (homes s) s.memory handle number x.cells
   -- no two live objects begin at one address
   pub alone : (number other handle beside address : ℕ) (x y : Object) (ks ls : List Kind) → Alive t w number handle x → Alive t w other beside y

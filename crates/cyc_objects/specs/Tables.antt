@@ -6,8 +6,8 @@ use Rattle.cyc_types.specs.declared.typed.Kind.{Kind}
 use Rattle.cyc_types.specs.TypedTrees.{GlobalVariable, Program}
 use Rattle.cyc_store.specs.declared.range.TheConstants.{HEAP}
 
--- Where the words of an object are: those of a variable are none of the store's, those of any other stand from an address on, the cells
--- of these kinds one behind the other.
+-- Where the words of an object are: those of a variable whose address is never taken have none, those of any other stand from an
+-- address on, the cells of these kinds one behind the other.
 pub data Row : Type 0 where
   Variable : Row
   Placed : (address : ℕ) → (kinds : List Kind) → Row
@@ -29,8 +29,9 @@ pub record Grows (t u : Tables) : Type 0 where
   pub handles : (region : ℕ) (handle : Option ℕ) → slice_get t.handles region ≡ Some handle → slice_get u.handles region ≡ Some handle
 
 -- at the start: the globals, the heap, and the region of the globals
-abbrev pub first_tables : Program → Tables
-first_tables program = record {
-  rows = map (λ (g : GlobalVariable). Variable) program.globals;
-  handles = Some HEAP ∷ None ∷ [];
-}
+abbrev pub first_tables : (globals : List Row) → Tables
+first_tables globals = record { rows = globals; handles = Some HEAP ∷ None ∷ [] }
+
+-- the globals, where the address of none is taken
+abbrev pub without_addresses : Program → List Row
+without_addresses program = map (λ (g : GlobalVariable). Variable) program.globals

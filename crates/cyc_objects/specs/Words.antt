@@ -4,7 +4,6 @@ use Rattle.std.specs.Prelude.{◌≡◌, ℕ, ◌+◌, ◌*◌, ◌^◌, ◌<◌
 use Rattle.cyc_types.specs.declared.typed.Kind.{Kind}
 use Rattle.cyc_types.specs.declared.typed.Kind.TheVariants as kinds
 use Rattle.cyc_store.specs.State.{Memory}
-use Rattle.cyc_store.specs.declared.range.TheConstants.{STORE_BASE}
 use Rattle.cyc_meaning.specs.Values.{Value, Int, Null, Thin, Fat, Handle, Key, words_of_kind, Cell}
 use Rattle.cyc_objects.specs.Tables.{Placed, Tables}
 
@@ -24,10 +23,10 @@ words_from memory address = λ (k : ℕ). memory (address + 4 * k)
 
 -- ---- pointers
 
--- An object lies behind the store's first address and does not go past the last address that is a word. So no pointer is 0, and no
--- address of a cell wraps, also where the object is no more.
+-- An object does not lie at address 0, and does not go past the last address that is a word. So no pointer is 0, and no address of a
+-- cell wraps, also where the object is no more.
 pub record InRange (address : ℕ) (ks : List Kind) : Type 0 where
-  pub low : STORE_BASE ≤ address
+  pub low : 0 < address
   pub high : address + 4 * words_of_kinds ks < 2 ^ 32
 
 -- the address of a cell of an object

@@ -1,7 +1,7 @@
 //! Laws of the definitions in `specs/`. Each function does nothing: its contract is the law, and so it is proved with
 //! the crate. The lemmas behind them stand in `proofs/` for other proofs to cite.
 
-ghost use Rattle.std.specs.Prelude.{◌≡◌, ◌≢◌, ℕ, suc, ◌+◌, ◌*◌, ◌<◌, ◌≤◌, ◌==◌, not, nat_lt, if◌then◌else◌, Bool, true, false, List, ◌∷◌, length, Option, Some, None, slice_get};
+ghost use Rattle.std.specs.Prelude.{◌≡◌, ◌≢◌, ◌⊎◌, ℕ, suc, ◌+◌, ◌*◌, ◌<◌, ◌≤◌, ◌==◌, not, nat_lt, if◌then◌else◌, Bool, true, false, List, ◌∷◌, length, Option, Some, None, slice_get};
 ghost use Rattle.cyc_types.specs.declared.typed.Kind.{Kind};
 ghost use Rattle.cyc_types.specs.declared.typed.Kind.TheVariants as kinds;
 ghost use Rattle.cyc_types.specs.TypedTrees.{Program};
@@ -14,14 +14,14 @@ ghost use Rattle.cyc_meaning.specs.Values.{Value, Int, is_thin, words_of_kind, C
 ghost use Rattle.cyc_meaning.specs.Operators.{Gives, truth};
 ghost use Rattle.cyc_meaning.specs.Pointers.{moved, null_test};
 ghost use Rattle.cyc_meaning.specs.Conversion.{conversion};
-ghost use Rattle.cyc_meaning.specs.State.{Lexical, Dynamic, Stack, Region, Unique, Object, World, Environment, Entry, CloseLexical, Found, Located, region_at, cell_at, opened_as, closed, variable, made, written, first_world};
+ghost use Rattle.cyc_meaning.specs.State.{Lexical, Dynamic, Stack, Region, InRegion, Unique, Object, World, Environment, Entry, CloseLexical, Found, Located, region_at, cell_at, opened_as, closed, variable, made, written, first_world};
 ghost use Rattle.cyc_meaning.specs.Nesting.{lexicals_of, is_scope, IsNested};
 ghost use Rattle.cyc_meaning.specs.Objects.{compared, made_in, made_unique, freed};
 ghost use Rattle.cyc_meaning.specs.Allocation.{blanks};
 ghost use Rattle.cyc_meaning.specs.Effects.{pages_of};
-ghost use Rattle.cyc_objects.specs.Tables.{Variable, Placed, Tables, with_row, with_handle, Grows, first_tables};
+ghost use Rattle.cyc_objects.specs.Tables.{Row, Placed, Tables, with_row, with_handle, Grows, first_tables};
 ghost use Rattle.cyc_objects.specs.Words.{words_from, Points, IsPartOf, Is, IsContent, AreBlank};
-ghost use Rattle.cyc_objects.specs.Related.{has_home, Alive, Related, scopes, IsNewest, closed_to};
+ghost use Rattle.cyc_objects.specs.Related.{has_home, IsOfVariable, HasKinds, Alive, LiveVariable, AreApart, AreGlobals, Related, scopes, IsNewest, closed_to};
 
 /// What words are stays said of them when more objects are made and more regions opened, and of equal words elsewhere.
 pub fn words_stay_values()
@@ -59,31 +59,35 @@ pub fn pointers_compute()
         → null_test negated v ≡ Gives (Int (truth (if words place == 0 then not negated else negated))) }
 {}
 
-/// Thin pointers that the source compares are equal exactly where their words are.
+/// Thin pointers that the source compares are equal exactly where their words are, as long as no two variables have a word in common.
 pub fn pointers_compare()
     ensures { (t : Tables) (w : World) (s : StoreState) (from to : Kind) (u v : Value) (words others : ℕ → ℕ) (place other : ℕ) (equal : Bool)
-        → Related t w s → is_thin from ≡ true → is_thin to ≡ true → Is t from u words place → Is t to v others other
+        → Related t w s → AreApart t w → is_thin from ≡ true → is_thin to ≡ true → Is t from u words place → Is t to v others other
         → compared w u v ≡ Found equal → equal ≡ (words place == others other) }
 {}
 
-/// At the start the globals are variables, and the store has the heap.
+/// At the start the globals are variables, which stand outside the store where their address is taken, and the store has the heap.
 pub fn starts_related()
-    ensures { (program : Program) (input : List ℕ) (pages : ℕ) (memory : Memory) → AreWords memory → 1 ≤ pages → pages ≤ MOST_PAGES
-        → Related (first_tables program) (first_world program input) (start pages memory) }
+    ensures { (program : Program) (globals : List Row) (input : List ℕ) (pages : ℕ) (memory : Memory) → AreGlobals program globals → AreWords memory
+        → 1 ≤ pages → pages ≤ MOST_PAGES → Related (first_tables globals) (first_world program input) (start pages memory) }
 {}
 
-/// A cell that a pointer leads to and that the source finds can be read, word by word, and its words are what it holds; that of a fat
-/// pointer is found by the words of such a cell. A cell that is written leaves the relation, if memory is the same but for its words.
+/// A cell that the source finds is one of the store's objects, or of a variable. One of the store's that a pointer leads to can be read,
+/// word by word, and its words are what it holds; that of a fat pointer is found by the words of such a cell. A cell of the store's that
+/// is written leaves the relation, if memory is the same but for its words.
 pub fn cells_are_read_and_written()
-    ensures live { (t : Tables) (w : World) (s : StoreState) (object offset word : ℕ) (at : Located) → Related t w s → cell_at w object offset ≡ Found at
-        → Points t object offset word → (j : ℕ) → j < words_of_kind at.cell.kind → word_at s (word + 4 * j) ≡ Some (s.memory (word + 4 * j)) }
-    ensures read { (t : Tables) (w : World) (s : StoreState) (object offset word : ℕ) (at : Located) → Related t w s → cell_at w object offset ≡ Found at
-        → Points t object offset word → IsContent t at.cell.kind at.cell.content (words_from s.memory word) 0 }
+    ensures either { (t : Tables) (w : World) (s : StoreState) (object offset : ℕ) (at : Located) → Related t w s → cell_at w object offset ≡ Found at
+        → ((handle : ℕ) × Alive t w object handle at.object) ⊎ LiveVariable t w object at.object }
+    ensures live { (t : Tables) (w : World) (s : StoreState) (object offset word handle : ℕ) (at : Located) → Related t w s → cell_at w object offset ≡ Found at
+        → Alive t w object handle at.object → Points t object offset word
+        → (j : ℕ) → j < words_of_kind at.cell.kind → word_at s (word + 4 * j) ≡ Some (s.memory (word + 4 * j)) }
+    ensures read { (t : Tables) (w : World) (s : StoreState) (object offset word handle : ℕ) (at : Located) → Related t w s → cell_at w object offset ≡ Found at
+        → Alive t w object handle at.object → Points t object offset word → IsContent t at.cell.kind at.cell.content (words_from s.memory word) 0 }
     ensures element { (t : Tables) (w : World) (s : StoreState) (object start count word index : ℕ) (at : Located) → Related t w s
         → IsPartOf t object start count word → index < count → cell_at w object (start + index) ≡ Found at
         → Points t object (start + index) (word + 4 * (index * words_of_kind at.cell.kind)) }
-    ensures written { (t : Tables) (w : World) (s : StoreState) (object offset word : ℕ) (at : Located) (m : Memory) (v : Value) → Related t w s
-        → cell_at w object offset ≡ Found at → Points t object offset word → AreWords m
+    ensures written { (t : Tables) (w : World) (s : StoreState) (object offset word handle : ℕ) (at : Located) (m : Memory) (v : Value) → Related t w s
+        → cell_at w object offset ≡ Found at → Alive t w object handle at.object → Points t object offset word → AreWords m
         → ((y : ℕ) → ((j : ℕ) → j < words_of_kind at.cell.kind → y ≢ word + 4 * j) → m y ≡ s.memory y)
         → Is t at.cell.kind v (words_from m word) 0 → Related t (written w object offset at v) (record s { memory = m }) }
 {}
@@ -123,11 +127,12 @@ pub fn refusals_go_by_demand()
 
 /// Variables and their regions leave the store as it is.
 pub fn variables_leave_the_store()
-    ensures declared { (t : Tables) (w : World) (s : StoreState) (number : ℕ) (r : Region) (kind : Kind) (content : Option Value) → Related t w s
+    ensures declared { (t : Tables) (w : World) (s : StoreState) (number : ℕ) (r : Region) (kind : Kind) (content : Option Value) (row : Row) → Related t w s
         → slice_get w.regions number ≡ Some r → slice_get t.handles number ≡ Some None
-        → Related (with_row t Variable) (made w (variable number kind content)) s }
-    ensures assigned { (t : Tables) (w : World) (s : StoreState) (object offset : ℕ) (at : Located) (v : Value) → Related t w s
-        → cell_at w object offset ≡ Found at → slice_get t.rows object ≡ Some Variable → Related t (written w object offset at v) s }
+        → HasKinds (variable number kind content).cells row → IsOfVariable row → Related (with_row t row) (made w (variable number kind content)) s }
+    ensures assigned { (t : Tables) (w : World) (s : StoreState) (object offset region : ℕ) (at : Located) (v : Value) → Related t w s
+        → cell_at w object offset ≡ Found at → at.object.owner ≡ InRegion region → slice_get t.handles region ≡ Some None
+        → Related t (written w object offset at v) s }
     ensures opened { (t : Tables) (w : World) (s : StoreState) → Related t w s → Related (with_handle t None) (opened_as Stack w) s }
     ensures closed { (t : Tables) (w : World) (s : StoreState) (number : ℕ) (r : Region) → Related t w s
         → slice_get w.regions number ≡ Some r → slice_get t.handles number ≡ Some None → Related t (closed w number r) s }

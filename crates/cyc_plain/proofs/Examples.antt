@@ -42,14 +42,14 @@ empty_store = stores.start 3 (λ (address : ℕ). 0)
 
 -- the state of a program after so many steps, with room for so many calls
 abbrev after : ℕ → ℕ → Program → List ℕ → State
-after steps calls p input = run p 3 calls zeros steps (start p empty_store input)
+after steps calls p input = run p 3 calls zeros steps (start p 0x7ffff000 empty_store input)
 
 -- the same from a store with a block of two words
 abbrev two_words : StoreState
 two_words = stores.made_in empty_store 1 (record { address = 0x20000000; size = 2 })
 
 abbrev after_with_block : ℕ → Program → State
-after_with_block steps p = run p 3 1 zeros steps (start p two_words [])
+after_with_block steps p = run p 3 1 zeros steps (start p 0x7ffff000 two_words [])
 
 -- ---- constants and operators
 
@@ -277,12 +277,46 @@ words_may_overlap = refl
 words_are_moved : status_of (after 4 1 (program (Move 1 (Word 5) ∷ Move 2 (Word 6) ∷ instructions.MoveWords 0 1 2 ∷ Return 1 ∷ [])) []) ≡ Ended (Returned (pos 6))
 words_are_moved = refl
 
+-- ---- addresses of slots and globals
+
+address_of_a_slot : status_of (after 2 1 (program (instructions.AddressOf 0 2 1 ∷ Return 0 ∷ [])) []) ≡ Ended (Returned (pos 0x7ffff008))
+address_of_a_slot = refl
+
+slot_is_stored_by_its_address : status_of (after 4 1 (program (Move 2 (Word 5) ∷ instructions.AddressOf 0 2 1 ∷ instructions.Store (Slot 0) 0 (Word 7) ∷ Return 2 ∷ [])) []) ≡ Ended (Returned (pos 7))
+slot_is_stored_by_its_address = refl
+
+slot_is_loaded_by_its_address : status_of (after 4 1 (program (Move 3 (Word 5) ∷ instructions.AddressOf 0 2 2 ∷ instructions.Load 1 (Slot 0) 4 ∷ Return 1 ∷ [])) []) ≡ Ended (Returned (pos 5))
+slot_is_loaded_by_its_address = refl
+
+slot_that_is_not_named_has_no_address : status_of (after 2 1 (program (instructions.AddressOf 0 2 1 ∷ instructions.Load 1 (Slot 0) 4 ∷ Return 1 ∷ [])) []) ≡ Failed
+slot_that_is_not_named_has_no_address = refl
+
+-- `main` passes the address of its slot 2 to a function that stores there
+abbrev passes_an_address : Program
+passes_an_address = record {
+  functions =
+      function 0 (instructions.AddressOf 0 2 1 ∷ Call 1 0 1 3 ∷ Return 2 ∷ [])
+      ∷ function 1 (instructions.Store (Slot 0) 0 (Word 9) ∷ Return 0 ∷ [])
+      ∷ [];
+  globals = [];
+  main = 0;
+}
+
+slot_of_the_caller_is_stored : status_of (after 5 2 passes_an_address []) ≡ Ended (Returned (pos 9))
+slot_of_the_caller_is_stored = refl
+
+global_is_stored_by_its_address : status_of (after 3 1 (program (instructions.Store (Word 0x10000000) 0 (Word 8) ∷ LoadGlobal 0 0 ∷ Return 0 ∷ [])) []) ≡ Ended (Returned (pos 8))
+global_is_stored_by_its_address = refl
+
+no_global_behind_the_last : status_of (after 1 1 (program (instructions.Load 0 (Word 0x10000000) 4 ∷ Return 0 ∷ [])) []) ≡ Failed
+no_global_behind_the_last = refl
+
 -- ---- calls of the store
 
 -- from a new store of three pages, where each block is made at this address, and each region gets this handle
 abbrev after_calls : (steps : ℕ) → List Instruction → Status
 after_calls steps code =
-    status_of (run (program code) 3 1 (record { contents = λ (slot : ℕ). 0; serving = record { handle = 7; address = 0x20000000; memory = λ (address : ℕ). 0 } }) steps (start (program code) empty_store []))
+    status_of (run (program code) 3 1 (record { contents = λ (slot : ℕ). 0; base = 0; serving = record { handle = 7; address = 0x20000000; memory = λ (address : ℕ). 0 } }) steps (start (program code) 0x7ffff000 empty_store []))
 
 abbrev allocate : (handle words : Operand) → Instruction
 allocate handle words = instructions.Ask (requests.Allocate 2 handle words)
@@ -347,7 +381,7 @@ block_is_freed_once = refl
 abbrev after_throws : (steps : ℕ) → List Instruction → List Instruction → Status
 after_throws steps code callee =
     status_of (run (record { functions = function 0 code ∷ function 0 callee ∷ []; globals = []; main = 0 }) 3 2 zeros steps
-    (start (record { functions = function 0 code ∷ function 0 callee ∷ []; globals = []; main = 0 }) empty_store []))
+    (start (record { functions = function 0 code ∷ function 0 callee ∷ []; globals = []; main = 0 }) 0x7ffff000 empty_store []))
 
 exception_is_caught : after_throws 4 (instructions.Try 0 3 ∷ instructions.Throw (Word 5) (Word 9) ∷ Return 0 ∷ instructions.Finish 1 ∷ []) [] ≡ Ended (Returned (pos 9))
 exception_is_caught = refl

@@ -4,6 +4,8 @@ pub mod SlotLaws
 pub mod Steps
 pub mod Placed
 pub mod WordLaws
+pub mod MemoryLaws
+pub mod CallLaws
 pub mod Straight
 -- worked examples
 pub mod Examples

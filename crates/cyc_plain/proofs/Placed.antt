@@ -18,7 +18,8 @@ use Rattle.cyc_plain.specs.Requests.{destination_of}
 use Rattle.cyc_words.specs.Simulation as simulation
 use Rattle.cyc_words.specs.Simulation.{Run}
 use Rattle.cyc_plain.specs.Program.{Routine, Program, no_routine, routine_at}
-use Rattle.cyc_plain.specs.State.{put, Handler, Open, Caught, Activation, Frame, Configuration, State, Running, Ended, Stuck, status_of, place_of, memory_at}
+use Rattle.cyc_plain.specs.State.{put, Handler, Open, Caught, Activation, Frame, Configuration, State, Running, Ended, Stuck, status_of, place_of}
+use Rattle.cyc_plain.specs.Memory.{Range, OfGlobals, OfStore, OfSlots, range_of, global_at, slot_at, put_or, with_waiting, memory_at, with_global, with_slot, with_word}
 use Rattle.cyc_plain.specs.Step.{Choice, gives, operand_word, returns, loads, saves, advanced, asks, is_intact, tries, closes, lands, throws, finishes, call_in, call_of, asked, performed, executed, instruction_at, step, Step, start, machine}
 use Rattle.cyc_plain.specs.WellFormed.{IsInRange, IsRoutine, IsWellFormed, leaves, DividesByZero, AsksForNoWord, AsksInVain, AsksForHandlers}
 use Rattle.cyc_plain.proofs.RunLaws.{limited_either, if_either}
@@ -94,6 +95,15 @@ returned : (program : Program) (c : Configuration) (value results : ℕ) (frames
 returned program c value results [] waiting = tt
 returned program c value results (f ∷ frames) (first, rest) = (first.0, first.1, rest)
 
+-- a store changes no place
+waiting_written : (program : Program) (frames : List Frame) (address word : ℕ) → AllByRecursion (IsWaiting program) frames → AllByRecursion (IsWaiting program) (with_waiting program frames address word)
+waiting_written program [] address word waiting = tt
+waiting_written program (f ∷ frames) address word (first, rest) = go (slot_at program f.caller address) (waiting_written program frames address word rest)
+  where
+    go : (slot : Option ℕ) → AllByRecursion (IsWaiting program) (with_waiting program frames address word) → AllByRecursion (IsWaiting program) (put_or slot word f frames (with_waiting program frames address word))
+    go (Some number) others = (first, rest)
+    go None others = (first, others)
+
 module _ (program : Program) (well : IsWellFormed program) (choice : Choice) (c : Configuration) (inside : c.active.function < length program.functions) (next_inside : c.active.next < length (routine_at program c.active.function).code) (handling : ArePlaced program c.active.function c.active.handlers) (waiting : AllByRecursion (IsWaiting program) c.frames) where
   abbrev here : Routine
   here = routine_at program c.active.function
@@ -113,9 +123,22 @@ module _ (program : Program) (well : IsWellFormed program) (choice : Choice) (c 
   loaded destination None next = tt
   loaded destination (Some word) next = (next, handling, waiting)
 
-  saved : (address word : ℕ) (found : Option ℕ) → IsPlacedAt program c.active.function (c.active.next + 1) → IsPlaced program (saves c address word found)
+  written : (address word : ℕ) (range : Range) → IsPlacedAt program c.active.function (c.active.next + 1) → IsPlaced program (Running (advanced (with_word program c address word range)))
+  written address word OfGlobals next = go (global_at program address)
+    where
+      go : (number : Option ℕ) → IsPlaced program (Running (advanced (with_global c number word)))
+      go (Some number) = (next, handling, waiting)
+      go None = (next, handling, waiting)
+  written address word OfStore next = (next, handling, waiting)
+  written address word OfSlots next = go (slot_at program c.active address)
+    where
+      go : (slot : Option ℕ) → IsPlaced program (Running (advanced (with_slot program c slot address word)))
+      go (Some number) = (next, handling, waiting)
+      go None = (next, handling, waiting_written program c.frames address word waiting)
+
+  saved : (address word : ℕ) (found : Option ℕ) → IsPlacedAt program c.active.function (c.active.next + 1) → IsPlaced program (saves program c address word found)
   saved address word None next = tt
-  saved address word (Some old) next = (next, handling, waiting)
+  saved address word (Some old) next = written address word (range_of address) next
 
   served : (destination : ℕ) (call : Call) (o : Option Refusal) → IsPlacedAt program c.active.function (c.active.next + 1) → IsPlaced program (asks choice.serving c destination call o)
   served destination call None next = (next, handling, waiting)
@@ -163,9 +186,9 @@ module _ (program : Program) (well : IsWellFormed program) (choice : Choice) (c 
   performs (instructions.Move destination source) at range = (behind _ at refl, handling, waiting)
   performs (instructions.MoveWords destination source count) at range = (behind _ at refl, handling, waiting)
   performs (instructions.Load destination address offset) at range =
-      loaded destination (memory_at c (add_of (operand_word c.active.slots address) offset)) (behind (instructions.Load destination address offset) at refl)
+      loaded destination (memory_at program c (add_of (operand_word c.active.slots address) offset)) (behind (instructions.Load destination address offset) at refl)
   performs (instructions.Store address offset source) at range =
-      saved (add_of (operand_word c.active.slots address) offset) (operand_word c.active.slots source) (memory_at c (add_of (operand_word c.active.slots address) offset)) (behind (instructions.Store address offset source) at refl)
+      saved (add_of (operand_word c.active.slots address) offset) (operand_word c.active.slots source) (memory_at program c (add_of (operand_word c.active.slots address) offset)) (behind (instructions.Store address offset source) at refl)
   performs (instructions.Unary operator destination operand) at range = (behind _ at refl, handling, waiting)
   performs (instructions.Binary operator destination left right) at range =
       if_either (IsPlaced program) (has_no_result operator (operand_word c.active.slots right)) (Stuck c.output c.input) (gives c destination (binary_result operator (operand_word c.active.slots left) (operand_word c.active.slots right))) tt (behind (instructions.Binary operator destination left right) at refl, handling, waiting)
@@ -177,6 +200,7 @@ module _ (program : Program) (well : IsWellFormed program) (choice : Choice) (c 
   performs (instructions.Return value) at range = returned program c value here.results c.frames waiting
   performs (instructions.ReadByte destination) at range = (behind _ at refl, handling, waiting)
   performs (instructions.WriteByte source) at range = (behind _ at refl, handling, waiting)
+  performs (instructions.AddressOf destination slot count) at range = (behind _ at refl, handling, waiting)
   performs (instructions.LoadGlobal destination global) at range = (behind _ at refl, handling, waiting)
   performs (instructions.StoreGlobal global source) at range = (behind _ at refl, handling, waiting)
   performs (instructions.Ask request) at range =
@@ -207,8 +231,8 @@ placed_run program pages calls (suc n) old new well placed (mid, (choice, allowe
     (limited_either (IsPlaced program) pages calls old (step program choice old) (λ within. placed_step program choice old well placed) tt) in
     placed_run program pages calls n mid new well next rest
 
-pub placed_start : (program : Program) (store : StoreState) (input : List ℕ) → IsWellFormed program → IsPlaced program (start program store input)
-placed_start program store input well = ((well.main, has_code program (routine_at program program.main) (routine_in program program.main well well.main)), tt, tt)
+pub placed_start : (program : Program) (base : ℕ) (store : StoreState) (input : List ℕ) → IsWellFormed program → IsPlaced program (start program base store input)
+placed_start program base store input well = ((well.main, has_code program (routine_at program program.main) (routine_in program program.main well well.main)), tt, tt)
 
 -- ---- getting stuck
 
@@ -226,15 +250,15 @@ divides program c operator destination left right true is at failed = inl (opera
 divides program c operator destination left right false is at failed = absurd (not_failed c failed)
 
 -- a load or a store, of what is found at an address
-loads_stop : (program : Program) (c : Configuration) (destination : ℕ) (base : Operand) (offset : ℕ) (found : Option ℕ) → memory_at c (add_of (operand_word c.active.slots base) offset) ≡ found
+loads_stop : (program : Program) (c : Configuration) (destination : ℕ) (base : Operand) (offset : ℕ) (found : Option ℕ) → memory_at program c (add_of (operand_word c.active.slots base) offset) ≡ found
     → instruction_at program (place_of (Running c)) ≡ Some (instructions.Load destination base offset) → status_of (loads c destination found) ≡ simulation.Failed → Stops program (Running c)
 loads_stop program c destination base offset None is at failed =
     inr (inl (instructions.Load destination base offset, add_of (operand_word c.active.slots base) offset, at, refl, is))
 loads_stop program c destination base offset (Some word) is at failed = absurd (not_failed c failed)
 
-saves_stop : (program : Program) (c : Configuration) (base : Operand) (offset : ℕ) (source : Operand) (found : Option ℕ) → memory_at c (add_of (operand_word c.active.slots base) offset) ≡ found
+saves_stop : (program : Program) (c : Configuration) (base : Operand) (offset : ℕ) (source : Operand) (found : Option ℕ) → memory_at program c (add_of (operand_word c.active.slots base) offset) ≡ found
     → instruction_at program (place_of (Running c)) ≡ Some (instructions.Store base offset source)
-    → status_of (saves c (add_of (operand_word c.active.slots base) offset) (operand_word c.active.slots source) found) ≡ simulation.Failed → Stops program (Running c)
+    → status_of (saves program c (add_of (operand_word c.active.slots base) offset) (operand_word c.active.slots source) found) ≡ simulation.Failed → Stops program (Running c)
 saves_stop program c base offset source None is at failed =
     inr (inl (instructions.Store base offset source, add_of (operand_word c.active.slots base) offset, at, refl, is))
 saves_stop program c base offset source (Some old) is at failed = absurd (not_failed c failed)
@@ -281,13 +305,14 @@ fails program choice c (instructions.Branch comparison left right target) at ran
 fails program choice c (instructions.Call function arguments count result) at range failed = absurd (not_failed c failed)
 fails program choice c (instructions.ReadByte destination) at range failed = absurd (not_failed c failed)
 fails program choice c (instructions.WriteByte source) at range failed = absurd (not_failed c failed)
+fails program choice c (instructions.AddressOf destination slot count) at range failed = absurd (not_failed c failed)
 fails program choice c (instructions.LoadGlobal destination global) at range failed = absurd (not_failed c failed)
 fails program choice c (instructions.StoreGlobal global source) at range failed = absurd (not_failed c failed)
 fails program choice c (instructions.MoveWords destination source count) at range failed = absurd (not_failed c failed)
 fails program choice c (instructions.Load destination address offset) at range failed =
-    loads_stop program c destination address offset (memory_at c (add_of (operand_word c.active.slots address) offset)) refl at failed
+    loads_stop program c destination address offset (memory_at program c (add_of (operand_word c.active.slots address) offset)) refl at failed
 fails program choice c (instructions.Store address offset source) at range failed =
-    saves_stop program c address offset source (memory_at c (add_of (operand_word c.active.slots address) offset)) refl at failed
+    saves_stop program c address offset source (memory_at program c (add_of (operand_word c.active.slots address) offset)) refl at failed
 
 fails_placed : (program : Program) (choice : Choice) (s : State) → IsWellFormed program → IsPlaced program s → status_of s ≡ simulation.Running → status_of (step program choice s) ≡ simulation.Failed → Stops program s
 fails_placed program choice (Running c) well ((inside, next), handling, waiting) running failed =
@@ -298,10 +323,10 @@ fails_placed program choice (Ended ending output input) well placed running fail
 fails_placed program choice (Stuck output input) well placed running failed = absurd (let e : simulation.Failed ≡ simulation.Running = running in cc)
 
 -- A run of a well-formed program gets stuck only where it divides by 0, or asks for a word that memory does not have.
-pub few_get_stuck : (program : Program) (pages calls n : ℕ) (store : StoreState) (input : List ℕ) (old new : State) → IsWellFormed program → Run (machine program pages calls) n (start program store input) old
+pub few_get_stuck : (program : Program) (pages calls n base : ℕ) (store : StoreState) (input : List ℕ) (old new : State) → IsWellFormed program → Run (machine program pages calls) n (start program base store input) old
     → status_of old ≡ simulation.Running → Step program pages calls old new → status_of new ≡ simulation.Failed → Stops program old
-few_get_stuck program pages calls n store input old new well run running (choice, allowed, is) failed =
-    let placed = placed_run program pages calls n (start program store input) old well (placed_start program store input well) run in
+few_get_stuck program pages calls n base store input old new well run running (choice, allowed, is) failed =
+    let placed = placed_run program pages calls n (start program base store input) old well (placed_start program base store input well) run in
     limited_either (λ (s : State). status_of s ≡ simulation.Failed → Stops program old) pages calls old (step program choice old)
     (λ within fails. fails_placed program choice old well placed running fails)
     (λ fails. absurd (let e : simulation.Ended Full ≡ simulation.Failed = fails in cc))

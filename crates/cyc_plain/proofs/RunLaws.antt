@@ -3,7 +3,7 @@ use Rattle.std.proofs.Common.{◌≡◌, ℕ, zero, suc, ◌≤◌, Bool, true, 
 use Rattle.std.specs.Prelude.{◌==◌, if◌then◌else◌}
 use Rattle.std.proofs.lemmas.Bool.{le-leb, and_from}
 use Rattle.cyc_words.specs.Ending.{Ending, Uncaught, Full}
-use Rattle.cyc_words.specs.Word.{signed}
+use Rattle.cyc_words.specs.Word.{signed, add_of}
 use Rattle.cyc_words.specs.Prefix.{IsPrefix}
 use Rattle.cyc_words.proofs.PrefixLemmas.{IsPrefix-refl, IsPrefix-append}
 use Rattle.cyc_store.specs.State.{StoreState}
@@ -18,8 +18,9 @@ use Rattle.cyc_plain.specs.Requests.{destination_of}
 use Rattle.cyc_words.specs.Simulation as simulation
 use Rattle.cyc_words.specs.Simulation.{Status, IsLawful, Run}
 use Rattle.cyc_plain.specs.Program.{Program, routine_at}
-use Rattle.cyc_plain.specs.State.{put, Handler, Open, Caught, Activation, Frame, Configuration, State, Running, Ended, Stuck, output_of, input_of, status_of, place_of}
-use Rattle.cyc_plain.specs.Step.{Choice, IsAllowed, MayServe, gives, operand_word, returns, loads, saves, advanced, asks, is_intact, tries, closes, lands, throws, finishes, call_in, call_of, asked, performed, executed, instruction_at, step, is_within, limited, limited_step, Step, start, machine}
+use Rattle.cyc_plain.specs.State.{Words, AreWords, put, Handler, Open, Caught, Activation, Frame, Configuration, State, Running, Ended, Stuck, output_of, input_of, status_of, place_of}
+use Rattle.cyc_plain.specs.Memory.{IsBelow, Range, OfGlobals, OfStore, OfSlots, range_of, global_at, slot_at, memory_at, with_global, with_slot, with_word}
+use Rattle.cyc_plain.specs.Step.{Choice, IsAllowed, MayServe, MayLie, gives, operand_word, returns, loads, saves, advanced, asks, is_intact, tries, closes, lands, throws, finishes, call_in, call_of, asked, callee_of, called, performed, executed, instruction_at, step, is_within, limited, limited_step, Step, start, machine}
 use Rattle.cyc_words.proofs.Simulation.{Run-grows, Run-stays}
 
 -- ---- limits
@@ -74,9 +75,22 @@ loaded : (c : Configuration) (destination : ℕ) (found : Option ℕ) → GoesOn
 loaded c destination None = same c
 loaded c destination (Some word) = same c
 
-saved : (c : Configuration) (address word : ℕ) (found : Option ℕ) → GoesOn c (saves c address word found)
-saved c address word None = same c
-saved c address word (Some old) = same c
+written : (program : Program) (c : Configuration) (address word : ℕ) (range : Range) → GoesOn c (Running (advanced (with_word program c address word range)))
+written program c address word OfGlobals = go (global_at program address)
+  where
+    go : (number : Option ℕ) → GoesOn c (Running (advanced (with_global c number word)))
+    go (Some number) = same c
+    go None = same c
+written program c address word OfStore = same c
+written program c address word OfSlots = go (slot_at program c.active address)
+  where
+    go : (slot : Option ℕ) → GoesOn c (Running (advanced (with_slot program c slot address word)))
+    go (Some number) = same c
+    go None = same c
+
+saved : (program : Program) (c : Configuration) (address word : ℕ) (found : Option ℕ) → GoesOn c (saves program c address word found)
+saved program c address word None = same c
+saved program c address word (Some old) = written program c address word (range_of address)
 
 served : (serving : services.Choice) (c : Configuration) (destination : ℕ) (call : Call) (o : Option Refusal) → GoesOn c (asks serving c destination call o)
 served serving c destination call None = same c
@@ -130,7 +144,9 @@ performs program choice c (instructions.WriteByte source) = (IsPrefix-append c.o
 performs program choice c (instructions.LoadGlobal destination global) = same c
 performs program choice c (instructions.StoreGlobal global source) = same c
 performs program choice c (instructions.Load destination address offset) = loaded c destination _
-performs program choice c (instructions.Store address offset source) = saved c _ _ _
+performs program choice c (instructions.Store address offset source) =
+    saved program c (add_of (operand_word c.active.slots address) offset) (operand_word c.active.slots source) (memory_at program c (add_of (operand_word c.active.slots address) offset))
+performs program choice c (instructions.AddressOf destination slot count) = same c
 performs program choice c (instructions.Ask request) =
     served choice.serving c (destination_of request) (call_in c.active.slots request) (refusal c.store (call_in c.active.slots request))
 performs program choice c (instructions.Try first handler) = tried choice c first handler c.active.handlers
@@ -158,10 +174,11 @@ limited_steps program pages calls old new (choice, allowed, is) =
 
 -- ---- a run that is over
 
--- any choice will do where the store is not called
+-- any choice will do where nothing is called
 abbrev pub zeros : Choice
 zeros = record {
   contents = λ (slot : ℕ). 0;
+  base = 0;
   serving = record { handle = 0; address = 0; memory = λ (address : ℕ). 0 };
 }
 
@@ -169,14 +186,38 @@ serves_none : (serving : services.Choice) (call : Option Call) (s : State) → c
 serves_none serving None s none = tt
 serves_none serving (Some call) s none = absurd (let e : Some call ≡ None = none in cc)
 
-pub zeros_allowed : (program : Program) (s : State) → asked program s ≡ None → IsAllowed program s zeros
-zeros_allowed program s none = record {
+lies_none : (program : Program) (base : ℕ) (callee : Option ℕ) (s : State) → callee ≡ None → MayLie program base callee s
+lies_none program base None s none = tt
+lies_none program base (Some function) s none = absurd (let e : Some function ≡ None = none in cc)
+
+-- wherever the slots of a new call would lie, an instruction that calls no function may be executed
+pub lies_at : (program : Program) (c : Configuration) (i : Instruction) (base : ℕ) → instruction_at program (place_of (Running c)) ≡ Some i → callee_of (Some i) ≡ None
+    → MayLie program base (called program (Running c)) (Running c)
+lies_at program c i base at free = lies_none program base (called program (Running c)) (Running c) (ap callee_of at ∙ free)
+
+pub zeros_allowed : (program : Program) (s : State) → asked program s ≡ None → called program s ≡ None → IsAllowed program s zeros
+zeros_allowed program s none nobody = record {
   contents = λ slot. omega arith;
+  lies = lies_none program 0 (called program s) s nobody;
   serves = serves_none zeros.serving (asked program s) s none;
 }
 
-pub zeros_at : (program : Program) (c : Configuration) (i : Instruction) → instruction_at program (place_of (Running c)) ≡ Some i → call_of c.active.slots (Some i) ≡ None → IsAllowed program (Running c) zeros
-zeros_at program c i at free = zeros_allowed program (Running c) (ap (call_of c.active.slots) at ∙ free)
+-- an instruction that calls neither a function nor the store
+abbrev pub calls_nothing : Instruction → Bool
+calls_nothing (instructions.Ask request) = false
+calls_nothing (instructions.Call function arguments count result) = false
+calls_nothing i = true
+
+asks_none : (slots : Words) (i : Instruction) → calls_nothing i ≡ true → call_of slots (Some i) ≡ None
+asks_none slots (instructions.Ask request) free = absurd (let e : false ≡ true = free in cc)
+asks_none slots i free = refl
+
+callee_none : (i : Instruction) → calls_nothing i ≡ true → callee_of (Some i) ≡ None
+callee_none (instructions.Call function arguments count result) free = absurd (let e : false ≡ true = free in cc)
+callee_none i free = refl
+
+pub zeros_at : (program : Program) (c : Configuration) (i : Instruction) → instruction_at program (place_of (Running c)) ≡ Some i → calls_nothing i ≡ true → IsAllowed program (Running c) zeros
+zeros_at program c i at free = zeros_allowed program (Running c) (ap (call_of c.active.slots) at ∙ asks_none c.active.slots i free) (ap callee_of at ∙ callee_none i free)
 
 -- a state that is over asks nothing
 over_asks : (program : Program) (s : State) (ending : Ending) → status_of s ≡ simulation.Ended ending → asked program s ≡ None
@@ -184,14 +225,41 @@ over_asks program (Running c) ending ended = absurd (let e : simulation.Running 
 over_asks program (Ended other output input) ending ended = refl
 over_asks program (Stuck output input) ending ended = refl
 
+over_calls : (program : Program) (s : State) (ending : Ending) → status_of s ≡ simulation.Ended ending → called program s ≡ None
+over_calls program (Running c) ending ended = absurd (let e : simulation.Running ≡ simulation.Ended ending = ended in cc)
+over_calls program (Ended other output input) ending ended = refl
+over_calls program (Stuck output input) ending ended = refl
+
 -- nor is anything chosen where a call is refused
 refused_serves : (serving : services.Choice) (call : Call) (why : Refusal) (c : Configuration) → refusal c.store call ≡ Some why → MayServe serving (Some call) (Running c)
 refused_serves serving call why c refused none = absurd (let e : Some why ≡ None = sym refused ∙ none in cc)
 
+-- what asks the store calls no function
+asking_calls : (slots : Words) (o : Option Instruction) (call : Call) → call_of slots o ≡ Some call → callee_of o ≡ None
+asking_calls slots None call asks = refl
+asking_calls slots (Some (instructions.Call function arguments count result)) call asks = absurd (let e : None ≡ Some call = asks in cc)
+asking_calls slots (Some i) call asks = refl
+
 pub zeros_refused : (program : Program) (c : Configuration) (call : Call) (why : Refusal) → asked program (Running c) ≡ Some call → refusal c.store call ≡ Some why → IsAllowed program (Running c) zeros
 zeros_refused program c call why asks refused = record {
   contents = λ slot. omega arith;
+  lies = lies_none program 0 (called program (Running c)) (Running c) (asking_calls c.active.slots (instruction_at program (place_of (Running c))) call asks);
   serves = subst (λ (o : Option Call). MayServe zeros.serving o (Running c)) (sym asks) (refused_serves zeros.serving call why c refused);
+}
+
+-- and what calls a function does not ask the store
+calling_asks : (slots : Words) (o : Option Instruction) (function : ℕ) → callee_of o ≡ Some function → call_of slots o ≡ None
+calling_asks slots None function calls = refl
+calling_asks slots (Some (instructions.Ask request)) function calls = absurd (let e : None ≡ Some function = calls in cc)
+calling_asks slots (Some i) function calls = refl
+
+-- where a function is called, its slots may lie wherever there is room for them
+pub called_at : (program : Program) (c : Configuration) (function : ℕ) (choice : Choice) → called program (Running c) ≡ Some function → AreWords choice.contents
+    → IsBelow program function choice.base c.active.base → IsAllowed program (Running c) choice
+called_at program c function choice calls contents below = record {
+  contents = contents;
+  lies = subst (λ (o : Option ℕ). MayLie program choice.base o (Running c)) (sym calls) below;
+  serves = serves_none choice.serving (asked program (Running c)) (Running c) (calling_asks c.active.slots (instruction_at program (place_of (Running c))) function calls);
 }
 
 over_steps : (program : Program) (pages calls : ℕ) (choice : Choice) (s : State) (ending : Ending) → status_of s ≡ simulation.Ended ending → limited_step program pages calls choice s ≡ s
@@ -204,7 +272,7 @@ pub lawful : (program : Program) (pages calls : ℕ) → IsLawful (machine progr
 lawful program pages calls = record {
   grows = λ old new stepped. (limited_steps program pages calls old new stepped).0;
   stays = λ old new ending ended stepped. stepped.2 ∙ over_steps program pages calls stepped.0 old ending ended;
-  rests = λ s ending ended. (zeros, zeros_allowed program s (over_asks program s ending ended), sym (over_steps program pages calls zeros s ending ended));
+  rests = λ s ending ended. (zeros, zeros_allowed program s (over_asks program s ending ended) (over_calls program s ending ended), sym (over_steps program pages calls zeros s ending ended));
 }
 
 -- ---- whole runs
@@ -222,9 +290,15 @@ input_shrinks program pages calls (suc n) old new (mid, stepped, rest) =
     let later = input_shrinks program pages calls n mid new rest in
     (first.0 ++ later.0, first.1 ∙ ap (λ (l : List ℕ). first.0 ++ l) later.1 ∙ sym (append_assoc first.0 later.0 (input_of new)))
 
--- there is a step where the store is not called, and where it refuses
-pub goes_on : (program : Program) (pages calls : ℕ) (old : State) → asked program old ≡ None → (new : State) × Step program pages calls old new
-goes_on program pages calls old none = (limited_step program pages calls zeros old, (zeros, zeros_allowed program old none, refl))
+-- there is a step where nothing is called, where a function is that has room, and where the store refuses
+pub goes_on : (program : Program) (pages calls : ℕ) (old : State) → asked program old ≡ None → called program old ≡ None → (new : State) × Step program pages calls old new
+goes_on program pages calls old none nobody = (limited_step program pages calls zeros old, (zeros, zeros_allowed program old none nobody, refl))
+
+pub goes_on_called : (program : Program) (pages calls : ℕ) (c : Configuration) (function base : ℕ) → called program (Running c) ≡ Some function → IsBelow program function base c.active.base
+    → (new : State) × Step program pages calls (Running c) new
+goes_on_called program pages calls c function base is below =
+    let choice : Choice = record zeros { base = base } in
+    (limited_step program pages calls choice (Running c), (choice, called_at program c function choice is (λ slot. omega arith) below, refl))
 
 pub goes_on_refused : (program : Program) (pages calls : ℕ) (c : Configuration) (call : Call) (why : Refusal) → asked program (Running c) ≡ Some call → refusal c.store call ≡ Some why
     → (new : State) × Step program pages calls (Running c) new
@@ -239,6 +313,6 @@ stays_within program pages calls (suc n) old new within (mid, (choice, allowed, 
     ap (is_within pages calls) is ∙ limited_either (λ (s : State). is_within pages calls s ≡ true) pages calls old (step program choice old) (λ (w : is_within pages calls (step program choice old) ≡ true). w) (over_within pages calls Full (output_of old) (input_of old)) in
     stays_within program pages calls n mid new next rest
 
-pub starts_within : (program : Program) (pages calls : ℕ) (store : StoreState) (input : List ℕ) → IsNew pages store → 1 ≤ pages → 1 ≤ calls → is_within pages calls (start program store input) ≡ true
-starts_within program pages calls store input new some_page some_call =
+pub starts_within : (program : Program) (pages calls base : ℕ) (store : StoreState) (input : List ℕ) → IsNew pages store → 1 ≤ pages → 1 ≤ calls → is_within pages calls (start program base store input) ≡ true
+starts_within program pages calls base store input new some_page some_call =
     and_from _ _ (le-leb _ pages (omega (arith, new_demand pages store new, some_page))) (le-leb 1 calls some_call)

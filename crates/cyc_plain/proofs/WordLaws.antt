@@ -1,5 +1,5 @@
 -- Every value in a run is a word.
-use Rattle.std.proofs.Common.{◌≡◌, ℕ, zero, suc, ◌+◌, ◌-◌, ◌%◌, ◌^◌, ◌<◌, Bool, true, false, not, ◌&&◌, List, [], ◌∷◌, length, drop, Option, Some, None, slice_get, refl, sym, subst, arith, inl, inr}
+use Rattle.std.proofs.Common.{◌≡◌, ℕ, zero, suc, ◌+◌, ◌-◌, ◌*◌, ◌%◌, ◌^◌, ◌<◌, Bool, true, false, not, ◌&&◌, List, [], ◌∷◌, length, drop, Option, Some, None, slice_get, refl, sym, subst, arith, inl, inr}
 use Rattle.std.specs.Prelude.{◌==◌, if◌then◌else◌, nat_le, nat_lt, int_le, slice_index, unwrap_or}
 use Rattle.std.specs.List.{AllByRecursion}
 use Rattle.std.proofs.lemmas.Bool.{cases_lt}
@@ -25,6 +25,7 @@ use Rattle.cyc_words.specs.Simulation.{Run}
 use Rattle.cyc_plain.specs.Program.{Program, CodePlace, no_routine, routine_at}
 use Rattle.cyc_plain.specs.declared.limits.TheConstants.{RECORD_WORDS}
 use Rattle.cyc_plain.specs.State.{Words, AreWords, put, copied, Handler, Open, Caught, Activation, Frame, Configuration, State, Running, Ended, Stuck, place_of, HoldsWords}
+use Rattle.cyc_plain.specs.Memory.{Range, OfGlobals, OfStore, OfSlots, range_of, global_at, slot_at, word_or, word_waiting, put_or, with_waiting, word_in, memory_at, with_global, with_slot, with_word}
 use Rattle.cyc_plain.specs.Step.{Choice, IsAllowed, IsServed, MayServe, HasAnswerWords, gives, operand_word, returns, loads, saves, advanced, told, asks, is_intact, tries, closes, lands, throws, finishes, call_in, call_of, performed, executed, instruction_at, step, start, machine}
 use Rattle.cyc_plain.specs.WellFormed.{IsOfWord, HasWord, HasWords}
 use Rattle.cyc_plain.proofs.RunLaws.{limited_either, if_either}
@@ -98,6 +99,28 @@ rest_words (b ∷ input) (first, rest) = rest
 abbrev AreFrames : List Frame → Type 0
 AreFrames frames = AllByRecursion (λ f. AreWords f.caller.slots) frames
 
+abbrev AreWordsOf : Option ℕ → Type 0
+AreWordsOf (Some word) = IsWord word
+AreWordsOf None = Unit {0}
+
+or_word : (number : Option ℕ) (words : Words) (other : Option ℕ) → AreWords words → AreWordsOf other → AreWordsOf (word_or number words other)
+or_word (Some number) words other all rest = all number
+or_word None words other all rest = rest
+
+-- a slot of a call that waits is read, and written
+waiting_word : (program : Program) (frames : List Frame) (address : ℕ) → AreFrames frames → AreWordsOf (word_waiting program frames address)
+waiting_word program [] address all = tt
+waiting_word program (f ∷ frames) address (first, rest) =
+    or_word (slot_at program f.caller address) f.caller.slots (word_waiting program frames address) first (waiting_word program frames address rest)
+
+waiting_words : (program : Program) (frames : List Frame) (address word : ℕ) → AreFrames frames → IsWord word → AreFrames (with_waiting program frames address word)
+waiting_words program [] address word all w = tt
+waiting_words program (f ∷ frames) address word (first, rest) w = go (slot_at program f.caller address) (waiting_words program frames address word rest w)
+  where
+    go : (slot : Option ℕ) → AreFrames (with_waiting program frames address word) → AreFrames (put_or slot word f frames (with_waiting program frames address word))
+    go (Some number) others = (put_words f.caller.slots number word first w, rest)
+    go None others = (first, others)
+
 known_word : (program : Program) (place : CodePlace) (i : Instruction) → HasWords program → instruction_at program place ≡ Some i → HasWord i
 known_word program place i words at =
     holds_at HasWord (routine_at program place.function).code place.index i (words.functions place.function no_routine (function_known program place i at)) at
@@ -114,14 +137,38 @@ module _ (program : Program) (choice : Choice) (allowed : AreWords choice.conten
   returned value results [] all = tt
   returned value results (f ∷ waiting) (first, rest) = (copied_words c.active.slots f.caller.slots value results f.result slots first, rest, globals, store, input)
 
-  loaded : (destination address : ℕ) (aligned : Bool) (found : Option Holder) → HoldsWords (loads c destination (if aligned then stores.word_in found c.store.memory address else None))
-  loaded destination address false found = tt
-  loaded destination address true None = tt
-  loaded destination address true (Some h) = given destination (c.store.memory address) (store address)
+  -- the word of the store that a load finds, or of a global, or of a slot
+  stored_word : (address : ℕ) (aligned : Bool) (found : Option Holder) → AreWordsOf (if aligned then stores.word_in found c.store.memory address else None)
+  stored_word address false found = tt
+  stored_word address true None = tt
+  stored_word address true (Some h) = store address
 
-  saved : (address word : ℕ) (found : Option ℕ) → IsWord word → HoldsWords (saves c address word found)
+  found_word : (address : ℕ) (range : Range) → AreWordsOf (word_in program c address range)
+  found_word address OfGlobals = or_word (global_at program address) c.globals None globals tt
+  found_word address OfStore = stored_word address (address % 4 == 0) (holder (homes c.store) address)
+  found_word address OfSlots =
+      or_word (slot_at program c.active address) c.active.slots (word_waiting program c.frames address) slots (waiting_word program c.frames address frames)
+
+  loaded : (destination : ℕ) (found : Option ℕ) → AreWordsOf found → HoldsWords (loads c destination found)
+  loaded destination None is_word = tt
+  loaded destination (Some word) is_word = given destination word is_word
+
+  written : (address word : ℕ) (range : Range) → IsWord word → HoldsWords (Running (advanced (with_word program c address word range)))
+  written address word OfGlobals w = go (global_at program address)
+    where
+      go : (number : Option ℕ) → HoldsWords (Running (advanced (with_global c number word)))
+      go (Some number) = (slots, frames, put_words c.globals number word globals w, store, input)
+      go None = (slots, frames, globals, store, input)
+  written address word OfStore w = (slots, frames, globals, stored_words c.store address word (word_at c.store address) store w, input)
+  written address word OfSlots w = go (slot_at program c.active address)
+    where
+      go : (slot : Option ℕ) → HoldsWords (Running (advanced (with_slot program c slot address word)))
+      go (Some number) = (put_words c.active.slots number word slots w, frames, globals, store, input)
+      go None = (slots, waiting_words program c.frames address word frames w, globals, store, input)
+
+  saved : (address word : ℕ) (found : Option ℕ) → IsWord word → HoldsWords (saves program c address word found)
   saved address word None w = tt
-  saved address word (Some old) w = (slots, frames, globals, stored_words c.store address word (word_at c.store address) store w, input)
+  saved address word (Some old) w = written address word (range_of address) w
 
   served : (destination : ℕ) (call : Call) (o : Option Refusal) → (o ≡ None → IsServed c.store call choice.serving) → HoldsWords (asks choice.serving c destination call o)
   served destination call None serves =
@@ -183,15 +230,17 @@ module _ (program : Program) (choice : Choice) (allowed : AreWords choice.conten
   performs (instructions.ReadByte destination) w serves =
       (put_words c.active.slots destination (unwrap_or (slice_get c.input 0) (2 ^ 32 - 1)) slots (first_word c.input input), frames, globals, store, rest_words c.input input)
   performs (instructions.WriteByte source) w serves = (slots, frames, globals, store, input)
+  performs (instructions.AddressOf destination slot count) w serves =
+      given destination (add_of c.active.base (4 * slot)) (IsWord-add_of c.active.base (4 * slot))
   performs (instructions.LoadGlobal destination global) w serves = given destination (c.globals global) (globals global)
   performs (instructions.StoreGlobal global source) w serves =
       (slots, frames, put_words c.globals global (operand_word c.active.slots source) globals (known source w), store, input)
   performs (instructions.Load destination address offset) w serves =
       let at : ℕ = add_of (operand_word c.active.slots address) offset in
-      loaded destination at (at % 4 == 0) (holder (homes c.store) at)
+      loaded destination (memory_at program c at) (found_word at (range_of at))
   performs (instructions.Store address offset source) (first, second, third) serves =
       let at : ℕ = add_of (operand_word c.active.slots address) offset in
-      saved at (operand_word c.active.slots source) (word_at c.store at) (known source third)
+      saved at (operand_word c.active.slots source) (memory_at program c at) (known source third)
   performs (instructions.Ask request) w serves =
       served (destination_of request) (call_in c.active.slots request) (refusal c.store (call_in c.active.slots request)) serves
   performs (instructions.Try first handler) w serves = tried first handler c.active.handlers
@@ -223,8 +272,8 @@ bytes_are_words : (input : List ℕ) → AllByRecursion (λ b. b < 256) input �
 bytes_are_words [] all = tt
 bytes_are_words (b ∷ input) (first, rest) = ((omega (arith, first)), bytes_are_words input rest)
 
-pub words_at_start : (program : Program) (store : StoreState) (input : List ℕ) → HasWords program → stores.AreWords store.memory → AllByRecursion (λ b. b < 256) input → HoldsWords (start program store input)
-words_at_start program store input words memory bytes =
+pub words_at_start : (program : Program) (base : ℕ) (store : StoreState) (input : List ℕ) → HasWords program → stores.AreWords store.memory → AllByRecursion (λ b. b < 256) input → HoldsWords (start program base store input)
+words_at_start program base store input words memory bytes =
     let global_words : (global : ℕ) → IsWord (slice_index program.globals global) = λ global.
     elim (cases_lt global (length program.globals)) [
       | inl below ↦ words.globals global 0 below

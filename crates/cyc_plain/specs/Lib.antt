@@ -5,5 +5,6 @@ pub mod WellFormed
 -- what a plain program means
 pub mod Operators
 pub mod State
+pub mod Memory
 pub mod Step
 pub mod Straight

@@ -71,6 +71,7 @@ instruction_size (instructions.Call function arguments count result) = 22 + 4 * 
 instruction_size (instructions.Return value) = 15
 instruction_size (instructions.ReadByte destination) = 5
 instruction_size (instructions.WriteByte source) = 5
+instruction_size (instructions.AddressOf destination slot count) = 4
 instruction_size (instructions.LoadGlobal destination global) = 5
 instruction_size (instructions.StoreGlobal global source) = 5
 instruction_size (instructions.Load destination address offset) = 10

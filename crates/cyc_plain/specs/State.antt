@@ -1,12 +1,12 @@
 -- The state of a plain program that runs. Every value is a word; slots and globals are functions from numbers to words,
 -- of which a well-formed program asks only for those that there are.
-use Rattle.std.specs.Prelude.{ℕ, suc, ◌+◌, ◌-◌, ◌==◌, ◌&&◌, nat_le, nat_lt, List, Option, length, if◌then◌else◌}
+use Rattle.std.specs.Prelude.{ℕ, suc, ◌+◌, ◌-◌, ◌==◌, ◌&&◌, nat_le, nat_lt, List, length, if◌then◌else◌}
 use Rattle.std.specs.List.{AllByRecursion}
 use Rattle.cyc_words.specs.Word.{IsWord}
 use Rattle.cyc_words.specs.Ending.{Ending}
 use Rattle.cyc_words.specs.Simulation as simulation
 use Rattle.cyc_store.specs.State as stores
-use Rattle.cyc_store.specs.State.{StoreState, word_at, saved}
+use Rattle.cyc_store.specs.State.{StoreState}
 use Rattle.cyc_plain.specs.Program.{CodePlace}
 
 -- the word that each slot, or each global, holds
@@ -30,11 +30,12 @@ pub data Handler : Type 0 where
   Open : (index first : ℕ) → (contents : Words) → Handler
   Caught : Handler
 
--- A call under way: its function, the index of the instruction to be executed next, its slots, and the handlers that it
--- has open, newest first.
+-- A call under way: its function, the index of the instruction to be executed next, the address of its first slot, its slots,
+-- and the handlers that it has open, newest first.
 pub record Activation : Type 0 where
   pub function : ℕ
   pub next : ℕ
+  pub base : ℕ
   pub slots : Words
   pub handlers : List Handler
 
@@ -51,16 +52,6 @@ pub record Configuration : Type 0 where
   pub store : StoreState
   pub output : List ℕ
   pub input : List ℕ
-
--- Memory is read and written by these two. It is the store alone.
-
--- the word at an address, where it is that of a word of a live block
-abbrev pub memory_at : Configuration → (address : ℕ) → Option ℕ
-memory_at c address = word_at c.store address
-
--- the word at an address is written, where there is one
-abbrev pub with_memory : Configuration → (address word : ℕ) → Configuration
-with_memory c address word = record c { store = saved c.store address word }
 
 -- A state: under way, ended, or unable to go on.
 pub data State : Type 0 where

@@ -1,6 +1,6 @@
 -- What a plain program does: a step is a function of the state and of what is chosen. So the steps of a program are a
 -- relation, since nothing is said of the choice but that it is allowed.
-use Rattle.std.specs.Prelude.{◌≡◌, ℕ, zero, suc, ◌+◌, ◌-◌, ◌%◌, ◌^◌, Bool, ◌==◌, ◌&&◌, nat_le, List, [], ◌∷◌, ◌++◌, drop, Option, Some, None, unwrap_or, slice_get, slice_index, if◌then◌else◌}
+use Rattle.std.specs.Prelude.{◌≡◌, ℕ, zero, suc, ◌+◌, ◌-◌, ◌*◌, ◌%◌, ◌^◌, Bool, ◌==◌, ◌&&◌, nat_le, List, [], ◌∷◌, ◌++◌, drop, Option, Some, None, unwrap_or, slice_get, slice_index, if◌then◌else◌}
 use Rattle.cyc_words.specs.Word.{IsWord, signed, add_of}
 use Rattle.cyc_words.specs.Ending.{Returned, Uncaught, Full}
 use Rattle.cyc_store.specs.State.{StoreState}
@@ -17,12 +17,14 @@ use Rattle.cyc_plain.specs.Operators.{unary_result, binary_result, has_no_result
 use Rattle.cyc_plain.specs.Program.{Program, CodePlace, routine_at}
 use Rattle.cyc_plain.specs.declared.limits.TheConstants.{RECORD_WORDS}
 use Rattle.cyc_words.specs.Simulation.{Machine}
-use Rattle.cyc_plain.specs.State.{Words, AreWords, put, copied, Handler, Open, Caught, Activation, Frame, Configuration, memory_at, with_memory, State, Running, Ended, Stuck, output_of, input_of, status_of, place_of, demand, depth}
+use Rattle.cyc_plain.specs.Memory.{IsBelow, memory_at, with_memory}
+use Rattle.cyc_plain.specs.State.{Words, AreWords, put, copied, Handler, Open, Caught, Activation, Frame, Configuration, State, Running, Ended, Stuck, output_of, input_of, status_of, place_of, demand, depth}
 
--- What a step may choose freely: the words that are in the slots of a new call before they are written, and what the
--- store chooses where it is called.
+-- What a step may choose: the words that are in the slots of a new call before they are written, the address of the first of
+-- them, and what the store chooses where it is called.
 pub record Choice : Type 0 where
   pub contents : Words
+  pub base : ℕ
   pub serving : services.Choice
 
 -- Parts of a configuration changed.
@@ -51,6 +53,7 @@ calls choice c function arguments count result =
       active = record {
         function = function;
         next = 0;
+        base = choice.base;
         slots = copied c.active.slots arguments count choice.contents 0;
         handlers = [];
       };
@@ -77,9 +80,9 @@ abbrev pub loads : Configuration → (destination : ℕ) → Option ℕ → Stat
 loads c destination (Some word) = gives c destination word
 loads c destination None = Stuck c.output c.input
 
-abbrev pub saves : Configuration → (address word : ℕ) → Option ℕ → State
-saves c address word (Some old) = Running (advanced (with_memory c address word))
-saves c address word None = Stuck c.output c.input
+abbrev pub saves : Program → Configuration → (address word : ℕ) → Option ℕ → State
+saves program c address word (Some old) = Running (advanced (with_memory program c address word))
+saves program c address word None = Stuck c.output c.input
 
 -- the call of the store that a request is
 abbrev pub call_in : Words → Request → Call
@@ -197,14 +200,16 @@ performed program choice c (instructions.ReadByte destination) =
     gives (record c { input = drop 1 c.input }) destination (unwrap_or (slice_get c.input 0) (2 ^ 32 - 1))
 performed program choice c (instructions.WriteByte source) =
     Running (advanced (record c { output = c.output ++ operand_word c.active.slots source % 256 ∷ [] }))
+performed program choice c (instructions.AddressOf destination slot count) =
+    gives c destination (add_of c.active.base (4 * slot))
 performed program choice c (instructions.LoadGlobal destination global) = gives c destination (c.globals global)
 performed program choice c (instructions.StoreGlobal global source) =
     Running (advanced (record c { globals = put c.globals global (operand_word c.active.slots source) }))
 performed program choice c (instructions.Load destination address offset) =
-    loads c destination (memory_at c (add_of (operand_word c.active.slots address) offset))
+    loads c destination (memory_at program c (add_of (operand_word c.active.slots address) offset))
 performed program choice c (instructions.Store address offset source) =
-    saves c (add_of (operand_word c.active.slots address) offset) (operand_word c.active.slots source)
-    (memory_at c (add_of (operand_word c.active.slots address) offset))
+    saves program c (add_of (operand_word c.active.slots address) offset) (operand_word c.active.slots source)
+    (memory_at program c (add_of (operand_word c.active.slots address) offset))
 performed program choice c (instructions.Ask request) =
     asks choice.serving c (destination_of request) (call_in c.active.slots request)
     (refusal c.store (call_in c.active.slots request))
@@ -249,9 +254,27 @@ abbrev pub MayServe : services.Choice → Option Call → State → Type 0
 MayServe serving (Some call) (Running c) = refusal c.store call ≡ None → IsServed c.store call serving
 MayServe serving call s = Unit {0}
 
--- Which choices a program has in a state: words, and what the store allows where it is called.
+-- the function that an instruction calls, if it calls one
+abbrev pub callee_of : Option Instruction → Option ℕ
+callee_of (Some (instructions.Call function arguments count result)) = Some function
+callee_of (Some instruction) = None
+callee_of None = None
+
+-- the function that the next step calls
+abbrev pub called : Program → State → Option ℕ
+called program (Running c) = callee_of (instruction_at program (place_of (Running c)))
+called program (Ended ending output input) = None
+called program (Stuck output input) = None
+
+-- the slots of a new call lie below those of the call that makes it
+abbrev pub MayLie : Program → (base : ℕ) → Option ℕ → State → Type 0
+MayLie program base (Some function) (Running c) = IsBelow program function base c.active.base
+MayLie program base callee s = Unit {0}
+
+-- Which choices a program has in a state: words, room for the slots of a new call, and what the store allows where it is called.
 pub record IsAllowed (program : Program) (s : State) (choice : Choice) : Type 0 where
   pub contents : AreWords choice.contents
+  pub lies : MayLie program choice.base (called program s) s
   pub serves : MayServe choice.serving (asked program s) s
 
 abbrev pub executed : Program → Choice → Configuration → Option Instruction → State
@@ -280,11 +303,11 @@ abbrev pub Step : Program → (pages calls : ℕ) → State → State → Type 0
 Step program pages calls old new =
     (choice : Choice) × IsAllowed program old choice × (new ≡ limited_step program pages calls choice old)
 
--- `main` is called, nothing is printed yet, and all of the input is still to be read
-abbrev pub start : Program → StoreState → List ℕ → State
-start program store input =
+-- `main` is called, with its slots from this address on, nothing is printed yet, and all of the input is still to be read
+abbrev pub start : Program → (base : ℕ) → StoreState → List ℕ → State
+start program base store input =
     Running (record {
-      active = record { function = program.main; next = 0; slots = λ (slot : ℕ). 0; handlers = [] };
+      active = record { function = program.main; next = 0; base = base; slots = λ (slot : ℕ). 0; handlers = [] };
       frames = [];
       globals = λ (global : ℕ). slice_index program.globals global;
       store = store;

@@ -31,6 +31,7 @@ is_straight (instructions.Unary operator destination operand) = true
 is_straight (instructions.Binary operator destination left right) = is_total operator
 is_straight (instructions.ReadByte destination) = true
 is_straight (instructions.WriteByte source) = true
+is_straight (instructions.AddressOf destination slot count) = true
 is_straight (instructions.LoadGlobal destination global) = true
 is_straight (instructions.StoreGlobal global source) = true
 is_straight instruction = false

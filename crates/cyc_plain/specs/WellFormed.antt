@@ -10,7 +10,8 @@ use Rattle.cyc_plain.specs.Operators.{has_no_result}
 use Rattle.cyc_plain.specs.declared.instruction.BinaryOperator.{BinaryOperator}
 use Rattle.cyc_plain.specs.declared.instruction.Request.{Request}
 use Rattle.cyc_plain.specs.Requests.{first_operand, second_operand, answer_count, destination_of}
-use Rattle.cyc_plain.specs.State.{Configuration, State, Running, Ended, Stuck, place_of, memory_at}
+use Rattle.cyc_plain.specs.State.{Configuration, State, Running, Ended, Stuck, place_of}
+use Rattle.cyc_plain.specs.Memory.{memory_at}
 use Rattle.cyc_plain.specs.Step.{operand_word, instruction_at, asked}
 use Rattle.cyc_plain.specs.Program.{Routine, Program, routine_at, size}
 use Rattle.cyc_plain.specs.declared.limits.TheConstants.{LAYOUT_WORDS, GREATEST_VALUE, MOST_GLOBALS, MOST_SIZE, RECORD_WORDS}
@@ -76,6 +77,8 @@ IsInRange program r (instructions.Call function arguments count result) =
 IsInRange program r (instructions.Return value) = HasSlots r value r.results
 IsInRange program r (instructions.ReadByte destination) = destination < r.slots
 IsInRange program r (instructions.WriteByte source) = IsOperand r source
+IsInRange program r (instructions.AddressOf destination slot count) =
+    (destination < r.slots) × (0 < count) × HasSlots r slot count
 IsInRange program r (instructions.LoadGlobal destination global) =
     (destination < r.slots) × (global < length program.globals)
 IsInRange program r (instructions.StoreGlobal global source) =
@@ -169,7 +172,7 @@ AsksAt c address instruction = ⊥
 abbrev pub AsksForNoWord : Program → State → Type 0
 AsksForNoWord program (Running c) =
     (i : Instruction) × (address : ℕ) × (instruction_at program (place_of (Running c)) ≡ Some i) × AsksAt c address i
-    × (memory_at c address ≡ None)
+    × (memory_at program c address ≡ None)
 AsksForNoWord program (Ended ending output input) = ⊥
 AsksForNoWord program (Stuck output input) = ⊥
 

@@ -1,11 +1,11 @@
 //! Laws of the definitions in `specs/`. Each function does nothing: its contract is the law, and so it is proved with
 //! the crate. The lemmas behind them stand in `proofs/` for other proofs to cite.
 
-ghost use Rattle.std.specs.Prelude.{◌≡◌, ◌≢◌, ◌⊎◌, ℕ, ◌+◌, ◌<◌, ◌≤◌, List, length, ◌++◌, true, false, Some, None, Contains};
+ghost use Rattle.std.specs.Prelude.{◌≡◌, ◌≢◌, ◌⊎◌, ℕ, ◌+◌, ◌*◌, ◌<◌, ◌≤◌, List, length, ◌++◌, true, false, Some, None, slice_get, Contains};
 ghost use Rattle.std.specs.List.{AllByRecursion};
 ghost use Rattle.cyc_words.specs.Ending.{Ending, Full};
 ghost use Rattle.cyc_words.specs.Prefix.{IsPrefix};
-ghost use Rattle.cyc_store.specs.State.{StoreState};
+ghost use Rattle.cyc_store.specs.State.{StoreState, word_at};
 ghost use Rattle.cyc_store.specs.State as stores;
 ghost use Rattle.cyc_store.specs.New.{IsNew};
 ghost use Rattle.cyc_store.specs.Services as services;
@@ -17,9 +17,12 @@ ghost use Rattle.cyc_plain.specs.declared.instruction.Instruction.{Instruction};
 ghost use Rattle.cyc_plain.specs.declared.instruction.Instruction.TheVariants as instructions;
 ghost use Rattle.cyc_words.specs.Simulation.{Run, Path, IsDistinct};
 ghost use Rattle.cyc_words.specs.Simulation as simulation;
-ghost use Rattle.cyc_plain.specs.State.{Words, Configuration, State, HoldsWords, put, copied, output_of, input_of, place_of, status_of};
+ghost use Rattle.cyc_plain.specs.State.{Words, Frame, Configuration, State, HoldsWords, put, copied, output_of, input_of, place_of, status_of};
 ghost use Rattle.cyc_plain.specs.State as state;
-ghost use Rattle.cyc_plain.specs.Step.{Choice, IsServed, Step, asked, call_in, instruction_at, is_within, limited_step, machine, served_to, start, step};
+ghost use Rattle.cyc_plain.specs.Memory.{slots_base, slots_end, IsBelow, LieBelow, is_pinned, memory_at};
+ghost use Rattle.cyc_plain.specs.declared.limits.TheConstants.{GLOBALS_BASE};
+ghost use Rattle.cyc_store.specs.declared.range.TheConstants.{STORE_BASE};
+ghost use Rattle.cyc_plain.specs.Step.{Choice, IsServed, Step, asked, call_in, called, instruction_at, is_within, limited_step, machine, served_to, start, step};
 ghost use Rattle.cyc_plain.specs.Straight.{HasAt, AreStraight, executed_in, places_behind};
 ghost use Rattle.cyc_plain.specs.WellFormed.{IsWellFormed, HasWords, DividesByZero, AsksForNoWord, AsksInVain, AsksForHandlers};
 
@@ -37,10 +40,14 @@ pub fn output_grows()
         → (read : List ℕ) × (input_of old ≡ read ++ input_of new) }
 {}
 
-/// From every state there is a step where the store is not called, and where it refuses what it is called for. (Of a
-/// call that it does not refuse the relation says what may be chosen, and the store that is called that something is.)
+/// From every state there is a step where nothing is called, where a function is whose slots have room below, and where the
+/// store refuses what it is called for. (Of a call that it does not refuse the relation says what may be chosen, and the
+/// store that is called that something is.)
 pub fn steps_go_on()
-    ensures free { (program : Program) (pages calls : ℕ) (old : State) → asked program old ≡ None → (new : State) × Step program pages calls old new }
+    ensures free { (program : Program) (pages calls : ℕ) (old : State) → asked program old ≡ None → called program old ≡ None
+        → (new : State) × Step program pages calls old new }
+    ensures called { (program : Program) (pages calls : ℕ) (c : Configuration) (function base : ℕ) → called program (state.Running c) ≡ Some function
+        → IsBelow program function base c.active.base → (new : State) × Step program pages calls (state.Running c) new }
     ensures refused { (program : Program) (pages calls : ℕ) (c : Configuration) (call : Call) (why : Refusal)
         → asked program (state.Running c) ≡ Some call → refusal c.store call ≡ Some why
         → (new : State) × Step program pages calls (state.Running c) new }
@@ -49,8 +56,8 @@ pub fn steps_go_on()
 /// A run keeps its limits: a step that keeps them is the program's own, and one that does not ends the run with `Full`, with
 /// output and input as before it.
 pub fn limits_are_kept()
-    ensures starts { (program : Program) (pages calls : ℕ) (store : StoreState) (input : List ℕ) → IsNew pages store → 1 ≤ pages → 1 ≤ calls
-        → is_within pages calls (start program store input) ≡ true }
+    ensures starts { (program : Program) (pages calls base : ℕ) (store : StoreState) (input : List ℕ) → IsNew pages store → 1 ≤ pages → 1 ≤ calls
+        → is_within pages calls (start program base store input) ≡ true }
     ensures stays { (program : Program) (pages calls count : ℕ) (old new : State) → is_within pages calls old ≡ true
         → Run (machine program pages calls) count old new → is_within pages calls new ≡ true }
     ensures within { (program : Program) (pages calls : ℕ) (choice : Choice) (old : State) → is_within pages calls (step program choice old) ≡ true
@@ -80,17 +87,38 @@ pub fn calls_are_served()
 /// have, where the store refuses what it is called for, not for want of room, and at an instruction that closes a
 /// handler, throws, or returns from a function that opens some.
 pub fn few_get_stuck()
-    ensures { (program : Program) (pages calls count : ℕ) (store : StoreState) (input : List ℕ) (old new : State) → IsWellFormed program
-        → Run (machine program pages calls) count (start program store input) old → status_of old ≡ simulation.Running
+    ensures { (program : Program) (pages calls count base : ℕ) (store : StoreState) (input : List ℕ) (old new : State) → IsWellFormed program
+        → Run (machine program pages calls) count (start program base store input) old → status_of old ≡ simulation.Running
         → Step program pages calls old new → status_of new ≡ simulation.Failed
         → DividesByZero program old ⊎ (AsksForNoWord program old ⊎ (AsksInVain program old ⊎ AsksForHandlers program old)) }
 {}
 
 /// In a run of a program whose numbers are words, from a store of words and on an input of bytes, every value is a word.
 pub fn values_are_words()
-    ensures { (program : Program) (pages calls count : ℕ) (store : StoreState) (input : List ℕ) (new : State) → HasWords program
-        → stores.AreWords store.memory → AllByRecursion (λ b. b < 256) input → Run (machine program pages calls) count (start program store input) new
+    ensures { (program : Program) (pages calls count base : ℕ) (store : StoreState) (input : List ℕ) (new : State) → HasWords program
+        → stores.AreWords store.memory → AllByRecursion (λ b. b < 256) input → Run (machine program pages calls) count (start program base store input) new
         → HoldsWords new }
+{}
+
+/// The slots of the calls under way lie one below the other, in each state of a run from a start where those of `main` lie so.
+pub fn calls_lie_apart()
+    ensures { (program : Program) (pages calls count base : ℕ) (store : StoreState) (input : List ℕ) (new : State)
+        → IsBelow program program.main base slots_end → Run (machine program pages calls) count (start program base store input) new → LieBelow program new }
+{}
+
+/// A word of memory is found by its address: that of a global, that of the store, and where the calls lie so, each slot that an
+/// instruction of its function names, of the call that is executed and of each one that waits.
+pub fn words_have_addresses()
+    ensures global { (program : Program) (c : Configuration) (number : ℕ) → IsWellFormed program → number < length program.globals
+        → memory_at program c (GLOBALS_BASE + 4 * number) ≡ Some (c.globals number) }
+    ensures store { (program : Program) (c : Configuration) (address : ℕ) → STORE_BASE ≤ address → address < slots_base
+        → memory_at program c address ≡ word_at c.store address }
+    ensures active { (program : Program) (c : Configuration) (slot : ℕ) → IsWellFormed program → LieBelow program (state.Running c)
+        → is_pinned (routine_at program c.active.function).code slot ≡ true
+        → memory_at program c (c.active.base + 4 * slot) ≡ Some (c.active.slots slot) }
+    ensures waiting { (program : Program) (c : Configuration) (k slot : ℕ) (f : Frame) → IsWellFormed program → LieBelow program (state.Running c)
+        → slice_get c.frames k ≡ Some f → is_pinned (routine_at program f.caller.function).code slot ≡ true
+        → memory_at program c (f.caller.base + 4 * slot) ≡ Some (f.caller.slots slot) }
 {}
 
 /// Where an instruction stands is one of the program's places.

@@ -8,5 +8,7 @@ mod limits;
 pub mod program;
 
 pub use instruction::{BinaryOperator, Comparison, Instruction, Operand, Request, UnaryOperator};
-pub use limits::{GREATEST_VALUE, LAYOUT_WORDS, MOST_GLOBALS, MOST_SIZE, RECORD_WORDS};
+pub use limits::{
+    GLOBALS_BASE, GREATEST_VALUE, LAYOUT_WORDS, MOST_GLOBALS, MOST_SIZE, RECORD_WORDS,
+};
 pub use program::{Function, Plain};

@@ -9,6 +9,9 @@ pub const GREATEST_VALUE: usize = 3;
 /// The record of a handler has so many words.
 pub const RECORD_WORDS: usize = 4;
 
+/// The address of the first word of the globals: that of the machine's data range.
+pub const GLOBALS_BASE: u32 = 0x1000_0000;
+
 /// So many words of globals can be addressed: 4 megabytes.
 pub const MOST_GLOBALS: usize = 1_048_576;
 

@@ -9,16 +9,17 @@ use Rattle.cyc_isa.specs.declared.instr.MemoryOp.TheVariants.{LoadWord, StoreWor
 use Rattle.cyc_isa.specs.Decoding.{register_of}
 use Rattle.cyc_machine.specs.State.{globals_length, words_per_call}
 use Rattle.cyc_machine.specs.declared.constants.TheConstants.{RETURN_ADDRESS}
-use Rattle.cyc_store.specs.State.{StoreState, saved}
 use Rattle.cyc_plain.specs.declared.instruction.Instruction.{Instruction}
 use Rattle.cyc_plain.specs.declared.instruction.Instruction.TheVariants as plain
 use Rattle.cyc_plain.specs.declared.instruction.Operand.{Operand}
 use Rattle.cyc_plain.specs.declared.instruction.Operand.TheVariants as operands
 use Rattle.cyc_plain.specs.Program.{Program, routine_at}
 use Rattle.cyc_plain.specs.State as states
-use Rattle.cyc_plain.specs.State.{Words, put, copied, Configuration, memory_at}
-use Rattle.cyc_plain.specs.Step.{instruction_at, operand_word, performed, loads, saves}
+use Rattle.cyc_plain.specs.Memory.{memory_at, with_memory}
+use Rattle.cyc_plain.specs.State.{Words, put, copied, Configuration}
+use Rattle.cyc_plain.specs.Step.{advanced, instruction_at, operand_word, performed, loads, saves}
 use Rattle.cyc_plain.specs.WellFormed.{IsOperand, IsOfWord, IsWellFormed, IsMoveInRange}
+use Rattle.cyc_plain.proofs.MemoryLaws.{memory-left}
 use Rattle.cyc_plain.proofs.RunLaws.{zeros, zeros_at}
 use Rattle.cyc_frame.specs.Layout.{AreFrames, frame_at}
 use Rattle.cyc_frame.specs.declared.frame.Frame.{Frame}
@@ -29,17 +30,17 @@ use Rattle.cyc_select.specs.Machine.{State, Running}
 use Rattle.cyc_select.specs.Numbers.{fits_signed, is_zero_word}
 use Rattle.cyc_select.specs.Selection.{store_slot, slot_offset, load_all, store_all, result_registers, operand_code, operand_register, operation_of, far_plan, address_code, address_register, near_half, at_address, address_count, operand_count, body, body_count, instruction_line}
 use Rattle.cyc_select.proofs.Blocks.{Keeps, puts_keeps}
-use Rattle.cyc_select.proofs.Cells.{IsCell, IsLive}
+use Rattle.cyc_select.proofs.Cells.{IsCell}
 use Rattle.cyc_select.proofs.Computing.{IsHeld, operand_puts, operation_leaves, first_scratch, second_scratch}
 use Rattle.cyc_select.proofs.Counts.{length_operand, length_address, length_loads, length_stores, length_registers}
 use Rattle.cyc_select.proofs.Halves.{fits_is}
 use Rattle.cyc_select.proofs.Lines.{line_next}
 use Rattle.cyc_select.proofs.Matches.{At, Reached, reached, reached_gives, result_register, within}
 use Rattle.cyc_select.proofs.Returns.{stored}
-use Rattle.cyc_select.proofs.Stores.{laid_live}
-use Rattle.cyc_select.proofs.Standing.{Standing, slot_cell, slot_word_is, standing_registers, standing_at, standing_saved}
-use Rattle.cyc_select.proofs.Views.{Contents, written, saved_in}
-use Rattle.cyc_select.proofs.Walks.{Stands, stands_first, stands_behind, after_r, after_w, Walk, now_at, now_is, walk_end, walk_few, walk_block, walk_load, walk_save}
+use Rattle.cyc_select.proofs.Standing.{Standing, slot_cell, slot_word_is, standing_registers, standing_at}
+use Rattle.cyc_select.proofs.Places.{IsWordAt, placed, walk_read, walk_write, is_found}
+use Rattle.cyc_select.proofs.Views.{Contents, written}
+use Rattle.cyc_select.proofs.Walks.{Stands, stands_first, stands_behind, after_r, after_w, Walk, now_at, now_is, walk_end, walk_few, walk_block}
 
 -- ---- several words in registers
 
@@ -166,6 +167,9 @@ module _ (program : Program) (well : IsWellFormed program) (frames : List Frame)
   abbrev Goes : (least lo hi : ℕ) → State → Type 0
   Goes least lo hi t = Walk code formed addresses globals_length (words_per_call * calls) least lo hi c.output (Reached program well frames fit code formed addresses pages calls few c) t
 
+  abbrev AtNow : ℕ → (output input : List ℕ) → Words → Contents → labelled.Configuration → Type 0
+  AtNow line output input q m d = At program well frames fit code formed addresses pages calls few line output input q m d
+
   abbrev IsAt : Instruction → Type 0
   IsAt i = instruction_at program (states.place_of (states.Running c)) ≡ Some i
 
@@ -210,7 +214,7 @@ module _ (program : Program) (well : IsWellFormed program) (frames : List Frame)
       let m : Contents = after_w js q v in
       let there : Words = copied c.active.slots source count c.active.slots destination in
       let d : Configuration = record c { active = record c.active { next = c.active.next + 1; slots = copied c.active.slots source count c.active.slots destination } } in
-      let at_d = standing_at program well frames fit addresses pages calls few c q m base (r RETURN_ADDRESS) (suc (length c.frames)) there puts.2 d refl refl refl refl refl s.input in
+      let at_d = standing_at program well frames fit addresses pages calls few c q m base (r RETURN_ADDRESS) (suc (length c.frames)) there puts.2 d refl refl refl refl refl refl s.input in
       let with_back = subst (λ (b : ℕ). Standing program frames addresses pages calls d q m base b (suc (length c.frames)) there) (sym take.keeps.back) at_d in
       let line : here + length is + length js ≡ instruction_line program c.active.function (c.active.next + 1) = omega (arith, line_next program c.active.function c.active.next (plain.MoveWords destination source count) at_i, long, also) in
       walk_few code formed addresses globals_length (words_per_call * calls) 1 (length is + (length js + 0)) here hi c.output _ (Running run) (omega (arith, long, also, some, in_range.some))
@@ -236,7 +240,7 @@ module _ (program : Program) (well : IsWellFormed program) (frames : List Frame)
 
   -- of a word that is there
   loaded_goes : (destination : ℕ) (address : Operand) (offset word : ℕ) → IsAt (plain.Load destination address offset) → destination < slots → IsThere address → IsWord offset
-      → memory_at c (add_of (word_in address) offset) ≡ Some word
+      → memory_at program c (add_of (word_in address) offset) ≡ Some word
       → Stands code here (body program frames c.active.function here (plain.Load destination address offset)) → Goes 1 here (here + (address_count address offset + 2)) (Running run)
   loaded_goes destination address offset word at_i below there fits found stands =
       let is : List Instr = address_code frame address offset in
@@ -249,10 +253,10 @@ module _ (program : Program) (well : IsWellFormed program) (frames : List Frame)
       let register : ℕ = address_register address offset in
       let a : ℕ = add_of (word_in address) offset in
       let reaches = is_addressed globals_length (words_per_call * calls) frame (r FRAME) w c.active.slots r w s.zero_is refl refl address offset (held address there) fits in
-      let lives = laid_live pages c.store a word s.laid found in
-      let live : IsLive v.store (memory_address (q (register % 32)) (near_half offset)) word =
-      subst (λ (x : ℕ). IsLive v.store x word) (sym reaches.comes)
-      (subst (λ (x : Contents). IsLive x.store a word) (sym reaches.keeps.memory) (subst (λ (x : StoreState). IsLive x a word) (sym s.store) lives.0)) in
+      let its = is_found program well frames fit addresses pages calls few c r w base (r RETURN_ADDRESS) (suc (length c.frames)) s a word found in
+      let there_is : IsWordAt its.sort globals_length (words_per_call * calls) v (memory_address (q (register % 32)) (near_half offset)) word =
+      subst (λ (x : ℕ). IsWordAt its.sort globals_length (words_per_call * calls) v x word) (sym reaches.comes)
+      (subst (λ (x : Contents). IsWordAt its.sort globals_length (words_per_call * calls) x a word) (sym reaches.keeps.memory) its.at) in
       let behind = stands_behind code here is last stands in
       let p : Words = put q FIRST word in
       let puts : written v (memory_address (q FRAME) (slot_offset frame destination)) word ≡ written w (memory_address (r FRAME) (slot_offset frame destination)) word =
@@ -262,7 +266,7 @@ module _ (program : Program) (well : IsWellFormed program) (frames : List Frame)
       walk_few code formed addresses globals_length (words_per_call * calls) 1 (length is + 2) here hi c.output _ (Running run) (omega arith)
       (walk_block code formed addresses globals_length (words_per_call * calls) is 2 here here hi c.output c.input _ r w run now (stands_first code here is last stands) reaches.keeps.safe (omega arith)
       (λ d before.
-      walk_load code formed addresses globals_length (words_per_call * calls) 1 (here + length is) (here + length is) hi c.output c.input _ q v d (register_of FIRST) (register_of register) (near_half offset) word before behind.0 (omega arith) refl live lives.1
+      walk_read code formed addresses globals_length (words_per_call * calls) its.sort 1 (here + length is) (here + length is) hi c.output c.input _ q v d (register_of FIRST) (register_of register) (near_half offset) word before behind.0 (omega arith) refl there_is
       (λ e later.
       walk_block code formed addresses globals_length (words_per_call * calls) put_one 0 (here + length is + 1) (suc (here + length is)) hi c.output c.input _ p v e later behind.1 (safe, tt) (omega arith)
       (λ f after.
@@ -273,16 +277,16 @@ module _ (program : Program) (well : IsWellFormed program) (frames : List Frame)
   pub load_goes : (destination : ℕ) (address : Operand) (offset : ℕ) → IsAt (plain.Load destination address offset) → destination < slots → IsThere address → IsWord offset
       → (performed program zeros c (plain.Load destination address offset) ≡ states.Stuck c.output c.input → ⊥)
       → Stands code here (body program frames c.active.function here (plain.Load destination address offset)) → Goes 1 here (here + (address_count address offset + 2)) (Running run)
-  load_goes destination address offset at_i below there fits never stands = go (memory_at c (add_of (word_in address) offset)) refl
+  load_goes destination address offset at_i below there fits never stands = go (memory_at program c (add_of (word_in address) offset)) refl
     where
-      go : (o : Option ℕ) → memory_at c (add_of (word_in address) offset) ≡ o → Goes 1 here (here + (address_count address offset + 2)) (Running run)
+      go : (o : Option ℕ) → memory_at program c (add_of (word_in address) offset) ≡ o → Goes 1 here (here + (address_count address offset + 2)) (Running run)
       go (Some word) found = loaded_goes destination address offset word at_i below there fits found stands
       go None found = absurd (never (ap (loads c destination) found))
 
   -- ---- a store
 
   saved_goes : (address : Operand) (offset : ℕ) (source : Operand) (old : ℕ) → IsAt (plain.Store address offset source) → IsThere address → IsWord offset → IsThere source
-      → memory_at c (add_of (word_in address) offset) ≡ Some old
+      → memory_at program c (add_of (word_in address) offset) ≡ Some old
       → Stands code here (body program frames c.active.function here (plain.Store address offset source)) → Goes 1 here (here + (address_count address offset + operand_count source + 1)) (Running run)
   saved_goes address offset source old at_i there fits from_there found stands =
       let is : List Instr = address_code frame address offset in
@@ -305,22 +309,28 @@ module _ (program : Program) (well : IsWellFormed program) (frames : List Frame)
       let same : u ≡ w = keeps.memory ∙ reaches.keeps.memory in
       let comes : memory_address (p (register % 32)) (near_half offset) ≡ a =
       ap (λ (x : ℕ). memory_address x (near_half offset)) (second.others (register % 32) (below_32 register) (not_second (fits_signed offset) (is_zero_word address))) ∙ reaches.comes in
-      let lives = laid_live pages c.store a old s.laid found in
-      let live : IsLive u.store (memory_address (p (register % 32)) (near_half offset)) old =
-      subst (λ (x : ℕ). IsLive u.store x old) (sym comes)
-      (subst (λ (x : Contents). IsLive x.store a old) (sym same) (subst (λ (x : StoreState). IsLive x a old) (sym s.store) lives.0)) in
-      let x : Contents = saved_in u (memory_address (p (register % 32)) (near_half offset)) (p (from % 32)) in
-      let puts : x ≡ saved_in w a word =
-      ap (λ (y : Contents). saved_in y (memory_address (p (register % 32)) (near_half offset)) (p (from % 32))) same
-      ∙ (ap (λ (n : ℕ). saved_in w n (p (from % 32))) comes ∙ ap (saved_in w a) second.result) in
-      let d : Configuration = record c { active = record c.active { next = c.active.next + 1 }; store = saved c.store a word } in
-      let c' : Configuration = record c { store = saved c.store a word } in
-      let one = standing_saved program well frames fit addresses pages calls few c r w base (r RETURN_ADDRESS) (suc (length c.frames)) c.active.slots s a word (is_word source from_there) in
-      let two = standing_registers program well frames fit addresses pages calls few c' r (saved_in w a word) base (r RETURN_ADDRESS) (suc (length c.frames)) c.active.slots one p (keeps.zero ∙ reaches.keeps.zero) (keeps.base ∙ reaches.keeps.base) (keeps.left ∙ reaches.keeps.left) (keeps.newest ∙ reaches.keeps.newest) in
-      let three = standing_at program well frames fit addresses pages calls few c' p (saved_in w a word) base (r RETURN_ADDRESS) (suc (length c.frames)) c.active.slots two d refl refl refl refl refl s.input in
-      let with_back = subst (λ (b : ℕ). Standing program frames addresses pages calls d p (saved_in w a word) base b (suc (length c.frames)) c.active.slots) (sym (keeps.back ∙ reaches.keeps.back)) three in
-      let four = subst (λ (y : Contents). Standing program frames addresses pages calls d p y base (p RETURN_ADDRESS) (suc (length c.frames)) c.active.slots) (sym puts) with_back in
-      let line : here + length is + length js + 1 ≡ instruction_line program c.active.function (c.active.next + 1) = omega (arith, line_next program c.active.function c.active.next (plain.Store address offset source) at_i, long, more) in
+      let its = is_found program well frames fit addresses pages calls few c r w base (r RETURN_ADDRESS) (suc (length c.frames)) s a old found in
+      let there_is : IsWordAt its.sort globals_length (words_per_call * calls) u (memory_address (p (register % 32)) (near_half offset)) old =
+      subst (λ (x : ℕ). IsWordAt its.sort globals_length (words_per_call * calls) u x old) (sym comes)
+      (subst (λ (x : Contents). IsWordAt its.sort globals_length (words_per_call * calls) x a old) (sym same) its.at) in
+      let x : Contents = placed its.sort u (memory_address (p (register % 32)) (near_half offset)) (p (from % 32)) in
+      let puts : x ≡ placed its.sort w a word =
+      ap (λ (y : Contents). placed its.sort y (memory_address (p (register % 32)) (near_half offset)) (p (from % 32))) same
+      ∙ (ap (λ (n : ℕ). placed its.sort w n (p (from % 32))) comes ∙ ap (placed its.sort w a) second.result) in
+      let c' : Configuration = with_memory program c a word in
+      let d : Configuration = advanced c' in
+      let left = memory-left program c a word in
+      let one = its.standing word (is_word source from_there) in
+      let two = standing_registers program well frames fit addresses pages calls few c' r (placed its.sort w a word) base (r RETURN_ADDRESS) (suc (length c.frames)) c'.active.slots one p (keeps.zero ∙ reaches.keeps.zero) (keeps.base ∙ reaches.keeps.base) (keeps.left ∙ reaches.keeps.left) (keeps.newest ∙ reaches.keeps.newest) in
+      let three = standing_at program well frames fit addresses pages calls few c' p (placed its.sort w a word) base (r RETURN_ADDRESS) (suc (length c.frames)) c'.active.slots two d refl refl refl refl refl refl one.input in
+      let with_back = subst (λ (b : ℕ). Standing program frames addresses pages calls d p (placed its.sort w a word) base b (suc (length c.frames)) d.active.slots) (sym (keeps.back ∙ reaches.keeps.back)) three in
+      let with_depth = subst (λ (n : ℕ). Standing program frames addresses pages calls d p (placed its.sort w a word) base (p RETURN_ADDRESS) (suc n) d.active.slots) (sym left.depth) with_back in
+      let four = subst (λ (y : Contents). Standing program frames addresses pages calls d p y base (p RETURN_ADDRESS) (suc (length d.frames)) d.active.slots) (sym puts) with_depth in
+      let next : here + length is + length js + 1 ≡ instruction_line program c.active.function (c.active.next + 1) = omega (arith, line_next program c.active.function c.active.next (plain.Store address offset source) at_i, long, more) in
+      let line : here + length is + length js + 1 ≡ instruction_line program d.active.function d.active.next =
+      next
+      ∙ (ap (λ (f : ℕ). instruction_line program f (c.active.next + 1)) (sym left.function)
+      ∙ ap (λ (n : ℕ). instruction_line program d.active.function (n + 1)) (sym left.next)) in
       let behind = stands_behind code here is (js ++ last) stands in
       let at_last = stands_behind code (here + length is) js last behind in
       walk_few code formed addresses globals_length (words_per_call * calls) 1 (length is + (length js + 1)) here hi c.output _ (Running run) (omega arith)
@@ -328,26 +338,29 @@ module _ (program : Program) (well : IsWellFormed program) (frames : List Frame)
       (λ e before.
       walk_block code formed addresses globals_length (words_per_call * calls) js 1 (here + length is) (here + length is) hi c.output c.input _ q v e before (stands_first code (here + length is) js last behind) second.safe (omega arith)
       (λ f after.
-      walk_save code formed addresses globals_length (words_per_call * calls) 0 (here + length is + length js) (here + length is + length js) hi c.output c.input _ p u f (register_of from) (register_of register) (near_half offset) old after at_last.0 (omega arith) live
+      walk_write code formed addresses globals_length (words_per_call * calls) its.sort 0 (here + length is + length js) (here + length is + length js) hi c.output c.input _ p u f (register_of from) (register_of register) (near_half offset) old after at_last.0 (omega arith) there_is
       (λ g later.
       walk_end code formed addresses globals_length (words_per_call * calls) (suc (here + length is + length js)) hi c.output _ (Running g) (omega (arith, long, more))
-      (reached program well frames fit code formed addresses pages calls few c zeros (plain.Store address offset source) (states.Running d) (Running g) (zeros_at program c (plain.Store address offset source) at_i refl) at_i (ap (saves c a word) found)
-      (within program well frames fit code formed addresses pages calls few d four.laid.paged s.deep)
+      (reached program well frames fit code formed addresses pages calls few c zeros (plain.Store address offset source) (states.Running d) (Running g) (zeros_at program c (plain.Store address offset source) at_i refl) at_i (ap (saves program c a word) found)
+      (within program well frames fit code formed addresses pages calls few d four.laid.paged four.deep)
       (inl (record {
         run = g;
         r = p;
         w = x;
         base = base;
         is = refl;
-        now = now_at code formed addresses globals_length (words_per_call * calls) (here + length is + length js + 1) (instruction_line program c.active.function (c.active.next + 1)) c.output c.input p x g line later;
+        now =
+            subst (λ (out : List ℕ). AtNow (instruction_line program d.active.function d.active.next) out d.input p x g) (sym left.output)
+            (subst (λ (input : List ℕ). AtNow (instruction_line program d.active.function d.active.next) c.output input p x g) (sym left.input)
+            (now_at code formed addresses globals_length (words_per_call * calls) (here + length is + length js + 1) (instruction_line program d.active.function d.active.next) c.output c.input p x g line later));
         standing = four;
       })))))))
 
   pub store_goes : (address : Operand) (offset : ℕ) (source : Operand) → IsAt (plain.Store address offset source) → IsThere address → IsWord offset → IsThere source
       → (performed program zeros c (plain.Store address offset source) ≡ states.Stuck c.output c.input → ⊥)
       → Stands code here (body program frames c.active.function here (plain.Store address offset source)) → Goes 1 here (here + (address_count address offset + operand_count source + 1)) (Running run)
-  store_goes address offset source at_i there fits from_there never stands = go (memory_at c (add_of (word_in address) offset)) refl
+  store_goes address offset source at_i there fits from_there never stands = go (memory_at program c (add_of (word_in address) offset)) refl
     where
-      go : (o : Option ℕ) → memory_at c (add_of (word_in address) offset) ≡ o → Goes 1 here (here + (address_count address offset + operand_count source + 1)) (Running run)
+      go : (o : Option ℕ) → memory_at program c (add_of (word_in address) offset) ≡ o → Goes 1 here (here + (address_count address offset + operand_count source + 1)) (Running run)
       go (Some old) found = saved_goes address offset source old at_i there fits from_there found stands
-      go None found = absurd (never (ap (saves c (add_of (word_in address) offset) (word_in source)) found))
+      go None found = absurd (never (ap (saves program c (add_of (word_in address) offset) (word_in source)) found))

@@ -12,12 +12,13 @@ use Rattle.cyc_isa.specs.Decoding.{register_of}
 use Rattle.cyc_machine.specs.State.{data_base, stack_end, globals_length, words_per_call}
 use Rattle.cyc_store.specs.State.{demand}
 use Rattle.cyc_plain.specs.declared.instruction.Instruction.TheVariants as plain
+use Rattle.cyc_plain.specs.Memory.{IsBelow}
 use Rattle.cyc_plain.specs.Program.{Program, no_routine, routine_at}
 use Rattle.cyc_plain.specs.State as states
 use Rattle.cyc_plain.specs.State.{Words, AreWords, put, copied, Configuration}
-use Rattle.cyc_plain.specs.Step.{Choice, instruction_at, performed, executed, advanced, step, is_within}
+use Rattle.cyc_plain.specs.Step.{Choice, instruction_at, performed, executed, advanced, step, is_within, callee_of}
 use Rattle.cyc_plain.specs.WellFormed.{IsWellFormed, IsCallInRange}
-use Rattle.cyc_plain.proofs.RunLaws.{zeros, zeros_at, limited-full}
+use Rattle.cyc_plain.proofs.RunLaws.{zeros, limited-full, called_at}
 use Rattle.cyc_plain.proofs.SlotLaws.{put-same, copied-inside, copied-above}
 use Rattle.cyc_frame.specs.Layout.{AreFrames, frame_at, slot_word}
 use Rattle.cyc_frame.specs.declared.frame.Frame.{Frame}
@@ -34,7 +35,7 @@ use Rattle.cyc_select.proofs.Operations.{add_small, take_small}
 use Rattle.cyc_select.proofs.Views.{Contents, written}
 use Rattle.cyc_select.proofs.Walks.{Stands, stands_front, stands_back, after_r, after_w, Walk, now_at, walk_end, walk_few, walk_block, walk_branch, walk_call, walk_full}
 use Rattle.cyc_select.proofs.Copies.{Copied, copied_all}
-use Rattle.cyc_select.proofs.Standing.{Holds, Chain, IsNewest, Standing, behind_line, lies, chain_kept, word_cell, return_cell, return_address, standing_return}
+use Rattle.cyc_select.proofs.Standing.{Holds, Chain, IsNewest, Standing, behind_line, lies, chain_kept, word_cell, return_cell, return_address, standing_return, AreBased, based_here, slots_fit}
 use Rattle.cyc_select.proofs.Matches.{At, Reached, reached, within}
 
 pub length_ordinary : (is : List Instr) → length (ordinary is) ≡ length is
@@ -99,14 +100,29 @@ module _ (program : Program) (well : IsWellFormed program) (frames : List Frame)
 
   -- ---- no room
 
+  -- there is room below for the slots of any function
+  place_is : c.active.base ≡ base + 4 * mine.first_slot
+  place_is = based_here frames base c.active.function c.active.base c.frames s.based
+
+  room_below : IsBelow program callee (c.active.base - 4 * (routine_at program callee).slots) c.active.base
+  room_below =
+      let frame = fit.each callee in_range.function_in_range in
+      let fits = slots_fit (routine_at program callee) its frame in
+      let l = lies program well frames fit addresses pages calls few c r w base (r RETURN_ADDRESS) (suc (length c.frames)) c.active.slots s in
+      record {
+        aligned = omega (arith, place_is, l.aligned, l.above_low, s.deep, fits, frame.within, frame.small);
+        low = omega (arith, place_is, l.above_low, s.deep, fits, frame.within, frame.small);
+        high = omega (arith, place_is, l.above_low, s.deep, fits, frame.within, frame.small);
+      }
+
   full_step : r CALLS ≡ 0 → Reached program well frames fit code formed addresses pages calls few c (Ended Full c.output c.input)
   full_step none =
-      let choice_of : states.State = performed program zeros c (plain.Call callee arguments count result) in
+      let choice : Choice = record zeros { base = c.active.base - 4 * (routine_at program callee).slots } in
       let deep : nat_le (suc (suc (length c.frames))) calls ≡ false = lt-leb (suc (suc (length c.frames))) calls (omega (arith, s.left, none)) in
-      let over : is_within pages calls (performed program zeros c (plain.Call callee arguments count result)) ≡ false = and_right (nat_le (demand c.store) pages) _ deep in
-      let is : step program zeros (states.Running c) ≡ performed program zeros c (plain.Call callee arguments count result) = ap (executed program zeros c) at_i in (
+      let over : is_within pages calls (performed program choice c (plain.Call callee arguments count result)) ≡ false = and_right (nat_le (demand c.store) pages) _ deep in
+      let is : step program choice (states.Running c) ≡ performed program choice c (plain.Call callee arguments count result) = ap (executed program choice c) at_i in (
         states.Ended Full c.output c.input,
-        (zeros, zeros_at program c (plain.Call callee arguments count result) at_i refl, sym (limited-full pages calls (states.Running c) (step program zeros (states.Running c)) (ap (is_within pages calls) is ∙ over))),
+        (choice, called_at program c callee choice (ap callee_of at_i) (λ slot. omega arith) room_below, sym (limited-full pages calls (states.Running c) (step program choice (states.Running c)) (ap (is_within pages calls) is ∙ over))),
         refl,
       )
 
@@ -191,11 +207,11 @@ module _ (program : Program) (well : IsWellFormed program) (frames : List Frame)
 
     -- what is in the new slots before they are written
     abbrev choice : Choice
-    choice = record { contents = λ (slot : ℕ). w2.words (low + slot_offset its slot); serving = zeros.serving }
+    choice = record { contents = λ (slot : ℕ). w2.words (low + slot_offset its slot); base = low + 4 * its.first_slot; serving = zeros.serving }
 
     abbrev entered : Configuration
     entered = record c {
-      active = record { function = callee; next = 0; slots = copied c.active.slots arguments count choice.contents 0; handlers = [] };
+      active = record { function = callee; next = 0; base = low + 4 * its.first_slot; slots = copied c.active.slots arguments count choice.contents 0; handlers = [] };
       frames = record { caller = (advanced c).active; result = result } ∷ c.frames;
     }
 
@@ -256,6 +272,7 @@ module _ (program : Program) (well : IsWellFormed program) (frames : List Frame)
       chain = new_chain;
       newest = entered_newest;
       kept = tt;
+      based = (refl, subst (λ (b : ℕ). AreBased frames b c.active.function c.active.base c.frames) (sym low_is) s.based);
       globals = λ global below. copied_now.outside (data_base + 4 * global) (inl (omega (arith, below, well.globals, low_is, room, here_lies.1, deeper))) ∙ s1.globals global below;
       input = s.input;
       store = copied_now.store ∙ s1.store;
@@ -265,11 +282,20 @@ module _ (program : Program) (well : IsWellFormed program) (frames : List Frame)
         left_is : (n : ℕ) → n ≡ r CALLS - 1 → n + suc (suc (length c.frames)) ≡ calls
         left_is n is = omega (arith, is, s.left, left_some)
 
+    -- its slots lie below the caller's
+    new_below : IsBelow program callee (low + 4 * its.first_slot) c.active.base
+    new_below =
+        let fits = slots_fit (routine_at program callee) its (fit.each callee in_range.function_in_range) in
+        record {
+          aligned = omega (arith, low_is, here_lies.2);
+          low = omega (arith, low_is, here_lies.1, deeper, room);
+          high = omega (arith, low_is, place_is, fits);
+        }
+
     enters : (d : labelled.Configuration) → AtLine (function_line program callee) r3 w2 d → Reached program well frames fit code formed addresses pages calls few c (Running d)
     enters d later =
         reached program well frames fit code formed addresses pages calls few c choice (plain.Call callee arguments count result) (states.Running entered) (Running d)
-        (let zero = zeros_at program c (plain.Call callee arguments count result) at_i refl in
-        record { contents = λ slot. later.w_words (low + slot_offset its slot); serves = zero.serves }) at_i refl
+        (called_at program c callee choice (ap callee_of at_i) (λ slot. later.w_words (low + slot_offset its slot)) new_below) at_i refl
         (within program well frames fit code formed addresses pages calls few entered s.laid.paged deeper)
         (inl (record {
           run = d;

@@ -2,7 +2,7 @@
 use Rattle.std.proofs.Common.{◌≡◌, ℕ, List, [], ◌∷◌, refl}
 use Rattle.std.specs.Prelude.{sum_by, length}
 use Rattle.cyc_plain.specs.declared.instruction.Instruction.{Instruction}
-use Rattle.cyc_plain.specs.declared.instruction.Instruction.TheVariants.{Ask, Binary, Branch, Load, MoveWords}
+use Rattle.cyc_plain.specs.declared.instruction.Instruction.TheVariants.{AddressOf, Ask, Binary, Branch, Load, MoveWords, Store}
 use Rattle.cyc_plain.specs.declared.instruction.Operand.TheVariants.{Slot, Word}
 use Rattle.cyc_plain.specs.declared.instruction.Request.TheVariants.{OpenLexical, CloseTo, Allocate}
 use Rattle.cyc_plain.specs.declared.instruction.Comparison.TheVariants.{Equal, GreaterOrEqualUnsigned}
@@ -50,3 +50,7 @@ three_words = refl
 -- a region for a block of two words, from its handle and its mark in the slots 0 and 1 to its end
 block_in_a_region : lines_of (Ask (OpenLexical 0) ∷ Ask (Allocate 2 (Slot 0) (Word 2)) ∷ Ask (CloseTo (Slot 1)) ∷ []) ≡ 12
 block_in_a_region = refl
+
+-- a slot is stored by its address
+stored_by_its_address : lines_of (AddressOf 0 3 1 ∷ Store (Slot 0) 0 (Word 7) ∷ []) ≡ 5
+stored_by_its_address = refl

@@ -123,6 +123,7 @@ count_some program function (plain.Call callee arguments count result) in_range 
 count_some program function (plain.Return value) in_range = omega arith
 count_some program function (plain.ReadByte destination) in_range = omega arith
 count_some program function (plain.WriteByte source) in_range = omega arith
+count_some program function (plain.AddressOf destination slot count) in_range = omega arith
 count_some program function (plain.LoadGlobal destination global) in_range = omega arith
 count_some program function (plain.StoreGlobal global source) in_range = omega arith
 count_some program function (plain.MoveWords destination source count) in_range = omega (arith, length_registers count in_range.few, in_range.some)
@@ -395,6 +396,8 @@ module _ (program : Program) (well : IsWellFormed program) (words : HasWords pro
     body_formed (plain.ReadByte destination) n below fits long = ((refl, (omega arith)), ((refl, tt), ((refl, slot_fits destination below), tt)))
     body_formed (plain.WriteByte source) n below fits long =
         formed_append (load_code frame ARGUMENT source) (small SERVICE PUT_BYTE ∷ syscall ∷ []) (load_formed ARGUMENT source (below, fits)) ((refl, (omega arith)), ((refl, tt), tt))
+    body_formed (plain.AddressOf destination slot count) n (a, some, named) fits long =
+        ((refl, slot_fits slot (omega (arith, some, named))), ((refl, slot_fits destination a), tt))
     body_formed (plain.LoadGlobal destination global) n (a, b) fits long =
         ((refl, upper_fits global b), ((refl, low_fits (data_base + 4 * global)), ((refl, slot_fits destination a), tt)))
     body_formed (plain.StoreGlobal global source) n (a, b) fits long =
@@ -471,6 +474,7 @@ module _ (program : Program) (well : IsWellFormed program) (words : HasWords pro
     behind_formed (plain.Return value) in_range = tt
     behind_formed (plain.ReadByte destination) in_range = tt
     behind_formed (plain.WriteByte source) in_range = tt
+    behind_formed (plain.AddressOf destination slot count) in_range = tt
     behind_formed (plain.LoadGlobal destination global) in_range = tt
     behind_formed (plain.StoreGlobal global source) in_range = tt
     behind_formed (plain.MoveWords destination source count) in_range = tt

@@ -20,7 +20,7 @@ use Rattle.cyc_plain.specs.State.{Words, AreWords, put, copied, Handler, Open, C
 use Rattle.cyc_plain.specs.Step.{Choice, is_intact, opens, tries, closes, lands, throws, instruction_at, operand_word, performed, advanced}
 use Rattle.cyc_plain.specs.WellFormed.{IsOperand, IsOfWord, IsTryInRange, IsWellFormed}
 use Rattle.cyc_plain.proofs.SlotLaws.{put-same, put-other, copied-inside, copied-below, copied-above}
-use Rattle.cyc_plain.proofs.RunLaws.{zeros, zeros_at, over_within}
+use Rattle.cyc_plain.proofs.RunLaws.{zeros, zeros_at, over_within, lies_at}
 use Rattle.cyc_frame.specs.Layout.{AreFrames, slot_word, frame_at}
 use Rattle.cyc_frame.specs.declared.frame.Frame.{Frame}
 use Rattle.cyc_select.specs.declared.constants.TheConstants.{CALLS, FRAME, HANDLERS, ZERO}
@@ -178,7 +178,7 @@ module _ (program : Program) (well : IsWellFormed program) (frames : List Frame)
         let next : Configuration = record c { active = record c.active { next = l.handler; handlers = l.handlers } } in
         let in_slots : Standing program frames addresses pages calls c0 restored m l.base back (suc (length c.frames)) c.active.slots =
         subst (λ (x : Words). Standing program frames addresses pages calls c0 restored m l.base back (suc (length c.frames)) x) (sym l.slots) all.standing in
-        let at_next = standing_at program well frames fit addresses pages calls few c0 restored m l.base back (suc (length c.frames)) c.active.slots in_slots next refl refl refl refl refl l.standing.input in
+        let at_next = standing_at program well frames fit addresses pages calls few c0 restored m l.base back (suc (length c.frames)) c.active.slots in_slots next refl refl refl refl refl refl l.standing.input in
         let with_back = subst (λ (b : ℕ). Standing program frames addresses pages calls next restored m l.base b (suc (length c.frames)) c.active.slots) (sym back_is) at_next in
         let does : performed program zeros c (plain.Try l.first l.handler) ≡ states.Running next = ap (tries zeros c l.first l.handler) l.caught in
         walk_few code formed addresses globals_length (words_per_call * calls) 1 (3 + 1) (here + 5) (here + 12) c.output _ (Running l.run) (omega arith)
@@ -272,7 +272,7 @@ module _ (program : Program) (well : IsWellFormed program) (frames : List Frame)
         let in_rest = standing_handlers program well frames fit addresses pages calls few c r w base (r RETURN_ADDRESS) (suc (length c.frames)) c.active.slots s found.rest q refl refl refl
         (subst (λ (n : ℕ). IsNewest program frames addresses calls n base c.active.function found.rest c.frames) (sym is) found.newest)
         (kept_here frame w base (r RETURN_ADDRESS) found.rest found.kept) in
-        let at_next = standing_at program well frames fit addresses pages calls few c0 q w base (r RETURN_ADDRESS) (suc (length c.frames)) c.active.slots in_rest next refl refl refl refl refl s.input in
+        let at_next = standing_at program well frames fit addresses pages calls few c0 q w base (r RETURN_ADDRESS) (suc (length c.frames)) c.active.slots in_rest next refl refl refl refl refl refl s.input in
         let line : here + 1 ≡ instruction_line program c.active.function (c.active.next + 1) = omega (arith, line_next program c.active.function c.active.next (plain.Leave first) at_i) in
         walk_few code formed addresses globals_length (words_per_call * calls) 1 (1 + 0) here (here + 1) c.output _ (Running run) (omega arith)
         (walk_block code formed addresses globals_length (words_per_call * calls) closing 0 here here (here + 1) c.output c.input _ r w run now stands
@@ -374,6 +374,7 @@ module _ (program : Program) (well : IsWellFormed program) (frames : List Frame)
             input = stands.input;
             newest = subst (λ (hs : List Handler). IsNewest program frames addresses calls (q HANDLERS) low call.function hs (f ∷ waiting)) none stands.newest;
             kept = kept_here (frame_at frames f.caller.function) w above (w.words (above + 4 * (frame_at frames f.caller.function).return_address)) f.caller.handlers refl;
+            based = stands.based.1;
             store = stands.store;
             laid = stands.laid;
           }
@@ -469,6 +470,7 @@ module _ (program : Program) (well : IsWellFormed program) (frames : List Frame)
               input = it.stands.input;
               newest = subst (λ (n : ℕ). IsNewest program frames addresses calls n it.low it.call.function it.rest it.waiting) (sym previous_is) it.others;
               kept = kept_here its w it.low (w.words (it.low + 4 * its.return_address)) it.rest refl;
+              based = it.stands.based;
               store = it.stands.store;
               laid = it.stands.laid;
             };
@@ -759,7 +761,7 @@ module _ (program : Program) (well : IsWellFormed program) (frames : List Frame)
       contents = record_words (r HANDLERS) (r FRAME) (addresses (here + 4 + 1)) (r CALLS)
 
       abbrev choice : Choice
-      choice = record { contents = contents; serving = zeros.serving }
+      choice = record { contents = contents; base = 0; serving = zeros.serving }
 
       contents_words : AreWords contents
       contents_words j =
@@ -797,6 +799,7 @@ module _ (program : Program) (well : IsWellFormed program) (frames : List Frame)
         input = s.input;
         newest = (record { at = newest_is; handler = handler; opened = at_i; frame = s.base_is; line = landing_is; left = s.left }, s.newest);
         kept = kept_word ∙ sym kept_is;
+        based = s.based;
         store = s5.store;
         laid = s.laid;
       }
@@ -827,7 +830,7 @@ module _ (program : Program) (well : IsWellFormed program) (frames : List Frame)
           (λ f opened_now.
           walk_end code formed addresses globals_length (words_per_call * calls) (here + 9 + 3) (here + 12) c.output _ (Running f) (omega arith)
           (reached program well frames fit code formed addresses pages calls few c choice (plain.Try first handler) (states.Running opened_at) (Running f)
-          (record { contents = contents_words; serves = (zeros_at program c (plain.Try first handler) at_i refl).serves }) at_i does
+          (record { contents = contents_words; lies = lies_at program c (plain.Try first handler) 0 at_i refl; serves = (zeros_at program c (plain.Try first handler) at_i refl).serves }) at_i does
           (within program well frames fit code formed addresses pages calls few opened_at s.laid.paged s.deep)
           (inl (record {
             run = f;

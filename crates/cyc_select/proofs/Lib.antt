@@ -18,6 +18,7 @@ pub mod Returns
 pub mod Matches
 pub mod Standing
 pub mod Stores
+pub mod Places
 -- what a few lines do
 pub mod Walks
 pub mod Lines

@@ -1,5 +1,5 @@
 -- When a state of the labelled machine matches one of the plain machine.
-use Rattle.std.proofs.Common.{◌≡◌, ℕ, suc, ◌+◌, ◌*◌, ◌<◌, ◌≤◌, true, List, [], ◌∷◌, length, Some, None, refl, sym, ap, subst, ◌∙◌, inl}
+use Rattle.std.proofs.Common.{◌≡◌, ℕ, suc, ◌+◌, ◌*◌, ◌<◌, ◌≤◌, true, List, [], ◌∷◌, length, Some, refl, sym, ap, subst, ◌∙◌, inl}
 use Rattle.std.specs.Prelude.{◌⊎◌, slice_index}
 use Rattle.std.specs.List.{AllByRecursion}
 use Rattle.std.proofs.lemmas.Bool.{and_from, le-leb}
@@ -14,9 +14,9 @@ use Rattle.cyc_plain.specs.declared.instruction.Instruction.TheVariants as plain
 use Rattle.cyc_plain.specs.Program.{Program, routine_at}
 use Rattle.cyc_plain.specs.State as states
 use Rattle.cyc_plain.specs.State.{Words, AreWords, put, copied, Configuration}
-use Rattle.cyc_plain.specs.Step.{Choice, IsAllowed, call_of, instruction_at, performed, executed, gives, step, is_within, Step}
+use Rattle.cyc_plain.specs.Step.{Choice, IsAllowed, instruction_at, performed, executed, gives, step, is_within, Step}
 use Rattle.cyc_plain.specs.WellFormed.{IsWellFormed}
-use Rattle.cyc_plain.proofs.RunLaws.{limited-within, zeros, zeros_at}
+use Rattle.cyc_plain.proofs.RunLaws.{limited-within, zeros, calls_nothing, zeros_at}
 use Rattle.cyc_frame.specs.Layout.{AreFrames, frame_at}
 use Rattle.cyc_frame.specs.declared.frame.Frame.{Frame}
 use Rattle.cyc_select.specs.Labelled.{Labelled, IsFormed}
@@ -106,7 +106,7 @@ module _ (program : Program) (well : IsWellFormed program) (frames : List Frame)
       let keeps_step : is_within pages calls (step program choice (states.Running c)) ≡ true = ap (is_within pages calls) is ∙ keeps in
       (next, (choice, allowed, sym (limited-within pages calls (states.Running c) (step program choice (states.Running c)) keeps_step ∙ is)), matches)
 
-  module _ (c : Configuration) (i : Instruction) (at : instruction_at program (states.place_of (states.Running c)) ≡ Some i) (free : call_of c.active.slots (Some i) ≡ None) (r : Words) (w : Contents) (base : ℕ)
+  module _ (c : Configuration) (i : Instruction) (at : instruction_at program (states.place_of (states.Running c)) ≡ Some i) (free : calls_nothing i ≡ true) (r : Words) (w : Contents) (base : ℕ)
       (s : Standing program frames addresses pages calls c r w base (r RETURN_ADDRESS) (suc (length c.frames)) c.active.slots) where
     -- An instruction that gives a word to a slot, and perhaps reads.
     pub reached_gives : (destination word : ℕ) (input : List ℕ) (line : ℕ) (run : labelled.Configuration) (r' : Words) (w' : Contents)
@@ -125,7 +125,7 @@ module _ (program : Program) (well : IsWellFormed program) (frames : List Frame)
         subst (λ (x : Contents). Standing program frames addresses pages calls c r x base (r RETURN_ADDRESS) (suc (length c.frames)) (put c.active.slots destination word))
         (sym (puts ∙ ap (λ (a : ℕ). written w a word) address)) put_slot in
         let in_r' = standing_registers program well frames fit addresses pages calls few c r w' base (r RETURN_ADDRESS) (suc (length c.frames)) (put c.active.slots destination word) in_w' r' zero_same base_same left_same newest_same in
-        let there = standing_at program well frames fit addresses pages calls few c r' w' base (r RETURN_ADDRESS) (suc (length c.frames)) (put c.active.slots destination word) in_r' d refl refl refl refl refl fine in
+        let there = standing_at program well frames fit addresses pages calls few c r' w' base (r RETURN_ADDRESS) (suc (length c.frames)) (put c.active.slots destination word) in_r' d refl refl refl refl refl refl fine in
         let with_back = subst (λ (b : ℕ). Standing program frames addresses pages calls d r' w' base b (suc (length c.frames)) (put c.active.slots destination word)) (sym back_same) there in
         let line_same : line ≡ instruction_line program c.active.function (c.active.next + 1) = line_is ∙ sym (line_next program c.active.function c.active.next i at) in
         reached c zeros i (states.Running d) (Running run) (zeros_at program c i at free) at does (within d s.laid.paged s.deep)
@@ -141,15 +141,15 @@ module _ (program : Program) (well : IsWellFormed program) (frames : List Frame)
 
     -- an instruction that goes to a place of the same code, and may print
     pub reached_at : (d : Configuration) (line : ℕ) (run : labelled.Configuration) (r' : Words) (w' : Contents)
-        → d.active.function ≡ c.active.function → d.active.handlers ≡ c.active.handlers → d.active.slots ≡ c.active.slots → d.frames ≡ c.frames → d.globals ≡ c.globals → d.store ≡ c.store → d.input ≡ c.input
+        → d.active.function ≡ c.active.function → d.active.base ≡ c.active.base → d.active.handlers ≡ c.active.handlers → d.active.slots ≡ c.active.slots → d.frames ≡ c.frames → d.globals ≡ c.globals → d.store ≡ c.store → d.input ≡ c.input
         → performed program zeros c i ≡ states.Running d
         → line ≡ instruction_line program d.active.function d.active.next
         → r' 0 ≡ r 0 → r' FRAME ≡ r FRAME → r' CALLS ≡ r CALLS → r' RETURN_ADDRESS ≡ r RETURN_ADDRESS → r' HANDLERS ≡ r HANDLERS → w' ≡ w
         → At line d.output d.input r' w' run → Reached c (Running run)
-    reached_at d line run r' w' function_same handlers_same slots_same frames_same globals_same store_same input_same does line_is zero_same base_same left_same back_same newest_same unchanged now =
+    reached_at d line run r' w' function_same place_same handlers_same slots_same frames_same globals_same store_same input_same does line_is zero_same base_same left_same back_same newest_same unchanged now =
         let in_r' = standing_registers program well frames fit addresses pages calls few c r w base (r RETURN_ADDRESS) (suc (length c.frames)) c.active.slots s r' zero_same base_same left_same newest_same in
         let fine : AllByRecursion IsWord d.input = subst (λ (l : List ℕ). AllByRecursion IsWord l) (sym input_same) s.input in
-        let there = standing_at program well frames fit addresses pages calls few c r' w base (r RETURN_ADDRESS) (suc (length c.frames)) c.active.slots in_r' d function_same handlers_same frames_same globals_same store_same fine in
+        let there = standing_at program well frames fit addresses pages calls few c r' w base (r RETURN_ADDRESS) (suc (length c.frames)) c.active.slots in_r' d function_same place_same handlers_same frames_same globals_same store_same fine in
         let with_slots = subst (λ (x : Words). Standing program frames addresses pages calls d r' w base (r RETURN_ADDRESS) (suc (length c.frames)) x) (sym slots_same) there in
         let with_back = subst (λ (b : ℕ). Standing program frames addresses pages calls d r' w base b (suc (length c.frames)) d.active.slots) (sym back_same) with_slots in
         let with_depth = subst (λ (fs : List states.Frame). Standing program frames addresses pages calls d r' w base (r' RETURN_ADDRESS) (suc (length fs)) d.active.slots) (sym frames_same) with_back in

@@ -45,6 +45,7 @@ count_small program function few (plain.Call f a n r) = omega (arith, few f)
 count_small program function few (plain.Return v) = omega (arith, few function, ending_small program function)
 count_small program function few (plain.ReadByte destination) = omega arith
 count_small program function few (plain.WriteByte source) = omega (arith, load_small source)
+count_small program function few (plain.AddressOf destination slot count) = omega arith
 count_small program function few (plain.LoadGlobal destination global) = omega arith
 count_small program function few (plain.StoreGlobal global source) = omega (arith, operand_small source)
 count_small program function few (plain.MoveWords destination source count) = omega (arith, registers_few count)

@@ -38,6 +38,7 @@ leaves_none program (plain.Branch comparison left right target) last = refl
 leaves_none program (plain.Return value) last = refl
 leaves_none program (plain.ReadByte destination) last = refl
 leaves_none program (plain.WriteByte source) last = refl
+leaves_none program (plain.AddressOf destination slot count) last = refl
 leaves_none program (plain.LoadGlobal destination global) last = refl
 leaves_none program (plain.StoreGlobal global source) last = refl
 leaves_none program (plain.MoveWords destination source count) last = refl

@@ -23,7 +23,7 @@ use Rattle.cyc_plain.specs.State.{Words, put, Configuration}
 use Rattle.cyc_plain.specs.Step.{Choice, IsAllowed, MayServe, call_in, call_of, asked, told, asks, instruction_at, operand_word, performed, with_slots, advanced}
 use Rattle.cyc_plain.specs.WellFormed.{IsOperand, IsOfWord, IsArgument, IsArgumentOfWord, IsRequestInRange, IsWellFormed}
 use Rattle.cyc_plain.proofs.SlotLaws.{put-other}
-use Rattle.cyc_plain.proofs.RunLaws.{zeros, zeros_refused, over_within}
+use Rattle.cyc_plain.proofs.RunLaws.{zeros, zeros_refused, over_within, lies_at}
 use Rattle.cyc_frame.specs.Layout.{AreFrames, frame_at}
 use Rattle.cyc_frame.specs.declared.frame.Frame.{Frame}
 use Rattle.cyc_select.specs.declared.constants.TheConstants.{CALLS, FRAME, HANDLERS}
@@ -270,7 +270,7 @@ module _ (program : Program) (well : IsWellFormed program) (frames : List Frame)
     -- it is served
     module _ (free : refusal c.store call ≡ None) (chosen : services.Choice) (allowed : services.IsAllowed c.store call chosen) where
       abbrev choice : Choice
-      choice = record { contents = zeros.contents; serving = chosen }
+      choice = record { contents = zeros.contents; base = 0; serving = chosen }
 
       serves : MayServe chosen (asked program (states.Running c)) (states.Running c)
       serves =
@@ -278,7 +278,7 @@ module _ (program : Program) (well : IsWellFormed program) (frames : List Frame)
           (λ unrefused. record { allowed = allowed; words = served_words pages c.store call chosen allowed s.laid })
 
       is_allowed : IsAllowed program (states.Running c) choice
-      is_allowed = record { contents = λ slot. omega arith; serves = serves }
+      is_allowed = record { contents = λ slot. omega arith; lies = lies_at program c (plain.Ask request) 0 at_i refl; serves = serves }
 
       abbrev given : Answer
       given = answer c.store call chosen
@@ -342,7 +342,7 @@ module _ (program : Program) (well : IsWellFormed program) (frames : List Frame)
       ends_at =
           let in_slots : Standing program frames addresses pages calls c1 final m base (r RETURN_ADDRESS) (suc (length c.frames)) there =
           subst (λ (x : Words). Standing program frames addresses pages calls c1 final m base (r RETURN_ADDRESS) (suc (length c.frames)) x) (told_is request c.store c.active.slots ready chosen) stored.standing in
-          let at_next = standing_at program well frames fit addresses pages calls few c1 final m base (r RETURN_ADDRESS) (suc (length c.frames)) there in_slots next refl refl refl refl refl s.input in
+          let at_next = standing_at program well frames fit addresses pages calls few c1 final m base (r RETURN_ADDRESS) (suc (length c.frames)) there in_slots next refl refl refl refl refl refl s.input in
           subst (λ (b : ℕ). Standing program frames addresses pages calls next final m base b (suc (length c.frames)) there) (sym back_kept) at_next
 
       line_is : called + 1 + length answers ≡ instruction_line program c.active.function (c.active.next + 1)

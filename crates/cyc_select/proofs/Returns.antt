@@ -1,5 +1,5 @@
 -- Returns, and what stands behind a call.
-use Rattle.std.proofs.Common.{◌≡◌, ◌≢◌, ℕ, zero, suc, ◌+◌, ◌-◌, ◌*◌, ◌%◌, ◌<◌, ◌≤◌, Bool, true, false, not, List, [], ◌∷◌, ◌++◌, length, None, Some, slice_get, refl, sym, ap, subst, ◌∙◌, arith, inl, inr}
+use Rattle.std.proofs.Common.{◌≡◌, ◌≢◌, ℕ, zero, suc, ◌+◌, ◌-◌, ◌*◌, ◌%◌, ◌<◌, ◌≤◌, Bool, true, false, not, List, [], ◌∷◌, ◌++◌, length, Some, slice_get, refl, sym, ap, subst, ◌∙◌, arith, inl, inr}
 use Rattle.std.specs.Prelude.{◌==◌, if◌then◌else◌}
 use Rattle.std.proofs.lemmas.Bool.{cases_eq, cases_lt, cases_Bool, eq-eqb, ne_eqb}
 use Rattle.cyc_select.specs.declared.constants.TheConstants.{CALLS, FRAME, HANDLERS}
@@ -16,9 +16,9 @@ use Rattle.cyc_plain.specs.declared.instruction.Instruction.TheVariants as plain
 use Rattle.cyc_plain.specs.Program.{Program, no_routine, routine_at}
 use Rattle.cyc_plain.specs.State as states
 use Rattle.cyc_plain.specs.State.{Words, AreWords, put, copied, Configuration}
-use Rattle.cyc_plain.specs.Step.{call_of, instruction_at, performed, returns}
+use Rattle.cyc_plain.specs.Step.{instruction_at, performed, returns}
 use Rattle.cyc_plain.specs.WellFormed.{IsWellFormed, HasSlots}
-use Rattle.cyc_plain.proofs.RunLaws.{zeros, zeros_at, over_within}
+use Rattle.cyc_plain.proofs.RunLaws.{zeros, zeros_at, over_within, calls_nothing}
 use Rattle.cyc_plain.proofs.SlotLaws.{put-same, put-other, copied-inside, copied-above, copied-below}
 use Rattle.cyc_frame.specs.Layout.{AreFrames, frame_at}
 use Rattle.cyc_frame.specs.declared.frame.Frame.{Frame}
@@ -36,7 +36,7 @@ use Rattle.cyc_select.proofs.Operations.{add_small}
 use Rattle.cyc_select.proofs.Views.{Contents, written}
 use Rattle.cyc_select.proofs.Walks.{Stands, stands_front, stands_back, after_r, after_w, AreSafe, Walk, now_at, now_is, walk_end, walk_few, walk_from, walk_block, walk_branch, walk_return, walk_returned}
 use Rattle.cyc_select.proofs.Counts.{length_stores, length_registers}
-use Rattle.cyc_select.proofs.Standing.{Chain, IsNewest, kept_here, Standing, behind_line, lies, slot_address, slot_cell, slot_word_is, return_cell, return_address, standing_slot}
+use Rattle.cyc_select.proofs.Standing.{Chain, IsNewest, kept_here, Standing, behind_line, lies, slot_address, slot_cell, slot_word_is, return_cell, return_address, standing_slot, AreBased}
 use Rattle.cyc_select.proofs.Matches.{At, Ready, Back, Reached, reached, within, result_register}
 
 -- ---- what a function returns, from slots into registers
@@ -139,7 +139,7 @@ module _ (program : Program) (well : IsWellFormed program) (frames : List Frame)
     (lie : AreAddresses code addresses) (c : Configuration) (run : labelled.Configuration) (r : Words) (w : Contents) (base : ℕ)
     (now : At program well frames fit code formed addresses pages calls few (instruction_line program c.active.function c.active.next) c.output c.input r w run)
     (s : Standing program frames addresses pages calls c r w base (r RETURN_ADDRESS) (suc (length c.frames)) c.active.slots)
-    (i : Instruction) (value : ℕ) (at_i : instruction_at program (states.place_of (states.Running c)) ≡ Some i) (free : call_of c.active.slots (Some i) ≡ None)
+    (i : Instruction) (value : ℕ) (at_i : instruction_at program (states.place_of (states.Running c)) ≡ Some i) (free : calls_nothing i ≡ true)
     (does : performed program zeros c i ≡ returns c value (routine_at program c.active.function).results c.frames) (none_open : c.active.handlers ≡ [])
     (in_range : HasSlots (routine_at program c.active.function) value (routine_at program c.active.function).results)
     (inside : (function index callee arguments count result : ℕ) → instruction_at program (record { function = function; index = index }) ≡ Some (plain.Call callee arguments count result)
@@ -230,6 +230,7 @@ module _ (program : Program) (well : IsWellFormed program) (frames : List Frame)
         kept = kept_here (frame_at frames f.caller.function) w above (w.words (above + 4 * (frame_at frames f.caller.function).return_address)) f.caller.handlers refl;
         globals = s.globals;
         input = s.input;
+        based = (subst (λ (fs : List states.Frame). AreBased frames base c.active.function c.active.base fs) under s.based).1;
         store = s.store;
         laid = s.laid;
       } in
@@ -369,6 +370,7 @@ module _ (program : Program) (well : IsWellFormed program) (frames : List Frame)
     newest = s.newest;
     kept = s.kept;
     input = s.input;
+    based = s.based;
     store = s.store;
     laid = s.laid;
   }
@@ -473,6 +475,7 @@ module _ (program : Program) (well : IsWellFormed program) (frames : List Frame)
     newest = b.standing.newest;
     kept = b.standing.kept;
     input = b.standing.input;
+    based = b.standing.based;
     store = b.standing.store;
     laid = b.standing.laid;
   }

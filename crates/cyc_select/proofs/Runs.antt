@@ -23,7 +23,7 @@ use Rattle.cyc_words.specs.Simulation.{IsOnTheWay, Matching, IsMatchedStep, IsSt
 use Rattle.cyc_plain.specs.State as states
 use Rattle.cyc_plain.specs.State.{Words, Configuration}
 use Rattle.cyc_plain.specs.Step as steps
-use Rattle.cyc_plain.specs.Step.{IsAllowed, call_of, instruction_at, operand_word, performed, executed, gives, finishes, step, is_within, Step}
+use Rattle.cyc_plain.specs.Step.{IsAllowed, call_of, instruction_at, operand_word, performed, executed, gives, finishes, step, is_within, Step, callee_of}
 use Rattle.cyc_plain.specs.WellFormed.{IsOperand, IsWellFormed, IsInRange, IsTryInRange, is_return, HasWords, IsOfWord, HasWord}
 use Rattle.cyc_words.proofs.Matching.{way_before}
 use Rattle.cyc_plain.proofs.Placed.{holds_at, routine_in, below_of_get}
@@ -48,7 +48,7 @@ use Rattle.cyc_select.proofs.Views.{Contents}
 use Rattle.cyc_select.proofs.Walks.{Stands, stands_front, stands_back, Rises, rising_distinct, rising_inside, comes_map, Quiet, Walk}
 use Rattle.cyc_select.proofs.Standing.{IsNewest, Standing, behind_line}
 use Rattle.cyc_select.proofs.Matches.{At, Ready, Matches, Reached}
-use Rattle.cyc_select.proofs.Simple.{move_goes, unary_goes, binary_goes, divide_goes, jump_goes, branch_goes, read_goes, write_goes, load_global_goes, store_global_goes, uncaught_goes}
+use Rattle.cyc_select.proofs.Simple.{address_goes, move_goes, unary_goes, binary_goes, divide_goes, jump_goes, branch_goes, read_goes, write_goes, load_global_goes, store_global_goes, uncaught_goes}
 use Rattle.cyc_select.proofs.Accesses.{move_words_goes, load_goes, store_goes}
 use Rattle.cyc_select.proofs.Requests.{ask_goes}
 use Rattle.cyc_select.proofs.Handlers.{catch_goes, leave_goes, throw_goes, try_goes}
@@ -262,6 +262,8 @@ module _ (program : Program) (well : IsWellFormed program) (words : HasWords pro
         return_goes program well frames fit code formed addresses pages calls few lie c run r w base now s (plain.Return value) value at refl refl (none_open at) in_range behind_inside stands
     instruction_goes (plain.ReadByte destination) at below fits stands = read_goes program well frames fit code formed addresses pages calls few c run r w base now s destination at below stands
     instruction_goes (plain.WriteByte source) at below fits stands = write_goes program well frames fit code formed addresses pages calls few c run r w base now s source at (below, fits) stands
+    instruction_goes (plain.AddressOf destination slot count) at (a, some, named) fits stands =
+        address_goes program well frames fit code formed addresses pages calls few c run r w base now s destination slot count at a (omega (arith, some, named)) stands
     instruction_goes (plain.LoadGlobal destination global) at (a, b) fits stands = load_global_goes program well frames fit code formed addresses pages calls few c run r w base now s destination global at a b stands
     instruction_goes (plain.StoreGlobal global source) at (a, b) fits stands = store_global_goes program well frames fit code formed addresses pages calls few c run r w base now s global source at a (b, fits) stands
     instruction_goes (plain.MoveWords destination source count) at in_range fits stands = move_words_goes program well frames fit code formed addresses pages calls few c run r w base now s destination source count at in_range stands
@@ -373,6 +375,6 @@ module _ (program : Program) (well : IsWellFormed program) (words : HasWords pro
     where
       go : (o : Option Instruction) → instruction_at program (states.place_of (states.Running c)) ≡ o → IsStepped above below_machine matching (states.Running c) t
       go (Some i) at = known_goes c t matches never i at
-      go None at = absurd (stuck_not c never (zeros_allowed program (states.Running c) (ap (call_of c.active.slots) at)) (ap (executed program zeros c) at))
+      go None at = absurd (stuck_not c never (zeros_allowed program (states.Running c) (ap (call_of c.active.slots) at) (ap callee_of at)) (ap (executed program zeros c) at))
   all_steps (states.Ended ending out input) t matches running never = absurd (let e : simulation.Ended ending ≡ simulation.Running = running in cc)
   all_steps (states.Stuck out input) t matches running never = absurd matches

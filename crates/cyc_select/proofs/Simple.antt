@@ -1,5 +1,5 @@
 -- The instructions that neither call nor return.
-use Rattle.std.proofs.Common.{◌≡◌, ◌≢◌, ℕ, suc, slice_get, length-append, ◌+◌, ◌-◌, ◌*◌, ◌/◌, ◌%◌, ◌^◌, ◌<◌, ◌≤◌, Bool, true, false, not, List, [], ◌∷◌, ◌++◌, length, drop, Some, None, refl, sym, ap, subst, ◌∙◌, arith, inl, inr}
+use Rattle.std.proofs.Common.{◌≡◌, ◌≢◌, ℕ, suc, slice_get, length-append, ◌+◌, ◌-◌, ◌*◌, ◌/◌, ◌%◌, ◌^◌, ◌<◌, ◌≤◌, Bool, true, false, not, List, [], ◌∷◌, ◌++◌, length, drop, Some, refl, sym, ap, subst, ◌∙◌, arith, inl, inr}
 use Rattle.std.specs.Prelude.{◌==◌, if◌then◌else◌}
 use Rattle.std.specs.List.{AllByRecursion}
 use Rattle.std.proofs.lemmas.Bool.{cases_eq, eq-eqb, ne_eqb}
@@ -27,10 +27,10 @@ use Rattle.cyc_plain.specs.Operators.{unary_result, binary_result, compares}
 use Rattle.cyc_plain.specs.Program.{Program, routine_at}
 use Rattle.cyc_plain.specs.State as states
 use Rattle.cyc_plain.specs.State.{Words, AreWords, put, Configuration}
-use Rattle.cyc_plain.specs.Step.{call_of, instruction_at, operand_word, performed, gives, at}
+use Rattle.cyc_plain.specs.Step.{instruction_at, operand_word, performed, gives, at}
 use Rattle.cyc_plain.specs.WellFormed.{IsOperand, IsOfWord, IsWellFormed}
 use Rattle.cyc_plain.proofs.SlotLaws.{put-other}
-use Rattle.cyc_plain.proofs.RunLaws.{zeros, over_within, zeros_at}
+use Rattle.cyc_plain.proofs.RunLaws.{zeros, over_within, zeros_at, calls_nothing}
 use Rattle.cyc_frame.specs.Layout.{AreFrames, frame_at}
 use Rattle.cyc_frame.specs.declared.frame.Frame.{Frame}
 use Rattle.cyc_machine.specs.declared.constants.TheConstants.{ARGUMENT, END_UNCAUGHT, PUT_BYTE, SECOND_ARGUMENT, SERVICE, RETURN_ADDRESS}
@@ -47,7 +47,7 @@ use Rattle.cyc_select.specs.Labelled.{Labelled, IsFormed}
 use Rattle.cyc_select.specs.Machine as labelled
 use Rattle.cyc_select.specs.Machine.{State, Running, Ended, holds_of}
 use Rattle.cyc_select.specs.Numbers.{is_zero_word}
-use Rattle.cyc_select.specs.Selection.{store_slot, slot_offset, small, arithmetic_of, ordinary, syscall, upper_of_global, at_global, word_code, load_code, operand_code, operand_register, operands_code, operation_of, computed_code, plan_code, branch_on, branch_code, divided_code, divide_code, word_count, load_count, operand_count, plan_count, test_count, is_tested, body, body_count, count_of, instruction_line}
+use Rattle.cyc_select.specs.Selection.{add_immediate, store_slot, slot_offset, small, arithmetic_of, ordinary, syscall, upper_of_global, at_global, word_code, load_code, operand_code, operand_register, operands_code, operation_of, computed_code, plan_code, branch_on, branch_code, divided_code, divide_code, word_count, load_count, operand_count, plan_count, test_count, is_tested, body, body_count, count_of, instruction_line}
 use Rattle.cyc_select.proofs.Blocks.{Keeps, puts_keeps, after_both, safe_append}
 use Rattle.cyc_select.proofs.Calls.{length_ordinary}
 use Rattle.cyc_select.proofs.Cells.{IsCell}
@@ -60,7 +60,7 @@ use Rattle.cyc_select.proofs.Operations.{add_small, global_lies}
 use Rattle.cyc_select.proofs.Plans.{multiply_divide_result, AllOfTest, operation_word, plan_word, unary_word, binary_word, test_taken, test_goes, all_unary, all_binary, all_test}
 use Rattle.cyc_select.proofs.Views.{Contents, written}
 use Rattle.cyc_select.proofs.Walks.{Stands, stands_front, stands_back, stands_first, stands_behind, after_r, after_w, after_w-append, AreSafe, Walk, now_at, now_is, walk_end, walk_few, walk_from, walk_block, walk_branch, walk_jump, walk_get, walk_put, walk_uncaught}
-use Rattle.cyc_select.proofs.Standing.{Standing, slot_cell, slot_word_is, global_cell, standing_global, standing_registers, standing_at}
+use Rattle.cyc_select.proofs.Standing.{Standing, based_here, lies, slot_cell, slot_word_is, global_cell, standing_global, standing_registers, standing_at}
 use Rattle.cyc_select.proofs.Matches.{At, Reached, reached, reached_gives, reached_at, within}
 
 module _ (program : Program) (well : IsWellFormed program) (frames : List Frame) (fit : AreFrames program frames) (code : Labelled) (formed : IsFormed code) (addresses : ℕ → ℕ) (pages calls : ℕ) (few : calls ≤ 4096)
@@ -119,10 +119,10 @@ module _ (program : Program) (well : IsWellFormed program) (frames : List Frame)
 
   -- it does not call the store
   abbrev IsFree : Instruction → Type 0
-  IsFree i = call_of c.active.slots (Some i) ≡ None
+  IsFree i = calls_nothing i ≡ true
 
   -- a block that leaves a word in a register, and the store of it into a slot
-  gives_by : (i : Instruction) → IsAt i → IsFree i → (is : List Instr) (register destination word count : ℕ) → KeepsHere is → after_r is r w (register % 32) ≡ word
+  pub gives_by : (i : Instruction) → IsAt i → IsFree i → (is : List Instr) (register destination word count : ℕ) → KeepsHere is → after_r is r w (register % 32) ≡ word
       → destination < slots → performed program zeros c i ≡ gives c destination word → length is + 1 ≡ count → count_of program c.active.function i ≡ count
       → Stands code here (ordinary (is ++ store_slot frame register destination ∷ [])) → Goes 1 here (here + count) (Running run)
   gives_by i at_i free is register destination word count keeps result below does long counted stands =
@@ -346,7 +346,7 @@ module _ (program : Program) (well : IsWellFormed program) (frames : List Frame)
       walk_jump code formed addresses globals_length (words_per_call * calls) 0 here here (here + 1) c.output c.input _ r w run (instruction_line program c.active.function target) now stands.0 (omega arith)
       (λ d later.
       walk_end code formed addresses globals_length (words_per_call * calls) (suc here) (here + 1) c.output _ (Running d) (omega arith)
-      (reached_at program well frames fit code formed addresses pages calls few c (plain.Jump target) at_i refl r w base s (at c target) (instruction_line program c.active.function target) d r w refl refl refl refl refl refl refl refl refl refl refl refl refl refl refl later))
+      (reached_at program well frames fit code formed addresses pages calls few c (plain.Jump target) at_i refl r w base s (at c target) (instruction_line program c.active.function target) d r w refl refl refl refl refl refl refl refl refl refl refl refl refl refl refl refl later))
 
   -- the line of the place that is taken
   line_taken : (b : Bool) (target other : ℕ) (line : ℕ → ℕ) (n : ℕ) → n ≡ line other → (if b then line target else n) ≡ line (if b then target else other)
@@ -374,7 +374,7 @@ module _ (program : Program) (well : IsWellFormed program) (frames : List Frame)
       (λ e after.
       walk_end code formed addresses globals_length (words_per_call * calls) (suc (here + length is)) (here + count) c.output _ (Running e) (omega (arith, long))
       (reached_at program well frames fit code formed addresses pages calls few c i at_i free r w base s (at c (if taken then target else c.active.next + 1)) (line (if taken then target else c.active.next + 1)) e (after_r is r w) (after_w is r w)
-      refl refl refl refl refl refl refl does refl keeps.zero keeps.base keeps.left keeps.back keeps.newest keeps.memory after))))
+      refl refl refl refl refl refl refl refl does refl keeps.zero keeps.base keeps.left keeps.back keeps.newest keeps.memory after))))
 
   abbrev IsTestThere : Test → Type 0
   IsTestThere = AllOfTest Held zero_held IsPlanThere (λ op left right outcome l t. (l, t, tt)) (λ op left half outcome fits l. (l, zero_held, tt))
@@ -454,7 +454,7 @@ module _ (program : Program) (well : IsWellFormed program) (frames : List Frame)
       walk_put code formed addresses globals_length (words_per_call * calls) (here + length is + 1) (here + length is + 1) (here + (load_count source + 2)) c.output c.input _ (put (after_r is r w) 2 (add_of (after_r is r w 0) (sign_extended 2))) (after_w is r w) e after behind.1.0 (omega arith) (omega (arith, long)) service
       (λ f printed.
       reached_at program well frames fit code formed addresses pages calls few c (plain.WriteByte source) at_i refl r w base s
-      (record c { active = record c.active { next = c.active.next + 1 }; output = c.output ++ word_of source % 256 ∷ [] }) (here + length is + 1 + 1) f (put (after_r is r w) 2 (add_of (after_r is r w 0) (sign_extended 2))) (after_w is r w) refl refl refl refl refl refl refl refl
+      (record c { active = record c.active { next = c.active.next + 1 }; output = c.output ++ word_of source % 256 ∷ [] }) (here + length is + 1 + 1) f (put (after_r is r w) 2 (add_of (after_r is r w 0) (sign_extended 2))) (after_w is r w) refl refl refl refl refl refl refl refl refl
       (omega (arith, line_next program c.active.function c.active.next (plain.WriteByte source) at_i, long)) keeps.zero keeps.base keeps.left keeps.back keeps.newest keeps.memory
       (subst (λ (x : ℕ). At program well frames fit code formed addresses pages calls few (here + length is + 1 + 1) (c.output ++ x % 256 ∷ []) c.input (put (after_r is r w) 2 (add_of (after_r is r w 0) (sign_extended 2))) (after_w is r w) f) puts.result printed)))))
 
@@ -499,7 +499,7 @@ module _ (program : Program) (well : IsWellFormed program) (frames : List Frame)
       let one = standing_global program well frames fit addresses pages calls few c r w base (r RETURN_ADDRESS) (suc (length c.frames)) c.active.slots s global (word_of source) global_below in
       let c' : Configuration = record c { globals = put c.globals global (word_of source) } in
       let two = standing_registers program well frames fit addresses pages calls few c' r (written w (data_base + 4 * global) (word_of source)) base (r RETURN_ADDRESS) (suc (length c.frames)) c.active.slots one q keeps.zero keeps.base keeps.left keeps.newest in
-      let three = standing_at program well frames fit addresses pages calls few c' q (written w (data_base + 4 * global) (word_of source)) base (r RETURN_ADDRESS) (suc (length c.frames)) c.active.slots two d refl refl refl refl refl s.input in
+      let three = standing_at program well frames fit addresses pages calls few c' q (written w (data_base + 4 * global) (word_of source)) base (r RETURN_ADDRESS) (suc (length c.frames)) c.active.slots two d refl refl refl refl refl refl s.input in
       let with_back = subst (λ (b : ℕ). Standing program frames addresses pages calls d q (written w (data_base + 4 * global) (word_of source)) base b (suc (length c.frames)) c.active.slots) (sym keeps.back) three in
       let four = subst (λ (x : Contents). Standing program frames addresses pages calls d q x base (q RETURN_ADDRESS) (suc (length c.frames)) c.active.slots) (sym puts) with_back in
       let line : here + length is + 2 ≡ instruction_line program c.active.function (c.active.next + 1) = omega (arith, line_next program c.active.function c.active.next (plain.StoreGlobal global source) at_i, long) in
@@ -521,6 +521,23 @@ module _ (program : Program) (well : IsWellFormed program) (frames : List Frame)
         now = now_at code formed addresses globals_length (words_per_call * calls) (here + length is + 2) (instruction_line program c.active.function (c.active.next + 1)) c.output c.input _ _ e line later;
         standing = four;
       }))))))
+
+  -- ---- addresses
+
+  pub address_goes : (destination slot count : ℕ) → IsAt (plain.AddressOf destination slot count) → destination < slots → slot < slots
+      → Stands code here (body program frames c.active.function here (plain.AddressOf destination slot count)) → Goes 1 here (here + 2) (Running run)
+  address_goes destination slot count at_i below named stands =
+      let own = fit.each c.active.function s.known in
+      let inside = own.inside slot named in
+      let lie = lies program well frames fit addresses pages calls few c r w base (r RETURN_ADDRESS) (suc (length c.frames)) c.active.slots s in
+      let place = based_here frames base c.active.function c.active.base c.frames s.based in
+      let sum : add_of (r FRAME) (sign_extended (slot_offset frame slot)) ≡ base + slot_offset frame slot =
+      ap (λ (x : ℕ). add_of x (sign_extended (slot_offset frame slot))) s.base_is
+      ∙ add_small base (slot_offset frame slot) (omega (arith, inside, own.within, own.small)) (omega (arith, inside, lie.below_end)) in
+      let same : base + slot_offset frame slot ≡ add_of c.active.base (4 * slot) = omega (arith, place, inside, lie.below_end) in
+      gives_by (plain.AddressOf destination slot count) at_i refl (add_immediate FIRST FRAME (slot_offset frame slot) ∷ []) FIRST destination (add_of c.active.base (4 * slot)) 2
+      (record { safe = (refl, tt); memory = refl; zero = refl; base = refl; left = refl; back = refl; newest = refl })
+      (sum ∙ same) below refl (omega arith) (omega arith) stands
 
   -- ---- the end by an exception
 

@@ -118,6 +118,7 @@ module _ (program : Program) (frames : List Frame) (few_results : (function : �
   body_words function here (plain.ReadByte destination) = omega arith
   body_words function here (plain.WriteByte source) =
       omega (arith, words_ordinary (load_code (frame_at frames function) ARGUMENT source ++ small SERVICE PUT_BYTE ∷ syscall ∷ []), length-append (load_code (frame_at frames function) ARGUMENT source) (small SERVICE PUT_BYTE ∷ syscall ∷ []), length_load (frame_at frames function) ARGUMENT source, load_small source)
+  body_words function here (plain.AddressOf destination slot count) = omega arith
   body_words function here (plain.LoadGlobal destination global) = omega arith
   body_words function here (plain.StoreGlobal global source) =
       omega (arith, words_ordinary (operand_code (frame_at frames function) FIRST source ++ upper_of_global global ∷ at_global StoreWord (operand_register FIRST source) global ∷ []), length-append (operand_code (frame_at frames function) FIRST source) (upper_of_global global ∷ at_global StoreWord (operand_register FIRST source) global ∷ []), length_operand (frame_at frames function) FIRST source, operand_small source)

@@ -1,6 +1,6 @@
 -- How a plain program's calls stand in the memory of the labelled machine: their frames lie one below another from the
 -- end of the stack on, each with its slots and, where it waits, its return address.
-use Rattle.std.proofs.Common.{◌≡◌, ◌≢◌, ℕ, suc, ◌+◌, ◌*◌, ◌%◌, ◌<◌, ◌≤◌, List, [], ◌∷◌, length, Some, refl, sym, ap, subst, ◌∙◌, arith, inl, inr}
+use Rattle.std.proofs.Common.{◌≡◌, ◌≢◌, ℕ, zero, suc, ◌+◌, ◌*◌, ◌%◌, ◌<◌, ◌≤◌, List, [], ◌∷◌, length, Some, refl, sym, ap, subst, ◌∙◌, arith, inl, inr}
 use Rattle.std.specs.List.{AllByRecursion}
 use Rattle.cyc_select.specs.declared.constants.TheConstants.{CALLS, FRAME, HANDLERS}
 use Rattle.cyc_words.specs.Word.{IsWord}
@@ -8,14 +8,14 @@ use Rattle.cyc_isa.specs.Effect.{memory_address}
 use Rattle.cyc_machine.specs.State.{data_base, stack_end, globals_length, words_per_call}
 use Rattle.cyc_store.specs.State.{StoreState, saved}
 use Rattle.cyc_plain.specs.declared.instruction.Instruction.TheVariants as plain
-use Rattle.cyc_plain.specs.Program.{Program, routine_at}
+use Rattle.cyc_plain.specs.Program.{Routine, Program, routine_at}
 use Rattle.cyc_plain.specs.State as states
 use Rattle.cyc_plain.specs.State.{Words, put, Configuration}
 use Rattle.cyc_plain.specs.Step.{instruction_at}
 use Rattle.cyc_plain.specs.WellFormed.{IsWellFormed}
 use Rattle.cyc_plain.proofs.SlotLaws.{put-same, put-other}
 use Rattle.std.proofs.lemmas.Bool.{cases_eq}
-use Rattle.cyc_frame.specs.Layout.{AreFrames, slot_word, frame_at}
+use Rattle.cyc_frame.specs.Layout.{IsFrame, AreFrames, slot_word, frame_at}
 use Rattle.cyc_frame.specs.declared.frame.Frame.{Frame}
 use Rattle.cyc_select.specs.Selection.{slot_offset, instruction_line, body_count}
 use Rattle.cyc_select.proofs.Cells.{IsCell}
@@ -45,6 +45,14 @@ Chain program frames addresses w base back function (f ∷ waiting) =
     × Holds program frames f.caller.function (base + 4 * (frame_at frames function).words) w f.caller.slots
     × Chain program frames addresses w (base + 4 * (frame_at frames function).words)
     (w.words (base + 4 * (frame_at frames function).words + 4 * (frame_at frames f.caller.function).return_address)) f.caller.function waiting
+
+-- the slots of a function end where its frame does, or before
+pub slots_fit : (r : Routine) (frame : Frame) → IsFrame r frame → frame.first_slot + r.slots ≤ frame.words
+slots_fit r frame is = go r.slots is.inside
+  where
+    go : (slots : ℕ) → ((slot : ℕ) → slot < slots → slot_word frame slot < frame.words) → frame.first_slot + slots ≤ frame.words
+    go zero inside = omega (arith, is.first_inside)
+    go (suc n) inside = omega (arith, inside n (omega arith))
 
 module _ (program : Program) (frames : List Frame) (fit : AreFrames program frames) (addresses : ℕ → ℕ) where
   abbrev pub size_of : ℕ → ℕ
@@ -116,6 +124,19 @@ IsNewest program frames addresses calls newest base function handlers waiting =
     AreRecords program frames addresses calls base function (suc (length waiting))
     (IsBeyond program frames addresses calls base function waiting) newest handlers
 
+-- ---- addresses of slots
+
+-- the slots of a call have their words in its frame, and so have those of the calls that wait
+abbrev pub AreBased : List Frame → (base function place : ℕ) → List states.Frame → Type 0
+AreBased frames base function place [] = place ≡ base + 4 * (frame_at frames function).first_slot
+AreBased frames base function place (f ∷ waiting) =
+    (place ≡ base + 4 * (frame_at frames function).first_slot)
+    × AreBased frames (base + 4 * (frame_at frames function).words) f.caller.function f.caller.base waiting
+
+pub based_here : (frames : List Frame) (base function place : ℕ) (waiting : List states.Frame) → AreBased frames base function place waiting → place ≡ base + 4 * (frame_at frames function).first_slot
+based_here frames base function place [] based = based
+based_here frames base function place (f ∷ waiting) (here, based) = here
+
 -- while a handler is open in a call its return address is in its frame
 abbrev pub IsKept : (frame : Frame) → (w : Contents) → (base back : ℕ) → List states.Handler → Type 0
 IsKept frame w base back [] = Unit {0}
@@ -144,6 +165,7 @@ pub record Standing (program : Program) (frames : List Frame) (addresses : ℕ �
   pub input : AllByRecursion IsWord c.input
   pub newest : IsNewest program frames addresses calls (r HANDLERS) base c.active.function c.active.handlers c.frames
   pub kept : IsKept (frame_at frames c.active.function) w base back c.active.handlers
+  pub based : AreBased frames base c.active.function c.active.base c.frames
   pub store : w.store ≡ c.store
   pub laid : IsLaid pages c.store
 
@@ -205,14 +227,15 @@ module _ (program : Program) (well : IsWellFormed program) (frames : List Frame)
       input = s.input;
       newest = subst (λ (n : ℕ). IsNewest program frames addresses calls n base c.active.function c.active.handlers c.frames) (sym newest_same) s.newest;
       kept = s.kept;
+      based = s.based;
       store = s.store;
       laid = s.laid;
     }
 
     -- the same call, at another place
-    pub standing_at : (d : Configuration) → d.active.function ≡ c.active.function → d.active.handlers ≡ c.active.handlers → d.frames ≡ c.frames → d.globals ≡ c.globals → d.store ≡ c.store → AllByRecursion IsWord d.input
+    pub standing_at : (d : Configuration) → d.active.function ≡ c.active.function → d.active.base ≡ c.active.base → d.active.handlers ≡ c.active.handlers → d.frames ≡ c.frames → d.globals ≡ c.globals → d.store ≡ c.store → AllByRecursion IsWord d.input
         → Standing program frames addresses pages calls d r w base back depth slots
-    standing_at d function_same handlers_same frames_same globals_same store_same input = record {
+    standing_at d function_same place_same handlers_same frames_same globals_same store_same input = record {
       known = subst (λ (f : ℕ). f < length program.functions) (sym function_same) s.known;
       base_is = s.base_is;
       zero_is = s.zero_is;
@@ -230,6 +253,10 @@ module _ (program : Program) (well : IsWellFormed program) (frames : List Frame)
       kept =
           subst (λ (f : ℕ). IsKept (frame_at frames f) w base back d.active.handlers) (sym function_same)
           (subst (λ (hs : List states.Handler). IsKept (frame_at frames c.active.function) w base back hs) (sym handlers_same) s.kept);
+      based =
+          subst (λ (f : ℕ). AreBased frames base f d.active.base d.frames) (sym function_same)
+          (subst (λ (b : ℕ). AreBased frames base c.active.function b d.frames) (sym place_same)
+          (subst (λ (fs : List states.Frame). AreBased frames base c.active.function c.active.base fs) (sym frames_same) s.based));
       store = s.store ∙ sym store_same;
       laid = subst (IsLaid pages) (sym store_same) s.laid;
     }
@@ -250,6 +277,7 @@ module _ (program : Program) (well : IsWellFormed program) (frames : List Frame)
       input = s.input;
       newest = newest;
       kept = kept;
+      based = s.based;
       store = s.store;
       laid = s.laid;
     }
@@ -299,6 +327,7 @@ module _ (program : Program) (well : IsWellFormed program) (frames : List Frame)
       newest = s.newest;
       kept = kept_in (frame_at frames c.active.function) w (written w (slot_at slot) word) base back c.active.handlers
           (put-other w.words (slot_at slot) return_at word (λ e. (fit.each c.active.function s.known).beside slot below (omega (arith, e)))) s.kept;
+      based = s.based;
       store = s.store;
       laid = s.laid;
     }
@@ -323,6 +352,7 @@ module _ (program : Program) (well : IsWellFormed program) (frames : List Frame)
       input = s.input;
       newest = s.newest;
       kept = kept_here (frame_at frames c.active.function) (written w return_at word) base back c.active.handlers (put-same w.words return_at word ∙ same);
+      based = s.based;
       store = s.store;
       laid = s.laid;
     }
@@ -342,6 +372,7 @@ module _ (program : Program) (well : IsWellFormed program) (frames : List Frame)
       input = s.input;
       newest = s.newest;
       kept = kept_in (frame_at frames c.active.function) w (record w { store = store }) base back c.active.handlers refl s.kept;
+      based = s.based;
       store = refl;
       laid = laid;
     }
@@ -361,6 +392,7 @@ module _ (program : Program) (well : IsWellFormed program) (frames : List Frame)
       input = s.input;
       newest = s.newest;
       kept = kept_in (frame_at frames c.active.function) w (saved_in w address word) base back c.active.handlers refl s.kept;
+      based = s.based;
       store = ap (λ (x : StoreState). saved x address word) s.store;
       laid = saved_laid pages c.store address word is_word s.laid;
     }
@@ -392,6 +424,7 @@ module _ (program : Program) (well : IsWellFormed program) (frames : List Frame)
       newest = s.newest;
       kept = kept_in (frame_at frames c.active.function) w (written w (global_at global) word) base back c.active.handlers
           (put-other w.words (global_at global) return_at word (λ e. above_data (frame_at frames c.active.function).return_address global (fit.each c.active.function s.known).return_inside below (sym e))) s.kept;
+      based = s.based;
       store = s.store;
       laid = s.laid;
     }

@@ -15,7 +15,8 @@ use Rattle.cyc_store.proofs.NewStores.{new_words}
 use Rattle.cyc_machine.specs.Bounds.{AreAllowed}
 use Rattle.cyc_machine.specs.State.{Place, InText, InGlobals, InStack, InStore, Nowhere, loaded, place_of, data_base, stack_base, stack_end, word_number, globals_length, words_per_call}
 use Rattle.cyc_plain.specs.declared.instruction.Instruction.{Instruction}
-use Rattle.cyc_plain.specs.Program.{Program}
+use Rattle.cyc_plain.specs.Memory.{IsBelow, slots_end}
+use Rattle.cyc_plain.specs.Program.{Program, routine_at}
 use Rattle.cyc_words.specs.Simulation.{Comes, Follows, IsOnTheWay, NeverFails}
 use Rattle.cyc_plain.specs.State.{Words, AreWords, Configuration}
 use Rattle.cyc_plain.specs.Step as steps
@@ -36,7 +37,7 @@ use Rattle.cyc_select.proofs.Lines.{line_first}
 use Rattle.cyc_select.proofs.Operations.{take_small}
 use Rattle.cyc_select.proofs.Views.{Contents, View}
 use Rattle.cyc_select.proofs.Walks.{Stands, stands_front, stands_back, Rises, comes_map, Quiet, Walk, Now, now_at, walk_end, walk_few, walk_block, walk_jump, after_r}
-use Rattle.cyc_select.proofs.Standing.{Standing}
+use Rattle.cyc_select.proofs.Standing.{Standing, slots_fit}
 use Rattle.cyc_select.proofs.Stores.{new_laid}
 use Rattle.cyc_select.proofs.Matches.{Matches}
 use Rattle.cyc_select.proofs.Runs.{own_of, matching, all_steps}
@@ -109,6 +110,20 @@ globals_long globals few =
 bytes_words : (input : List ℕ) → AllByRecursion (λ b. b < 256) input → AllByRecursion IsWord input
 bytes_words [] all = tt
 bytes_words (b ∷ input) (first, rest) = ((omega (arith, first)), bytes_words input rest)
+
+-- where the slots of `main` lie
+abbrev pub main_place : Program → List Frame → ℕ
+main_place program frames = stack_end - 4 * (frame_at frames program.main).words + 4 * (frame_at frames program.main).first_slot
+
+pub main_below : (program : Program) → IsWellFormed program → (frames : List Frame) → AreFrames program frames → IsBelow program program.main (main_place program frames) slots_end
+main_below program well frames fit =
+    let own = fit.each program.main well.main in
+    let fits = slots_fit (routine_at program program.main) (frame_at frames program.main) own in
+    record {
+      aligned = omega (arith, own.within, own.small);
+      low = omega (arith, own.within, own.small);
+      high = omega (arith, own.within, own.small, fits);
+    }
 
 module _ (program : Program) (well : IsWellFormed program) (words : HasWords program) (frames : List Frame) (fit : AreFrames program frames) (code : Labelled) (formed : IsFormed code) (addresses : ℕ → ℕ) (lie : AreAddresses code addresses)
     (pages calls : ℕ) (allowed : AreAllowed pages calls)
@@ -235,7 +250,7 @@ module _ (program : Program) (well : IsWellFormed program) (words : HasWords pro
 
   abbrev c : Configuration
   c = record {
-    active = record { function = program.main; next = 0; slots = λ (slot : ℕ). 0; handlers = [] };
+    active = record { function = program.main; next = 0; base = base + 4 * frame.first_slot; slots = λ (slot : ℕ). 0; handlers = [] };
     frames = [];
     globals = λ (global : ℕ). slice_index program.globals global;
     store = store;
@@ -256,6 +271,7 @@ module _ (program : Program) (well : IsWellFormed program) (words : HasWords pro
     chain = ((let own = fit.each program.main well.main in omega (arith, own.within, own.small)), refl, refl);
     newest = refl;
     kept = tt;
+    based = refl;
     globals = global_word;
     input = bytes_words input bytes;
     store = refl;
@@ -265,7 +281,7 @@ module _ (program : Program) (well : IsWellFormed program) (words : HasWords pro
       left_one : (n : ℕ) → n ≡ calls - 1 → n + 1 ≡ calls
       left_one n is = omega (arith, is, allowed.enough_calls)
 
-  first_walk : Walk code formed addresses globals_length (words_per_call * calls) 3 0 3 [] (Matches program well frames fit code formed addresses pages calls few (steps.start program store input)) (Running run)
+  first_walk : Walk code formed addresses globals_length (words_per_call * calls) 3 0 3 [] (Matches program well frames fit code formed addresses pages calls few (steps.start program (main_place program frames) store input)) (Running run)
   first_walk =
       walk_few code formed addresses globals_length (words_per_call * calls) 3 (2 + 1) 0 3 [] _ (Running run) (omega arith)
       (walk_block code formed addresses globals_length (words_per_call * calls) first 1 0 0 3 [] input _ r w run now
@@ -285,15 +301,15 @@ module _ (program : Program) (well : IsWellFormed program) (words : HasWords pro
         standing = standing;
       })))))
 
-  pub follows : NeverFails (steps.machine program pages calls) (steps.start program store input)
-      → Follows (steps.machine program pages calls) (machine code addresses) (range_with_len 0 3) (own_of program) (steps.start program store input) (start code store calls input)
+  pub follows : NeverFails (steps.machine program pages calls) (steps.start program (main_place program frames) store input)
+      → Follows (steps.machine program pages calls) (machine code addresses) (range_with_len 0 3) (own_of program) (steps.start program (main_place program frames) store input) (start code store calls input)
   follows never =
       let above = steps.machine program pages calls in
       let below_machine = machine code addresses in
       let m = matching program well words frames fit code formed addresses lie pages calls few stand long in
       let places_are : first_walk.places ≡ range_with_len 0 3 = rising_all 0 3 first_walk.places first_walk.rises first_walk.enough in
-      let comes = comes_map below_machine (Quiet code formed addresses globals_length (words_per_call * calls) []) (Matches program well frames fit code formed addresses pages calls few (steps.start program store input))
-      (IsOnTheWay above below_machine (steps.start program store input)) (Matches program well frames fit code formed addresses pages calls few (steps.start program store input)) first_walk.places (Running run)
-      (λ u quiet. way_before above below_machine m (steps.start program store input) u quiet.0 quiet.1) (λ u matches. matches) first_walk.comes in
-      simulates above below_machine m (all_steps program well words frames fit code formed addresses lie pages calls few stand long) (lawful code addresses) (range_with_len 0 3) (steps.start program store input) never (Running run) refl
-      (subst (λ (ps : List ℕ). Comes below_machine (IsOnTheWay above below_machine (steps.start program store input)) (Matches program well frames fit code formed addresses pages calls few (steps.start program store input)) ps (Running run)) places_are comes)
+      let comes = comes_map below_machine (Quiet code formed addresses globals_length (words_per_call * calls) []) (Matches program well frames fit code formed addresses pages calls few (steps.start program (main_place program frames) store input))
+      (IsOnTheWay above below_machine (steps.start program (main_place program frames) store input)) (Matches program well frames fit code formed addresses pages calls few (steps.start program (main_place program frames) store input)) first_walk.places (Running run)
+      (λ u quiet. way_before above below_machine m (steps.start program (main_place program frames) store input) u quiet.0 quiet.1) (λ u matches. matches) first_walk.comes in
+      simulates above below_machine m (all_steps program well words frames fit code formed addresses lie pages calls few stand long) (lawful code addresses) (range_with_len 0 3) (steps.start program (main_place program frames) store input) never (Running run) refl
+      (subst (λ (ps : List ℕ). Comes below_machine (IsOnTheWay above below_machine (steps.start program (main_place program frames) store input)) (Matches program well frames fit code formed addresses pages calls few (steps.start program (main_place program frames) store input)) ps (Running run)) places_are comes)

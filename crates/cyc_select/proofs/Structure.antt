@@ -93,6 +93,7 @@ module _ (program : Program) (frames : List Frame) (few_results : (function : �
   length_body function here (plain.WriteByte source) =
       let last : List Instr = small SERVICE PUT_BYTE ∷ syscall ∷ [] in
       omega (arith, length_ordinary (load_code (frame_at frames function) ARGUMENT source ++ last), length-append (load_code (frame_at frames function) ARGUMENT source) last, length_load (frame_at frames function) ARGUMENT source)
+  length_body function here (plain.AddressOf destination slot count) = refl
   length_body function here (plain.LoadGlobal destination global) = refl
   length_body function here (plain.StoreGlobal global source) =
       let last : List Instr = upper_of_global global ∷ at_global StoreWord (operand_register FIRST source) global ∷ [] in
@@ -141,6 +142,7 @@ module _ (program : Program) (frames : List Frame) (few_results : (function : �
   length_behind function (plain.Return value) = refl
   length_behind function (plain.ReadByte destination) = refl
   length_behind function (plain.WriteByte source) = refl
+  length_behind function (plain.AddressOf destination slot count) = refl
   length_behind function (plain.LoadGlobal destination global) = refl
   length_behind function (plain.StoreGlobal global source) = refl
   length_behind function (plain.MoveWords destination source count) = refl

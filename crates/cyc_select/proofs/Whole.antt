@@ -16,7 +16,7 @@ use Rattle.cyc_select.proofs.Formed.{few_results, formed}
 use Rattle.cyc_select.proofs.Parts.{place_in, own_function, own_some, parts}
 use Rattle.cyc_select.proofs.Runs.{own_of}
 use Rattle.cyc_select.proofs.Sizes.{words_range, code_words, functions_words}
-use Rattle.cyc_select.proofs.Start.{follows}
+use Rattle.cyc_select.proofs.Start.{follows, main_place, main_below}
 use Rattle.cyc_select.proofs.Structure.{length_body, length_code, stand, stand_function, starts}
 
 -- a sum over mapped places
@@ -56,6 +56,8 @@ module _ (program : Program) (well : IsWellFormed program) (words : HasWords pro
     few_before = few_before;
     few_own = few_own;
     few_words = few_words;
+    base = main_place program frames;
+    placed = main_below program well frames fit;
     follows = λ pages calls allowed store new input bytes addresses lie never.
         follows program well words frames fit (select_of program frames) (formed program well words frames fit) addresses lie pages calls allowed
         (stand program frames (few_results program well)) (λ function line i. length_body program frames (few_results program well) function line i) (starts program frames (few_results program well)) refl store new input bytes never;

@@ -5,6 +5,7 @@ use Rattle.cyc_store.specs.State.{StoreState}
 use Rattle.cyc_store.specs.New.{IsNew}
 use Rattle.cyc_machine.specs.Bounds.{AreAllowed}
 use Rattle.cyc_words.specs.Simulation.{NeverFails, Follows}
+use Rattle.cyc_plain.specs.Memory.{IsBelow, slots_end}
 use Rattle.cyc_plain.specs.Program.{Program, CodePlace, routine_at, places_of, size}
 use Rattle.cyc_plain.specs.Step as plain
 use Rattle.cyc_select.specs.declared.constants.TheConstants.{MAX_START_WORDS}
@@ -30,8 +31,11 @@ pub record IsCodeOf (program : Program) (code : Labelled) : Type 0 where
       (range_with_len 0 (length (routine_at program function).code))
       ≤ size (routine_at program function)
   pub few_words : all_words code.lines ≤ MAX_START_WORDS + sum_by size program.functions
+  -- where the slots of `main` lie
+  pub base : ℕ
+  pub placed : IsBelow program program.main base slots_end
   pub follows : (pages calls : ℕ) → AreAllowed pages calls → (store : StoreState) → IsNew pages store → (input : List ℕ) → AllByRecursion (λ b. b < 256) input
       → (addresses : ℕ → ℕ) → AreAddresses code addresses
-      → NeverFails (plain.machine program pages calls) (plain.start program store input)
+      → NeverFails (plain.machine program pages calls) (plain.start program base store input)
       → Follows (plain.machine program pages calls) (labelled.machine code addresses) before own
-      (plain.start program store input) (labelled.start code store calls input)
+      (plain.start program base store input) (labelled.start code store calls input)

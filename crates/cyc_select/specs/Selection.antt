@@ -378,6 +378,7 @@ body_count program function (plain.Call callee arguments count result) = 7 + 2 *
 body_count program function (plain.Return value) =
     ending_count program function + (routine_at program function).results + 2
 body_count program function (plain.ReadByte destination) = 3
+body_count program function (plain.AddressOf destination slot count) = 2
 body_count program function (plain.WriteByte source) = load_count source + 2
 body_count program function (plain.LoadGlobal destination global) = 3
 body_count program function (plain.StoreGlobal global source) = operand_count source + 2
@@ -448,6 +449,11 @@ move_words frame destination source count =
     ordinary (
     load_all frame source (result_registers count)
     ++ store_all frame destination (result_registers count))
+
+-- the address of a slot's word comes into a slot
+abbrev pub address_of : Frame → (destination slot : ℕ) → List Line
+address_of frame destination slot =
+    ordinary (add_immediate FIRST FRAME (slot_offset frame slot) ∷ store_slot frame FIRST destination ∷ [])
 
 -- a word of memory into a slot, and an operand into a word of memory
 abbrev pub load_word : Frame → (destination : ℕ) → (address : Operand) → (offset : ℕ) → List Line
@@ -605,6 +611,8 @@ body program frames function here (plain.LoadGlobal destination global) =
     load_global (frame_at frames function) destination global
 body program frames function here (plain.StoreGlobal global source) =
     store_global (frame_at frames function) global source
+body program frames function here (plain.AddressOf destination slot count) =
+    address_of (frame_at frames function) destination slot
 body program frames function here (plain.Load destination address offset) =
     load_word (frame_at frames function) destination address offset
 body program frames function here (plain.Store address offset source) =

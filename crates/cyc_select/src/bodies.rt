@@ -97,6 +97,11 @@ impl Emitter {
                 source,
                 count,
             } => self.move_words(frame, destination, source, count),
+            Instruction::AddressOf {
+                destination,
+                slot,
+                ..
+            } => self.address_of(frame, destination, slot),
             Instruction::Load {
                 destination,
                 address,

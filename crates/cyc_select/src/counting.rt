@@ -71,6 +71,7 @@ fn body_count(plain: &Plain, function: usize, instruction: Instruction) -> usize
             offset,
             ..
         } => address_count(address, offset) + 2,
+        Instruction::AddressOf { .. } => 2,
         Instruction::Store {
             address,
             offset,

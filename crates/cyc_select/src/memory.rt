@@ -1,11 +1,11 @@
 //! The lines that load and store words of memory.
 ghost use Rattle.std.specs.Prelude.{◌≡◌, ◌+◌, ◌≤◌, OnOk};
-ghost use Rattle.cyc_select.specs.Selection.{ordinary, far_plan, address_code, address_register, near_half, at_address, address_count, load_word, store_word};
+ghost use Rattle.cyc_select.specs.Selection.{ordinary, address_of, far_plan, address_code, address_register, near_half, at_address, address_count, load_word, store_word};
 ghost use Rattle.cyc_select.specs.Emission.{AddsLines, IsReached, IsFound};
 
-use crate::constants::{FIRST, SECOND};
+use crate::constants::{FIRST, FRAME, SECOND};
 use crate::emitter::Emitter;
-use crate::instructions::{register, store_slot};
+use crate::instructions::{add_immediate, offset_of, register, store_slot};
 use crate::numbers::fits_signed;
 use crate::operands::{operand_count, operand_register};
 use crate::operators::count_of_operation;
@@ -71,6 +71,23 @@ impl Emitter {
             return self.operand(frame, FIRST, address);
         }
         self.operation_of(frame, far_plan(address, offset))
+    }
+
+    /// The address of a slot's word comes into a slot.
+    pub(crate) fn address_of(
+        &mut self,
+        frame: Frame,
+        destination: usize,
+        slot: usize,
+    ) -> Result<(), AllocError>
+        requires target { IsReached frame destination }
+        requires source { IsReached frame slot }
+        ensures { AddsLines result self.old self.new (address_of frame destination slot) }
+    {
+        self.ordinary(&[
+            add_immediate(FIRST, FRAME, offset_of(frame.first_slot + slot)),
+            store_slot(frame, FIRST, destination),
+        ])
     }
 
     /// A word of memory comes into a slot.

@@ -79,8 +79,8 @@ module _ (p : Program) (lowered : PlainProgram) (code : Labelled) (addresses : �
   does limits store input allowed new bytes =
       let pages = limits.pages in
       let calls = limits.calls in
-      let together = chain_preserves p lowered code addresses words pages calls store input
-      (is.follows pages calls store input new (omega (arith, allowed.enough_pages)) allowed.few_pages allowed.enough_calls bytes) selected text runs allowed new bytes (never_fails p limits input sound) in
+      let together = chain_preserves p lowered code addresses words pages calls store input selected
+      (is.follows pages calls selected.base store input new (omega (arith, allowed.enough_pages)) allowed.few_pages allowed.enough_calls bytes selected.placed) text runs allowed new bytes (never_fails p limits input sound) in
       subst (λ each. Preserves (source_machine p pages calls) world_machine each (start p input) (start_world (program_image words code.globals) limits store input))
       (sym (text_words-image words code.globals some text.inside few fit fit_globals))
       (subst (λ (w : World). Preserves (source_machine p pages calls) world_machine (length words) (start p input) w)

@@ -45,7 +45,7 @@ source_lawful p pages calls = record {
 -- ---- the chain
 
 module _ (p : Program) (lowered : PlainProgram) (code : Labelled) (addresses : ℕ → ℕ) (text : List ℕ) (pages calls : ℕ) (store : StoreState) (input : List ℕ)
-    (follows : FollowsSource p lowered pages calls store input) (selected : IsCodeOf lowered code) (assembled : IsTextOf code addresses text) (runs : Runs code addresses text)
+    (selected : IsCodeOf lowered code) (follows : FollowsSource p lowered pages calls selected.base store input) (assembled : IsTextOf code addresses text) (runs : Runs code addresses text)
     (allowed : AreAllowed pages calls) (new : IsNew pages store) (bytes : AllByRecursion (λ b. b < 256) input) (never : NeverFails (source_machine p pages calls) (start p input)) where
   abbrev source : Machine
   source = source_machine p pages calls
@@ -56,18 +56,18 @@ module _ (p : Program) (lowered : PlainProgram) (code : Labelled) (addresses : �
   abbrev lines : Machine
   lines = labelled.machine code addresses
 
-  first : Follows source middle [] (λ s. places_of lowered) (start p input) (plain.start lowered store input)
+  first : Follows source middle [] (λ s. places_of lowered) (start p input) (plain.start lowered selected.base store input)
   first = follows never
 
-  second : Follows middle lines selected.before selected.own (plain.start lowered store input) (labelled.start code store calls input)
+  second : Follows middle lines selected.before selected.own (plain.start lowered selected.base store input) (labelled.start code store calls input)
   second =
       selected.follows pages calls allowed store new input bytes addresses assembled.places
-      (follows-never_fails source middle (source_lawful p pages calls) [] (λ s. places_of lowered) (start p input) (plain.start lowered store input) first)
+      (follows-never_fails source middle (source_lawful p pages calls) [] (λ s. places_of lowered) (start p input) (plain.start lowered selected.base store input) first)
 
   third : Follows lines world_machine [] (own addresses) (labelled.start code store calls input) (words.start code text store calls input)
   third =
       runs store calls input allowed.few_calls
-      (follows-never_fails middle lines (lawful lowered pages calls) selected.before selected.own (plain.start lowered store input) (labelled.start code store calls input) second)
+      (follows-never_fails middle lines (lawful lowered pages calls) selected.before selected.own (plain.start lowered selected.base store input) (labelled.start code store calls input) second)
 
   -- the words met before the first step of the source, and those of a step
   abbrev words_before : List ℕ
@@ -81,7 +81,7 @@ module _ (p : Program) (lowered : PlainProgram) (code : Labelled) (addresses : �
       in_a_row source lines world_machine (selected.before ++ flat_map selected.own []) (λ s. flat_map selected.own (places_of lowered)) [] (own addresses)
       (start p input) (labelled.start code store calls input) (words.start code text store calls input)
       (in_a_row source middle lines [] (λ s. places_of lowered) selected.before selected.own
-      (start p input) (plain.start lowered store input) (labelled.start code store calls input) first second)
+      (start p input) (plain.start lowered selected.base store input) (labelled.start code store calls input) first second)
       third
 
   -- together they are the words of the text, each once

@@ -1,12 +1,10 @@
 -- What is refused behind the front end, said of the text's program.
-use Rattle.std.proofs.Common.{◌≡◌, ◌⊎◌, inl, inr, ⊎_elim, ℕ, ◌≤◌, true, false, List, Result, Ok, Err, refl, sym, subst, ◌∙◌, length}
+use Rattle.std.proofs.Common.{◌≡◌, ◌⊎◌, inl, inr, ⊎_elim, ℕ, ◌≤◌, List, Result, Ok, Err, refl, sym, subst, length}
 use Rattle.std.specs.Prelude.{IfOk, IfErr, MatchResult}
-use Rattle.std.proofs.lemmas.Bool.{true≢false}
 use Rattle.cyc_words.specs.declared.fault.Fault.{Fault}
 use Rattle.cyc_words.specs.Decision.{Decides}
 use Rattle.cyc_words.specs.Fault.{memory_fault}
 use Rattle.cyc_types.specs.TypedTrees.{Program}
-use Rattle.cyc_types.specs.Built.{is_built, not_built}
 use Rattle.cyc_plain.specs.Program.{Program as PlainProgram}
 use Rattle.cyc_lower.specs.declared.limits.TheConstants.{MOST_FUNCTIONS}
 use Rattle.cyc_lower.specs.Lowered as lowering
@@ -77,62 +75,40 @@ module _ {X : Type 0} (Image : Program → X → Type 0) (p : Program) where
 module _ {X : Type 0} (Image : Program → X → Type 0) (text : List ℕ) where
   -- what the front end accepts
   module _ (p : Program) (accepted : IsAcceptedText text p) (only : (q : Program) → IsAcceptedText text q → p ≡ q) (no_fault : (f : Fault) → HasFault text f → ⊥) where
-    -- and is built
-    module _ (built : is_built p ≡ true) where
-      small_accepted : (result : Result X Fault) → IfOk result (λ x. (q : Program) × IsSmall p q × Image q x) → IfOk result (λ x. (q : Program) × IsCompiledText text q × Image q x)
-      small_accepted (Ok x) (q, (same, small), image) = (q, (subst (IsAcceptedText text) (sym same) accepted, subst (λ (r : Program). is_built r ≡ true) (sym same) built, small), image)
-      small_accepted (Err f) h = tt
+    small_accepted : (result : Result X Fault) → IfOk result (λ x. (q : Program) × IsSmall p q × Image q x) → IfOk result (λ x. (q : Program) × IsCompiledText text q × Image q x)
+    small_accepted (Ok x) (q, (same, small), image) = (q, (subst (IsAcceptedText text) (sym same) accepted, small), image)
+    small_accepted (Err f) h = tt
 
-      large_refused : (result : Result X Fault) → IfErr result (λ f. (f ≡ memory_fault) ⊎ IsTooLarge p f) → IfErr result (λ f. (f ≡ memory_fault) ⊎ IsRefusedAtLast text f)
-      large_refused (Ok x) h = tt
-      large_refused (Err f) (inl memory) = inl memory
-      large_refused (Err f) (inr large) = inr (inr (inr (p, accepted, built, large)))
+    large_refused : (result : Result X Fault) → IfErr result (λ f. (f ≡ memory_fault) ⊎ IsTooLarge p f) → IfErr result (λ f. (f ≡ memory_fault) ⊎ IsRefusedAtLast text f)
+    large_refused (Ok x) h = tt
+    large_refused (Err f) (inl memory) = inl memory
+    large_refused (Err f) (inr large) = inr (inr (p, accepted, large))
 
-      behind_refuses : (result : Result X Fault) → Decides (IsSmall p) Image (IsTooLarge p) (IsTooLarge p) result → (fault : Fault) → HasFaultAtLast text fault
-          → MatchResult result (λ _. ⊥) (λ f. (f ≡ memory_fault) ⊎ (f ≡ fault))
-      behind_refuses result d fault (inl front) = absurd (no_fault fault front)
-      behind_refuses result d fault (inr (inl (q, is, unbuilt, eq))) = absurd (true≢false (sym (subst (λ (r : Program). is_built r ≡ true) (only q is) built) ∙ unbuilt))
-      behind_refuses result d fault (inr (inr (q, is, other, large))) = d.refuses fault (subst (λ (r : Program). IsTooLarge r fault) (sym (only q is)) large)
+    behind_refuses : (result : Result X Fault) → Decides (IsSmall p) Image (IsTooLarge p) (IsTooLarge p) result → (fault : Fault) → HasFaultAtLast text fault
+        → MatchResult result (λ _. ⊥) (λ f. (f ≡ memory_fault) ⊎ (f ≡ fault))
+    behind_refuses result d fault (inl front) = absurd (no_fault fault front)
+    behind_refuses result d fault (inr (q, is, large)) = d.refuses fault (subst (λ (r : Program). IsTooLarge r fault) (sym (only q is)) large)
 
-      pub behind_answers : (result : Result X Fault) → Decides (IsSmall p) Image (IsTooLarge p) (IsTooLarge p) result
-          → Decides (IsCompiledText text) Image (IsRefusedAtLast text) (HasFaultAtLast text) result
-      behind_answers result d = record {
-        accepted = small_accepted result d.accepted;
-        refused = large_refused result d.refused;
-        accepts = λ q. λ (is, other, small). d.accepts q (sym (only q is), small);
-        refuses = behind_refuses result d;
-      }
-
-    -- and is not built
-    module _ (unbuilt : is_built p ≡ false) where
-      unbuilt_accepts : (q : Program) → IsCompiledText text q → not_built ≡ memory_fault
-      unbuilt_accepts q (is, built, small) = absurd (true≢false (sym (subst (λ (r : Program). is_built r ≡ true) (sym (only q is)) built) ∙ unbuilt))
-
-      unbuilt_refuses : (fault : Fault) → HasFaultAtLast text fault → (not_built ≡ memory_fault) ⊎ (not_built ≡ fault)
-      unbuilt_refuses fault (inl front) = absurd (no_fault fault front)
-      unbuilt_refuses fault (inr (inl (q, is, other, eq))) = inr (sym eq)
-      unbuilt_refuses fault (inr (inr (q, is, built, large))) = absurd (true≢false (sym (subst (λ (r : Program). is_built r ≡ true) (sym (only q is)) built) ∙ unbuilt))
-
-      pub unbuilt_answers : Decides (IsCompiledText text) Image (IsRefusedAtLast text) (HasFaultAtLast text) (Err not_built)
-      unbuilt_answers = record {
-        accepted = tt;
-        refused = inr (inr (inl (p, accepted, unbuilt, refl)));
-        accepts = unbuilt_accepts;
-        refuses = unbuilt_refuses;
-      }
+    pub behind_answers : (result : Result X Fault) → Decides (IsSmall p) Image (IsTooLarge p) (IsTooLarge p) result
+        → Decides (IsCompiledText text) Image (IsRefusedAtLast text) (HasFaultAtLast text) result
+    behind_answers result d = record {
+      accepted = small_accepted result d.accepted;
+      refused = large_refused result d.refused;
+      accepts = λ q. λ (is, small). d.accepts q (sym (only q is), small);
+      refuses = behind_refuses result d;
+    }
 
   -- and what it refuses
   refuses_last : {Y : Type 0} {Gives : Program → Y → Type 0} (f : Fault) → Decides (IsAcceptedText text) Gives (IsRefusedText text) (HasFault text) (Err f)
       → (fault : Fault) → HasFaultAtLast text fault → (f ≡ memory_fault) ⊎ (f ≡ fault)
   refuses_last f d fault (inl front) = d.refuses fault front
-  refuses_last f d fault (inr (inl (p, is, unbuilt, eq))) = inl (d.accepts p is)
-  refuses_last f d fault (inr (inr (p, is, built, large))) = inl (d.accepts p is)
+  refuses_last f d fault (inr (p, is, large)) = inl (d.accepts p is)
 
   pub front_answers : {Y : Type 0} (Gives : Program → Y → Type 0) (f : Fault) → Decides (IsAcceptedText text) Gives (IsRefusedText text) (HasFault text) (Err f)
       → Decides (IsCompiledText text) Image (IsRefusedAtLast text) (HasFaultAtLast text) (Err f)
   front_answers Gives f d = record {
     accepted = tt;
     refused = ⊎_elim (λ memory. inl memory) (λ refused. inr (inl refused)) d.refused;
-    accepts = λ p. λ (is, built, small). d.accepts p is;
+    accepts = λ p. λ (is, small). d.accepts p is;
     refuses = refuses_last f d;
   }

@@ -1,10 +1,9 @@
--- WHICH TEXTS ARE COMPILED, and why another is refused: the front end of the compiler refuses it, or its program has what is not built
--- yet, or is too large for what stands behind. The two limits are this project's own choice.
-use Rattle.std.specs.Prelude.{◌≡◌, ◌⊎◌, ℕ, ◌≤◌, ◌<◌, true, false, List, Some, length, slice_get}
+-- WHICH TEXTS ARE COMPILED, and why another is refused: the front end of the compiler refuses it, or its program is too large for
+-- what stands behind. The two limits are this project's own choice.
+use Rattle.std.specs.Prelude.{◌≡◌, ◌⊎◌, ℕ, ◌≤◌, ◌<◌, List, Some, length, slice_get}
 use Rattle.cyc_words.specs.declared.fault.Fault.{Fault}
 use Rattle.cyc_words.specs.declared.fault.Code.TheVariants.{FrameTooLarge}
 use Rattle.cyc_types.specs.TypedTrees.{Function, Program}
-use Rattle.cyc_types.specs.Built.{is_built, not_built}
 use Rattle.cyc_meaning.specs.FrameCount.{frame_count}
 use Rattle.cyc_lower.specs.declared.limits.TheConstants.{MOST_FUNCTIONS}
 use Rattle.cyc_lower.specs.Lowered.{HasTooMany}
@@ -33,22 +32,18 @@ pub record IsSmallEnough (p : Program) : Type 0 where
 abbrev pub IsSmall : (given p : Program) → Type 0
 IsSmall given p = (p ≡ given) × IsSmallEnough p
 
--- the program of the text has what is not built
-abbrev pub IsUnbuiltText : List ℕ → Fault → Type 0
-IsUnbuiltText text f = (p : Program) × IsAcceptedText text p × (is_built p ≡ false) × (f ≡ not_built)
-
--- the program of the text is built, and too large
+-- the program of the text is too large
 abbrev pub IsTooLargeText : List ℕ → Fault → Type 0
-IsTooLargeText text f = (p : Program) × IsAcceptedText text p × (is_built p ≡ true) × IsTooLarge p f
+IsTooLargeText text f = (p : Program) × IsAcceptedText text p × IsTooLarge p f
 
 -- The text is compiled, and this is its typed program.
 abbrev pub IsCompiledText : List ℕ → Program → Type 0
-IsCompiledText text p = IsAcceptedText text p × (is_built p ≡ true) × IsSmallEnough p
+IsCompiledText text p = IsAcceptedText text p × IsSmallEnough p
 
 -- A refusal is true of the text, or of its program.
 abbrev pub IsRefusedAtLast : List ℕ → Fault → Type 0
-IsRefusedAtLast text f = IsRefusedText text f ⊎ IsUnbuiltText text f ⊎ IsTooLargeText text f
+IsRefusedAtLast text f = IsRefusedText text f ⊎ IsTooLargeText text f
 
 -- The text has this fault, and is not refused with another.
 abbrev pub HasFaultAtLast : List ℕ → Fault → Type 0
-HasFaultAtLast text f = HasFault text f ⊎ IsUnbuiltText text f ⊎ IsTooLargeText text f
+HasFaultAtLast text f = HasFault text f ⊎ IsTooLargeText text f

@@ -19,7 +19,6 @@ use cyc_flow::Flowed;
 use cyc_frame::{Framed, layout};
 use cyc_lower::lower;
 use cyc_select::select;
-use cyc_types::check_built;
 use cyc_words::Fault;
 use std::alloc::Global;
 
@@ -50,17 +49,15 @@ fn build(alloc: Global, program: &Flowed) -> Result<Vec<u8>, Fault>
 /// Compiles a text to an image, as the bytes of a file.
 ///
 /// The front end of the compiler comes first: what it refuses is refused with its fault. A program that it accepts is refused
-/// with `NotBuiltYet` at 1:1 if it has what is not built yet; or else with `TooManyFunctions` at the name of the 4,097th function, or
-/// else with `FrameTooLarge` at the name of the first function whose frame may need more than 256 words. Any growth may be refused for
-/// want of memory.
+/// with `TooManyFunctions` at the name of the 4,097th function, or else with `FrameTooLarge` at the name of the first function whose
+/// frame may need more than 256 words. Any growth may be refused for want of memory.
 pub fn compile(alloc: Global, text: &[u8]) -> Result<Vec<u8>, Fault>
     // What is answered is an image that the machine can load, and that does what the program of the text means: it
     // prints and ends as the program does within its limits, and does nothing else. That is said of programs no run of which is
     // dead or wrong, as of all that free no object (`laws::programs_that_free_no_object_are_sound`). What is refused is so by the
-    // front end, or its program is not built, or too large.
+    // front end, or its program is too large.
     ensures decides { Decides (IsCompiledText text.now) (λ p file. IsImageOfSound p file.items) (IsRefusedAtLast text.now) (HasFaultAtLast text.now) result }
 {
     let program = accept(alloc, text)?;
-    check_built(&program.tree)?;
     build(alloc, &program)
 }

@@ -1,11 +1,11 @@
 -- What is live and what leads where, found by where regions opened.
-use Rattle.std.proofs.Common.{◌≡◌, ◌≢◌, ◌⊎◌, inl, inr, ℕ, zero, suc, ◌+◌, ◌<◌, ◌≤◌, Bool, true, false, ◌&&◌, ◌||◌, not, List, [], ◌∷◌, ◌++◌, reverse, length, get_or, take, refl, ap, sym, ◌∙◌, subst, arith}
+use Rattle.std.proofs.Common.{◌≡◌, ◌⊎◌, inl, inr, ℕ, zero, suc, ◌+◌, ◌<◌, ◌≤◌, Bool, true, false, ◌&&◌, ◌||◌, not, List, [], ◌∷◌, ◌++◌, reverse, length, take, refl, ap, sym, ◌∙◌, subst, arith}
 use Rattle.std.specs.List.{list_any}
 use Rattle.std.proofs.lemmas.Bool.{or_cases, or_left, or_right, and_parts, and_from, true≢false, false_from_ne_true, cases_lt}
-use Rattle.std.proofs.lemmas.List.{get_or-take, get_or_append_left, length-take-le, take-take, take-append-le, take_all, length-append, get_or_push}
+use Rattle.std.proofs.lemmas.List.{get_or-take, get_or_append_left, length-take-le, take-append-le, take_all, length-append, get_or_push}
 use Rattle.std.proofs.lemmas.List.Folds.{list_any_at}
 use Rattle.cyc_types.specs.declared.region.Region.{Region}
-use Rattle.cyc_types.specs.declared.region.Region.TheVariants.{Heap, Unique, Variable}
+use Rattle.cyc_types.specs.declared.region.Region.TheVariants.{Heap, Unique}
 use Rattle.cyc_types.specs.declared.scope.ScopeKind.TheVariants.{Block}
 use Rattle.cyc_types.specs.declared.scope.Scope.{Scope}
 use Rattle.cyc_types.specs.Regions.{region_eq, is_region_among}

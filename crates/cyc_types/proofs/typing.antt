@@ -9,5 +9,4 @@ pub mod FormedLemmas
 pub mod FormedPrograms
 pub mod ProgramLemmas
 pub mod WeightLemmas
-pub mod IntLemmas
 pub mod TextLemmas

@@ -5,12 +5,10 @@ pub mod TypeView
 pub mod TypedTrees
 pub mod TypedTreeView
 pub mod Declarations
-pub mod IntPart
 pub mod Rules
 pub mod typing
 pub mod flow
 pub mod Numbered
-pub mod Built
 pub mod Texts
 pub mod Weight
 pub mod Outlives

@@ -1,5 +1,5 @@
 //! Laws of the definitions in `specs/`. Each function does nothing: what it ensures is the law.
-ghost use Rattle.std.specs.Prelude.{◌≡◌, ◌↔◌, ℕ, ◌+◌, ◌*◌, ◌≤◌, true, List, Some, Ok, Err, length, slice_get};
+ghost use Rattle.std.specs.Prelude.{◌≡◌, ◌↔◌, ℕ, ◌+◌, ◌*◌, ◌≤◌, List, Some, Ok, Err, length, slice_get};
 ghost use Rattle.cyc_words.specs.declared.fault.Fault.{Fault};
 ghost use Rattle.cyc_syntax.specs.Trees.{Declaration};
 ghost use Rattle.cyc_syntax.specs.Weight.{tree_weight};
@@ -8,8 +8,6 @@ ghost use Rattle.cyc_types.specs.typing.Programs.{IsTypedProgram, IsRefusedProgr
 ghost use Rattle.cyc_types.specs.typing.WellTyped.{IsWellTypedProgram};
 ghost use Rattle.cyc_types.specs.typing.Formed.{IsFormedProgram};
 ghost use Rattle.cyc_types.specs.flow.Programs.{IsAllowedProgram, IsStoppedProgram, flow_of};
-ghost use Rattle.cyc_types.specs.IntPart.{is_int_program};
-ghost use Rattle.cyc_types.specs.Built.{is_built};
 ghost use Rattle.cyc_types.specs.Weight.{else_weight, statement_weight, function_weight, program_weight};
 
 /// The typing rules leave no choice: a tree has at most one typed tree.
@@ -57,11 +55,6 @@ pub fn typed_trees_are_well_typed()
 /// What the typing rules derive declares no type with a region that is not there yet.
 pub fn typed_trees_are_formed()
     ensures { (texts : List (List ℕ)) (tree : List Declaration) (p : Program) → IsTypedProgram texts tree p → IsFormedProgram p }
-{}
-
-/// A program over ints is built.
-pub fn int_programs_are_built()
-    ensures { (texts : List (List ℕ)) (tree : List Declaration) (p : Program) → is_int_program tree ≡ true → IsTypedProgram texts tree p → is_built p ≡ true }
 {}
 
 /// A typed tree weighs no more than the tree that it is of.

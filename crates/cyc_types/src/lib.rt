@@ -1,7 +1,6 @@
 //! Types and regions of the Cyclone subset, the typed tree with its typing rules, and the outlives relation between regions.
 #![tactic(auto)]
 
-pub use built::{Construct, Unbuilt, check_built};
 pub use known::Known;
 pub use name_set::NameSet;
 pub use names::RegionNames;
@@ -13,7 +12,6 @@ pub use structs::StructNames;
 pub use ty::Ty;
 pub use typed::TypedTree;
 
-mod built;
 mod constraints;
 pub mod formation;
 mod known;

@@ -2,7 +2,7 @@
 use Rattle.std.specs.Prelude.{ℕ}
 use Rattle.cyc_words.specs.declared.fault.Code.{Code}
 use Rattle.cyc_words.specs.declared.fault.Fault.{Fault}
-use Rattle.cyc_words.specs.declared.fault.Code.TheVariants.{UnknownByte, UnclosedComment, NumberTooLarge, TextTooLong, Memory, TooManyTokens, UnexpectedToken, UnexpectedEnd, NestingTooDeep, ListTooLong, UnknownName, DeclaredTwice, TypeMismatch, NullForNonNull, RegionNotLive, NotOutlived, EffectNotCovered, UniqueShared, NotAPlace, RegionOrKeyMisused, BadMain, OutsideLoop, EmptyVariable, LockedVariable, LoopEmptiesVariable, MissingReturn, TooManyFunctions, FrameTooLarge, NotBuiltYet}
+use Rattle.cyc_words.specs.declared.fault.Code.TheVariants.{UnknownByte, UnclosedComment, NumberTooLarge, TextTooLong, Memory, TooManyTokens, UnexpectedToken, UnexpectedEnd, NestingTooDeep, ListTooLong, UnknownName, DeclaredTwice, TypeMismatch, NullForNonNull, RegionNotLive, NotOutlived, EffectNotCovered, UniqueShared, NotAPlace, RegionOrKeyMisused, BadMain, OutsideLoop, EmptyVariable, LockedVariable, LoopEmptiesVariable, MissingReturn, TooManyFunctions, FrameTooLarge}
 
 -- the number of a code
 abbrev pub number_of : Code → ℕ
@@ -34,7 +34,6 @@ number_of LoopEmptiesVariable = 42
 number_of MissingReturn = 43
 number_of TooManyFunctions = 50
 number_of FrameTooLarge = 51
-number_of NotBuiltYet = 60
 
 -- want of memory, which has no place
 abbrev pub memory_fault : Fault

@@ -77,8 +77,6 @@ pub enum Code {
     TooManyFunctions = 50,
     /// A function's frame needs more than 256 words. Place: the function's name.
     FrameTooLarge = 51,
-    /// The text goes beyond what is compiled so far. Place: 1:1.
-    NotBuiltYet = 60,
 }
 
 impl Code {

@@ -35,7 +35,6 @@ pub fn meaning(code: Code) -> &'static str {
         Code::MissingReturn => "control reaches the end of a non-void function",
         Code::TooManyFunctions => "too many functions: at most 4096",
         Code::FrameTooLarge => "stack frame too large: at most 256 words",
-        Code::NotBuiltYet => "not supported yet: this program goes beyond what is compiled",
     }
 }
 
@@ -74,7 +73,6 @@ pub fn hint(code: Code) -> &'static str {
             "return a value on every path; conditions are not evaluated, so end with a return",
         Code::TooManyFunctions => "merge some functions",
         Code::FrameTooLarge => "move some of its variables or expressions to another function",
-        Code::NotBuiltYet => "write it without & of a variable: that is not compiled yet",
     }
 }
 

@@ -59,8 +59,7 @@ A message says what is wrong first in the source file, and where.";
 const COMPILE_HELP: &str = "Example:
   cyclone compile hello.cyc -o hello.elf
 
-Where the program is refused, no file is written: a message says what is wrong, and where. A
-program that takes the address of a variable is refused with fault 60, not supported yet.";
+Where the program is refused, no file is written: a message says what is wrong, and where.";
 
 const RUN_HELP: &str = "Example:
   echo hello | cyclone run echo.elf --calls 64 --steps 5000000

@@ -12,7 +12,6 @@ mod message;
 mod number;
 mod refusal;
 mod session;
-mod unbuilt;
 mod work;
 
 use std::process::ExitCode;

@@ -2,57 +2,28 @@
 use crate::advice::{hint, meaning};
 use crate::excerpt::{Shown, excerpt_at};
 use crate::flow_cause::Note;
-use crate::unbuilt::name_of;
 use cyc_flow::Cause;
-use cyc_types::Unbuilt;
-use cyc_words::{Fault, Span};
+use cyc_words::Fault;
 use std::fmt;
 
 /// Why the text in the file `name` was refused: the place and what is wrong there, the line with a
-/// mark under the place, the types or regions at hand, and what to do. Where the program has what is
-/// not built yet, the place is that of the function that has it. Where a variable is empty or locked,
-/// where it came to be so.
+/// mark under the place, the types or regions at hand, and what to do. Where a variable is empty or
+/// locked, where it came to be so.
 #[derive(Drop)]
 pub struct Message<'a> {
     pub name: &'a str,
     pub text: &'a [u8],
     pub fault: Fault,
-    pub unbuilt: Option<Unbuilt>,
     /// The types or regions at hand, in lines.
     pub words: Option<Vec<u8>>,
     pub cause: Option<Cause>,
 }
 
-impl Message<'_> {
-    /// The line and the column that are shown.
-    fn place(&self) -> (u32, u32) {
-        match self.unbuilt {
-            Some(
-                Unbuilt {
-                    span: Span { line, column },
-                    ..
-                },
-            ) => (line, column),
-            None => (self.fault.line, self.fault.column),
-        }
-    }
-}
-
 impl fmt::Display for Message<'_> {
     fn fmt<W: fmt::Write>(&self, f: &mut fmt::Formatter<W>) -> fmt::Result {
-        let code = self.fault.code;
-        let (line, column) = self.place();
+        let Fault { code, line, column } = self.fault;
         let name = Shown(self.name.as_bytes());
-        match self.unbuilt {
-            Some(unbuilt) => {
-                let construct = name_of(unbuilt.construct);
-                write!(
-                    f,
-                    "{name}:{line}:{column}: not supported yet: {construct}\n"
-                )?;
-            }
-            None => write!(f, "{name}:{line}:{column}: {}\n", meaning(code))?,
-        }
+        write!(f, "{name}:{line}:{column}: {}\n", meaning(code))?;
         write!(f, "{}", excerpt_at(self.text, line, column))?;
         if let Some(words) = &self.words {
             for line in words.split(|byte| *byte == b'\n') {

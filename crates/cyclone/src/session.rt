@@ -12,12 +12,11 @@ use crate::files::{read_image, read_text, write_image};
 use crate::flow_cause::cause_of;
 use crate::message::Message;
 use crate::refusal::words_for;
-use crate::unbuilt::first_unbuilt;
 use crate::work::{check, list_image, run_image};
 use clap::error::ErrorKind;
 use cyc_machine::Limits;
 use cyc_system::compile;
-use cyc_words::{Code, Fault};
+use cyc_words::Fault;
 use std::cell::RefCell;
 use std::env::{Env, FillError};
 use std::io::{BufReader, BufWriter, IsTerminal, Stdout};
@@ -32,15 +31,10 @@ fn report_refusal(rt: &HostRuntime, name: &str, text: &[u8], fault: Fault) -> An
 {
     let answer = Answer::from(fault);
     if let Answer::Refused(fault) = answer {
-        let unbuilt = match fault.code {
-            Code::NotBuiltYet => first_unbuilt(rt.alloc(), text),
-            _ => None,
-        };
         let message = Message {
             name,
             text,
             fault,
-            unbuilt,
             words: words_for(rt.alloc(), text, fault),
             cause: cause_of(rt.alloc(), text, fault),
         };

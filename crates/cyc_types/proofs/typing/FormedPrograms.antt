@@ -1,5 +1,5 @@
 -- What the typing rules derive declares no type with a region that is not there yet.
-use Rattle.std.proofs.Common.{◌≡◌, ◌⊎◌, ℕ, zero, suc, pred, ◌+◌, ◌<◌, ◌≤◌, Bool, true, false, cond, not, nat_eq, List, [], ◌∷◌, ◌++◌, Option, Some, None, map, length, slice_get, inl, inr, refl, sym, ap, subst, ◌∙◌, arith}
+use Rattle.std.proofs.Common.{◌≡◌, ℕ, zero, suc, pred, ◌+◌, ◌<◌, ◌≤◌, Bool, true, false, cond, nat_eq, List, [], ◌∷◌, ◌++◌, Option, Some, None, map, length, slice_get, inl, inr, refl, sym, ap, subst, ◌∙◌, arith}
 use Rattle.std.specs.Prelude.{unwrap_or, codes}
 use Rattle.std.proofs.lemmas.Bool.{true≢false}
 use Rattle.cyc_syntax.specs.Names.{number_of}
@@ -11,8 +11,6 @@ use Rattle.cyc_types.specs.declared.region.Region.TheVariants as regions
 use Rattle.cyc_types.specs.declared.typed.Callee.TheVariants as callees
 use Rattle.cyc_types.specs.Types.{Ty, Int, Handle, Key, ValueType, Value}
 use Rattle.cyc_types.specs.Types as types
-use Rattle.cyc_types.specs.Declarations.{declared_regions}
-use Rattle.cyc_types.specs.Declarations as declarations
 use Rattle.cyc_types.specs.TypedTrees.{Lvalue, Converted, Signature, type_of}
 use Rattle.cyc_types.specs.TypedTrees as typed
 use Rattle.cyc_types.specs.Rules.{AllKept, Derives}
@@ -21,10 +19,9 @@ use Rattle.cyc_types.specs.typing.Scopes as scopes
 use Rattle.cyc_types.specs.typing.Tests.{is_key, region_of}
 use Rattle.cyc_types.specs.typing.Formation.{Naming, left_out_at, region_or, base_written, pointers_written, type_for, after_type, types_for, base_for, after_base, pointers_for, after_mark, mark_for, after_region, regions_for, is_key_base, base_demanded, type_demanded}
 use Rattle.cyc_types.specs.typing.Formation as formation
-use Rattle.cyc_types.specs.typing.Expressions.{rule}
-use Rattle.cyc_types.specs.typing.Statements.{exception_among, left_out_of, local_type, rule_initial, opened, alias_type, aliased, with_caught, behind_clause, behind_item, thrown, rule_statement, rule_body, rule_items, rule_clauses}
-use Rattle.cyc_types.specs.typing.Heads.{Known, structs_of, parameter_names, fields_written, fields_of, members_of, parameter_naming, parameter_types, result_written, signature_of, declared_from, rule_fields, rule_parameters, rule_function_head, Before, after_head, rule_heads}
-use Rattle.cyc_types.specs.typing.Programs.{regions_before, declared_before, known_of, before_all, Program, program_known, parameter_locals, body_names, body_scope, rule_functions, globals_of, struct_types, IsTypedProgram}
+use Rattle.cyc_types.specs.typing.Statements.{exception_among, left_out_of, rule_initial, opened, alias_type, aliased, with_caught, behind_clause, behind_item, rule_statement, rule_body, rule_items, rule_clauses}
+use Rattle.cyc_types.specs.typing.Heads.{Known, structs_of, parameter_names, fields_written, fields_of, members_of, parameter_naming, signature_of, declared_from, rule_fields, rule_parameters, rule_function_head, Before, after_head, rule_heads}
+use Rattle.cyc_types.specs.typing.Programs.{declared_before, known_of, before_all, Program, program_known, parameter_locals, body_scope, rule_functions, globals_of, struct_types, IsTypedProgram}
 use Rattle.cyc_types.specs.typing.Formed.{AllOf, AllIn, IsKnown, IsFormedStatement, AreFormedItems, AreFormedClauses, AreFormedFunctions, AreFormedGlobals, AreFormedFields, AreFormedStructs, IsFormedProgram}
 use Rattle.cyc_types.proofs.typing.TestLemmas.{kept_append, not_so}
 use Rattle.cyc_types.proofs.typing.ProgramLemmas.{base_before}

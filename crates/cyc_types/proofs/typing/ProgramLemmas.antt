@@ -15,11 +15,10 @@ use Rattle.cyc_types.specs.Outlives.{live_regions}
 use Rattle.cyc_types.specs.Declarations.{item_types}
 use Rattle.cyc_types.specs.TypedTrees.{Signature}
 use Rattle.cyc_types.specs.TypedTrees as typed
-use Rattle.cyc_types.specs.IntPart.{is_empty, is_left_out}
 use Rattle.cyc_types.specs.Rules.{AllKept, Derives}
 use Rattle.cyc_types.specs.typing.Scopes.{signature_of_ints, RegionName, StructName, Field, Exception, Routine, Declared, Ordinary, LocalVariable, Scope, meaning_in, item_regions}
 use Rattle.cyc_types.specs.typing.Scopes as scopes
-use Rattle.cyc_types.specs.typing.Tests.{is_key, is_pointer, is_non_null, is_int}
+use Rattle.cyc_types.specs.typing.Tests.{is_empty, is_left_out, is_key, is_pointer, is_non_null, is_int}
 use Rattle.cyc_types.specs.typing.Formation.{Naming, region_or, left_out_at, base_written, pointers_written, type_written, types_for, after_type, parameters_among, struct_number, type_demanded, is_global_shape, global_demanded}
 use Rattle.cyc_types.specs.typing.Statements.{exception_number, exception_among, rule_items}
 use Rattle.cyc_types.specs.typing.Heads.{Known, members_of, structs_of, fields_of, exceptions_of, parameter_naming, and_result, signature_of, declared_from, value_demanded, is_int_written, is_main_head, rule_function_head, Before, after_head, rule_heads, declares}

@@ -16,11 +16,10 @@ use Rattle.cyc_types.specs.Outlives.{live_regions}
 use Rattle.cyc_types.specs.Declarations.{declared_types, item_types, clause_types}
 use Rattle.cyc_types.specs.TypedTrees.{Lvalue, Side, VariableSide, CellSide, Converted, type_of, type_of_place}
 use Rattle.cyc_types.specs.TypedTrees as typed
-use Rattle.cyc_types.specs.IntPart.{is_left_out}
 use Rattle.cyc_types.specs.Rules.{AllKept, Derives}
 use Rattle.cyc_types.specs.typing.Scopes.{RegionName, StructName, Sort, Ordinary, OfRegion, OfLoop, Meaning, Unknown, Fixed, Counter, Routine, Scope, region_among, meaning_of, counted, locals_in, body_locals, item_locals, clause_locals, regions_in, body_regions, item_regions, clause_regions, behind, with_scope, in_block, with_name, in_labelled, in_body, with_local, with_opened, with_region, with_key_opened}
 use Rattle.cyc_types.specs.typing.Scopes as scopes
-use Rattle.cyc_types.specs.typing.Tests.{ty_eq, is_unique, is_key, is_struct, region_of}
+use Rattle.cyc_types.specs.typing.Tests.{is_left_out, ty_eq, is_unique, is_key, is_struct, region_of}
 use Rattle.cyc_types.specs.typing.Formation.{left_out_at, region_or, pointers_written, base_written, type_written, is_known, is_name_of, names_demanded, struct_demanded, base_demanded, marks_demanded, is_shape, type_demanded}
 use Rattle.cyc_types.specs.typing.Formation as formation
 use Rattle.cyc_types.specs.typing.Expressions.{Found, type_of_side, rule, rule_place}

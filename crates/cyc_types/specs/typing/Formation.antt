@@ -11,7 +11,7 @@ use Rattle.cyc_types.specs.declared.region.Region.TheVariants.{Heap, Unique, Var
 use Rattle.cyc_types.specs.Regions.{region_eq}
 use Rattle.cyc_types.specs.Types.{Ty}
 use Rattle.cyc_types.specs.Types as types
-use Rattle.cyc_types.specs.IntPart.{is_empty}
+use Rattle.cyc_types.specs.typing.Tests.{is_empty}
 use Rattle.cyc_types.specs.Rules.{Demand, demand}
 use Rattle.cyc_types.specs.typing.Scopes.{RegionName, StructName, region_among}
 

@@ -12,11 +12,10 @@ use Rattle.cyc_types.specs.declared.typed.Callee.TheVariants as callees
 use Rattle.cyc_types.specs.Types.{Ty, Value}
 use Rattle.cyc_types.specs.TypedTrees.{Signature}
 use Rattle.cyc_types.specs.TypedTrees as typed
-use Rattle.cyc_types.specs.IntPart.{is_empty, is_left_out}
 use Rattle.cyc_types.specs.Rules.{Demand, demand, Rule, Part, gives, demands}
 use Rattle.cyc_types.specs.typing.Scopes.{RegionName, StructName, Field, Exception, Routine, Declared}
 use Rattle.cyc_types.specs.typing.Scopes as scopes
-use Rattle.cyc_types.specs.typing.Tests.{is_pointer, is_non_null, is_int}
+use Rattle.cyc_types.specs.typing.Tests.{is_empty, is_left_out, is_pointer, is_non_null, is_int}
 use Rattle.cyc_types.specs.typing.Formation.{Naming, region_of, type_written, types_for, after_members, is_name_of, no_unique_demanded, name_demanded, type_demanded, field_demanded, global_demanded, is_key_of}
 
 -- ---- what the heads declare

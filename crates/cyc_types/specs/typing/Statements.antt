@@ -12,11 +12,10 @@ use Rattle.cyc_types.specs.Regions.{region_eq}
 use Rattle.cyc_types.specs.Types.{Ty, Int, Pointer, Handle, Key, ValueType, Value}
 use Rattle.cyc_types.specs.TypedTrees.{Lvalue, Global, Converted, type_of}
 use Rattle.cyc_types.specs.TypedTrees as typed
-use Rattle.cyc_types.specs.IntPart.{is_left_out}
 use Rattle.cyc_types.specs.Rules.{fault_at, Demand, demand, Rule, Refused, Own, Part, gives, demands}
 use Rattle.cyc_types.specs.typing.Scopes.{RegionName, Exception, Meaning, Unknown, Fixed, Counter, Routine, Ordinary, OfRegion, Scope, is_taken, is_declared, meaning_of, counted, item_locals, item_regions, item_names, behind, in_block, with_name, in_labelled, in_body, with_local, with_opened, with_region, with_key_opened}
 use Rattle.cyc_types.specs.typing.Scopes as scopes
-use Rattle.cyc_types.specs.typing.Tests.{ty_eq, is_unique, is_key, is_struct, is_int, region_of}
+use Rattle.cyc_types.specs.typing.Tests.{is_left_out, ty_eq, is_unique, is_key, is_struct, is_int, region_of}
 use Rattle.cyc_types.specs.typing.Formation.{is_known, type_written, type_demanded}
 use Rattle.cyc_types.specs.typing.Formation as formation
 use Rattle.cyc_types.specs.typing.Expressions.{conversion, converted, test_wanted, rule_looked, Found, type_of_side, rule, rule_place}

@@ -3,4 +3,4 @@ use Rattle.cyc_objects.proofs.Start.{start-related}
 use Rattle.cyc_objects.proofs.laws.starts_related.Goals as goal
 
 pub returns : goal.returns
-returns c = start-related
+returns c = λ program globals input pages memory are. start-related program globals are input pages memory

@@ -2,15 +2,15 @@
 use Rattle.std.proofs.Common.{refl}
 use Rattle.cyc_meaning.specs.State.{Stack}
 use Rattle.cyc_meaning.proofs.WorldLaws.{cell_found}
-use Rattle.cyc_objects.proofs.Variables.{declared, assigned, opened-variables, closed-variables}
+use Rattle.cyc_objects.proofs.Variables.{declared, assigned-variable, opened-variables, closed-variables}
 use Rattle.cyc_objects.proofs.laws.variables_leave_the_store.Goals as goal
 
 pub returns-clause-declared : goal.returns-clause-declared
-returns-clause-declared c = λ t w s number r kind content related there entry. declared related number r kind content there entry
+returns-clause-declared c = λ t w s number r kind content row related there entry fits outside. declared related number r kind content row there entry fits outside
 
 pub returns-clause-assigned : goal.returns-clause-assigned
-returns-clause-assigned c = λ t w s object offset at v related found row.
-    let (there, cell) = cell_found w object offset at found in assigned related object offset at.object at.cell v there cell row
+returns-clause-assigned c = λ t w s object offset region at v related found owner entry.
+    let (there, cell) = cell_found w object offset at found in assigned-variable related object offset region at.object at.cell v there cell owner entry
 
 pub returns-clause-opened : goal.returns-clause-opened
 returns-clause-opened c = λ t w s related. opened-variables related Stack refl

@@ -4,4 +4,4 @@ use Rattle.cyc_plain.proofs.WordLaws.{words_stay, words_at_start}
 use Rattle.cyc_plain.proofs.laws.values_are_words.Goals as goal
 
 pub returns : goal.returns
-returns c = λ program pages calls count store input new words memory bytes run. words_stay program pages calls count (start program store input) new words (words_at_start program store input words memory bytes) run
+returns c = λ program pages calls count base store input new words memory bytes run. words_stay program pages calls count (start program base store input) new words (words_at_start program base store input words memory bytes) run

@@ -1,29 +1,18 @@
-use Rattle.std.proofs.Common.{◌≡◌, false, sym, subst}
+use Rattle.std.proofs.Common.{◌≡◌, sym, subst}
 use Rattle.std.proofs.lemmas.Result.{err_from_is_err_and}
 use Rattle.cyc_types.specs.TypedTreeView.{view_program}
-use Rattle.cyc_types.specs.Built.{is_built}
 use Rattle.cyc_types.proofs.typing.ProgramLemmas.{program_well}
 use Rattle.cyc_lower.proofs.Accepted.{accepted_can_be_lowered}
 use Rattle.cyc_system.specs.Front.{names_in, IsAcceptedText}
 use Rattle.cyc_system.specs.FullPreservation.{IsImageOfSound}
 use Rattle.cyc_system.proofs.Amounts.{accepted_light}
-use Rattle.cyc_system.proofs.Refusals.{behind_answers, unbuilt_answers, front_answers}
+use Rattle.cyc_system.proofs.Refusals.{behind_answers, front_answers}
 use Rattle.cyc_system.proofs.compiler.compile.Goals as goal
 
 pub returns-in_err-program : goal.returns-in_err-program
 returns-in_err-program c =
     let e = err_from_is_err_and c.from_residual.result c.from_residual.ensures.1 in
     record { decides = rw (e.1, e.2) (front_answers (λ p file. IsImageOfSound p file.items) c.args.text.now (λ p v. view_program v.tree ≡ p) c.in_err-program.field-0.0 c.in_err-program.ensures.decides) }
-
-pub returns-in_err-check_built : goal.returns-in_err-check_built
-returns-in_err-check_built c =
-    let text = c.args.text.now in
-    let tree = view_program c.in_ok-program.program.tree in
-    let d = c.in_ok-program.ensures.decides in
-    let (p, is, same) = d.accepted in
-    let unbuilt : is_built tree ≡ false = sym c.in_err-check_built.ensures in
-    let e = err_from_is_err_and c.from_residual-in_err-check_built.result c.from_residual-in_err-check_built.ensures.1 in
-    record { decides = rw (e.1, e.2) (unbuilt_answers (λ p file. IsImageOfSound p file.items) text tree (subst (IsAcceptedText text) (sym same) is) d.accepts d.refuses unbuilt) }
 
 pub build-requires-clause-well_typed : goal.build-requires-clause-well_typed
 build-requires-clause-well_typed c =
@@ -40,8 +29,7 @@ pub build-requires-clause-can_be : goal.build-requires-clause-can_be
 build-requires-clause-can_be c =
     let (p, is, same) = c.in_ok-program.ensures.decides.accepted in
     let a = subst (IsAcceptedText c.args.text.now) (sym same) is in
-    accepted_can_be_lowered (names_in a.tokens) c.args.text.now a.tokens a.tree (view_program c.in_ok-program.program.tree) a.has_tokens.rule a.has_tokens.within a.has_tree.has a.typed
-    (sym c.in_ok-check_built.ensures)
+    accepted_can_be_lowered (names_in a.tokens) c.args.text.now a.tokens a.tree (view_program c.in_ok-program.program.tree) a.has_tokens.rule a.has_tokens.within a.has_tree.has a.has_tree.within a.typed
 
 pub returns : goal.returns
 returns c =
@@ -51,5 +39,5 @@ returns c =
     record {
       decides =
           behind_answers (λ p file. IsImageOfSound p file.items) text (view_program c.in_ok-program.program.tree) (subst (IsAcceptedText text) (sym same) is) d.accepts d.refuses
-          (sym c.in_ok-check_built.ensures) c.build.result c.build.ensures;
+          c.build.result c.build.ensures;
     }

@@ -1,12 +1,10 @@
-use Rattle.std.proofs.Common.{◌≡◌, ◌<◌, ◌≤◌, ℕ, List, Bool, true, false, ◌∷◌, [], not, ◌&&◌, ◌||◌, sym, ap, refl, ◌∙◌, subst, arith, reverse, length}
+use Rattle.std.proofs.Common.{◌≡◌, Bool, true, false, ◌∷◌, [], not, ◌&&◌, ◌||◌, sym, ap, ◌∙◌}
 use Rattle.std.specs.List.{list_any}
 use Rattle.cyc_types.specs.declared.region.Region.{Region}
 use Rattle.cyc_types.specs.declared.region.Region.TheVariants.{Unique}
-use Rattle.cyc_types.specs.declared.scope.Scope.{Scope}
-use Rattle.cyc_types.specs.Outlives.{is_outlived_by_live}
 use Rattle.cyc_types.specs.Regions.{region_eq, is_region_among}
-use Rattle.cyc_types.specs.Closure.{IsClosed, above, above_one_of, leads, written_in}
-use Rattle.cyc_types.specs.Openings.{IsInOrder, live_before, opening_of, scope_at}
+use Rattle.cyc_types.specs.Closure.{above_one_of, written_in}
+use Rattle.cyc_types.specs.Openings.{live_before}
 use Rattle.std.proofs.lemmas.Bool.{and_left, and_right}
 use Rattle.cyc_types.proofs.RegionLemmas.{derived-region_eq}
 use Rattle.cyc_types.proofs.TableLemmas.{or_false}

@@ -1,0 +1,187 @@
+-- Variables of blocks, while they are live: each is a local of one call under way, and a local that is declared again had its former
+-- object in a block that was left. It follows from the numbers in the text: those of a block's locals are above those in scope around it.
+use Rattle.std.specs.Prelude.{◌≡◌, ◌⊎◌, ℕ, suc, ◌+◌, ◌<◌, ◌≤◌, Bool, true, false, List, [], ◌∷◌, length, Option, Some, None, slice_get}
+use Rattle.cyc_types.specs.TypedTrees.{Statement, Block, If, While, Try, Items, NoItems, MoreItems, Execute, Declare, DeclareRegion, OpenRegion, DeclareAlias, DeclareKey, Clauses, NoClauses, Default, Case, Function, Program}
+use Rattle.cyc_meaning.specs.State.{Sort, Globals, Stack, Region, Owner, InRegion, Unique, Object, Closed, found_region, globals_number, Initialise, Choose, Test, OpenBy, AliasOf, Entry, Needs, Rest, Loop, CloseRegion, CloseLexical, EndLoan, Handler, Caller, Focus, Executing, Entering, Binding, Naming, Catching, Given, Proceeding, State, Running, Ended, Dead, Wrong}
+
+-- ---- numbers in the text
+
+-- Where these numbers are free from one on, each local that is declared has a number from there on, above those of all locals around it.
+abbrev mutual
+  pub StatementRises : ℕ → Statement → Type 0
+  StatementRises m (Block region items) = ItemsRise m items
+  StatementRises m (If condition first second) = StatementRises m first × StatementRises m second
+  StatementRises m (While place condition body) = StatementRises m body
+  StatementRises m (Try s clauses) = StatementRises m s × ClausesRise m clauses
+  StatementRises m s = Unit {0}
+
+  pub ItemsRise : ℕ → Items → Type 0
+  ItemsRise m NoItems = Unit {0}
+  ItemsRise m (MoreItems (Execute s) items) = StatementRises m s × ItemsRise m items
+  ItemsRise m (MoreItems (Declare number t value) items) = (m ≤ number) × ItemsRise (suc number) items
+  ItemsRise m (MoreItems (DeclareRegion region number) items) = (m ≤ number) × ItemsRise (suc number) items
+  ItemsRise m (MoreItems (OpenRegion region number p key) items) = (m ≤ number) × ItemsRise (suc number) items
+  ItemsRise m (MoreItems (DeclareAlias region number t p source) items) = (m ≤ number) × ItemsRise (suc number) items
+  ItemsRise m (MoreItems (DeclareKey region number) items) = (m ≤ number) × ItemsRise (suc number) items
+
+  pub ClausesRise : ℕ → Clauses → Type 0
+  ClausesRise m NoClauses = Unit {0}
+  ClausesRise m (Default region items) = ItemsRise m items
+  ClausesRise m (Case tag None region items clauses) = ItemsRise m items × ClausesRise m clauses
+  ClausesRise m (Case tag (Some number) region items clauses) = (m ≤ number) × ItemsRise (suc number) items × ClausesRise m clauses
+
+-- parameters come first
+abbrev pub FunctionsRise : Program → Type 0
+FunctionsRise program = (number : ℕ) (h : Function) → slice_get program.functions number ≡ Some h → ItemsRise (length h.parameters) h.body
+
+-- ---- where objects live
+
+abbrev pub region_of : Owner → Option ℕ
+region_of (InRegion region) = Some region
+region_of (Unique live) = None
+
+abbrev pub region_in : Option Object → Option ℕ
+region_in None = None
+region_in (Some x) = region_of x.owner
+
+-- the object of this number is one that this region owns
+abbrev pub LivesIn : List Object → (object region : ℕ) → Type 0
+LivesIn objects object region = region_in (slice_get objects object) ≡ Some region
+
+abbrev pub IsShut : List Region → (region : ℕ) → Type 0
+IsShut regions region = found_region (slice_get regions region) ≡ Closed
+
+-- a region of variables that is open, and has none but variables
+abbrev pub is_of_variables : Sort → Bool
+is_of_variables Globals = true
+is_of_variables Stack = true
+is_of_variables sort = false
+
+pub record HasVariables (r : Region) : Type 0 where
+  pub open_now : r.is_open ≡ true
+  pub sort : is_of_variables r.sort ≡ true
+  pub blocks : r.blocks ≡ []
+
+-- ---- calls and their blocks
+
+abbrev pub Locals : Type 0
+Locals = ℕ → Option ℕ
+
+-- the locals of the calls that wait, newest first
+abbrev pub waiting : List Entry → List Locals
+waiting [] = []
+waiting (Caller outer ∷ stack) = outer.locals ∷ waiting stack
+waiting (entry ∷ stack) = waiting stack
+
+-- the object is the local of this number of the call at this place
+abbrev pub IsLocal : List Locals → (call number object : ℕ) → Type 0
+IsLocal calls call number object = (locals : Locals) × (slice_get calls call ≡ Some locals) × (locals number ≡ Some object)
+
+-- the region is that of a block of the newest call
+abbrev pub IsOfCall : (region : ℕ) → List Entry → Type 0
+IsOfCall region [] = ⊥
+IsOfCall region (CloseRegion ending home ∷ stack) = (region ≡ ending) ⊎ IsOfCall region stack
+IsOfCall region (Caller outer ∷ stack) = ⊥
+IsOfCall region (entry ∷ stack) = IsOfCall region stack
+
+-- what comes next is in a block itself, and in no statement of it
+abbrev pub IsInBlock : List Entry → Type 0
+IsInBlock [] = ⊥
+IsInBlock (CloseRegion region home ∷ stack) = Unit {0}
+IsInBlock (CloseLexical region ∷ stack) = IsInBlock stack
+IsInBlock (EndLoan lent ∷ stack) = IsInBlock stack
+IsInBlock (entry ∷ stack) = ⊥
+
+-- the newest call's locals in blocks that it is in have numbers below this one
+abbrev pub AreLow : ℕ → List Entry → Locals → List Object → Type 0
+AreLow m stack locals objects = (number object : ℕ) → locals number ≡ Some object → (region : ℕ) × LivesIn objects object region × (IsOfCall region stack → number < m)
+
+-- ---- what is still to be declared
+
+abbrev pub StatementDeclares : Statement → List Entry → Locals → List Object → Type 0
+StatementDeclares s stack locals objects = (m : ℕ) × StatementRises m s × AreLow m stack locals objects
+
+abbrev pub ItemsDeclare : Items → List Entry → Locals → List Object → Type 0
+ItemsDeclare items stack locals objects = (m : ℕ) × ItemsRise m items × AreLow m stack locals objects × IsInBlock stack
+
+abbrev pub ClausesDeclare : Clauses → List Entry → Locals → List Object → Type 0
+ClausesDeclare clauses stack locals objects = (m : ℕ) × ClausesRise m clauses × AreLow m stack locals objects
+
+-- the local of this number, and what is left of its block
+abbrev pub Names : (number : ℕ) → Items → List Entry → Locals → List Object → Type 0
+Names number items stack locals objects = ItemsRise (suc number) items × AreLow number stack locals objects × IsInBlock stack
+
+abbrev pub DeclareLater : List Entry → Locals → List Object → Type 0
+DeclareLater [] locals objects = Unit {0}
+DeclareLater (Needs (Initialise number kind items) ∷ stack) locals objects = Names number items stack locals objects × DeclareLater stack locals objects
+DeclareLater (Needs (OpenBy number lent items) ∷ stack) locals objects = Names number items stack locals objects × DeclareLater stack locals objects
+DeclareLater (Needs (AliasOf number lent items) ∷ stack) locals objects = Names number items stack locals objects × DeclareLater stack locals objects
+DeclareLater (Needs (Choose first second) ∷ stack) locals objects =
+    (StatementDeclares first stack locals objects × StatementDeclares second stack locals objects) × DeclareLater stack locals objects
+DeclareLater (Needs (Test condition body) ∷ stack) locals objects = StatementDeclares body stack locals objects × DeclareLater stack locals objects
+DeclareLater (Rest items ∷ stack) locals objects = ItemsDeclare items stack locals objects × DeclareLater stack locals objects
+DeclareLater (Loop condition body ∷ stack) locals objects = StatementDeclares body stack locals objects × DeclareLater stack locals objects
+DeclareLater (Handler clauses ∷ stack) locals objects = ClausesDeclare clauses stack locals objects × DeclareLater stack locals objects
+DeclareLater (Caller outer ∷ stack) locals objects = DeclareLater stack outer.locals objects
+DeclareLater (entry ∷ stack) locals objects = DeclareLater stack locals objects
+
+abbrev pub DeclareNow : Focus → List Entry → Locals → List Object → Type 0
+DeclareNow (Executing s) stack locals objects = StatementDeclares s stack locals objects
+DeclareNow (Entering h arguments) stack locals objects = ItemsRise (length h.parameters) h.body × AreLow 0 stack locals objects
+DeclareNow (Binding number types arguments body) stack locals objects =
+    (m : ℕ) × (number + length types ≤ m) × ItemsRise m body × AreLow number stack locals objects × IsInBlock stack
+DeclareNow (Naming number operand items) stack locals objects = Names number items stack locals objects
+DeclareNow (Catching tag value clauses) stack locals objects = ClausesDeclare clauses stack locals objects
+DeclareNow focus stack locals objects = Unit {0}
+
+-- ---- what is live
+
+-- what a local stands for lives in a block of its call, or in one that was left
+abbrev pub LiveInBlocks : List Entry → Locals → List Object → List Region → Type 0
+LiveInBlocks stack locals objects regions =
+    (number object : ℕ) → locals number ≡ Some object → (region : ℕ) × LivesIn objects object region × (IsOfCall region stack ⊎ IsShut regions region)
+
+abbrev pub WaitInBlocks : List Entry → List Object → List Region → Type 0
+WaitInBlocks [] objects regions = Unit {0}
+WaitInBlocks (Caller outer ∷ stack) objects regions = LiveInBlocks stack outer.locals objects regions × WaitInBlocks stack objects regions
+WaitInBlocks (entry ∷ stack) objects regions = WaitInBlocks stack objects regions
+
+-- each variable that is live is a global or a local of a call
+abbrev pub HaveNames : (globals : ℕ) → List Locals → List Object → List Region → Type 0
+HaveNames globals calls objects regions =
+    (object region : ℕ) (r : Region) → LivesIn objects object region → slice_get regions region ≡ Some r → HasVariables r
+    → (object < globals) ⊎ ((call number : ℕ) × IsLocal calls call number object)
+
+-- no two locals are one object
+abbrev pub AreDistinct : List Locals → Type 0
+AreDistinct calls = (call other number beside object : ℕ) → IsLocal calls call number object → IsLocal calls other beside object → (call ≡ other) × (number ≡ beside)
+
+-- the globals are the first objects
+abbrev pub AreGlobals : (globals : ℕ) → List Object → Type 0
+AreGlobals globals objects = (object : ℕ) → object < globals → LivesIn objects object globals_number
+
+abbrev pub LiveInRegions : List Object → List Region → Type 0
+LiveInRegions objects regions = (object region : ℕ) → LivesIn objects object region → region < length regions
+
+-- all of this, of the newest call with these locals and of those that wait
+abbrev pub AreNamed : (globals : ℕ) → List Entry → Locals → List Object → List Region → Type 0
+AreNamed globals stack locals objects regions =
+    DeclareLater stack locals objects × LiveInBlocks stack locals objects regions × WaitInBlocks stack objects regions
+    × HaveNames globals (locals ∷ waiting stack) objects regions × AreDistinct (locals ∷ waiting stack) × AreGlobals globals objects × LiveInRegions objects regions
+
+-- what holds in every state of a run of a program with so many globals
+abbrev pub HasNames : (globals : ℕ) → State → Type 0
+HasNames globals (Running focus stack e w) = DeclareNow focus stack e.locals w.objects × (AreNamed globals stack e.locals w.objects w.regions)
+HasNames globals (Ended ending output input) = Unit {0}
+HasNames globals (Dead output input) = Unit {0}
+HasNames globals (Wrong output input) = Unit {0}
+
+-- ---- declaring
+
+-- the local that the next step declares
+abbrev pub declared_by : Focus → List Entry → Option ℕ
+declared_by (Naming number operand items) stack = Some number
+declared_by (Binding number (t ∷ types) arguments body) stack = Some number
+declared_by (Given value) (Needs (Initialise number kind items) ∷ stack) = Some number
+declared_by Proceeding (Rest (MoreItems (Declare number t None) items) ∷ stack) = Some number
+declared_by focus stack = None
