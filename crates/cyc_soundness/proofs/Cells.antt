@@ -60,7 +60,7 @@ pub part_had : (g : Typing) (i : ℕ) (peek : Option ℕ) (o : Option Thing) →
 part_had g i None None is = tt
 part_had g i (Some n) None is = tt
 part_had g i None (Some a) is = subst (λ h. IsHeld h) (sym is) tt
-part_had g i (Some n) (Some a) (object, here, is) = subst (λ h. IsHeld h) (sym is) tt
+part_had g i (Some n) (Some a) (object, here, hidden, is) = subst (λ h. IsHeld h) (sym is) tt
 
 module _ (g : Typing) (w : World) (typed : IsTyped g w.regions w.objects) where
   -- no struct is in a cell
@@ -293,7 +293,7 @@ module _ (p : Source) (g : Typing) (x : Exits) (bs : List InScope) (e : Environm
         (subst (λ (b : Bool). IsWell p (if b then Running focus k e (written w number offset (record { object = c.object; cell = c.of.cell }) v.value) else wrong w))
         (sym (is_kind_same c.of.cell.kind v.kind (c.of.kind ∙ sym is.0)))
         (running p h x bs e (written w number offset (record { object = c.object; cell = c.of.cell }) v.value)
-        (cell_written g w number offset y t v.value typed at cells c few_too is.1 here g.pending (λ object i hidden apart kept. before object i hidden apart kept) (λ i u found apart kept. beside i u found apart kept) (λ kept. claims kept))
+        (cell_written g w number offset y t v.value typed at cells c few_too is.1 g.own here g.pending (λ a held. held) (λ a none. none) (λ object i hidden apart kept a has. has) (λ object i hidden apart kept. before object i hidden apart kept) (λ i u found apart kept. beside i u found apart kept) (λ kept. claims kept))
         (globals_grown g h changed.grows p (λ n ls. refl) globals.keys globals) bound (variables_kept Nobody g h (raises_changed g h changed) bs refl variables) focus k live (goes_on changed now)))
 
   -- of which nobody learns more than that

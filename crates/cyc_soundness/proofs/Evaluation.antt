@@ -1,6 +1,6 @@
 -- EVALUATION of a typed expression, and what waits for its value: each step leads to a typed state.
 use Rattle.std.proofs.Common.{◌≡◌, ◌≢◌, ◌⊎◌, set, inl, inr, ℕ, ◌≤◌, zero, suc, Bool, true, false, not, List, [], ◌∷◌, map, Option, Some, None, slice_get, refl, sym, ap, subst, ◌∙◌, arith}
-use Rattle.std.specs.Prelude.{◌+◌, nat_lt, if◌then◌else◌, option_map}
+use Rattle.std.specs.Prelude.{◌+◌, nat_lt, if◌then◌else◌, option_map, ◌||◌}
 use Rattle.cyc_syntax.specs.declared.tree.PointerKind.{PointerKind}
 use Rattle.cyc_syntax.specs.declared.tree.PointerKind.TheVariants as marks
 use Rattle.cyc_types.specs.declared.typed.Kind.{Kind}
@@ -16,7 +16,7 @@ use Rattle.cyc_types.specs.Types as types
 use Rattle.cyc_types.specs.TypedTrees.{Local, Global, Expression, Number, NullPointer, HeapRegion, Counter, Copy, Move, Peek, Load, AddressOf, AddressOfCell, NumberOfElements, FreeUnique, FreeKey, Call, Unary, Binary, Assign, New, OnHeap, AsUnique, ByHandle, type_of_place, peeked, Convert, Arguments, NoArguments, MoreArguments, Operations, NoOperations, ThenCompute, ThenTest, ThenPointer, ThenPointerPeek, GlobalVariable, Signature, Function, Program}
 use Rattle.cyc_types.specs.TypedTrees as typed'
 use Rattle.cyc_types.specs.Rules.{Derives}
-use Rattle.cyc_types.specs.typing.Tests.{is_moved, is_tested, is_thin_mark}
+use Rattle.cyc_types.specs.typing.Tests.{is_moved, is_tested, is_thin_mark, is_unique, is_key}
 use Rattle.cyc_types.specs.typing.Tests as tests
 use Rattle.cyc_types.specs.typing.Expressions.{assigned_type, instantiated}
 use Rattle.cyc_types.specs.typing.WellTyped.{Context, HasLocal, AreLive, AreOutliving, IsCallee, WellTyped, IsPeek, IsPeekOf, IsLeft, ArePassed, Converts, PointerOperation, adds, subtracts, equals, differs, thin_null, thin_there, fat_null, fat_there, null_is, null_is_not, IsChain, signature_of, AreNotUnique, AreConstraints}
@@ -34,14 +34,14 @@ use Rattle.cyc_meaning.specs.Nesting.{ends_of, AreOpen}
 use Rattle.cyc_meaning.specs.Step.{step_evaluating, addressed, counts, passes, assigned, decided, tested, awaits_right, chained, converts}
 use Rattle.cyc_soundness.specs.Lives.{Life, OfRegion, OfObject, Never, Owned, Kept, heap_life, as_heap, Reading, Lives, AsHeap, ByScope, RunTy, RunValue, Value, Into, looked, kind_at}
 use Rattle.cyc_soundness.specs.Lives as lives
-use Rattle.cyc_soundness.specs.Worlds.{Thing, Holder, Nobody, Hand, At, thing_of, Owns, AtStart, Claims, ClaimsPart, ClaimsBy, IsLookedAt, IsSlot, IsHere, given, marked, handing, Settled, IsOpenObject, IsNewOwner, IsPlain, HasType, Typing, IsFull, global_type, Outlasts, alike, globals as with_globals, AgreesWith, IsResult, AreOperands, IsTyped}
+use Rattle.cyc_soundness.specs.Worlds.{Thing, Holder, Nobody, Hand, At, thing_of, Owns, AtStart, Claims, ClaimsPart, ClaimsBy, IsLookedAt, IsSlot, IsHere, given, marked, handing, Settled, IsOpenObject, IsNewOwner, IsPlain, HasType, Typing, IsFull, global_type, Outlasts, alike, globals as with_globals, AgreesWith, IsResult, AreOperands, IsTyped, IsHiding}
 use Rattle.cyc_soundness.specs.Frames.{IsAmong, Bound, local_type, InScope, Variable, IsBound, AreVariables, IsHomed, LiveIn, IsSet, IsFullIn, Holds, Implies, Exits, IsContext, KnowsProgram, lives_in, read, read_value, frees_in}
 use Rattle.cyc_soundness.specs.Classes.{is_full, Relied, frees_of, and_looked, IsSpared, HasScopes, InExpression, InArguments, InOperations, Source}
 use Rattle.cyc_soundness.specs.Stacks.{KeepsUnique, IsCommonLife, IsPlainValue, IsChained, Evaluates, Val, Go, turned, relied_at, IsCalled, null, IsStack, IsFocus, IsWell}
 use Rattle.cyc_soundness.specs.Stacks as stacks
 use Rattle.cyc_soundness.proofs.Numbers.{some_same, both}
 use Rattle.cyc_soundness.proofs.TypeLemmas.{place_type, target_typed, is_kind_same, kind_read, kind_meant}
-use Rattle.cyc_soundness.proofs.FlowLemmas.{implies_self, meet_first, meet_second, vacant_implied, holds_implied, reached_with}
+use Rattle.cyc_soundness.proofs.FlowLemmas.{full_set, used_full, implies_self, meet_first, meet_second, vacant_implied, holds_implied, reached_with}
 use Rattle.cyc_soundness.proofs.WorldLemmas.{type_grown, result_grown}
 use Rattle.cyc_soundness.proofs.Hands.{Changed, at_no_hand, given_now, marked_now, marked_before, marked_keeps, handing_changed, variables_kept, holds_kept, taken_typed, hands_globals, kept_now}
 use Rattle.cyc_soundness.proofs.Sharing.{keeps_by, region_common, plain_read, all_freed, unique_by_type}
@@ -182,20 +182,6 @@ converted_claims g i n c s t v z keeps conv is same comes = absurd conv
 
 -- ---- what is known of a local that is moved
 
-full_of : (a : Fullness) → is_vacant a ≡ false → is_locked a ≡ false → is_full a ≡ true
-full_of Vacant set free = absurd (let k : true ≡ false = set in cc)
-full_of Locked set free = absurd (let k : true ≡ false = free in cc)
-full_of Full set free = refl
-
-pub full_set : (a : Fullness) → is_full a ≡ true → is_vacant a ≡ false
-full_set Vacant full = absurd (let k : false ≡ true = full in cc)
-full_set Locked full = absurd (let k : false ≡ true = full in cc)
-full_set Full full = refl
-
--- what the rules ask of a local that is used up
-pub used_full : (f : flow.State) (n : ℕ) → not (is_vacant (fullness f n)) ≡ true → not (is_locked (fullness f n)) ≡ true → IsFullIn f n
-used_full f n set free = full_of (fullness f n) (not_true (is_vacant (fullness f n)) set) (not_true (is_locked (fullness f n)) free)
-
 -- the one cell of a variable
 only_first : (t : lives.RunTy) (j : ℕ) (u : lives.RunTy) → slice_get (t ∷ []) j ≡ Some u → j ≢ 0 → ⊥
 only_first t zero u found apart = apart refl
@@ -265,6 +251,10 @@ module _ (p : Source) (g : Typing) (x : Exits) (bs : List InScope) (e : Environm
         stack_changed p (At b.object 0) g h x bs (Val (Value (read bs u)) f1) k changed (g.depth, n, slot, inl (refl, spared)) stack,
       )))
 
+-- a unique pointer is moved
+unique_moved : (u : Ty) → is_unique u ≡ true → is_moved u ≡ true
+unique_moved u unique = ap (λ (b : Bool). b || is_key u) unique
+
 module _ (p : Source) where
   -- what is called takes and gives this, where its region variables stand for what is put in their place
   called_is : (x : Exits) (bs : List InScope) (c : Context) (callee : Callee) (s : Signature) (m : List Region) → IsContext p x bs c → IsCallee c callee s → AreNotUnique m → ((number : ℕ) (h : Function) → slice_get p.program.functions number ≡ Some h → AreConstraints h.variables h.constraints) → AreLive c (instantiated m s).effect
@@ -304,33 +294,37 @@ module _ (p : Source) where
     -- a local that is read, and keeps what it holds
     from_local : (k : List Entry) (c : Context) (n : ℕ) (u : Ty) (f h : flow.State) (r : RunValue) → AreOpen w.regions (ends_of k) → LiveIn k bs → IsContext p x bs c → Holds g f bs
         → (i : ℕ) × HasLocal c.locals n u i → IsSet f n → Implies f h → ((v : values.Value) → HasType g (read bs u) v → IsResult g r (record { kind = values.kind_of u; value = v }))
-        → ((b : Bound) (v : values.Value) → b.number ≡ n → (IsHere g g.depth b.number b.object → Claims g.own (At b.object 0) (read bs u) v) → IsAmong (Variable b) bs → ClaimsBy g (stacks.operands_in k) r v)
+        → ((b : Bound) (v : values.Value) → b.number ≡ n → b.is_hidden ≡ is_moved u → (IsHere g g.depth b.number b.object → Claims g.own (At b.object 0) (read bs u) v) → IsAmong (Variable b) bs → ClaimsBy g (stacks.operands_in k) r v)
         → IsStack p g x bs (Val r h) k → IsWell p (loaded_from (values.kind_of u) (e.locals n) k e w)
     from_local k c n u f h r opens live stands holds (i, has) is_set implies fits comes stack =
-        let (b, among, number, of_type) = bound_of p.reading (lives_in bs) c.locals bs n u i stands.scope has in
+        let l = bound_to p.reading (lives_in bs) c.locals bs n u i stands.scope has in
+        let b = l.bound in
+        let among = l.among in
+        let number = l.number in
+        let of_type = l.of_type in
         let full : IsFull g b.object = among_set g f among holds.1 (subst (λ m. IsSet f m) (sym number) is_set) in
         from_bound p g x bs e w typed globals bound variables k n u b h r opens live (holds_implied g f h bs implies holds) among number of_type full
         (λ v is. fits v (subst (λ z. HasType g z v) of_type is))
-        (λ v. comes b v.value number (λ here. subst (λ t. Claims g.own (At b.object 0) t v.value) of_type (its_own p g x bs e w typed globals bound variables b (values.kind_of u) v (settled p g x bs (Val r h) k stack) among here)) among) stack
+        (λ v. comes b v.value number l.hidden (λ here. subst (λ t. Claims g.own (At b.object 0) t v.value) of_type (its_own p g x bs e w typed globals bound variables b (values.kind_of u) v (settled p g x bs (Val r h) k stack) among here)) among) stack
 
     -- a value that is copied
     pub copies : (k : List Entry) (c : Context) (n : ℕ) (u : Ty) (t : ValueType) (f h : flow.State) → AreOpen w.regions (ends_of k) → LiveIn k bs → IsContext p x bs c → Holds g f bs
         → (i : ℕ) × HasLocal c.locals n u i → IsSet f n → is_moved u ≡ false → Implies f h → t ≡ types.Value u → IsStack p g x bs (Val (read_value bs t) h) k → IsWell p (loaded_from (values.kind_of u) (e.locals n) k e w)
     copies k c n u t f h opens live stands holds has is_set plain implies same stack =
         from_local k c n u f h (Value (read bs u)) opens live stands holds has is_set implies (λ v is. (sym (kind_meant (lives_in bs) u), is))
-        (λ b v number own among. plain_claims g.own (Hand (stacks.operands_in k)) (read bs u) v (plain_read g bs variables u plain)) (subst (λ z. IsStack p g x bs (Val z h) k) (ap (read_value bs) same) stack)
+        (λ b v number hidden own among. plain_claims g.own (Hand (stacks.operands_in k)) (read bs u) v (plain_read g bs variables u plain)) (subst (λ z. IsStack p g x bs (Val z h) k) (ap (read_value bs) same) stack)
 
     -- and one that is looked at
-    looked_at : (n object : ℕ) (o : Option Thing) → IsHere g g.depth n object → Owns g.own (At object 0) o → IsLookedAt g n o
-    looked_at n object None here is = tt
-    looked_at n object (Some a) here is = (object, here, is)
+    looked_at : (n object : ℕ) (o : Option Thing) → IsHere g g.depth n object → IsHiding g object true → Owns g.own (At object 0) o → IsLookedAt g n o
+    looked_at n object None here hidden is = tt
+    looked_at n object (Some a) here hidden is = (object, here, hidden, is)
 
     peeks : (k : List Entry) (c : Context) (n : ℕ) (u : Ty) (t : ValueType) (f h : flow.State) → AreOpen w.regions (ends_of k) → LiveIn k bs → IsContext p x bs c → Holds g f bs
-        → (i : ℕ) × HasLocal c.locals n u i → IsFullIn f n → Implies f h → t ≡ types.Value u → IsStack p g x bs (Val (looked (Some n) (read_value bs t)) h) k → IsWell p (loaded_from (values.kind_of u) (e.locals n) k e w)
-    peeks k c n u t f h opens live stands holds has full implies same stack =
+        → (i : ℕ) × HasLocal c.locals n u i → is_unique u ≡ true → IsFullIn f n → Implies f h → t ≡ types.Value u → IsStack p g x bs (Val (looked (Some n) (read_value bs t)) h) k → IsWell p (loaded_from (values.kind_of u) (e.locals n) k e w)
+    peeks k c n u t f h opens live stands holds has unique full implies same stack =
         from_local k c n u f h (Into (Some n) (read bs u)) opens live stands holds has (full_set (fullness f n) full) implies (λ v is. (sym (kind_meant (lives_in bs) u), is))
-        (λ b v number own among. (let here = among_own g f among holds.1 (subst (λ i. IsFullIn f i) (sym number) full) in
-        looked_at n b.object (thing_of (read bs u) v) (subst (λ i. IsHere g g.depth i b.object) number here) (own here).0))
+        (λ b v number hidden own among. (let here = among_own g f among holds.1 (subst (λ i. IsFullIn f i) (sym number) full) in
+        looked_at n b.object (thing_of (read bs u) v) (subst (λ i. IsHere g g.depth i b.object) number here) (local_type g.depth b, among_variable g among variables, hidden ∙ unique_moved u unique) (own here).0))
         (subst (λ z. IsStack p g x bs (Val (looked (Some n) (read_value bs z)) h) k) same stack)
 
     from_global : (k : List Entry) (c : Context) (n : ℕ) (u : Ty) (t : ValueType) (f : flow.State) → AreOpen w.regions (ends_of k) → LiveIn k bs → IsContext p x bs c → Holds g f bs
@@ -394,7 +388,7 @@ module _ (p : Source) where
         moves p g x bs e w typed globals bound variables k c n u f opens live stands holds has moved (used_full f n demands.0 demands.1.0) kept
         (subst (λ z. IsStack p g x bs (Val z (with_fullness Vacant f n)) k) (ap (read_value bs) same) (subst (λ z. IsStack p g x bs (Val (read_value bs t) z) k) known stack))
     evaluate (Peek place n u) k c t f h q opens live stands holds (inr ((has, there), unique, same)) (demands, known) kept stack =
-        peeks k c n u t f h opens live stands holds has (used_full f n demands.0 demands.1.0) (subst (λ z. Implies f z) (sym known) (implies_self f)) same stack
+        peeks k c n u t f h opens live stands holds has unique (used_full f n demands.0 demands.1.0) (subst (λ z. Implies f z) (sym known) (implies_self f)) same stack
     evaluate (Call callee as' u) k c t f h q opens live stands holds (inl (s, m, is, count, apart, passed, alive, outlive, gives_u, same)) flows kept stack =
         pass_on k callee [] [] as' (map (substituted_ty m) s.parameters) c (result_type (option_map (substituted_ty m) s.result)) f h q live stands holds passed flows kept tt tt
         (called_is x bs c callee s m stands is apart globals.constraints alive outlive) (subst (λ z. IsStack p g x bs (Val (read_value bs z) h) k) (same ∙ gives_u) stack)

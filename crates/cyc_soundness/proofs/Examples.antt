@@ -122,7 +122,7 @@ swapped : Ends (check_of texts (
     (MoreItems (Execute (Swap (field 3) (field 4)))
     (MoreItems (Execute (Return (at 12) (Some (field 3)))) NoItems)))
     ∷ [])) (HasEnded (Returned (pos 5)))
-swapped = (refl, ((tt, (tt, (tt, (tt, tt))), (((tt, tt), (tt, tt)), (tt, tt))), tt), refl)
+swapped = (refl, ((tt, (tt, (tt, (tt, tt))), ((tt, tt), (tt, tt))), tt), refl)
 
 -- int main(){ int @`U p = rnew(unique_region) 5; return *p; }
 unique : Ends (check_of texts (

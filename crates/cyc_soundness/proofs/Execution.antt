@@ -30,18 +30,18 @@ use Rattle.cyc_soundness.proofs.Looking.{looked_side}
 use Rattle.cyc_soundness.specs.Lives.{Life, Value, Seen, Reading, AsHeap, ByScope}
 use Rattle.cyc_soundness.specs.Worlds.{HasType, IsNumber, Typing, lent_now, IsTyped}
 use Rattle.cyc_soundness.specs.Frames.{InScope, Names, Home, life_named, lives_in, read, read_value, IsBound, AreVariables, LiveIn, Within, itself, older, IsSet, Holds, Implies, LoopExit, Exits, loop_of, around, lending, relying, AreBreaks, is_loop, IsContext, KnowsProgram}
-use Rattle.cyc_soundness.specs.Classes.{HasScopes, IsSwappable, IsDeclarable, InSide, InStatement, InItems, InValue, InThrown, Source}
+use Rattle.cyc_soundness.specs.Classes.{HasScopes, IsDeclarable, InSide, InStatement, InItems, InValue, InThrown, Source}
 use Rattle.cyc_soundness.specs.Stacks.{IsByType, Evaluates, Executes, Continues, Catches, IsLoop, Val, Go, operands_in, IsReturn, IsStack, IsFocus, IsWell}
 use Rattle.cyc_soundness.specs.Stacks as stacks
 use Rattle.cyc_soundness.proofs.TypeLemmas.{target_typed, place_type, kind_read, kind_meant}
-use Rattle.cyc_soundness.proofs.FlowLemmas.{implies_self, implies_after, meet_first, meet_second, at_least_implies, emptied_implied, holds_implied, not_vacant, full_last}
+use Rattle.cyc_soundness.proofs.FlowLemmas.{used_full, implies_self, implies_after, meet_first, meet_second, at_least_implies, emptied_implied, holds_implied, not_vacant, full_last}
 use Rattle.cyc_soundness.proofs.RuleLemmas.{breaks_statement, breaks_items, breaks_clauses, clauses_implied, nothing_locked}
 use Rattle.cyc_soundness.proofs.StackLemmas.{among_set, bound_of, within_bound, within_variables, within_live, within_holds, below_more}
 use Rattle.cyc_soundness.proofs.RegionLemmas.{opened_known, contains_more, live_more, same_name, known_behind, opened_life, opened_lasting, agrees_of, context_inside, context_lexical}
 use Rattle.cyc_soundness.proofs.WorldLemmas.{opened_typed}
-use Rattle.cyc_soundness.proofs.Sharing.{swappable_by_type, keeps_by}
+use Rattle.cyc_soundness.proofs.Sharing.{keeps_by}
 use Rattle.cyc_soundness.proofs.Cells.{running}
-use Rattle.cyc_soundness.proofs.Evaluation.{from_bound, used_full}
+use Rattle.cyc_soundness.proofs.Evaluation.{from_bound}
 use Rattle.cyc_soundness.proofs.Loans.{type_known, keys_on, shared_loans}
 use Rattle.cyc_soundness.proofs.Touched.{relied_body}
 use Rattle.cyc_soundness.proofs.Supply.{declares_blank}
@@ -171,11 +171,6 @@ module _ (p : Source) (g : Typing) (x : Exits) (bs : List InScope) (e : Environm
   pub block_stack : (c : Context) (k : List Entry) (f h : flow.State) → LiveIn k bs → Implies f h → IsStack p g x bs (Go h) k → IsStack p g x (block_scope c k) (Go f) (region_end e w ∷ k)
   block_stack c k f h live implies stack = (bs, c.next_region, opened_life p.reading (length w.regions) (ends_of k) (lent_now g), true, h, refl, implies, live, stack)
 
-  -- what is swapped claims what its type tells
-  side_by_type : (c : Context) (y : Side) (t : Ty) → IsContext p x bs c → IsSide c y t → InSide p.reading x.relied y → IsByType (read bs t)
-  side_by_type c (VariableSide l u) t stands (r, place, same) shared = swappable_by_type g bs variables p.reading c.regions t stands.regions (subst (λ z. IsSwappable p.reading z) (sym same) shared)
-  side_by_type c (CellSide d) t stands (r, cell) (shared, kept) = swappable_by_type g bs variables p.reading c.regions t stands.regions (subst (λ z. IsSwappable p.reading z) (sym (place_type c d t r cell)) shared)
-
   -- ---- statements
 
   pub execute : (s : Statement) (k : List Entry) (c : Context) (f h before behind' : flow.State) → LiveIn k bs → IsContext p x bs c → Holds g f bs → WellTypedStatement c s
@@ -224,7 +219,7 @@ module _ (p : Source) (g : Typing) (x : Exits) (bs : List InScope) (e : Environm
   execute (Swap y z) k c f h before behind' live stands holds (t, ty, tz, plain) (f1, (f2, dy, (f3, dz, (demands, same))), (u, known)) are (ky, kz) stack =
       let now : h ≡ f3 = ap (λ (z : Known). z.now) known ∙ same in
       let (first, second) = kept_both (side_demanded [] y f3) (side_demanded (and_peeked (peeked_side y) []) z f3) demands in
-      swap_on p g x bs e w typed' globals bound variables y z c t k f f2 f3 (and_peeked (peeked_side y) []) live stands holds (side_by_type c y t stands ty ky) plain ty dy first ky
+      swap_on p g x bs e w typed' globals bound variables y z c t k f f2 f3 (and_peeked (peeked_side y) []) live stands holds plain ty dy first ky
       (λ reached. record { waiting = and_peeked (peeked_side y) []; typed = tz; flows = dz; used = second; kept = looked_side p.reading x.relied (peeked_side y) z [] f2 f3 reached dz kz }) (subst (λ i. IsStack p g x bs (Go i) k) now stack)
   execute (If a s t) k c f h before behind' live stands holds ((v, well, tested), ws, wt) (f1, d, (l, ds, (m, dt, (u, known)))) are (ka, ks, kt) stack =
       let now : h ≡ meet l.now m.now = ap (λ (z : Known). z.now) known in

@@ -5,7 +5,7 @@ use Rattle.std.proofs.lemmas.List.{get_or-set_other}
 use Rattle.cyc_types.specs.flow.States.{Fullness, Vacant, Locked, Full, State, Unreached, Reached, lower, lower_each, meet, is_as_full, are_as_full, is_at_least, is_reached, fullness, with_fullness, with_each, is_vacant, is_locked, emptied}
 use Rattle.cyc_soundness.specs.Worlds.{IsAmong, first as newest, later as behind, Typing}
 use Rattle.cyc_soundness.specs.Classes.{is_full}
-use Rattle.cyc_soundness.specs.Frames.{InScope, Variable, HoldsIts, IsSet, AreSet, Holds, Implies}
+use Rattle.cyc_soundness.specs.Frames.{InScope, Variable, HoldsIts, IsSet, IsFullIn, AreSet, Holds, Implies}
 use Rattle.cyc_soundness.proofs.Numbers.{both_true}
 
 pub implies_self : (f : State) → Implies f f
@@ -218,6 +218,22 @@ full_added n (m ∷ ns) f = full_added n ns (with_fullness Full f m) ∙ ap (λ 
 pub not_vacant : (b : Bool) → not b ≡ true → b ≡ false
 not_vacant true e = absurd (let k : false ≡ true = e in cc)
 not_vacant false e = refl
+
+-- ---- what is full
+
+full_of : (a : Fullness) → is_vacant a ≡ false → is_locked a ≡ false → is_full a ≡ true
+full_of Vacant set free = absurd (let k : true ≡ false = set in cc)
+full_of Locked set free = absurd (let k : true ≡ false = free in cc)
+full_of Full set free = refl
+
+pub full_set : (a : Fullness) → is_full a ≡ true → is_vacant a ≡ false
+full_set Vacant full = absurd (let k : false ≡ true = full in cc)
+full_set Locked full = absurd (let k : false ≡ true = full in cc)
+full_set Full full = refl
+
+-- what the rules ask of a local that is used up
+pub used_full : (f : State) (n : ℕ) → not (is_vacant (fullness f n)) ≡ true → not (is_locked (fullness f n)) ≡ true → IsFullIn f n
+used_full f n set free = full_of (fullness f n) (not_vacant (is_vacant (fullness f n)) set) (not_vacant (is_locked (fullness f n)) free)
 
 -- ---- numbers in a list
 

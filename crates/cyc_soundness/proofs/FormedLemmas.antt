@@ -86,7 +86,7 @@ thrown_kept (Some a) frees = expression_kept a frees
 
 side_kept : (x : Side) → side_frees_none x ≡ true → InSide reading [] x
 side_kept (VariableSide l t) frees = tt
-side_kept (CellSide d) frees = (tt, place_kept d frees)
+side_kept (CellSide d) frees = place_kept d frees
 
 mutual
   statement_kept : (n : ℕ) (s : Statement) → IsFormedStatement n s → statement_frees_none s ≡ true → InStatement reading [] n s

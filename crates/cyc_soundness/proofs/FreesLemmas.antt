@@ -109,8 +109,8 @@ thrown_in None is = tt
 thrown_in (Some a) is = expression_in a is
 
 side_in : (x : Side) → side_is_in x ≡ true → InSide reading [] x
-side_in (VariableSide l t) is = not_true (is_unique t) is
-side_in (CellSide d) is = let both = both_true (not (is_unique (type_of_place d))) (place_is_in d) is in (not_true (is_unique (type_of_place d)) both.0, place_in d both.1)
+side_in (VariableSide l t) is = tt
+side_in (CellSide d) is = place_in d is
 
 -- ---- statements
 

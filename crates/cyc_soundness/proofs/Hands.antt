@@ -9,7 +9,7 @@ use Rattle.cyc_meaning.specs.Values as values
 use Rattle.cyc_meaning.specs.State.{Dynamic, new_region, Region, Unique, Object, heap_number, is_open}
 use Rattle.cyc_meaning.proofs.ListLemmas.{slice_get-end, slice_get-set_other}
 use Rattle.cyc_soundness.specs.Lives.{Life, OfRegion, OfObject, Never, Owned, Kept, RunTy, RunValue, Void, Null, Value, Seen, Into}
-use Rattle.cyc_soundness.specs.Worlds.{Settled, Awaits, IsKept, IsAmong, first as newest, later as behind, Slot, ObjectType, variable_type, Thing, KeyOf, PointerTo, Holder, Nobody, Hand, At, Lent, Typing, IsHeld, same_thing, thing_of, Owns, Claims, ClaimsPart, ClaimsBy, ClaimsAlone, IsLookedAt, IsSlot, IsHere, given, giving, marked, handing, AreOwned, IsUniqueObject, is_lent_by, lent_now, IsOpenIn, Stays, IsDynamic, IsFull, IsOwner, IsObject, IsTyped, Grows}
+use Rattle.cyc_soundness.specs.Worlds.{Pending, Settled, Awaits, IsHiding, IsKept, IsAmong, first as newest, later as behind, Slot, ObjectType, variable_type, Thing, KeyOf, PointerTo, Holder, Nobody, Hand, At, Lent, Typing, IsHeld, same_thing, thing_of, Owns, Claims, ClaimsPart, ClaimsBy, ClaimsAlone, IsLookedAt, IsSlot, IsHere, given, giving, marked, handing, AreOwned, IsUniqueObject, is_lent_by, lent_now, IsOpenIn, Stays, IsDynamic, IsFull, IsOwner, IsObject, IsTyped, Grows}
 use Rattle.cyc_soundness.specs.Frames.{InScope, Variable, Names, Instance, IsOfVariable, local_type, HoldsIts, IsFullIn, AreVariables, AreSet, Holds, KnowsProgram}
 use Rattle.cyc_soundness.specs.Classes.{Source}
 use Rattle.cyc_soundness.proofs.Numbers.{same_or_other, slice_get-set_same, some_same}
@@ -48,7 +48,7 @@ given_other own None old new a has apart = refl
 given_other own (Some b) old new a has apart = by_test (same_thing a b) (own a) new (own a) (λ e. absurd (apart (ap own (the_same a b e) ∙ has))) (λ e. refl)
 
 -- what somebody has now somebody had before
-held_before : (own : Thing → Holder) (o : Option Thing) (old new : Holder) (a : Thing) → Owns own old o → IsHeld old → IsHeld (given o new own a) → IsHeld (own a)
+pub held_before : (own : Thing → Holder) (o : Option Thing) (old new : Holder) (a : Thing) → Owns own old o → IsHeld old → IsHeld (given o new own a) → IsHeld (own a)
 held_before own None old new a has held now = now
 held_before own (Some b) old new a has held now = go (same_thing a b) refl now
   where
@@ -56,8 +56,20 @@ held_before own (Some b) old new a has held now = go (same_thing a b) refl now
     go true e now = subst (λ h. IsHeld h) (sym (ap own (the_same a b e) ∙ has)) held
     go false e now = now
 
+-- also what its new holder had before
+pub given_too : (own : Thing → Holder) (o q : Option Thing) (h : Holder) → Owns own h q → Owns (given o h own) h q
+given_too own o None h has = tt
+given_too own None (Some b) h has = has
+given_too own (Some a) (Some b) h has = by_test (same_thing b a) (own b) h h (λ e. refl) (λ e. has)
+
+-- two things of two holders are two
+pub given_apart : (own now : Thing → Holder) (o q : Option Thing) (h k new : Holder) → Owns own h o → Owns own k q → h ≢ k → Owns now k o → Owns (given q new now) k o
+given_apart own now None q h k new has its apart is = tt
+given_apart own now (Some a) None h k new has its apart is = is
+given_apart own now (Some a) (Some b) h k new has its apart is = by_test (same_thing a b) (now a) new k (λ e. absurd (apart (sym has ∙ ap own (the_same a b e) ∙ its))) (λ e. is)
+
 -- what nobody has nobody had
-none_before : (own : Thing → Holder) (o : Option Thing) (old new : Holder) (a : Thing) → Owns own old o → IsHeld old → own a ≡ Nobody → given o new own a ≡ Nobody
+pub none_before : (own : Thing → Holder) (o : Option Thing) (old new : Holder) (a : Thing) → Owns own old o → IsHeld old → own a ≡ Nobody → given o new own a ≡ Nobody
 none_before own None old new a has held none = none
 none_before own (Some b) old new a has held none = by_test (same_thing a b) (own a) new Nobody (λ e. absurd (subst (λ h. IsHeld h) (sym has ∙ ap own (sym (the_same a b e)) ∙ none) held)) (λ e. none)
 
@@ -81,6 +93,9 @@ at_no_hand m n i e = let k : At m n ≡ Hand i = e in absurd (cc)
 
 pub at_not_lent : (m n j : ℕ) → At m n ≢ Lent j
 at_not_lent m n j e = let k : At m n ≡ Lent j = e in absurd (cc)
+
+pub awaits_same : (m i n j : ℕ) → Awaits m i ≡ Awaits n j → (m ≡ n) × (i ≡ j)
+awaits_same m i n j e = let k : Awaits m i ≡ Awaits n j = e in (cc, cc)
 
 pub at_some : (m n : ℕ) → At m n ≢ Nobody
 at_some m n e = let k : At m n ≡ Nobody = e in absurd (cc)
@@ -142,6 +157,19 @@ handing_changed g o old new object b has from = record {
     here true from n is apart = by_test (n == object) (g.here n) true true (λ e. refl) (λ e. is)
     here false from n is apart = marked_other object false g.here n (λ same. apart (ap (λ i. At i 0) same ∙ sym (from refl))) ∙ is
 
+-- what is known of locals stays so, where those that are full have what is in them
+module _ (g h : Typing) (grows : Grows g h) (depth : h.depth ≡ g.depth) where
+  one_here : (f : flow.State) (b : InScope) → ((n object : ℕ) → IsFullIn f n → IsHere g g.depth n object → IsHere h g.depth n object) → HoldsIts g f b → HoldsIts h f b
+  one_here f (Variable b) now (set, full) = (λ s. grows.filled b.object 1 (set s), λ s. subst (λ d. IsHere h d b.number b.object) (sym depth) (now b.number b.object s (full s)))
+  one_here f b now is = tt
+
+  set_here : (f : flow.State) (bs : List InScope) → ((n object : ℕ) → IsFullIn f n → IsHere g g.depth n object → IsHere h g.depth n object) → AreSet g f bs → AreSet h f bs
+  set_here f [] now are = tt
+  set_here f (b ∷ bs) now (is, are) = (one_here f b now is, set_here f bs now are)
+
+  pub holds_here : (f : flow.State) (bs : List InScope) → ((n object : ℕ) → IsFullIn f n → IsHere g g.depth n object → IsHere h g.depth n object) → Holds g f bs → Holds h f bs
+  holds_here f bs now (reached, are) = (reached, set_here f bs now are)
+
 module _ (old : Holder) (g h : Typing) (changed : Changed old g h) where
   pub owns_kept : (holder : Holder) (o : Option Thing) → holder ≢ old → Owns g.own holder o → Owns h.own holder o
   owns_kept holder None apart is = tt
@@ -156,12 +184,16 @@ module _ (old : Holder) (g h : Typing) (changed : Changed old g h) where
   pub here_kept : (d n object : ℕ) → At object 0 ≢ old → IsHere g d n object → IsHere h d n object
   here_kept d n object apart (is, slot) = (changed.here object is apart, slot_kept d n object slot)
 
-  looked_kept : (n : ℕ) (o : Option Thing) → ((object : ℕ) → IsHere g g.depth n object → At object 0 ≢ old) → IsLookedAt g n o → IsLookedAt h n o
+  looked_kept : (n : ℕ) (o : Option Thing) → ((object : ℕ) → IsHere g g.depth n object → IsHiding g object true → At object 0 ≢ old) → IsLookedAt g n o → IsLookedAt h n o
   looked_kept n None apart is = tt
-  looked_kept n (Some a) apart (object, here, is) =
-      (object, subst (λ d. IsHere h d n object) (sym changed.depth) (here_kept g.depth n object (apart object here) here), changed.own a (λ e. apart object here (sym is ∙ e)) ∙ is)
+  looked_kept n (Some a) apart (object, here, (x, there, hidden), is) = (
+    object,
+    subst (λ d. IsHere h d n object) (sym changed.depth) (here_kept g.depth n object (apart object here (x, there, hidden)) here),
+    (x, changed.grows.objects object x there, hidden),
+    changed.own a (λ e. apart object here (x, there, hidden) (sym is ∙ e)) ∙ is,
+  )
 
-  pub part_kept : (i : ℕ) (peek : Option ℕ) (o : Option Thing) → Hand i ≢ old → ((n object : ℕ) → peek ≡ Some n → IsHere g g.depth n object → At object 0 ≢ old) → ClaimsPart g i peek o → ClaimsPart h i peek o
+  pub part_kept : (i : ℕ) (peek : Option ℕ) (o : Option Thing) → Hand i ≢ old → ((n object : ℕ) → peek ≡ Some n → IsHere g g.depth n object → IsHiding g object true → At object 0 ≢ old) → ClaimsPart g i peek o → ClaimsPart h i peek o
   part_kept i None o apart other is = owns_kept (Hand i) o apart is
   part_kept i (Some n) o apart other is = looked_kept n o (λ object. other n object refl) is
 
@@ -195,18 +227,9 @@ module _ (old : Holder) (g h : Typing) (changed : Changed old g h) where
   variables_kept [] none are = tt
   variables_kept (b ∷ bs) none (is, are) = (one_kept b none is, variables_kept bs none are)
 
-  one_holds : (f : flow.State) (b : InScope) → ((n object : ℕ) → IsFullIn f n → IsHere g g.depth n object → At object 0 ≢ old) → HoldsIts g f b → HoldsIts h f b
-  one_holds f (Variable b) other (set, full) =
-      (λ s. changed.grows.filled b.object 1 (set s), λ s. subst (λ d. IsHere h d b.number b.object) (sym changed.depth) (here_kept g.depth b.number b.object (other b.number b.object s (full s)) (full s)))
-  one_holds f b other is = tt
-
-  pub set_kept : (f : flow.State) (bs : List InScope) → ((n object : ℕ) → IsFullIn f n → IsHere g g.depth n object → At object 0 ≢ old) → AreSet g f bs → AreSet h f bs
-  set_kept f [] other are = tt
-  set_kept f (b ∷ bs) other (is, are) = (one_holds f b other is, set_kept f bs other are)
-
   -- what is known of locals stays so, where none of them had it
   pub holds_kept : (f : flow.State) (bs : List InScope) → ((n object : ℕ) → IsFullIn f n → IsHere g g.depth n object → At object 0 ≢ old) → Holds g f bs → Holds h f bs
-  holds_kept f bs other (reached, are) = (reached, set_kept f bs other are)
+  holds_kept f bs other holds = holds_here g h changed.grows changed.depth f bs (λ n object full here. here_kept g.depth n object (other n object full here) here) holds
 
 -- ---- nothing changes hands
 
@@ -454,6 +477,27 @@ open_more g (OfRegion number ns us) is = λ r e. lent_more g.loans (g.own (KeyOf
 open_more g (OfObject object) is = tt
 open_more g Never is = tt
 open_more g Owned is = tt
+
+-- which swap is under way is nothing to what is open
+pub pending_grows : (g : Typing) (q : Pending) → Grows g (record g { pending = q })
+pending_grows g q = record { objects = λ n u is. is; filled = λ n count is. is; fields = λ n ls ts is. is; kept = λ n is. is }
+
+open_pending : (g : Typing) (q : Pending) (l : Life) → IsOpenIn g l → IsOpenIn (record g { pending = q }) l
+open_pending g q (Kept region) is = is
+open_pending g q (OfRegion number ns us) is = is
+open_pending g q (OfObject object) is = tt
+open_pending g q Never is = tt
+open_pending g q Owned is = tt
+
+variable_pending : (g : Typing) (q : Pending) (b : InScope) → IsOfVariable g b → IsOfVariable (record g { pending = q }) b
+variable_pending g q (Variable b) (is, opens) = (is, open_pending g q b.life opens)
+variable_pending g q (Names number l live) (is, opens) = (life_grown g (record g { pending = q }) (pending_grows g q) l is, λ e. open_pending g q l (opens e))
+variable_pending g q (Instance frees these live) is = λ n. (life_grown g (record g { pending = q }) (pending_grows g q) (these n) (is n).0, λ e. open_pending g q (these n) ((is n).1 e))
+variable_pending g q b is = tt
+
+pub variables_pending : (g : Typing) (q : Pending) (bs : List InScope) → AreVariables g bs → AreVariables (record g { pending = q }) bs
+variables_pending g q [] are = tt
+variables_pending g q (b ∷ bs) (is, are) = (variable_pending g q b is, variables_pending g q bs are)
 
 variable_more : (g : Typing) (b : InScope) → IsOfVariable g b → IsOfVariable (record g { loans = suc g.loans }) b
 variable_more g (Variable b) (is, opens) = (is, open_more g b.life opens)

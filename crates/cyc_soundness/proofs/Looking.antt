@@ -140,7 +140,7 @@ looked_converted m q (Some n) c w f h reached flows kept = (looks_converted m q 
 pub looked_side : (m : Reading) (q : Relied) (peek : Option ℕ) (y : Side) (w : List ℕ) (f h : flow.State) → is_reached f ≡ true → Derives (rule_side (and_peeked peek w) y f) h → InSide m q y → InSide m (and_looked peek q) y
 looked_side m q None y w f h reached flows kept = kept
 looked_side m q (Some n) (VariableSide l t) w f h reached flows kept = kept
-looked_side m q (Some n) (CellSide d) w f h reached flows (shared, kept) = (shared, (looks_place m q n d (w ++ n ∷ []) f h (at_last n n w refl) reached flows kept).0)
+looked_side m q (Some n) (CellSide d) w f h reached flows kept = (looks_place m q n d (w ++ n ∷ []) f h (at_last n n w refl) reached flows kept).0
 
 -- the machine and the rules mean the same local
 pub peeked_so : (d : Dereference) → peeked d ≡ peek_behind d

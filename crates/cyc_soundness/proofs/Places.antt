@@ -472,13 +472,13 @@ module _ (p : Source) (g : Typing) (x : Exits) (bs : List InScope) (e : Environm
           (lives.Pointer marks.NonNull (read bs t) (lives_in bs r) ∷ [], bs, Val (read_value bs (assigned_type t)) h, stacks.stores_cell t r h alive, (((refl, has), tt), part_alone g k peek (thing_of (lives.Pointer marks.NonNull (read bs t) (lives_in bs r)) place) part), stack),
         ),
       )
-  place_given place k opens live holds has part (stacks.swaps_left {kind} {peek} {right} c t r f h alive by stands kind_is plain later) keeps stack =
+  place_given place k opens live holds has part (stacks.swaps_left {kind} {peek} {right} c t r f h alive stands kind_is plain later) keeps stack =
       let finds = later holds.0 in
-      finds_right_on p g x bs e w typed globals bound variables kind peek true place right c t k f h finds.waiting live stands holds by kind_is plain
+      finds_right_on p g x bs e w typed globals bound variables kind peek true place right c t k f h finds.waiting live stands holds kind_is plain
       (left_cell place r alive has (part_alone g k peek (thing_of (lives.Pointer marks.NonNull (read bs t) (lives_in bs r)) place) part)) finds.typed finds.flows finds.used finds.kept stack
-  place_given place k opens live holds has part (stacks.swaps_right {kind} {peek} {is_cell} {left} through t r f alive by kind_is) (u, same, plain, spot) stack =
+  place_given place k opens live holds has part (stacks.swaps_right {kind} {peek} {is_cell} {left} through t r f alive kind_is) (u, same, plain, spot) stack =
       let pointer = λ (z : RunTy). lives.Pointer marks.NonNull z (lives_in bs r) in
-      both_on p g x bs e w typed globals bound variables kind left place u k f live holds (kind_is ∙ sym (kind_meant (lives_in bs) t) ∙ ap kind_at same ∙ kind_meant (lives_in bs) u) plain (subst (λ z. IsByType z) same by)
+      both_on p g x bs e w typed globals bound variables kind left place u k f live holds (kind_is ∙ sym (kind_meant (lives_in bs) t) ∙ ap kind_at same ∙ kind_meant (lives_in bs) u) plain
       (left_spot p g x bs e w typed globals bound variables (stacks.operands_in k) peek u f left spot)
       (of_cell place r alive (subst (λ z. HasType g (pointer z) place) same has)
       (subst (λ z. IsHad g (thing_of (pointer z) place)) same (part_had g (1 + stacks.operands_in k) through (thing_of (pointer (read bs t)) place) part))) stack

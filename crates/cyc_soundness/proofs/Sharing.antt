@@ -9,7 +9,7 @@ use Rattle.cyc_types.specs.Types as types
 use Rattle.cyc_types.specs.typing.Tests.{is_key, is_moved, is_unique}
 use Rattle.cyc_soundness.specs.Lives.{Life, OfRegion, OfObject, Never, Owned, Kept, heap_life, owned_life, RunTy, Pointer, Reading, AsHeap, ByScope, Lives, at}
 use Rattle.cyc_soundness.specs.Worlds.{Typing, IsKnownLife, IsKeyless, IsPlain, AtStart}
-use Rattle.cyc_soundness.specs.Classes.{IsSwappable, HasFrees}
+use Rattle.cyc_soundness.specs.Classes.{HasFrees}
 use Rattle.cyc_soundness.specs.Frames.{InScope, AreVariables, lives_in, life_named, frees_in, read, Stand}
 use Rattle.cyc_soundness.specs.Stacks.{KeepsUnique, IsCommonLife, IsByType}
 use Rattle.cyc_soundness.proofs.RegionLemmas.{name_known, heap_lives}
@@ -87,11 +87,6 @@ module _ (g : Typing) (bs : List InScope) (variables : AreVariables g bs) where
   plain_read (types.Key r) plain = absurd (let z : true ≡ false = plain in cc)
   plain_read (types.Struct n rs) plain = tt
 
-  swappable_unique : (m : Reading) (c : RegionContext) (k : PointerKind) (t : Ty) → Stand m c bs → IsSwappable m (types.Pointer k t regions.Unique) → IsCommonLife (owned_life (frees_in bs))
-  swappable_unique AsHeap c k t stand shared = heap_common (frees_in bs) stand.0
-  swappable_unique (ByScope lends false) c k t stand shared = heap_common (frees_in bs) stand.0
-  swappable_unique (ByScope lends true) c k t stand shared = absurd (let z : true ≡ false = shared in cc)
-
   -- what is not unique claims what its type tells
   pub unique_by_type : (t : Ty) → is_unique t ≡ false → IsByType (read bs t)
   unique_by_type types.Int plain = tt
@@ -101,16 +96,6 @@ module _ (g : Typing) (bs : List InScope) (variables : AreVariables g bs) where
   unique_by_type (types.Handle r) plain = tt
   unique_by_type (types.Key r) plain = tt
   unique_by_type (types.Struct n rs) plain = tt
-
-  -- what may be swapped is told by its type
-  pub swappable_by_type : (m : Reading) (c : RegionContext) (t : Ty) → Stand m c bs → IsSwappable m t → IsByType (read bs t)
-  swappable_by_type m c types.Int stand shared = tt
-  swappable_by_type m c (types.Pointer k t regions.Heap) stand shared = tt
-  swappable_by_type m c (types.Pointer k t regions.Unique) stand shared = swappable_unique m c k t stand shared
-  swappable_by_type m c (types.Pointer k t (regions.Variable n)) stand shared = name_common n
-  swappable_by_type m c (types.Handle r) stand shared = tt
-  swappable_by_type m c (types.Key r) stand shared = tt
-  swappable_by_type m c (types.Struct n rs) stand shared = tt
 
   -- where nothing is given back, what values claim their types tell
   pub by_type_read : (t : Ty) → frees_in bs ≡ false → IsByType (read bs t)

@@ -22,7 +22,7 @@ use Rattle.cyc_meaning.specs.Nesting.{ends_of, IsFound, AreOpen, IsHome, IsNeste
 use Rattle.cyc_meaning.specs.Nesting as nesting
 use Rattle.cyc_soundness.specs.Lives.{Life, OfRegion, OfObject, Never, Owned, Kept, heap_life, RunTy, RunValue, Void, Null, Value, Seen, Into, looked, Lives, at, value_at, Reading}
 use Rattle.cyc_soundness.specs.Lives as lives
-use Rattle.cyc_soundness.specs.Worlds.{OfLocal, Settled, Thing, KeyOf, ClaimsPart, IsHeld, Holder, Nobody, Hand, At, Lent, pointer_at, thing_of, Claims, ClaimsBy, IsHad, IsSlot, IsHere, is_lent_by, Stays, IsOpenIn, AreOperands, ObjectType, Typing, IsTyped, IsFull, variable_type, IsEndOf, whole, behind, Outlasts, alike, heap as for_ever, globals as with_globals, stays, encloses, IsOpenLife, Grows, IsKnownOwner}
+use Rattle.cyc_soundness.specs.Worlds.{OfLocal, Settled, Thing, KeyOf, ClaimsPart, IsHeld, Holder, Nobody, Hand, At, Lent, pointer_at, thing_of, Claims, ClaimsBy, IsHad, IsSlot, IsHere, is_lent_by, Stays, IsOpenIn, AreOperands, ObjectType, Typing, IsTyped, IsFull, variable_type, IsEndOf, whole, behind, Outlasts, alike, heap as for_ever, globals as with_globals, stays, encloses, IsOpenLife, Grows, IsKnownOwner, IsHiding}
 use Rattle.cyc_soundness.specs.Frames.{IsAmong, first, later, Bound, InScope, Variable, Level, Home, lives_in, read, IsThere, home_of, IsHomed, IsScope, AreBelow, IsBound, AreVariables, IsLasting, AreLiveIn, home_in, LiveIn, IsInner, Within, itself, older, IsSet, AreSet, IsFullIn, Holds, IsFullAt, AreFullAt, Exits, relying, frees_in, life_named, read_value, local_type}
 use Rattle.cyc_soundness.specs.Classes.{is_full, Relied, only, and_looked, IsSparedBy, IsSpared, InOperations, Source}
 use Rattle.cyc_soundness.specs.Stacks.{IsAccepted, Part, Whole, PartOf, part, part_of_place, relied_by, relied_at, WaitsPlace, Want, Nothing, Val, PlaceOf, Go, held, Waits, place_operand, count_held, count_place, IsThrough, IsArray, IsArrayOf, AreClaimed, IsHeldPart, operands_in, Keeps, IsSpot, of_local, of_global, of_cell, IsLeftSpot, left_variable, left_cell, KeepsPlace, AreSwapped, IsStack}
@@ -32,7 +32,7 @@ use Rattle.cyc_soundness.proofs.FlowLemmas.{other_set, other_full, full_put, rea
 use Rattle.cyc_soundness.proofs.ValueLemmas.{ends_through}
 use Rattle.cyc_soundness.proofs.RegionLemmas.{lasting_more, there_lasting, there_open}
 use Rattle.cyc_soundness.proofs.WorldLemmas.{dynamic_open, type_grown, result_grown, operands_grown}
-use Rattle.cyc_soundness.proofs.Hands.{Changed, hand_same, at_same, at_no_hand, at_not_lent, at_some, stays_changed, owns_kept, claims_kept, part_kept, here_kept, variables_kept, holds_kept}
+use Rattle.cyc_soundness.proofs.Hands.{Changed, hand_same, at_same, at_no_hand, at_not_lent, at_some, stays_changed, owns_kept, claims_kept, part_kept, here_kept, variables_kept, holds_kept, holds_here, slot_kept}
 
 -- the functions of a program, each of which the rules accept
 abbrev pub AreAccepted : Source → Type 0
@@ -54,13 +54,34 @@ module _ (p : Source) (g h : Typing) (grows : Grows g h) where
 
 -- ---- a thing changes hands
 
--- nothing that waits on this stack claims a thing by what had it
+-- what clauses rely on is nothing to what stays in variables
+abbrev pub relied_if : (empties : Bool) → Relied → Relied
+relied_if false q = []
+relied_if true q = q
+
+-- nothing relies on what this variable has
+abbrev IsLoose : (empties : Bool) → Exits → Typing → List Entry → (object : ℕ) → Type 0
+IsLoose empties x g k object = (d n : ℕ) × IsSlot g d n object × (((d ≡ g.depth) × IsSpared (relied_at (relied_if empties x.relied) k) n) ⊎ (g.depth < d))
+
+-- Nothing that waits on this stack claims a thing by what had it: a variable that is emptied, or one that has something at once again, as
+-- a cell has that pointers lead to.
+abbrev pub IsAboveBy : (empties : Bool) → Exits → Typing → List Entry → Holder → Type 0
+IsAboveBy empties x g k Nobody = Unit {0}
+IsAboveBy empties x g k (Hand i) = operands_in k ≤ i
+IsAboveBy empties x g k (At object (suc i)) = Unit {0}
+IsAboveBy empties x g k (At object zero) = IsLoose empties x g k object ⊎ ((empties ≡ false) × IsHiding g object false)
+IsAboveBy empties x g k (Lent j) = g.loans ≤ j
+
 abbrev pub IsAbove : Exits → Typing → List Entry → Holder → Type 0
-IsAbove x g k Nobody = Unit {0}
-IsAbove x g k (Hand i) = operands_in k ≤ i
-IsAbove x g k (At object (suc i)) = Unit {0}
-IsAbove x g k (At object zero) = (d n : ℕ) × IsSlot g d n object × (((d ≡ g.depth) × IsSpared (relied_at x.relied k) n) ⊎ (g.depth < d))
-IsAbove x g k (Lent j) = g.loans ≤ j
+IsAbove x g k (At object zero) = IsLoose true x g k object
+IsAbove x g k old = IsAboveBy true x g k old
+
+above_by : (x : Exits) (g : Typing) (k : List Entry) (old : Holder) → IsAbove x g k old → IsAboveBy true x g k old
+above_by x g k Nobody above = tt
+above_by x g k (Hand i) above = above
+above_by x g k (At object (suc i)) above = tt
+above_by x g k (At object zero) above = inl above
+above_by x g k (Lent j) above = above
 
 lent_same : (i j : ℕ) → Lent i ≡ Lent j → i ≡ j
 lent_same i j e = let k : Lent i ≡ Lent j = e in cc
@@ -74,37 +95,57 @@ slot_same g c d m n object (x, there, one) (y, stands, two) =
     let same : x ≡ y = some_same x y (sym there ∙ stands) in
     local_same c d m n (sym one ∙ ap (λ (z : ObjectType). z.slot) same ∙ two)
 
-hand_other : (x : Exits) (g : Typing) (k : List Entry) (i : ℕ) (old : Holder) → IsAbove x g k old → i < operands_in k → Hand i ≢ old
-hand_other x g k i Nobody above less = λ e. (let z : Hand i ≡ Nobody = e in absurd (cc))
-hand_other x g k i (Hand j) above less = λ e. (let same : i ≡ j = hand_same i j e in absurd (omega (arith, above, less, same)))
-hand_other x g k i (At object offset) above less = λ e. (let z : Hand i ≡ At object offset = e in absurd (cc))
-hand_other x g k i (Lent j) above less = λ e. (let z : Hand i ≡ Lent j = e in absurd (cc))
+hand_other : (empties : Bool) (x : Exits) (g : Typing) (k : List Entry) (i : ℕ) (old : Holder) → IsAboveBy empties x g k old → i < operands_in k → Hand i ≢ old
+hand_other empties x g k i Nobody above less = λ e. (let z : Hand i ≡ Nobody = e in absurd (cc))
+hand_other empties x g k i (Hand j) above less = λ e. (let same : i ≡ j = hand_same i j e in absurd (omega (arith, above, less, same)))
+hand_other empties x g k i (At object offset) above less = λ e. (let z : Hand i ≡ At object offset = e in absurd (cc))
+hand_other empties x g k i (Lent j) above less = λ e. (let z : Hand i ≡ Lent j = e in absurd (cc))
 
-lent_other : (x : Exits) (g : Typing) (k : List Entry) (i : ℕ) (old : Holder) → IsAbove x g k old → i < g.loans → Lent i ≢ old
-lent_other x g k i Nobody above less = λ e. (let z : Lent i ≡ Nobody = e in absurd (cc))
-lent_other x g k i (Hand j) above less = λ e. (let z : Lent i ≡ Hand j = e in absurd (cc))
-lent_other x g k i (At object offset) above less = λ e. (let z : Lent i ≡ At object offset = e in absurd (cc))
-lent_other x g k i (Lent j) above less = λ e. (let same : i ≡ j = lent_same i j e in absurd (omega (arith, above, less, same)))
+lent_other : (empties : Bool) (x : Exits) (g : Typing) (k : List Entry) (i : ℕ) (old : Holder) → IsAboveBy empties x g k old → i < g.loans → Lent i ≢ old
+lent_other empties x g k i Nobody above less = λ e. (let z : Lent i ≡ Nobody = e in absurd (cc))
+lent_other empties x g k i (Hand j) above less = λ e. (let z : Lent i ≡ Hand j = e in absurd (cc))
+lent_other empties x g k i (At object offset) above less = λ e. (let z : Lent i ≡ At object offset = e in absurd (cc))
+lent_other empties x g k i (Lent j) above less = λ e. (let same : i ≡ j = lent_same i j e in absurd (omega (arith, above, less, same)))
 
 -- nor a local on which something relies
-variable_other : (x : Exits) (g : Typing) (k : List Entry) (n object : ℕ) (old : Holder) → IsAbove x g k old → IsSlot g g.depth n object → (IsSpared (relied_at x.relied k) n → ⊥) → At object 0 ≢ old
+slot_other : (g : Typing) (n object other : ℕ) → IsSlot g g.depth n object → (d m : ℕ) → IsSlot g d m other → (d ≡ g.depth → m ≡ n → ⊥) → At object 0 ≢ At other 0
+slot_other g n object other slot d m its apart e =
+    let (depth, number) = slot_same g g.depth d n m other (subst (λ i. IsSlot g g.depth n i) (at_same object 0 other 0 e).0 slot) its in
+    apart (sym depth) (sym number)
+
+loose_other : (empties : Bool) (x : Exits) (g : Typing) (k : List Entry) (n object other : ℕ) → IsLoose empties x g k other → IsSlot g g.depth n object → (IsSpared (relied_at (relied_if empties x.relied) k) n → ⊥) → At object 0 ≢ At other 0
+loose_other empties x g k n object other (d, m, its, inl (here, spared)) slot relied =
+    slot_other g n object other slot d m its (λ depth number. relied (subst (λ i. IsSpared (relied_at (relied_if empties x.relied) k) i) number spared))
+loose_other empties x g k n object other (d, m, its, inr deeper) slot relied = slot_other g n object other slot d m its (λ depth number. absurd (omega (arith, depth, deeper)))
+
+variable_other : (x : Exits) (g : Typing) (k : List Entry) (n object : ℕ) (old : Holder) → IsAboveBy true x g k old → IsSlot g g.depth n object → (IsSpared (relied_at x.relied k) n → ⊥) → At object 0 ≢ old
 variable_other x g k n object Nobody above slot relied = at_some object 0
 variable_other x g k n object (Hand i) above slot relied = at_no_hand object 0 i
 variable_other x g k n object (Lent j) above slot relied = at_not_lent object 0 j
 variable_other x g k n object (At other (suc i)) above slot relied = λ e. (let z : 0 ≡ suc i = (at_same object 0 other (suc i) e).1 in absurd (omega (arith, z)))
-variable_other x g k n object (At other zero) (d, m, its, inl (here, spared)) slot relied = λ e.
-    (let (depth, number) = slot_same g g.depth d n m other (subst (λ i. IsSlot g g.depth n i) (at_same object 0 other 0 e).0 slot) its in
-    relied (subst (λ i. IsSpared (relied_at x.relied k) i) (sym number) spared))
-variable_other x g k n object (At other zero) (d, m, its, inr deeper) slot relied = λ e.
-    (let (depth, number) = slot_same g g.depth d n m other (subst (λ i. IsSlot g g.depth n i) (at_same object 0 other 0 e).0 slot) its in
-    absurd (omega (arith, depth, deeper)))
+variable_other x g k n object (At other zero) (inl loose) slot relied = loose_other true x g k n object other loose slot relied
+variable_other x g k n object (At other zero) (inr (filling, shown)) slot relied = let z : true ≡ false = filling in absurd (cc)
+
+-- no pointer leads to one that is looked at
+hiding_other : (g : Typing) (object other : ℕ) → IsHiding g object true → IsHiding g other false → At object 0 ≢ At other 0
+hiding_other g object other (y, there, hidden) (z, stands, shown) e =
+    let same : y ≡ z = some_same y z (sym there ∙ ap (λ n. slice_get g.objects n) (at_same object 0 other 0 e).0 ∙ stands) in
+    let k : true ≡ false = sym hidden ∙ ap (λ (t : ObjectType). t.is_hidden) same ∙ shown in absurd (cc)
+
+looked_other : (empties : Bool) (x : Exits) (g : Typing) (k : List Entry) (n object : ℕ) (old : Holder) → IsAboveBy empties x g k old → IsSlot g g.depth n object → IsHiding g object true → (IsSpared (relied_at (relied_if empties x.relied) k) n → ⊥) → At object 0 ≢ old
+looked_other empties x g k n object Nobody above slot hidden relied = at_some object 0
+looked_other empties x g k n object (Hand i) above slot hidden relied = at_no_hand object 0 i
+looked_other empties x g k n object (Lent j) above slot hidden relied = at_not_lent object 0 j
+looked_other empties x g k n object (At other (suc i)) above slot hidden relied = λ e. (let z : 0 ≡ suc i = (at_same object 0 other (suc i) e).1 in absurd (omega (arith, z)))
+looked_other empties x g k n object (At other zero) (inl loose) slot hidden relied = loose_other empties x g k n object other loose slot relied
+looked_other empties x g k n object (At other zero) (inr (filling, shown)) slot hidden relied = hiding_other g object other hidden shown
 
 -- what is lent stays so
-pub none_lent : (x : Exits) (g : Typing) (k : List Entry) (old : Holder) → IsAbove x g k old → is_lent_by g.loans old ≡ false
-none_lent x g k Nobody above = refl
-none_lent x g k (Hand i) above = refl
-none_lent x g k (At object offset) above = refl
-none_lent x g k (Lent j) above = not_below j g.loans above
+pub none_lent : (empties : Bool) (x : Exits) (g : Typing) (k : List Entry) (old : Holder) → IsAboveBy empties x g k old → is_lent_by g.loans old ≡ false
+none_lent empties x g k Nobody above = refl
+none_lent empties x g k (Hand i) above = refl
+none_lent empties x g k (At object offset) above = refl
+none_lent empties x g k (Lent j) above = not_below j g.loans above
   where
     not_below : (j n : ℕ) → n ≤ j → nat_lt j n ≡ false
     not_below j n less = false_from_ne_true (nat_lt j n) (λ e. (let below : j < n = ltb-true j n e in absurd (omega (arith, below, less))))
@@ -146,14 +187,15 @@ claimed_next g i t v ts vs are is =
     let same : length vs + i ≡ i + length ts = omega (arith, long) in
     subst (λ j. Claims g.own (Hand j) t v) same is
 
-above_to : (x y : Exits) (g : Typing) (b : Entry) (k : List Entry) (old : Holder) → operands_in k ≤ operands_in (b ∷ k) → ((n : ℕ) → IsSpared (relied_at x.relied (b ∷ k)) n → IsSpared (relied_at y.relied k) n)
-    → IsAbove x g (b ∷ k) old → IsAbove y g k old
-above_to x y g b k Nobody fewer less above = tt
-above_to x y g b k (Hand i) fewer less above = let few : operands_in k ≤ i = omega (arith, above, fewer) in few
-above_to x y g b k (At object (suc i)) fewer less above = tt
-above_to x y g b k (At object zero) fewer less (d, n, slot, inl (same, spared)) = (d, n, slot, inl (same, less n spared))
-above_to x y g b k (At object zero) fewer less (d, n, slot, inr deeper) = (d, n, slot, inr deeper)
-above_to x y g b k (Lent j) fewer less above = above
+above_to : (empties : Bool) (x y : Exits) (g : Typing) (b : Entry) (k : List Entry) (old : Holder) → operands_in k ≤ operands_in (b ∷ k)
+    → ((n : ℕ) → IsSpared (relied_at (relied_if empties x.relied) (b ∷ k)) n → IsSpared (relied_at (relied_if empties y.relied) k) n) → IsAboveBy empties x g (b ∷ k) old → IsAboveBy empties y g k old
+above_to empties x y g b k Nobody fewer less above = tt
+above_to empties x y g b k (Hand i) fewer less above = let few : operands_in k ≤ i = omega (arith, above, fewer) in few
+above_to empties x y g b k (At object (suc i)) fewer less above = tt
+above_to empties x y g b k (At object zero) fewer less (inl (d, n, slot, inl (same, spared))) = inl (d, n, slot, inl (same, less n spared))
+above_to empties x y g b k (At object zero) fewer less (inl (d, n, slot, inr deeper)) = inl (d, n, slot, inr deeper)
+above_to empties x y g b k (At object zero) fewer less (inr shown) = inr shown
+above_to empties x y g b k (Lent j) fewer less above = above
 
 -- where a statement ends, no expression is under way
 pub statement_relied : (p : Source) (g : Typing) (x : Exits) (bs : List InScope) (f : flow.State) (k : List Entry) (q : Relied) → IsStack p g x bs (Go f) k → relied_at q k ≡ q
@@ -233,45 +275,47 @@ place_whole : {p : Source} {x : Exits} {q : Relied} {bs : List InScope} {a : Awa
 place_whole (stacks.loads_from seen t r f alive by_type plain kind) peek e = part_whole None peek e
 place_whole (stacks.takes_address seen t l f common) peek e = part_whole None peek e
 place_whole (stacks.stores_to c v t r f h alive stands evaluates conv from to) peek e = part_whole None peek e
-place_whole (stacks.swaps_left c t r f h alive by_type stands kind plain finds) peek e = (h, refl)
-place_whole (stacks.swaps_right through t r f alive by_type kind) peek e = (f, refl)
+place_whole (stacks.swaps_left c t r f h alive stands kind plain finds) peek e = (h, refl)
+place_whole (stacks.swaps_right through t r f alive kind) peek e = (f, refl)
 
 goes_relied : (p : Source) (g : Typing) (x : Exits) (bs : List InScope) (next : Want) (k : List Entry) (q : Relied) → (h : flow.State) × (next ≡ Go h) → IsStack p g x bs next k → relied_at q k ≡ q
 goes_relied p g x bs next k q (h, same) is = statement_relied p g x bs h k q (subst (λ z. IsStack p g x bs z k) same is)
 
-above_behind : (x : Exits) (g : Typing) (k : List Entry) (j : ℕ) (old : Holder) → g.loans ≡ suc j → IsAbove x g k old → IsAbove x (record g { loans = j }) k old
-above_behind x g k j Nobody same above = tt
-above_behind x g k j (Hand i) same above = above
-above_behind x g k j (At object (suc i)) same above = tt
-above_behind x g k j (At object zero) same above = above
-above_behind x g k j (Lent i) same above = let few : j ≤ i = omega (arith, above, same) in few
+above_behind : (empties : Bool) (x : Exits) (g : Typing) (k : List Entry) (j : ℕ) (old : Holder) → g.loans ≡ suc j → IsAboveBy empties x g k old → IsAboveBy empties x (record g { loans = j }) k old
+above_behind empties x g k j Nobody same above = tt
+above_behind empties x g k j (Hand i) same above = above
+above_behind empties x g k j (At object (suc i)) same above = tt
+above_behind empties x g k j (At object zero) same above = above
+above_behind empties x g k j (Lent i) same above = let few : j ≤ i = omega (arith, above, same) in few
 
-above_outside : (x y : Exits) (g : Typing) (e : Environment) (k : List Entry) (d : ℕ) (old : Holder) → g.depth ≡ suc d → IsAbove x g (Caller e ∷ k) old → IsAbove y (record g { depth = d }) k old
-above_outside x y g caller k d Nobody same above = tt
-above_outside x y g caller k d (Hand i) same above = above
-above_outside x y g caller k d (At object (suc i)) same above = tt
-above_outside x y g caller k d (At object zero) same (e, n, slot, inl (here, spared)) = (e, n, slot, inr (let less : d < e = omega (arith, here, same) in less))
-above_outside x y g caller k d (At object zero) same (e, n, slot, inr deeper) = (e, n, slot, inr (let less : d < e = omega (arith, deeper, same) in less))
-above_outside x y g caller k d (Lent j) same above = above
+above_outside : (empties : Bool) (x y : Exits) (g : Typing) (e : Environment) (k : List Entry) (d : ℕ) (old : Holder) → g.depth ≡ suc d → IsAboveBy empties x g (Caller e ∷ k) old → IsAboveBy empties y (record g { depth = d }) k old
+above_outside empties x y g caller k d Nobody same above = tt
+above_outside empties x y g caller k d (Hand i) same above = above
+above_outside empties x y g caller k d (At object (suc i)) same above = tt
+above_outside empties x y g caller k d (At object zero) same (inl (e, n, slot, inl (here, spared))) = inl (e, n, slot, inr (let less : d < e = omega (arith, here, same) in less))
+above_outside empties x y g caller k d (At object zero) same (inl (e, n, slot, inr deeper)) = inl (e, n, slot, inr (let less : d < e = omega (arith, deeper, same) in less))
+above_outside empties x y g caller k d (At object zero) same (inr shown) = inr shown
+above_outside empties x y g caller k d (Lent j) same above = above
 
 not_full : (f : flow.State) (n : ℕ) → is_reached f ≡ true → IsSparedBy f n → is_full (fullness f n) ≡ false
 not_full Unreached n reached one = absurd (let k : false ≡ true = reached in cc)
 not_full (Reached as') n reached one = one
 
 -- a variable that clauses rely on is another one
-relied_other : (x y : Exits) (g : Typing) (cs : Clauses) (k : List Entry) (f : flow.State) (old : Holder) (m object : ℕ) → x ≡ relying y f → is_reached f ≡ true → IsAbove x g (Handler cs ∷ k) old → IsFullIn f m → IsSlot g g.depth m object → At object 0 ≢ old
+relied_other : (x y : Exits) (g : Typing) (cs : Clauses) (k : List Entry) (f : flow.State) (old : Holder) (m object : ℕ) → x ≡ relying y f → is_reached f ≡ true → IsAboveBy true x g (Handler cs ∷ k) old → IsFullIn f m → IsSlot g g.depth m object → At object 0 ≢ old
 relied_other x y g cs k f old m object same reached above full slot = variable_other x g (Handler cs ∷ k) m object old above slot
     (λ spared. (let one : IsSparedBy f m = (subst (λ (z : Exits). IsSpared z.relied m) same spared).0 in let z : true ≡ false = sym full ∙ not_full f m reached one in absurd (cc)))
 
-outer_other : (x : Exits) (g : Typing) (caller : Environment) (k : List Entry) (d : ℕ) (old : Holder) (m object : ℕ) → g.depth ≡ suc d → IsAbove x g (Caller caller ∷ k) old → IsSlot g d m object → At object 0 ≢ old
+outer_other : (x : Exits) (g : Typing) (caller : Environment) (k : List Entry) (d : ℕ) (old : Holder) (m object : ℕ) → g.depth ≡ suc d → IsAboveBy true x g (Caller caller ∷ k) old → IsSlot g d m object → At object 0 ≢ old
 outer_other x g caller k d Nobody m object same above slot = at_some object 0
 outer_other x g caller k d (Hand i) m object same above slot = at_no_hand object 0 i
 outer_other x g caller k d (Lent j) m object same above slot = at_not_lent object 0 j
 outer_other x g caller k d (At other (suc i)) m object same above slot = λ e. (let z : 0 ≡ suc i = (at_same object 0 other (suc i) e).1 in absurd (omega (arith, z)))
-outer_other x g caller k d (At other zero) m object same (e, n, its, inl (here, spared)) slot = λ q.
+outer_other x g caller k d (At other zero) m object same (inl (e, n, its, inl (here, spared))) slot = λ q.
     (let (depth, number) = slot_same g d e m n other (subst (λ i. IsSlot g d m i) (at_same object 0 other 0 q).0 slot) its in absurd (omega (arith, depth, here, same)))
-outer_other x g caller k d (At other zero) m object same (e, n, its, inr deeper) slot = λ q.
+outer_other x g caller k d (At other zero) m object same (inl (e, n, its, inr deeper)) slot = λ q.
     (let (depth, number) = slot_same g d e m n other (subst (λ i. IsSlot g d m i) (at_same object 0 other 0 q).0 slot) its in absurd (omega (arith, depth, deeper, same)))
+outer_other x g caller k d (At other zero) m object same (inr (filling, shown)) slot = let z : true ≡ false = filling in absurd (cc)
 
 -- a local that is not full is another one than those that are
 pub emptied_other : (g : Typing) (a : flow.Fullness) (f : flow.State) (n m object other : ℕ) → is_full a ≡ false → is_reached f ≡ true → IsFullIn (with_fullness a f n) m → IsSlot g g.depth n object → IsSlot g g.depth m other → At other 0 ≢ At object 0
@@ -328,7 +372,7 @@ module _ (p : Source) (old : Holder) (g h : Typing) (changed : Changed old g h) 
     claimed_kept i ts vs (λ j less. other j (let more : j < i + suc (length ts) = omega (arith, less) in more)) are,
   )
 
-  held_kept : (i : ℕ) (peek : Option ℕ) (ts : List RunTy) (v : Operand) → Hand i ≢ old → ((n object : ℕ) → peek ≡ Some n → IsHere g g.depth n object → At object 0 ≢ old) → IsHeldPart g i peek ts v → IsHeldPart h i peek ts v
+  held_kept : (i : ℕ) (peek : Option ℕ) (ts : List RunTy) (v : Operand) → Hand i ≢ old → ((n object : ℕ) → peek ≡ Some n → IsHere g g.depth n object → IsHiding g object true → At object 0 ≢ old) → IsHeldPart g i peek ts v → IsHeldPart h i peek ts v
   held_kept i peek [] v apart other is = tt
   held_kept i peek (t ∷ ts) v apart other is = part_kept old g h changed i peek (thing_of t v.value) apart other is
 
@@ -336,18 +380,18 @@ module _ (p : Source) (old : Holder) (g h : Typing) (changed : Changed old g h) 
   array_kept i (lives.Pointer m t l ∷ []) object count index apart (less, array, is) = (less, array_grown p g h changed.grows t l object count index array, owns_kept old g h changed (Hand i) (pointer_at l object) apart is)
   array_kept i ts object count index apart is = absurd is
 
-  left_kept : (i : ℕ) (peek : Option ℕ) (bs : List InScope) (t : Ty) (f : flow.State) (v : values.Value) → Hand i ≢ old → ((n object : ℕ) → peek ≡ Some n → IsHere g g.depth n object → At object 0 ≢ old) → IsLeftSpot p g i peek bs t f v → IsLeftSpot p h i peek bs t f v
+  left_kept : (i : ℕ) (peek : Option ℕ) (bs : List InScope) (t : Ty) (f : flow.State) (v : values.Value) → Hand i ≢ old → ((n object : ℕ) → peek ≡ Some n → IsHere g g.depth n object → IsHiding g object true → At object 0 ≢ old) → IsLeftSpot p g i peek bs t f v → IsLeftSpot p h i peek bs t f v
   left_kept i peek bs t f v apart other (left_variable place is) = left_variable place is
   left_kept i peek bs t f v apart other (left_cell place r alive has part) =
       left_cell place r alive (type_grown g h changed.grows (lives.Pointer marks.NonNull (read bs t) (lives_in bs r)) place has)
       (part_kept old g h changed i peek (thing_of (lives.Pointer marks.NonNull (read bs t) (lives_in bs r)) place) apart other part)
 
-  keeps_place_kept : (i : ℕ) (bs : List InScope) (a : AwaitingPlace) (r : RunTy) (f : flow.State) → ((j : ℕ) → j < count_place a + i → Hand j ≢ old) → ((n object : ℕ) → place_peek a ≡ Some n → IsHere g g.depth n object → At object 0 ≢ old)
+  keeps_place_kept : (i : ℕ) (bs : List InScope) (a : AwaitingPlace) (r : RunTy) (f : flow.State) → ((j : ℕ) → j < count_place a + i → Hand j ≢ old) → ((n object : ℕ) → place_peek a ≡ Some n → IsHere g g.depth n object → IsHiding g object true → At object 0 ≢ old)
       → KeepsPlace p g i bs a r f → KeepsPlace p h i bs a r f
   keeps_place_kept i bs (SwapRight kind peek is_cell left) r f hands other (t, same, plain, spot) = (t, same, plain, left_kept i peek bs t f left (hands i (let less : i < 1 + i = omega arith in less)) other spot)
   keeps_place_kept i bs a r f hands other keeps = tt
 
-  keeps_kept : (i : ℕ) (a : Awaiting) (ts : List RunTy) → ((j : ℕ) → j < count_held a + i → Hand j ≢ old) → ((n object : ℕ) → held_peek a ≡ Some n → IsHere g g.depth n object → At object 0 ≢ old) → Keeps g i a ts → Keeps h i a ts
+  keeps_kept : (i : ℕ) (a : Awaiting) (ts : List RunTy) → ((j : ℕ) → j < count_held a + i → Hand j ≢ old) → ((n object : ℕ) → held_peek a ≡ Some n → IsHere g g.depth n object → IsHiding g object true → At object 0 ≢ old) → Keeps g i a ts → Keeps h i a ts
   keeps_kept i (FillElement object count index level kind element) ts hands other are = array_kept i ts object count index (hands i (let less : i < 1 + i = omega arith in less)) are
   keeps_kept i (ApplyPointer peek operator left) ts hands other (are, is) = (operands_grown g h changed.grows ts (left ∷ []) are, held_kept i peek ts left (hands i (let less : i < 1 + i = omega arith in less)) other is)
   keeps_kept i (StoreCell peek place) ts hands other (are, is) = (operands_grown g h changed.grows ts (place_operand place ∷ []) are, held_kept i peek ts (place_operand place) (hands i (let less : i < 1 + i = omega arith in less)) other is)
@@ -378,40 +422,53 @@ changed_outside old g h d changed = record {
   loans = changed.loans;
 }
 
+-- what variables have, they have still
+abbrev pub AreStill : Typing → Typing → Type 0
+AreStill g h = (object : ℕ) → g.here object ≡ true → h.here object ≡ true
+
+clauses_spared : (empties : Bool) (f : flow.State) (q : Relied) (n : ℕ) → IsSpared (relied_if empties (f ∷ q)) n → IsSpared (relied_if empties q) n
+clauses_spared false f q n spared = tt
+clauses_spared true f q n spared = spared.1
+
+-- what is known of locals stays so, where they are emptied of nothing, or where these are others
+holds_by : (empties : Bool) (old : Holder) (g h : Typing) (f : flow.State) (bs : List InScope) → (empties ≡ false → AreStill g h) → Changed old g h → (empties ≡ true → (n object : ℕ) → IsFullIn f n → IsHere g g.depth n object → At object 0 ≢ old) → Holds g f bs → Holds h f bs
+holds_by false old g h f bs still changed other holds = holds_here g h changed.grows changed.depth f bs (λ n object full here. (still refl object here.0, slot_kept old g h changed g.depth n object here.1)) holds
+holds_by true old g h f bs still changed other holds = holds_kept old g h changed f bs (other refl) holds
+
 -- A stack stays typed while a thing changes hands that nothing on it claims.
-pub stack_changed : (p : Source) (old : Holder) (g h : Typing) (x : Exits) (bs : List InScope) (w : Want) (k : List Entry) → Changed old g h → IsAbove x g k old → IsStack p g x bs w k → IsStack p h x bs w k
-stack_changed p old g h x bs Nothing [] changed above is = changed.pending ∙ is
-stack_changed p old g h x bs (Val r f) (Needs a ∷ k) changed above (ts, cs, next, waits, are, rest) = (
+pub stack_by : (empties : Bool) (p : Source) (old : Holder) (g h : Typing) (x : Exits) (bs : List InScope) (w : Want) (k : List Entry) → (empties ≡ false → AreStill g h) → Changed old g h → IsAboveBy empties x g k old → IsStack p g x bs w k → IsStack p h x bs w k
+stack_by empties p old g h x bs Nothing [] still changed above is = changed.pending ∙ is
+stack_by empties p old g h x bs (Val r f) (Needs a ∷ k) still changed above (ts, cs, next, waits, are, rest) = (
   ts,
   cs,
   next,
   waits,
-  keeps_kept p old g h changed (operands_in k) a ts (λ j less. hand_other x g (Needs a ∷ k) j old above less) (λ n object same here. variable_other x g (Needs a ∷ k) n object old above here.1 (λ spared. unspared a x.relied (relied_at x.relied k) n same spared)) are,
-  stack_changed p old g h x cs next k changed (above_to x x g (Needs a) k old (let fewer : operands_in k ≤ count_held a + operands_in k = omega arith in fewer)
-      (λ n spared. part_spared (part a) x.relied (relied_at x.relied k) n (λ o same. goes_relied p g x cs next k x.relied (waits_whole waits o same) rest) spared) above) rest,
+  keeps_kept p old g h changed (operands_in k) a ts (λ j less. hand_other empties x g (Needs a ∷ k) j old above less) (λ n object same here hidden. looked_other empties x g (Needs a ∷ k) n object old above here.1 hidden (λ spared. unspared a (relied_if empties x.relied) (relied_at (relied_if empties x.relied) k) n same spared)) are,
+  stack_by empties p old g h x cs next k still changed (above_to empties x x g (Needs a) k old (let fewer : operands_in k ≤ count_held a + operands_in k = omega arith in fewer)
+      (λ n spared. part_spared (part a) (relied_if empties x.relied) (relied_at (relied_if empties x.relied) k) n (λ o same. goes_relied p g x cs next k (relied_if empties x.relied) (waits_whole waits o same) rest) spared) above) rest,
 )
-stack_changed p old g h x bs (PlaceOf peek u l f) (NeedsPlace a ∷ k) changed above (next, waits, keeps, rest) = (
+stack_by empties p old g h x bs (PlaceOf peek u l f) (NeedsPlace a ∷ k) still changed above (next, waits, keeps, rest) = (
   next,
   waits,
-  keeps_place_kept p old g h changed (operands_in k) bs a u f (λ j less. hand_other x g (NeedsPlace a ∷ k) j old above less) (λ n object same here. variable_other x g (NeedsPlace a ∷ k) n object old above here.1 (λ spared. unspared_place a x.relied (relied_at x.relied k) n same spared)) keeps,
-  stack_changed p old g h x bs next k changed
-      (above_to x x g (NeedsPlace a) k old (let fewer : operands_in k ≤ count_place a + operands_in k = omega arith in fewer) (λ n spared. part_spared (part_of_place a) x.relied (relied_at x.relied k) n (λ o same. goes_relied p g x bs next k x.relied (place_whole waits o same) rest) spared) above) rest,
+  keeps_place_kept p old g h changed (operands_in k) bs a u f (λ j less. hand_other empties x g (NeedsPlace a ∷ k) j old above less) (λ n object same here hidden. looked_other empties x g (NeedsPlace a ∷ k) n object old above here.1 hidden (λ spared. unspared_place a (relied_if empties x.relied) (relied_at (relied_if empties x.relied) k) n same spared)) keeps,
+  stack_by empties p old g h x bs next k still changed
+      (above_to empties x x g (NeedsPlace a) k old (let fewer : operands_in k ≤ count_place a + operands_in k = omega arith in fewer) (λ n spared. part_spared (part_of_place a) (relied_if empties x.relied) (relied_at (relied_if empties x.relied) k) n (λ o same. goes_relied p g x bs next k (relied_if empties x.relied) (place_whole waits o same) rest) spared) above) rest,
 )
-stack_changed p old g h x bs (Val r f) (Discard ∷ k) changed above is = stack_changed p old g h x bs (Go f) k changed (above_to x x g Discard k old (fewer k) (λ n spared. statement_spared p g x bs f k x.relied n is spared) above) is
-stack_changed p old g h x bs (Go f) (Discard ∷ k) changed above is = stack_changed p old g h x bs (Go f) k changed (above_to x x g Discard k old (fewer k) (λ n spared. statement_spared p g x bs f k x.relied n is spared) above) is
-stack_changed p old g h x bs (Go f) (Rest js ∷ k) changed above (cs, c, end, within, stands, continues, rest) =
-    (cs, c, end, within, stands, continues, stack_changed p old g h x cs (Go end) k changed (above_to x x g (Rest js) k old (fewer k) (λ n spared. statement_spared p g x cs end k x.relied n rest spared) above) rest)
-stack_changed p old g h x bs (Go f) (Join ∷ k) changed above (end, i, rest) = (end, i, stack_changed p old g h x bs (Go end) k changed (above_to x x g Join k old (fewer k) (λ n spared. statement_spared p g x bs end k x.relied n rest spared) above) rest)
-stack_changed p old g h x bs (Go f) (Loop condition body ∷ k) changed above (y, l, v, u, end, same, loop, i, rest) =
-    let inner = above_to x y g (Loop condition body) k old (fewer k) (λ n spared. statement_spared p g y bs end k y.relied n rest (subst (λ (z : Exits). IsSpared z.relied n) same spared)) above in
-    (y, l, v, u, end, same, loop, i, stack_changed p old g h y bs (Go end) k changed inner rest)
-stack_changed p old g h x bs (Go f) (CloseRegion region home ∷ k) changed above (cs, number, l, alive, end, same, i, live, rest) =
-    (cs, number, l, alive, end, same, i, live, stack_changed p old g h x cs (Go end) k changed (above_to x x g (CloseRegion region home) k old (fewer k) (λ n spared. statement_spared p g x cs end k x.relied n rest spared) above) rest)
-stack_changed p old g h x bs (Go f) (CloseLexical region ∷ k) changed above (end, i, live, rest) =
-    (end, i, live, stack_changed p old g h x bs (Go end) k changed (above_to x x g (CloseLexical region) k old (fewer k) (λ n spared. statement_spared p g x bs end k x.relied n rest spared) above) rest)
-stack_changed p old g h x bs (Go f) (EndLoan lent ∷ k) changed above (y, end, j, t, object, same, loans, (l, hidden, there, by_type, owns), i, full, variables, rest) =
-    let inner = above_to x y g (EndLoan lent) k old (fewer k) (λ n spared. statement_spared p (record g { loans = j }) y bs end k y.relied n rest (subst (λ (z : Exits). IsSpared z.relied n) same spared)) above in
-    let behind' = above_behind y g k j old loans inner in
+stack_by empties p old g h x bs (Val r f) (Discard ∷ k) still changed above is = stack_by empties p old g h x bs (Go f) k still changed (above_to empties x x g Discard k old (fewer k) (λ n spared. statement_spared p g x bs f k (relied_if empties x.relied) n is spared) above) is
+stack_by empties p old g h x bs (Go f) (Discard ∷ k) still changed above is = stack_by empties p old g h x bs (Go f) k still changed (above_to empties x x g Discard k old (fewer k) (λ n spared. statement_spared p g x bs f k (relied_if empties x.relied) n is spared) above) is
+stack_by empties p old g h x bs (Go f) (Rest js ∷ k) still changed above (cs, c, end, within, stands, continues, rest) =
+    (cs, c, end, within, stands, continues, stack_by empties p old g h x cs (Go end) k still changed (above_to empties x x g (Rest js) k old (fewer k) (λ n spared. statement_spared p g x cs end k (relied_if empties x.relied) n rest spared) above) rest)
+stack_by empties p old g h x bs (Go f) (Join ∷ k) still changed above (end, i, rest) = (end, i, stack_by empties p old g h x bs (Go end) k still changed (above_to empties x x g Join k old (fewer k) (λ n spared. statement_spared p g x bs end k (relied_if empties x.relied) n rest spared) above) rest)
+stack_by empties p old g h x bs (Go f) (Loop condition body ∷ k) still changed above (y, l, v, u, end, same, loop, i, rest) =
+    let inner = above_to empties x y g (Loop condition body) k old (fewer k) (λ n spared. statement_spared p g y bs end k (relied_if empties y.relied) n rest (subst (λ (z : Exits). IsSpared (relied_if empties z.relied) n) same spared)) above in
+    (y, l, v, u, end, same, loop, i, stack_by empties p old g h y bs (Go end) k still changed inner rest)
+stack_by empties p old g h x bs (Go f) (CloseRegion region home ∷ k) still changed above (cs, number, l, alive, end, same, i, live, rest) =
+    (cs, number, l, alive, end, same, i, live, stack_by empties p old g h x cs (Go end) k still changed (above_to empties x x g (CloseRegion region home) k old (fewer k) (λ n spared. statement_spared p g x cs end k (relied_if empties x.relied) n rest spared) above) rest)
+stack_by empties p old g h x bs (Go f) (CloseLexical region ∷ k) still changed above (end, i, live, rest) =
+    (end, i, live, stack_by empties p old g h x bs (Go end) k still changed (above_to empties x x g (CloseLexical region) k old (fewer k) (λ n spared. statement_spared p g x bs end k (relied_if empties x.relied) n rest spared) above) rest)
+stack_by empties p old g h x bs (Go f) (EndLoan lent ∷ k) still changed above (y, end, j, t, object, same, loans, (l, hidden, there, by_type, owns), i, full, variables, rest) =
+    let inner = above_to empties x y g (EndLoan lent) k old (fewer k) (λ n spared. statement_spared p (record g { loans = j }) y bs end k (relied_if empties y.relied) n rest (subst (λ (z : Exits). IsSpared (relied_if empties z.relied) n) same spared)) above in
+    let behind' = above_behind empties y g k j old loans inner in
     let less : j < g.loans = omega (arith, loans) in
     let changed' = changed_behind old g h j changed in (
       y,
@@ -426,28 +483,28 @@ stack_changed p old g h x bs (Go f) (EndLoan lent ∷ k) changed above (y, end, 
         hidden,
         subst (λ d. slice_get h.objects object ≡ Some (variable_type t l hidden (OfLocal d lent))) (sym changed.depth) (changed.grows.objects object (variable_type t l hidden (OfLocal g.depth lent)) there),
         by_type,
-        owns_kept old g h changed (Lent j) (thing_of t values.Null) (lent_other x g (EndLoan lent ∷ k) j old above less) owns,
+        owns_kept old g h changed (Lent j) (thing_of t values.Null) (lent_other empties x g (EndLoan lent ∷ k) j old above less) owns,
       ),
       i,
       full_at_grown p g h changed.grows lent object bs full,
-      variables_kept old (record g { loans = j }) (record h { loans = j }) changed' bs (none_lent y (record g { loans = j }) k old behind') variables,
-      stack_changed p old (record g { loans = j }) (record h { loans = j }) y bs (Go end) k changed' behind' rest,
+      variables_kept old (record g { loans = j }) (record h { loans = j }) changed' bs (none_lent empties y (record g { loans = j }) k old behind') variables,
+      stack_by empties p old (record g { loans = j }) (record h { loans = j }) y bs (Go end) k still changed' behind' rest,
     )
-stack_changed p old g h x bs (Go f) (Handler cs ∷ k) changed above (y, c, start, end, same, stands, holds, catches, i, rest) =
-    let inner = above_to x y g (Handler cs) k old (fewer k) (λ n spared. statement_spared p g y bs end k y.relied n rest ((subst (λ (z : Exits). IsSpared z.relied n) same spared).1)) above in (
+stack_by empties p old g h x bs (Go f) (Handler cs ∷ k) still changed above (y, c, start, end, same, stands, holds, catches, i, rest) =
+    let inner = above_to empties x y g (Handler cs) k old (fewer k) (λ n spared. statement_spared p g y bs end k (relied_if empties y.relied) n rest (clauses_spared empties start y.relied n (subst (λ (z : Exits). IsSpared (relied_if empties z.relied) n) same spared))) above in (
       y,
       c,
       start,
       end,
       same,
       stands,
-      holds_kept old g h changed start bs (λ m object full here. relied_other x y g cs k start old m object same holds.0 above full here.1) holds,
+      holds_by empties old g h start bs still changed (λ empty m object full here. relied_other x y g cs k start old m object same holds.0 (subst (λ z. IsAboveBy z x g (Handler cs ∷ k) old) empty above) full here.1) holds,
       catches,
       i,
-      stack_changed p old g h y bs (Go end) k changed inner rest,
+      stack_by empties p old g h y bs (Go end) k still changed inner rest,
     )
-stack_changed p old g h x bs (Go f) (Caller e ∷ k) changed above (y, cs, end, d, depth, loop, blocked, gives, bound, variables, live, holds, rest) =
-    let outer = above_outside x y g e k d old depth above in
+stack_by empties p old g h x bs (Go f) (Caller e ∷ k) still changed above (y, cs, end, d, depth, loop, blocked, gives, bound, variables, live, holds, rest) =
+    let outer = above_outside empties x y g e k d old depth above in
     let changed' = changed_outside old g h d changed in (
       y,
       cs,
@@ -458,14 +515,17 @@ stack_changed p old g h x bs (Go f) (Caller e ∷ k) changed above (y, cs, end, 
       blocked,
       gives,
       bound,
-      variables_kept old (record g { depth = d }) (record h { depth = d }) changed' cs (none_lent y (record g { depth = d }) k old outer) variables,
+      variables_kept old (record g { depth = d }) (record h { depth = d }) changed' cs (none_lent empties y (record g { depth = d }) k old outer) variables,
       live,
-      holds_kept old (record g { depth = d }) (record h { depth = d }) changed' end cs (λ m object full here. outer_other x g e k d old m object depth above here.1) holds,
-      stack_changed p old (record g { depth = d }) (record h { depth = d }) y cs (Val x.gives end) k changed' outer rest,
+      holds_by empties old (record g { depth = d }) (record h { depth = d }) end cs still changed' (λ empty m object full here. outer_other x g e k d old m object depth (subst (λ z. IsAboveBy z x g (Caller e ∷ k) old) empty above) here.1) holds,
+      stack_by empties p old (record g { depth = d }) (record h { depth = d }) y cs (Val x.gives end) k still changed' outer rest,
     )
-stack_changed p old g h x bs (Go f) (Main ∷ k) changed above (loop, int, gives, blocked, rest) =
-    (loop, int, gives, blocked, stack_changed p old g h x bs Nothing k changed (above_to x x g Main k old (fewer k) (λ n spared. ends_relied p g x bs k x.relied n rest spared) above) rest)
-stack_changed p old g h x bs w k changed above is = absurd is
+stack_by empties p old g h x bs (Go f) (Main ∷ k) still changed above (loop, int, gives, blocked, rest) =
+    (loop, int, gives, blocked, stack_by empties p old g h x bs Nothing k still changed (above_to empties x x g Main k old (fewer k) (λ n spared. ends_relied p g x bs k (relied_if empties x.relied) n rest spared) above) rest)
+stack_by empties p old g h x bs w k still changed above is = absurd is
+
+pub stack_changed : (p : Source) (old : Holder) (g h : Typing) (x : Exits) (bs : List InScope) (w : Want) (k : List Entry) → Changed old g h → IsAbove x g k old → IsStack p g x bs w k → IsStack p h x bs w k
+stack_changed p old g h x bs w k changed above is = stack_by true p old g h x bs w k (λ e. (let z : true ≡ false = e in absurd (cc))) changed (above_by x g k old above) is
 
 -- no swap is under way
 pub settled : (p : Source) (g : Typing) (x : Exits) (bs : List InScope) (w : Want) (k : List Entry) → IsStack p g x bs w k → g.pending ≡ Settled
@@ -488,22 +548,6 @@ settled p g x bs w k is = absurd is
 -- nor where nothing does
 pub stack_grown : (p : Source) (g h : Typing) → Stays g h → (x : Exits) (bs : List InScope) (w : Want) (k : List Entry) → IsStack p g x bs w k → IsStack p h x bs w k
 stack_grown p g h same x bs w k is = stack_changed p Nobody g h x bs w k (stays_changed Nobody g h same) tt is
-
--- what is known of the places of a swap stays so
-module _ (p : Source) (g h : Typing) (same : Stays g h) where
-  had_stays : (o : Option Thing) → IsHad g o → IsHad h o
-  had_stays None had = tt
-  had_stays (Some a) had = subst (λ own. IsHeld (own a)) (sym same.own) had
-
-  pub spot_grown : (bs : List InScope) (t : Ty) (f : flow.State) (v : values.Value) → IsSpot p g bs t f v → IsSpot p h bs t f v
-  spot_grown bs t f v (of_local b among of_type is) = of_local b among of_type is
-  spot_grown bs t f v (of_global number there means) = of_global number there means
-  spot_grown bs t f v (of_cell place r alive has had) =
-      of_cell place r alive (type_grown g h same.grows (lives.Pointer marks.NonNull (read bs t) (lives_in bs r)) place has) (had_stays (thing_of (lives.Pointer marks.NonNull (read bs t) (lives_in bs r)) place) had)
-
-  pub swapped_grown : (bs : List InScope) (f : flow.State) (ws : List Write) → AreSwapped p g bs f ws → AreSwapped p h bs f ws
-  swapped_grown bs f [] are = tt
-  swapped_grown bs f (w ∷ ws) ((t, plain, by_type, spot, is), are) = ((t, plain, by_type, spot_grown bs t f w.place spot, result_grown g h same.grows (Value (read bs t)) w.operand is), swapped_grown bs f ws are)
 
 -- ---- what has no value is only dropped
 

@@ -192,7 +192,7 @@ module _ (m : Reading) (q : Relied) (f : flow.State) where
 
   relied_side : (y : Side) (ns : List ℕ) → AreSpared f (touched_side y ns) → InSide m q y → InSide m (f ∷ q) y
   relied_side (VariableSide l t) ns spared kept = kept
-  relied_side (CellSide d) ns spared (shared, kept) = (shared, relied_place d ns spared kept)
+  relied_side (CellSide d) ns spared kept = relied_place d ns spared kept
 
   relied_value : (v : Option Converted) (ns : List ℕ) → AreSpared f (touched_value v ns) → InValue m q v → InValue m (f ∷ q) v
   relied_value None ns spared kept = kept

@@ -96,7 +96,7 @@ module _ (p : Source) (g : Typing) (e : Environment) (w : World) (typed : IsType
         record {
           objects = raised_typed given_back' object (variable_type t l hidden (OfLocal g.depth lent)) w.regions w.objects there (λ x stands. variable_owned (ended_typing j t object) object t l hidden (OfLocal g.depth lent) x.cells by (given_now g.own o its, null_start t)) first';
           knows = hands_globals p m (given o its g.own) (marked object true g.here) (moment_globals p g g.depth j globals);
-          scope = variables_kept (Lent j) m z changed bs (none_lent y m k (Lent j) le) scope;
+          scope = variables_kept (Lent j) m z changed bs (none_lent true y m k (Lent j) le) scope;
           stack = stack_changed p (Lent j) m z y bs (Go h) k changed le stack;
         }
       where

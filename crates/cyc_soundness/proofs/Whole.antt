@@ -80,8 +80,8 @@ module _ (p : Source) (accepted : AreAccepted p) (e : Environment) (w : World) (
   step_well (GivenPlace place) k nests live (peek, t, l, f, holds, has, part, stack) = place_on place k peek t l f nests live holds has part stack
   step_well (Writing these (Some v)) k nests live (t, r, f, holds, alive, making, stack) = write_on p g x bs e w objects globals bound variables these v t r k f nests.0 live holds alive making stack
   step_well (Writing these None) k nests live (f, holds, are, stack) = swapped_on p g x bs e w objects globals bound variables these k f nests.0 live holds are stack
-  step_well (Swapping kind left right before) k nests live (t, f, holds, kind_is, plain, by, here, there, read_is, stack) =
-      swapping_on p g x bs e w objects globals bound variables kind left right before t k f nests.0 live holds kind_is plain by here there read_is stack
+  step_well (Swapping kind left right before) k nests live (t, f, holds, kind_is, plain, here, there, read_is, stack) =
+      swapping_on p g x bs e w objects globals bound variables kind left right before t k f nests.0 live holds kind_is plain here there read_is stack
   step_well (Beginning owner count level kind element) k nests live (c, t, r, f, stands, holds, alive, owned, repeats, stack) =
       begin_array p g x bs e w objects globals bound variables owner count level kind element k c t r f nests.0 live stands holds alive owned repeats stack
   step_well (Repeating object count index level kind element) k nests live (c, t, r, f, stands, holds, alive, repeats, array, has, stack) =

@@ -9,7 +9,7 @@ use Rattle.cyc_meaning.specs.State.{Region, Owner, InRegion, Unique, Object, Wor
 use Rattle.cyc_meaning.specs.Nesting.{IsScoped, IsFound}
 use Rattle.cyc_meaning.proofs.ListLemmas.{slice_get-append, slice_get-end, slice_get-set_other}
 use Rattle.cyc_soundness.specs.Lives.{Life, OfRegion, OfObject, Never, Owned, Kept, RunTy, Int, Pointer, Handle, Key, Struct, RunValue, Void, Null, Value, Seen, Into, kind_at, at}
-use Rattle.cyc_soundness.specs.Worlds.{Pending, IsKept, IsAmong, KeyOf, PointerTo, At, ObjectType, Typing, IsHeld, Claims, AreOwned, IsUniqueObject, IsOpenObject, Stays, IsKnownLife, IsKnownOwner, IsDynamic, IsFilled, IsPart, IsTarget, HasType, IsResult, AreOperands, IsContent, AreCells, IsOwner, IsObject, IsTyped, Grows}
+use Rattle.cyc_soundness.specs.Worlds.{Pending, IsKept, IsAmong, KeyOf, PointerTo, At, ObjectType, Typing, IsHeld, Claims, AreOwned, IsUniqueObject, IsOpenObject, Stays, IsKnownLife, IsKnownOwner, IsDynamic, IsFilled, IsPart, IsTarget, HasType, IsResult, AreOperands, IsContent, AreCells, IsOwner, IsObject, IsTyped, Grows, Thing, Holder, Nobody, Owns, thing_of}
 use Rattle.cyc_soundness.specs.Frames.{lives_among, KnowsProgram}
 use Rattle.cyc_soundness.specs.Classes.{frees_of, HasLoans, Source}
 use Rattle.cyc_soundness.proofs.Numbers.{same_or_other, slice_get-set_same, appended, some_same}
@@ -364,9 +364,9 @@ module _ (g : Typing) (w : World) (number offset : ℕ) (x : ObjectType) (t : Ru
   abbrev pub with_value : Object
   with_value = record c.object { cells = set c.object.cells offset (filled_with c.of.cell v) }
 
-  module _ (here : ℕ → Bool) (pending : Pending) where
+  module _ (own : Thing → Holder) (here : ℕ → Bool) (pending : Pending) where
     abbrev pub now_typed : Typing
-    now_typed = record (with_filled g number (risen offset c.filled)) { here = here; pending = pending }
+    now_typed = record (with_filled g number (risen offset c.filled)) { own = own; here = here; pending = pending }
 
     now_grows : Grows g now_typed
     now_grows = record { objects = written_grows.objects; filled = written_grows.filled; fields = written_grows.fields; kept = written_grows.kept }
@@ -381,21 +381,26 @@ module _ (g : Typing) (w : World) (number offset : ℕ) (x : ObjectType) (t : Ru
           (type_grown g now_typed now_grows t v has);
     }
 
-    -- what other cells have they had before, and this one has its value
-    pub cell_written : ((object i : ℕ) (hidden : Bool) → object ≢ number → IsKept now_typed object i hidden → IsKept g object i hidden)
-        → ((i : ℕ) (u : RunTy) → slice_get x.cells i ≡ Some u → i ≢ offset → IsKept now_typed number i x.is_hidden → IsKept g number i x.is_hidden) → (IsKept now_typed number offset x.is_hidden → Claims g.own (At number offset) t v)
+    -- What other cells have they had before, and have still; this one has its value. Nobody has what nobody had.
+    pub cell_written : ((a : Thing) → IsHeld (own a) → IsHeld (g.own a)) → ((a : Thing) → g.own a ≡ Nobody → own a ≡ Nobody)
+        → ((object i : ℕ) (hidden : Bool) → (object ≡ number → i ≢ offset) → IsKept now_typed object i hidden → (a : Thing) → g.own a ≡ At object i → own a ≡ At object i) → ((object i : ℕ) (hidden : Bool) → object ≢ number → IsKept now_typed object i hidden → IsKept g object i hidden)
+        → ((i : ℕ) (u : RunTy) → slice_get x.cells i ≡ Some u → i ≢ offset → IsKept now_typed number i x.is_hidden → IsKept g number i x.is_hidden) → (IsKept now_typed number offset x.is_hidden → Claims own (At number offset) t v)
         → IsTyped now_typed w.regions (written w number offset (record { object = c.object; cell = c.of.cell }) v).objects
-    cell_written before beside claims = record {
+    cell_written held none stays before beside claims = record {
       count = length-set w.objects number with_value ∙ typed.count;
       counts = length-set w.objects number with_value ∙ typed.counts ∙ sym (length-set g.filled number (risen offset c.filled));
       each = each;
       heap = typed.heap;
-      kept = typed.kept;
-      fresh = typed.fresh;
-      unique = unique;
+      kept = λ n among. ((typed.kept n among).0, λ now. (typed.kept n among).1 (held (KeyOf n) now));
+      fresh = λ n less. none (KeyOf n) (typed.fresh n less);
+      unique = λ object now. unique object (held (PointerTo object) now);
       owned = owned;
     }
       where
+        still : (h : Holder) (o : Option Thing) → ((a : Thing) → g.own a ≡ h → own a ≡ h) → Owns g.own h o → Owns own h o
+        still h None all has = tt
+        still h (Some a) all has = all a has
+
         now_there : slice_get (set w.objects number with_value) number ≡ Some with_value
         now_there = slice_get-set_same w.objects number c.object with_value c.there
 
@@ -439,8 +444,9 @@ module _ (g : Typing) (w : World) (number offset : ℕ) (x : ObjectType) (t : Ru
               let filled' = filled_with c.of.cell v in
               let cell_is : filled' ≡ d = some_same filled' d (sym (slice_get-set_same c.object.cells offset c.of.cell filled' c.of.at) ∙ ap (λ n. slice_get (set c.object.cells offset filled') n) (sym same) ∙ there) in
               let value_is : v ≡ z = some_same v z (ap (λ (e : Cell). e.content) cell_is ∙ content) in
-              subst (λ n. Claims g.own (At number n) u z) (sym same) (subst (λ e. Claims g.own (At number offset) u e) value_is (subst (λ e. Claims g.own (At number offset) e v) type_is (claims (subst (λ n. IsKept now_typed number n x.is_hidden) same kept)))))
-          | inr apart ↦ typed.owned number x c.object at c.there i u d z (beside i u found apart kept) found (sym (slice_get-set_other c.object.cells offset i (filled_with c.of.cell v) apart) ∙ there) content
+              subst (λ n. Claims own (At number n) u z) (sym same) (subst (λ e. Claims own (At number offset) u e) value_is (subst (λ e. Claims own (At number offset) e v) type_is (claims (subst (λ n. IsKept now_typed number n x.is_hidden) same kept)))))
+          | inr apart ↦ (let (owns, start) = typed.owned number x c.object at c.there i u d z (beside i u found apart kept) found (sym (slice_get-set_other c.object.cells offset i (filled_with c.of.cell v) apart) ∙ there) content in
+              (still (At number i) (thing_of u z) (stays number i x.is_hidden (λ same. apart) kept) owns, start))
         ]
 
         owned : (object : ℕ) (u : ObjectType) (y : Object) → slice_get g.objects object ≡ Some u → slice_get (set w.objects number with_value) object ≡ Some y → AreOwned now_typed object u y.cells
@@ -448,5 +454,6 @@ module _ (g : Typing) (w : World) (number offset : ℕ) (x : ObjectType) (t : Ru
           | inl same ↦ (let type_is : x ≡ u = some_same x u (sym at ∙ ap (λ n. slice_get g.objects n) (sym same) ∙ there) in
               let is : with_value ≡ y = some_same with_value y (sym now_there ∙ ap (λ n. slice_get (set w.objects number with_value) n) (sym same) ∙ stands) in
               subst (λ n. AreOwned now_typed n u y.cells) (sym same) (subst (λ (z : Object). AreOwned now_typed number u z.cells) is (subst (λ z. AreOwned now_typed number z with_value.cells) type_is its_own)))
-          | inr apart ↦ λ i r d z kept. typed.owned object u y there (sym (slice_get-set_other w.objects number object with_value apart) ∙ stands) i r d z (before object i u.is_hidden apart kept)
+          | inr apart ↦ λ i r d z kept found stored content. (let (owns, start) = typed.owned object u y there (sym (slice_get-set_other w.objects number object with_value apart) ∙ stands) i r d z (before object i u.is_hidden apart kept) found stored content in
+              (still (At object i) (thing_of r z) (stays object i u.is_hidden (λ same. absurd (apart same)) kept) owns, start))
         ]

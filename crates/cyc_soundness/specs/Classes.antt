@@ -2,8 +2,8 @@
 use Rattle.std.specs.Prelude.{◌≡◌, ℕ, zero, suc, ◌+◌, Bool, true, false, List, [], ◌∷◌, Option, Some, None, get_or}
 use Rattle.cyc_types.specs.Types.{Ty}
 use Rattle.cyc_types.specs.Declarations.{declared_regions, item_regions}
-use Rattle.cyc_types.specs.TypedTrees.{type_of_place, Local, Global, Expression, Number, NullPointer, HeapRegion, Counter, Copy, Move, Peek, Load, AddressOf, AddressOfCell, NumberOfElements, FreeUnique, FreeKey, Call, Unary, Binary, Assign, Store, New, Dereference, Target, Member, Element, Placement, OnHeap, AsUnique, ByHandle, Initial, Plain, Fields, Array, Converted, Convert, Arguments, NoArguments, MoreArguments, Operations, NoOperations, ThenCompute, ThenTest, ThenPointer, ThenPointerPeek, Side, VariableSide, CellSide, Statement, Block, Empty, Evaluate, Swap, If, While, Return, Break, Continue, Throw, Try, Items, NoItems, MoreItems, Execute, Declare, DeclareRegion, OpenRegion, DeclareAlias, DeclareKey, Clauses, NoClauses, Default, Case, StructType, GlobalVariable, Function, Program}
-use Rattle.cyc_types.specs.typing.Tests.{is_key, is_unique}
+use Rattle.cyc_types.specs.TypedTrees.{Local, Global, Expression, Number, NullPointer, HeapRegion, Counter, Copy, Move, Peek, Load, AddressOf, AddressOfCell, NumberOfElements, FreeUnique, FreeKey, Call, Unary, Binary, Assign, Store, New, Dereference, Target, Member, Element, Placement, OnHeap, AsUnique, ByHandle, Initial, Plain, Fields, Array, Converted, Convert, Arguments, NoArguments, MoreArguments, Operations, NoOperations, ThenCompute, ThenTest, ThenPointer, ThenPointerPeek, Side, VariableSide, CellSide, Statement, Block, Empty, Evaluate, Swap, If, While, Return, Break, Continue, Throw, Try, Items, NoItems, MoreItems, Execute, Declare, DeclareRegion, OpenRegion, DeclareAlias, DeclareKey, Clauses, NoClauses, Default, Case, StructType, GlobalVariable, Function, Program}
+use Rattle.cyc_types.specs.typing.Tests.{is_key}
 use Rattle.cyc_types.specs.flow.States as flow
 use Rattle.cyc_types.specs.flow.States.{Fullness, Vacant, Locked, Full, Unreached, Reached}
 use Rattle.cyc_soundness.specs.Lives.{Reading, AsHeap, ByScope, AllIn, IsKnown}
@@ -27,12 +27,6 @@ HasAliases (ByScope lends frees) = (lends ≡ true) × (frees ≡ false)
 abbrev pub HasFrees : Reading → Type 0
 HasFrees AsHeap = ⊥
 HasFrees (ByScope lends frees) = frees ≡ true
-
--- what may be swapped: where objects are given back, no unique pointer
-abbrev pub IsSwappable : Reading → Ty → Type 0
-IsSwappable AsHeap t = Unit {0}
-IsSwappable (ByScope lends false) t = Unit {0}
-IsSwappable (ByScope lends true) t = is_unique t ≡ false
 
 -- whether objects are given back
 abbrev pub frees_of : Reading → Bool
@@ -74,8 +68,7 @@ and_looked (Some n) q = Reached (only n) ∷ q
 
 -- Programs of a class. All types are there, objects in the heap, unique ones and those of regions, places behind pointers, swaps,
 -- functions with regions, conversions between all marks, loops and exceptions. Only where things are lent do they have dynamic regions,
--- keys and aliases, and only where objects are given back `ufree`: then there are no aliases, nor swaps of
--- unique pointers. Read as the heap, they have no lexical regions, and take the address of no local. What is consumed
+-- keys and aliases, and only where objects are given back `ufree`: then there are no aliases. Read as the heap, they have no lexical regions, and take the address of no local. What is consumed
 -- or lent is nothing that the clauses around rely on: at the start of a function there are none, and of the body of a `try` that is shown.
 abbrev mutual
   pub InExpression : Reading → Relied → Expression → Type 0
@@ -137,10 +130,9 @@ abbrev pub InThrown : Reading → Relied → Option Expression → Type 0
 InThrown m q None = Unit {0}
 InThrown m q (Some a) = InExpression m q a
 
--- where objects are given back, no unique pointers are swapped
 abbrev pub InSide : Reading → Relied → Side → Type 0
-InSide m q (VariableSide l t) = IsSwappable m t
-InSide m q (CellSide d) = IsSwappable m (type_of_place d) × InPlace m q d
+InSide m q (VariableSide l t) = Unit {0}
+InSide m q (CellSide d) = InPlace m q d
 
 -- Statements where the next region gets this number: the types of locals name only regions that are declared before them.
 abbrev mutual
@@ -207,7 +199,7 @@ IsOfScopes p = InFunctions (ByScope false false) p.functions × InGlobals (BySco
 abbrev pub FreesNoObject : Program → Type 0
 FreesNoObject p = InFunctions (ByScope true false) p.functions × InGlobals (ByScope true false) p.globals × InStructs (ByScope true false) p.structs
 
--- programs that give back unique objects to which locals have the pointers
+-- programs that give back unique objects, and have no aliases
 abbrev pub FreesLocals : Program → Type 0
 FreesLocals p = InFunctions (ByScope true true) p.functions × InGlobals (ByScope true true) p.globals × InStructs (ByScope true true) p.structs
 

@@ -1,5 +1,4 @@
--- WHICH PROGRAMS GIVE BACK ONLY WHAT LOCALS HAVE: unique objects, with no aliases, and no swaps of unique pointers, which alone take them out
--- of cells. It is computed for each program, and is the class `FreesLocals`, decided.
+-- WHICH PROGRAMS GIVE BACK ONLY WHAT LOCALS HAVE: unique objects, with no aliases. It is computed for each program, and is the class `FreesLocals`, decided.
 use Rattle.std.specs.Prelude.{ℕ, suc, ◌+◌, nat_lt, Bool, true, false, not, ◌&&◌, Option, None, Some}
 use Rattle.std.specs.List.{list_all}
 use Rattle.cyc_types.specs.declared.region.Region.{Region}
@@ -79,10 +78,9 @@ abbrev pub thrown_is_in : Option Expression → Bool
 thrown_is_in None = true
 thrown_is_in (Some a) = expression_is_in a
 
--- no unique pointer is swapped
 abbrev pub side_is_in : Side → Bool
-side_is_in (VariableSide l t) = not (is_unique t)
-side_is_in (CellSide d) = not (is_unique (type_of_place d)) && place_is_in d
+side_is_in (VariableSide l t) = true
+side_is_in (CellSide d) = place_is_in d
 
 -- ---- statements, where the next region gets this number
 

@@ -35,7 +35,7 @@ use Rattle.cyc_meaning.specs.Allocation.{writes_from}
 use Rattle.cyc_meaning.specs.Parts.{target_of, target_of_value}
 use Rattle.cyc_soundness.specs.Lives.{Life, Owned, RunTy, RunValue, Value, Seen, Into, looked, at, value_at, heap_life, lives_of, as_heap, Reading, AllIn, IsKnown}
 use Rattle.cyc_soundness.specs.Lives as lives
-use Rattle.cyc_soundness.specs.Worlds.{OfLocal, Settled, IsPlain, Thing, Holder, Hand, Lent, pointer_at, thing_of, Owns, Claims, ClaimsPart, ClaimsBy, ClaimsAlone, IsHad, IsHere, ObjectType, Typing, AgreesWith, variable_type, IsFilled, IsFull, HasType, IsResult, AreOperands, IsNewOwner, IsKeyless, AreKeyless, IsTyped}
+use Rattle.cyc_soundness.specs.Worlds.{OfLocal, Settled, Awaits, At, IsPlain, Thing, Holder, Hand, Lent, pointer_at, thing_of, Owns, Claims, ClaimsPart, ClaimsBy, ClaimsAlone, IsHad, IsHere, ObjectType, Typing, AgreesWith, variable_type, IsFilled, IsFull, HasType, IsResult, AreOperands, IsNewOwner, IsKeyless, AreKeyless, IsTyped}
 use Rattle.cyc_soundness.specs.Classes.{Relied, frees_of, and_looked, IsSpared, HasLoans, HasAliases, InExpression, InPlace, InSide, InInitial, InArguments, InOperations, InStatement, InItems, InClauses, IsDeclarable, Source}
 use Rattle.cyc_soundness.specs.Frames.{IsAmong, Bound, InScope, Variable, Level, Names, Instance, Home, frees_in, life_named, lives_in, read, read_value, IsThere, IsScope, AreBelow, IsBound, AreVariables, LiveIn, Within, IsSet, IsFullIn, Holds, Implies, LoopExit, Exits, HasResult, around, lending, relying, AreFullAt, AreBreaks, is_loop, Stand, IsHome, IsContext, lives_among, KnowsProgram}
 
@@ -361,9 +361,9 @@ pub data WaitsPlace (p : Source) (x : Exits) (q : Relied) (bs : List InScope) : 
   takes_address : (peek : Option ℕ) (t : RunTy) (l : Life) (f : flow.State) → IsCommonLife l → WaitsPlace p x q bs TakeAddress peek t l f (Val (Value (lives.Pointer marks.NonNull t l)) f)
   stores_to : {peek : Option ℕ} {from to : Kind} {a : Expression} (c : Context) (v : ValueType) (t : Ty) (r : Region) (f h : flow.State) → IsThere bs r → IsContext p x bs c → (is_reached f ≡ true → EvaluatesWhole p.reading (and_looked peek q) c a f v h)
       → Converts c v t → from ≡ kind_of_value v → to ≡ kind_of t → WaitsPlace p x q bs (StoreTo peek (Convert from to a)) peek (read bs t) (lives_in bs r) f (Val (read_value bs (assigned_type t)) h)
-  swaps_left : {kind : Kind} {peek : Option ℕ} {right : Side} (c : Context) (t : Ty) (r : Region) (f h : flow.State) → IsThere bs r → IsByType (read bs t) → IsContext p x bs c → kind ≡ values.kind_of t → is_struct t ≡ false
+  swaps_left : {kind : Kind} {peek : Option ℕ} {right : Side} (c : Context) (t : Ty) (r : Region) (f h : flow.State) → IsThere bs r → IsContext p x bs c → kind ≡ values.kind_of t → is_struct t ≡ false
       → (is_reached f ≡ true → Finds p.reading (and_looked peek x.relied) c right f t h) → WaitsPlace p x q bs (SwapLeft kind peek right) peek (read bs t) (lives_in bs r) f (Go h)
-  swaps_right : {kind : Kind} {peek : Option ℕ} {is_cell : Bool} {left : values.Value} (through : Option ℕ) (t : Ty) (r : Region) (f : flow.State) → IsThere bs r → IsByType (read bs t) → kind ≡ values.kind_of t
+  swaps_right : {kind : Kind} {peek : Option ℕ} {is_cell : Bool} {left : values.Value} (through : Option ℕ) (t : Ty) (r : Region) (f : flow.State) → IsThere bs r → kind ≡ values.kind_of t
       → WaitsPlace p x q bs (SwapRight kind peek is_cell left) through (read bs t) (lives_in bs r) f (Go f)
 
 -- ---- arrays
@@ -418,9 +418,9 @@ Keeps g i a (t ∷ ts) = AreOperands g (t ∷ ts) (held a) × AreClaimed g.own i
 
 -- ---- swaps
 
--- A side of a swap whose place is found: a variable that holds something where this is known, or a cell that a pointer leads to.
+-- A side of a swap whose place is found: a variable that is full where this is known, or a cell that a pointer leads to.
 pub data IsSpot (p : Source) (g : Typing) (bs : List InScope) (t : Ty) (f : flow.State) : values.Value → Type 0 where
-  of_local : (b : Bound) → IsAmong (Variable b) bs → b.of_type ≡ read bs t → IsSet f b.number → IsSpot p g bs t f (values.Thin b.object 0)
+  of_local : (b : Bound) → IsAmong (Variable b) bs → b.of_type ≡ read bs t → IsFullIn f b.number → IsSpot p g bs t f (values.Thin b.object 0)
   of_global : (number : ℕ) → slice_get (map (λ (v : GlobalVariable). v.of_type) p.program.globals) number ≡ Some t → read bs t ≡ at (as_heap (frees_of p.reading)) t
       → IsSpot p g bs t f (values.Thin number 0)
   of_cell : (place : values.Value) (r : Region) → IsThere bs r → HasType g (lives.Pointer marks.NonNull (read bs t) (lives_in bs r)) place → IsHad g (thing_of (lives.Pointer marks.NonNull (read bs t) (lives_in bs r)) place)
@@ -437,16 +437,32 @@ abbrev pub KeepsPlace : Source → Typing → (hand : ℕ) → List InScope → 
 KeepsPlace p g i bs (SwapRight kind peek is_cell left) r f = (t : Ty) × (r ≡ read bs t) × (is_struct t ≡ false) × IsLeftSpot p g i peek bs t f left
 KeepsPlace p g i bs a r f = Unit {0}
 
--- what was read of the left side
-abbrev pub IsRead : Typing → RunTy → Option Operand → Type 0
-IsRead g t None = Unit {0}
-IsRead g t (Some v) = IsResult g (Value t) v
+-- a value is that of this cell
+abbrev pub ClaimsAt : (own : Thing → Holder) → (place : values.Value) → RunTy → values.Value → Type 0
+ClaimsAt own (values.Thin object offset) t v = Claims own (At object offset) t v
+ClaimsAt own place t v = ⊥
 
--- each place gets a value of its type
-abbrev pub AreSwapped : Source → Typing → List InScope → flow.State → List Write → Type 0
-AreSwapped p g bs f [] = Unit {0}
-AreSwapped p g bs f (w ∷ ws) =
-    ((t : Ty) × (is_struct t ≡ false) × IsByType (read bs t) × IsSpot p g bs t f w.place × IsResult g (Value (read bs t)) w.operand) × AreSwapped p g bs f ws
+-- what was read of the left side, and is still there
+abbrev pub IsRead : Typing → (left : values.Value) → RunTy → Option Operand → Type 0
+IsRead g left t None = Unit {0}
+IsRead g left t (Some v) = IsResult g (Value t) v × ClaimsAt g.own left t v.value
+
+-- a place that gets a value of its type
+abbrev pub IsWrite : Source → Typing → List InScope → flow.State → Ty → Write → Type 0
+IsWrite p g bs f t w = (is_struct t ≡ false) × IsSpot p g bs t f w.place × IsResult g (Value (read bs t)) w.operand
+
+-- a swap awaits its second write, to this place
+abbrev pub IsAwaited : Typing → (place : values.Value) → Type 0
+IsAwaited g (values.Thin object offset) = g.pending ≡ Awaits object offset
+IsAwaited g place = ⊥
+
+-- Each of two places gets what the other one has; then what the left one had is in hand, and the right one, which awaits it, has nothing.
+abbrev pub AreSwapped : Source → Typing → (hand : ℕ) → List InScope → flow.State → List Write → Type 0
+AreSwapped p g i bs f [] = g.pending ≡ Settled
+AreSwapped p g i bs f (w ∷ []) = (t : Ty) × IsWrite p g bs f t w × IsAwaited g w.place × Claims g.own (Hand i) (read bs t) w.operand.value
+AreSwapped p g i bs f (v ∷ w ∷ []) =
+    (t : Ty) × IsWrite p g bs f t v × IsWrite p g bs f t w × (g.pending ≡ Settled) × ClaimsAt g.own w.place (read bs t) v.operand.value × ClaimsAt g.own v.place (read bs t) w.operand.value
+AreSwapped p g i bs f (u ∷ v ∷ w ∷ ws) = ⊥
 
 -- ---- the control stack
 
@@ -570,9 +586,9 @@ IsFocus p g x bs (GivenPlace place) k =
     × IsStack p g x bs (PlaceOf peek t l f) k
 IsFocus p g x bs (Writing writes (Some v)) k =
     (t : RunTy) × (r : Region) × (f : flow.State) × Holds g f bs × IsThere bs r × IsMaking g (operands_in k) writes v t (lives_in bs r) × IsStack p g x bs (Val (Value (lives.Pointer marks.NonNull t (lives_in bs r))) f) k
-IsFocus p g x bs (Writing writes None) k = (f : flow.State) × Holds g f bs × AreSwapped p g bs f writes × IsStack p g x bs (Go f) k
+IsFocus p g x bs (Writing writes None) k = (f : flow.State) × Holds g f bs × AreSwapped p g (operands_in k) bs f writes × IsStack p (record g { pending = Settled }) x bs (Go f) k
 IsFocus p g x bs (Swapping kind left right before) k =
-    (t : Ty) × (f : flow.State) × Holds g f bs × (kind ≡ values.kind_of t) × (is_struct t ≡ false) × IsByType (read bs t) × IsSpot p g bs t f left × IsSpot p g bs t f right × IsRead g (read bs t) before × IsStack p g x bs (Go f) k
+    (t : Ty) × (f : flow.State) × Holds g f bs × (kind ≡ values.kind_of t) × (is_struct t ≡ false) × IsSpot p g bs t f left × IsSpot p g bs t f right × IsRead g left (read bs t) before × IsStack p g x bs (Go f) k
 IsFocus p g x bs (Beginning owner count level kind element) k =
     (c : Context) × (t : Ty) × (r : Region) × (f : flow.State) × IsContext p x bs c × Holds g f bs × IsThere bs r × IsNewOwner (lives_in bs r) owner × Repeats p.reading (relied_at x.relied k) c level kind element t f
     × IsStack p g x bs (Val (Value (lives.Pointer marks.Fat (read bs t) (lives_in bs r))) f) k

@@ -290,10 +290,14 @@ IsSlot g d n object = (x : ObjectType) × (slice_get g.objects object ≡ Some x
 abbrev pub IsHere : Typing → (depth number object : ℕ) → Type 0
 IsHere g d n object = (g.here object ≡ true) × IsSlot g d n object
 
--- this local has it
+-- whether a pointer may lead to an object
+abbrev pub IsHiding : Typing → (object : ℕ) → (is_hidden : Bool) → Type 0
+IsHiding g object hidden = (x : ObjectType) × (slice_get g.objects object ≡ Some x) × (x.is_hidden ≡ hidden)
+
+-- this local has it, to which no pointer leads
 abbrev pub IsLookedAt : Typing → (number : ℕ) → Option Thing → Type 0
 IsLookedAt g n None = Unit {0}
-IsLookedAt g n (Some a) = (object : ℕ) × IsHere g g.depth n object × (g.own a ≡ At object 0)
+IsLookedAt g n (Some a) = (object : ℕ) × IsHere g g.depth n object × IsHiding g object true × (g.own a ≡ At object 0)
 
 -- or it is in hand
 abbrev pub ClaimsPart : Typing → (hand : ℕ) → (peek : Option ℕ) → Option Thing → Type 0

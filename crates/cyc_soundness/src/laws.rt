@@ -57,9 +57,9 @@ pub fn programs_that_free_no_object_are_sound()
 {}
 
 /// No run of a program is ever dead or wrong that gives back unique objects, where the typing rules and the flow rules accept
-/// it, if it has no aliases and swaps no unique pointers. What is given back is what a local, an argument or a result has,
-/// and is reached by nobody then, as no other has the pointer to it; what a cell of an object has stays there. Which
-/// programs these are is computed.
+/// it, if it has no aliases. What is given back is what a local, an argument or a result has, and is reached by nobody
+/// then, as no other has the pointer to it; what a cell of an object has only a swap takes out of it. Which programs these
+/// are is computed.
 pub fn programs_that_free_what_locals_have_are_sound()
     ensures class { (p : Program) → IsWellTypedProgram p → IsAllowedProgram p → FreesLocals p → IsSound p }
     ensures computed { (p : Program) → IsWellTypedProgram p → IsAllowedProgram p → frees_locals p ≡ true → IsSound p }

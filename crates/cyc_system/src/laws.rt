@@ -49,7 +49,7 @@ pub fn programs_that_free_no_object_are_sound()
     cyc_soundness::laws::typed_programs_that_free_no_object_are_sound();
 }
 
-/// Nor is one that gives objects back, if it has no aliases and swaps no unique pointers (`frees_locals`, which is computed).
+/// Nor is one that gives objects back, if it has no aliases (`frees_locals`, which is computed).
 pub fn programs_that_free_what_locals_have_are_sound()
     ensures { (text : List ℕ) (p : Program) → IsAcceptedText text p → frees_locals p ≡ true → IsSound p }
 {
