@@ -710,8 +710,7 @@ module _ (source : Program) (pages calls : ℕ) where
         let kept : SharedAt source pages calls k e new (advanced after) = shared_saved source pages calls k e w c2 shared names facts_there object index address word cell v.value found there value machine in
         let saves_it = saves_there source pages calls k e w c2 shared names facts_there object index address word cell v.value found there value machine in
         goes_on m (parts_of after) (record { instruction = instructions.Store (operands.Slot z) 0 (operands.Slot (free + 3)); behind = advanced after } ∷ [])
-        (ap (reached (parts_of after)) last)
-        (
+        (ap (reached (parts_of after)) last) (
           store,
           (λ choice. saves_it),
           omega arith,

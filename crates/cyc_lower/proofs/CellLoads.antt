@@ -44,7 +44,7 @@ word_path source word c address (suc many) index s d q bound same before least t
       (
         here,
         (λ choice. ap (λ (a : ℕ). loads c d (memory_at (lower_program source) c (add_of a (4 * index)))) same
-        ∙ ap (loads c d) (there c.active.slots c.active.next index (λ m less. refl) (omega arith))),
+            ∙ ap (loads c d) (there c.active.slots c.active.next index (λ m less. refl) (omega arith))),
         omega arith,
         is_quiet c next.active,
         path,

@@ -39,8 +39,10 @@ module _ (source : Program) {t : Tables} {w : World} {store : StoreState} {local
     (names : AreNamed source locals outer w g base frames store) (related : objects.Related t (silent w) store) where
   pub leads : (object offset : ℕ) (at : Located) → cell_at w object offset ≡ Found at → Leads source t w locals outer object at.object × (slice_get at.object.cells offset ≡ Some at.cell)
   leads object offset at found =
-      let (lives, cell) = found-either related object offset at found in
-      (elim lives [
-        | inl (h, alive) ↦ to_store h alive
-        | inr variable ↦ to_variable (names.named t related object at.object variable)
-      ], cell)
+      let (lives, cell) = found-either related object offset at found in (
+        elim lives [
+          | inl (h, alive) ↦ to_store h alive
+          | inr variable ↦ to_variable (names.named t related object at.object variable)
+        ],
+        cell,
+      )

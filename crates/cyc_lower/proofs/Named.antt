@@ -45,7 +45,7 @@ of_variables Lexical none = absurd (let e : true ≡ false = none in cc)
 of_variables Dynamic none = absurd (let e : true ≡ false = none in cc)
 
 module _ (source : Program) where
-  named : (k : List Entry) (locals : Locals) (w : World) (store : StoreState) → HaveNames (length source.globals) (locals ∷ waiting k) w.objects w.regions → (t : Tables) 
+  named : (k : List Entry) (locals : Locals) (w : World) (store : StoreState) → HaveNames (length source.globals) (locals ∷ waiting k) w.objects w.regions → (t : Tables)
       → objects.Related t (silent w) store → (object : ℕ) (x : Object) → LiveVariable t (silent w) object x → IsNamed (length (global_types source.globals)) locals (callers k) object
   named k locals w store names t related object x live =
       let (r, there, opened) = open_there (slice_get w.regions live.region) (subst (λ o. is_live (silent w) o ≡ true) live.owner live.live) in

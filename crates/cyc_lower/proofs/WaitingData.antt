@@ -32,8 +32,7 @@ pub below_set : (program : PlainProgram) (function base : ℕ) (frames : List Fr
     → AreBelow program function base (set frames i (with_slots_of f slots))
 below_set program function base [] i f slots at below = absurd (none-some f at)
 below_set program function base (h ∷ frames) zero f slots at (first, rest) =
-    let same = same_Some h f at in
-    (
+    let same = same_Some h f at in (
       subst (λ (x : Frame). IsBelow program function base x.caller.base) same first,
       subst (λ (x : Frame). AreBelow program x.caller.function x.caller.base frames) same rest,
     )

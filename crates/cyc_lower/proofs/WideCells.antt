@@ -243,10 +243,10 @@ module _ (source : Program) (pages calls : ℕ) (k : List Entry) (e : Environmen
       = λ m out. each-outside slots c.globals 3 n start m (subst (λ x. Outside start x m) three out) in
       let with_globals : Words → Parts = λ globals. record { store = c.store; globals = globals; slots = c.active.slots; frames = c.frames } in
       let goes : (globals : Words) (i more from j x : ℕ) (choice : Choice) → j < 3 → add_of (slots a) more ≡ address + 4 * j → start + j ≡ x
-          → performed lowered choice (stage c (with_globals globals) i) (instructions.Store (operands.Slot a) more (operands.Slot from)) ≡ plain.Running (stage c (with_globals (plain.put globals x (slots from))) (i + 1))
+      → performed lowered choice (stage c (with_globals globals) i) (instructions.Store (operands.Slot a) more (operands.Slot from)) ≡ plain.Running (stage c (with_globals (plain.put globals x (slots from))) (i + 1))
       = λ globals i more from j x choice below same at_x.
-          ap (λ y. saves lowered (stage c (with_globals globals) i) y (slots from) (memory_at lowered (stage c (with_globals globals) i) y)) (same ∙ (let z : address + 4 * j ≡ GLOBALS_BASE + 4 * x = omega (arith, place, at_x) in z))
-          ∙ saves-global source (stage c (with_globals globals) i) x (globals_long source x (omega (arith, at_x, global-room (types_at source g) object few, row.room, wide, below))) (omega (arith, at_x, row.low, wide, below)) (slots from) in
+      ap (λ y. saves lowered (stage c (with_globals globals) i) y (slots from) (memory_at lowered (stage c (with_globals globals) i) y)) (same ∙ (let z : address + 4 * j ≡ GLOBALS_BASE + 4 * x = omega (arith, place, at_x) in z))
+      ∙ saves-global source (stage c (with_globals globals) i) x (globals_long source x (omega (arith, at_x, global-room (types_at source g) object few, row.room, wide, below))) (omega (arith, at_x, row.low, wide, below)) (slots from) in
       record {
         one = with_globals (after c.globals start 1);
         two = with_globals (after c.globals start 2);
@@ -307,23 +307,23 @@ module _ (source : Program) (pages calls : ℕ) (k : List Entry) (e : Environmen
       let with_slots_now : Words → Parts = λ now. record { store = c.store; globals = c.globals; slots = now; frames = c.frames } in
       let elsewhere : (m : ℕ) → Outside start (words_of_kind cell.cell.kind) m → after slots start 3 m ≡ slots m = λ m out. each-outside slots slots 3 n start m (subst (λ x. Outside start x m) three out) in
       let goes : (many i more j : ℕ) (choice : Choice) → many ≤ 3 → j < 3 → add_of (slots a) more ≡ address + 4 * j
-          → performed lowered choice (stage c (with_slots_now (after slots start many)) i) (instructions.Store (operands.Slot a) more (operands.Slot (n + j)))
-          ≡ plain.Running (stage c (with_slots_now (plain.put (after slots start many) (start + j) (slots (n + j)))) (i + 1))
+      → performed lowered choice (stage c (with_slots_now (after slots start many)) i) (instructions.Store (operands.Slot a) more (operands.Slot (n + j)))
+      ≡ plain.Running (stage c (with_slots_now (plain.put (after slots start many) (start + j) (slots (n + j)))) (i + 1))
       = λ many i more j choice few below same.
-          let d = stage c (with_slots_now (after slots start many)) i in
-          let pinned = names.whole g number j inside (omega (arith, room, below)) place.pinned in
-          ap (λ y. saves lowered d (add_of y more) (after slots start many (n + j)) (memory_at lowered d (add_of y more))) (high_still number inside room many few a temporary)
-          ∙ (ap (λ y. saves lowered d (add_of (slots a) more) y (memory_at lowered d (add_of (slots a) more))) (still number inside room many few j below)
-          ∙ (ap (λ y. saves lowered d y (slots (n + j)) (memory_at lowered d y)) (same ∙ (let z : address + 4 * j ≡ c.active.base + 4 * (start + j) = omega (arith, place.at) in z))
-          ∙ (ap (saves lowered d (c.active.base + 4 * (start + j)) (slots (n + j))) (memory-active lowered names.well d names.lie (start + j) pinned)
-          ∙ ap (λ (x : Configuration). plain.Running (advanced x)) (written-active lowered names.well d names.lie (start + j) (slots (n + j)) pinned)))) in
+      let d = stage c (with_slots_now (after slots start many)) i in
+      let pinned = names.whole g number j inside (omega (arith, room, below)) place.pinned in
+      ap (λ y. saves lowered d (add_of y more) (after slots start many (n + j)) (memory_at lowered d (add_of y more))) (high_still number inside room many few a temporary)
+      ∙ (ap (λ y. saves lowered d (add_of (slots a) more) y (memory_at lowered d (add_of (slots a) more))) (still number inside room many few j below)
+      ∙ (ap (λ y. saves lowered d y (slots (n + j)) (memory_at lowered d y)) (same ∙ (let z : address + 4 * j ≡ c.active.base + 4 * (start + j) = omega (arith, place.at) in z))
+      ∙ (ap (saves lowered d (c.active.base + 4 * (start + j)) (slots (n + j))) (memory-active lowered names.well d names.lie (start + j) pinned)
+      ∙ ap (λ (x : Configuration). plain.Running (advanced x)) (written-active lowered names.well d names.lie (start + j) (slots (n + j)) pinned)))) in
       let step_to : (many i more j from x : ℕ) (choice : Choice) → many ≤ 3 → j < 3 → add_of (slots a) more ≡ address + 4 * j → n + j ≡ from → start + j ≡ x
-          → performed lowered choice (stage c (with_slots_now (after slots start many)) i) (instructions.Store (operands.Slot a) more (operands.Slot from))
-          ≡ plain.Running (stage c (with_slots_now (plain.put (after slots start many) x (slots from))) (i + 1))
+      → performed lowered choice (stage c (with_slots_now (after slots start many)) i) (instructions.Store (operands.Slot a) more (operands.Slot from))
+      ≡ plain.Running (stage c (with_slots_now (plain.put (after slots start many) x (slots from))) (i + 1))
       = λ many i more j from x choice few below same from_is x_is.
-          subst (λ y. performed lowered choice (stage c (with_slots_now (after slots start many)) i) (instructions.Store (operands.Slot a) more (operands.Slot from)) ≡ plain.Running (stage c (with_slots_now (plain.put (after slots start many) y (slots from))) (i + 1))) x_is
-          (subst (λ y. performed lowered choice (stage c (with_slots_now (after slots start many)) i) (instructions.Store (operands.Slot a) more (operands.Slot y)) ≡ plain.Running (stage c (with_slots_now (plain.put (after slots start many) (start + j) (slots y))) (i + 1))) from_is
-          (goes many i more j choice few below same)) in
+      subst (λ y. performed lowered choice (stage c (with_slots_now (after slots start many)) i) (instructions.Store (operands.Slot a) more (operands.Slot from)) ≡ plain.Running (stage c (with_slots_now (plain.put (after slots start many) y (slots from))) (i + 1))) x_is
+      (subst (λ y. performed lowered choice (stage c (with_slots_now (after slots start many)) i) (instructions.Store (operands.Slot a) more (operands.Slot y)) ≡ plain.Running (stage c (with_slots_now (plain.put (after slots start many) (start + j) (slots y))) (i + 1))) from_is
+      (goes many i more j choice few below same)) in
       record {
         one = with_slots_now (after slots start 1);
         two = with_slots_now (after slots start 2);
@@ -364,22 +364,22 @@ module _ (source : Program) (pages calls : ℕ) (k : List Entry) (e : Environmen
       let elsewhere : (m : ℕ) → Outside start (words_of_kind cell.cell.kind) m → after old start 3 m ≡ old m = λ m out. each-outside slots old 3 n start m (subst (λ x. Outside start x m) three out) in
       let written_in : Words → Parts = λ now. record { store = c.store; globals = c.globals; slots = c.active.slots; frames = set c.frames i (with_slots_of f now) } in
       let goes : (now : Words) (q more j from y : ℕ) (choice : Choice) → j < 3 → add_of (slots a) more ≡ address + 4 * j → start + j ≡ y
-          → performed lowered choice (stage c (written_in now) q) (instructions.Store (operands.Slot a) more (operands.Slot from)) ≡ plain.Running (stage c (written_in (plain.put now y (slots from))) (q + 1))
+      → performed lowered choice (stage c (written_in now) q) (instructions.Store (operands.Slot a) more (operands.Slot from)) ≡ plain.Running (stage c (written_in (plain.put now y (slots from))) (q + 1))
       = λ now q more j from y choice below same y_is.
-          let d = stage c (written_in now) q in
-          let fd = with_slots_of f now in
-          let lie = below_set lowered g c.active.base c.frames i f now frame.at names.lie in
-          let at_d = set_at c.frames i f fd frame.at in
-          let pinned = subst (λ z. is_pinned (code_of source h) z ≡ true) y_is (names.whole h number j inside (omega (arith, room, below)) place.pinned) in
-          ap (λ z. saves lowered d z (slots from) (memory_at lowered d z)) (same ∙ (let z : address + 4 * j ≡ f.caller.base + 4 * y = omega (arith, place.at, y_is) in z))
-          ∙ (ap (saves lowered d (f.caller.base + 4 * y) (slots from)) (memory-waiting lowered names.well d lie i fd at_d y pinned)
-          ∙ (ap (λ (z : Configuration). plain.Running (advanced z)) (written-waiting_at lowered names.well d lie i fd at_d y (slots from) pinned)
-          ∙ ap (λ (fs : List Frame). plain.Running (stage c (record { store = c.store; globals = c.globals; slots = c.active.slots; frames = fs }) (q + 1))) (set_again c.frames i fd (with_slots_of f (plain.put now y (slots from)))))) in
+      let d = stage c (written_in now) q in
+      let fd = with_slots_of f now in
+      let lie = below_set lowered g c.active.base c.frames i f now frame.at names.lie in
+      let at_d = set_at c.frames i f fd frame.at in
+      let pinned = subst (λ z. is_pinned (code_of source h) z ≡ true) y_is (names.whole h number j inside (omega (arith, room, below)) place.pinned) in
+      ap (λ z. saves lowered d z (slots from) (memory_at lowered d z)) (same ∙ (let z : address + 4 * j ≡ f.caller.base + 4 * y = omega (arith, place.at, y_is) in z))
+      ∙ (ap (saves lowered d (f.caller.base + 4 * y) (slots from)) (memory-waiting lowered names.well d lie i fd at_d y pinned)
+      ∙ (ap (λ (z : Configuration). plain.Running (advanced z)) (written-waiting_at lowered names.well d lie i fd at_d y (slots from) pinned)
+      ∙ ap (λ (fs : List Frame). plain.Running (stage c (record { store = c.store; globals = c.globals; slots = c.active.slots; frames = fs }) (q + 1))) (set_again c.frames i fd (with_slots_of f (plain.put now y (slots from)))))) in
       let begins : Goes (parts_of c) (written_in (after old start 1)) bytes n
       = λ q choice.
-          ap (λ z. saves lowered (stage c (parts_of c) q) z (slots n) (memory_at lowered (stage c (parts_of c) q) z)) (first ∙ (let z : address + 4 * 0 ≡ f.caller.base + 4 * start = omega (arith, place.at) in z))
-          ∙ (ap (saves lowered (stage c (parts_of c) q) (f.caller.base + 4 * start) (slots n)) (memory-waiting lowered names.well (stage c (parts_of c) q) names.lie i f frame.at start place.pinned)
-          ∙ ap (λ (z : Configuration). plain.Running (advanced z)) (written-waiting_at lowered names.well (stage c (parts_of c) q) names.lie i f frame.at start (slots n) place.pinned)) in
+      ap (λ z. saves lowered (stage c (parts_of c) q) z (slots n) (memory_at lowered (stage c (parts_of c) q) z)) (first ∙ (let z : address + 4 * 0 ≡ f.caller.base + 4 * start = omega (arith, place.at) in z))
+      ∙ (ap (saves lowered (stage c (parts_of c) q) (f.caller.base + 4 * start) (slots n)) (memory-waiting lowered names.well (stage c (parts_of c) q) names.lie i f frame.at start place.pinned)
+      ∙ ap (λ (z : Configuration). plain.Running (advanced z)) (written-waiting_at lowered names.well (stage c (parts_of c) q) names.lie i f frame.at start (slots n) place.pinned)) in
       let far : (now : Words) → length (set c.frames i (with_slots_of f now)) ≡ length c.frames = λ now. length-set c.frames i (with_slots_of f now) in
       record {
         one = written_in (after old start 1);
@@ -455,8 +455,7 @@ module _ (source : Program) (pages calls : ℕ) (k : List Entry) (e : Environmen
       → At (code_of source c.active.function) (p + 1) (instructions.Store (operands.Slot a) (bytes + 4) (operands.Slot (suc n)))
       → At (code_of source c.active.function) (p + 1 + 1) (instructions.Store (operands.Slot a) (bytes + 4 + 4) (operands.Slot (suc (suc n)))) → IsPath source c all_links
   all_path at_first at_second at_third =
-      let (here, leads, on, quiet, (behind, leads_on, further, quiet_too, none)) = store_path at_first at_second in
-      (
+      let (here, leads, on, quiet, (behind, leads_on, further, quiet_too, none)) = store_path at_first at_second in (
         here,
         leads,
         on,

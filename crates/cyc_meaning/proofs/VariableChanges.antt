@@ -154,22 +154,36 @@ named_written object offset at value globals stack locals w found h =
 
 pub low_opened : (m home : ℕ) (stack : List Entry) (locals : Locals) (w : World) → LiveInRegions w.objects w.regions → AreLow m stack locals w.objects → AreLow m (CloseRegion (length w.regions) home ∷ stack) locals w.objects
 low_opened m home stack locals w inside low number object is =
-    let (region, lives, less) = low number object is in
-    (region, lives, λ of_call. elim of_call [
-      | inl newest ↦ (let lower : region < length w.regions = inside object region lives in absurd (omega (arith, lower, newest)))
-      | inr older ↦ less older
-    ])
+    let (region, lives, less) = low number object is in (
+      region,
+      lives,
+      λ of_call. elim of_call [
+        | inl newest ↦ (let lower : region < length w.regions = inside object region lives in absurd (omega (arith, lower, newest)))
+        | inr older ↦ less older
+      ],
+    )
 
 pub named_entered : (ending home globals : ℕ) (stack : List Entry) (locals : Locals) (w : World) → AllNamed globals stack locals w → AllNamed globals (CloseRegion ending home ∷ stack) locals w
 named_entered ending home globals stack locals w h =
-    (h.0, (λ number object is. (let (region, lives, where_it_is) = h.1 number object is in (region, lives, elim where_it_is [ | inl here ↦ inl (inr here) | inr shut ↦ inr shut ]))), h.2, h.3, h.4, h.5, h.6)
+    (h.0, (λ number object is. (let (region, lives, where_it_is) = h.1 number object is in (region, lives, elim where_it_is [ inl here ↦ inl (inr here) | inr shut ↦ inr shut ]))), h.2, h.3, h.4, h.5, h.6)
 
 pub named_left : (ending home : ℕ) (globals : ℕ) (stack : List Entry) (locals : Locals) (w : World) → IsShut w.regions ending → AllNamed globals (CloseRegion ending home ∷ stack) locals w → AllNamed globals stack locals w
-named_left ending home globals stack locals w ended h =
-    (h.0, (λ number object is. (let (region, lives, where_it_is) = h.1 number object is in (region, lives, elim where_it_is [
-      | inl here ↦ elim here [ | inl same ↦ inr (subst (λ (n : ℕ). IsShut w.regions n) (sym same) ended) | inr older ↦ inl older ]
+named_left ending home globals stack locals w ended h = (
+  h.0,
+  (λ number object is. (let (region, lives, where_it_is) = h.1 number object is in (
+    region,
+    lives,
+    elim where_it_is [
+      | inl here ↦ elim here [ inl same ↦ inr (subst (λ (n : ℕ). IsShut w.regions n) (sym same) ended) | inr older ↦ inl older ]
       | inr shut ↦ inr shut
-    ]))), h.2, h.3, h.4, h.5, h.6)
+    ],
+  ))),
+  h.2,
+  h.3,
+  h.4,
+  h.5,
+  h.6,
+)
 
 pub is_shut : (w : World) (number : ℕ) (r : Region) → region_at w number ≡ Found r → IsShut (closed w number r).regions number
 is_shut w number r found = ap found_region (set_there w.regions number r (record r { is_open = false }) (region_found w number r found))
@@ -196,10 +210,10 @@ named_call globals stack e w h = (
     | inr named ↦ inr (suc named.0, named.1, named.2)
   ]),
   (λ call other number beside object first second.
-    let (i, i_is, here) = none_named (e.locals ∷ waiting stack) call number object first in
-    let (j, j_is, there) = none_named (e.locals ∷ waiting stack) other beside object second in
-    let (same, alike) = h.4 i j number beside object here there in
-    (i_is ∙ (ap suc same ∙ sym j_is), alike)),
+      let (i, i_is, here) = none_named (e.locals ∷ waiting stack) call number object first in
+      let (j, j_is, there) = none_named (e.locals ∷ waiting stack) other beside object second in
+      let (same, alike) = h.4 i j number beside object here there in
+      (i_is ∙ (ap suc same ∙ sym j_is), alike)),
   h.5,
   h.6,
 )
@@ -214,8 +228,8 @@ named_return globals stack locals outer w h = (
     | inr named ↦ go named.0 named.1 object region r lives there has named.2
   ]),
   (λ call other number beside object first second.
-    let (same, alike) = h.4 (suc call) (suc other) number beside object first second in
-    ((let e : suc call ≡ suc other = same in omega (arith, e)), alike)),
+      let (same, alike) = h.4 (suc call) (suc other) number beside object first second in
+      ((let e : suc call ≡ suc other = same in omega (arith, e)), alike)),
   h.5,
   h.6,
 )

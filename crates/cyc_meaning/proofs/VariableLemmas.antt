@@ -109,11 +109,14 @@ module _ (objects more : List Object) (still : (object region : ℕ) → LivesIn
   module _ (regions others : List Region) (shuts : (region : ℕ) → IsShut regions region → IsShut others region) where
     in_blocks_pass : (stack : List Entry) (locals : Locals) → LiveInBlocks stack locals objects regions → LiveInBlocks stack locals more others
     in_blocks_pass stack locals h number object is =
-        let (region, lives, where_it_is) = h number object is in
-        (region, still object region lives, elim where_it_is [
-          | inl here ↦ inl here
-          | inr shut ↦ inr (shuts region shut)
-        ])
+        let (region, lives, where_it_is) = h number object is in (
+          region,
+          still object region lives,
+          elim where_it_is [
+            | inl here ↦ inl here
+            | inr shut ↦ inr (shuts region shut)
+          ],
+        )
 
     pub waiting_pass : (stack : List Entry) → WaitInBlocks stack objects regions → WaitInBlocks stack more others
     waiting_pass [] h = tt

@@ -91,8 +91,8 @@ start_named program input = (
   (λ number object is. absurd (let e : None ≡ Some object = is in cc)),
   tt,
   (λ object region r lives there has. (
-    let less : object < length (map global_object program.globals) = lives_below (map global_object program.globals) object region lives in
-    inl (omega (arith, less, length-map program.globals global_object)))),
+      let less : object < length (map global_object program.globals) = lives_below (map global_object program.globals) object region lives in
+      inl (omega (arith, less, length-map program.globals global_object)))),
   (λ call other number beside object first second. absurd (none_local call number object first)),
   globals_there program.globals,
   (λ object region lives. (let e : region ≡ 1 = globals_live program.globals object region lives in let less : region < 2 = omega (arith, e) in less)),

@@ -147,18 +147,20 @@ calling program (callees.Function number) arguments stack e w rise = calls_funct
 -- the region of a call is opened
 pub entering : {globals : ℕ} (h : Function) (arguments : List Operand) (stack : List Entry) (e : Environment) (w : World) → Begins globals (Entering h arguments) stack e w (step_entering h arguments stack e w)
 entering {globals} h arguments stack e w = Goes (λ known.
-    let (now, all) = known.1 in
-    ((length h.parameters, omega arith, now.0, low_opened 0 e.home stack e.locals w all.6 now.1, tt),
-    named_entered (length w.regions) e.home globals stack e.locals (opened w) (named_opened Stack globals stack e.locals w all)))
+    let (now, all) = known.1 in (
+      (length h.parameters, omega arith, now.0, low_opened 0 e.home stack e.locals w all.6 now.1, tt),
+      named_entered (length w.regions) e.home globals stack e.locals (opened w) (named_opened Stack globals stack e.locals w all),
+    ))
 
 -- a parameter is made
 binds : {globals : ℕ} (a : Access Region) (number : ℕ) (t : Ty) (types : List Ty) (value : Operand) (arguments before : List Operand) (body : Items) (stack : List Entry) (e : Environment) (w : World) → region_at w e.home ≡ a
     → Begins globals (Binding number (t ∷ types) before body) stack e w (declared a (Binding (suc number) types arguments body) number (kind_of t) (Some value.value) stack e w)
 binds {globals} (Found r) number t types value arguments before body stack e w found = Goes (λ h.
     let (m, behind, rises, low, here) = h.1.0 in
-    let less : number + suc (length types) ≤ m = behind in
-    ((m, omega (arith, less), rises, low_declared globals number (kind_of t) (Some value.value) stack e w r found h.0 here low h.1.1, here),
-    named_declared globals number (kind_of t) (Some value.value) stack e w r found h.0 here low h.1.1))
+    let less : number + suc (length types) ≤ m = behind in (
+      (m, omega (arith, less), rises, low_declared globals number (kind_of t) (Some value.value) stack e w r found h.0 here low h.1.1, here),
+      named_declared globals number (kind_of t) (Some value.value) stack e w r found h.0 here low h.1.1,
+    ))
 binds Closed number t types value arguments before body stack e w found = Dies
 binds Missing number t types value arguments before body stack e w found = Fails
 
@@ -357,9 +359,10 @@ catching_in tag caught value None region items later stack e w = sooner (opens_b
     let (m, rises, low) = h.1.0 in
     (h.0, ((m, rises.0, low), h.1.1)))
 catching_in {globals} tag caught value (Some number) region items later stack e w = Goes (λ h.
-    let (m, rises, low) = h.1.0 in
-    ((rises.1, low_opened number e.home stack e.locals w h.1.1.6 (low_less m number stack e.locals w.objects rises.0 low), tt),
-    named_entered (length w.regions) e.home globals stack e.locals (opened w) (named_opened Stack globals stack e.locals w h.1.1)))
+    let (m, rises, low) = h.1.0 in (
+      (rises.1, low_opened number e.home stack e.locals w h.1.1.6 (low_less m number stack e.locals w.objects rises.0 low), tt),
+      named_entered (length w.regions) e.home globals stack e.locals (opened w) (named_opened Stack globals stack e.locals w h.1.1),
+    ))
 
 later_rise : (m tag : ℕ) (number : Option ℕ) (region : ℕ) (items : Items) (later : Clauses) → ClausesRise m (Case tag number region items later) → ClausesRise m later
 later_rise m tag None region items later rises = rises.1

@@ -327,8 +327,11 @@ module _ (p : Source) (g : Typing) (x : Exits) (bs : List InScope) (e : Environm
       let first : both a ≡ At object i = given_other g.own o right left a rights.0 other ∙ has in
       given_other both q left hand a both_left (λ e. (let same = at_same object i l.number l.offset (sym first ∙ e) in apart same.0 same.1)) ∙ first))
       (λ object i apart. not_awaited g object i settled)
-      (λ kept. (given_apart g.own both o q right left hand rights.0 lefts.0
-      (λ e. (let same = at_same r.number r.offset l.number l.offset e in kept (ap (λ n. Awaits n r.offset) same.0 ∙ ap (λ n. Awaits l.number n) same.1))) (given_now g.own o left), rights.1))
+      (λ kept. (
+        given_apart g.own both o q right left hand rights.0 lefts.0
+            (λ e. (let same = at_same r.number r.offset l.number l.offset e in kept (ap (λ n. Awaits n r.offset) same.0 ∙ ap (λ n. Awaits l.number n) same.1))) (given_now g.own o left),
+        rights.1,
+      ))
       (variables_kept left (giving waits o left) (giving (giving waits o left) q hand) (giving_changed (giving waits o left) q left hand both_left) bs refl
       (variables_kept right waits (giving waits o left) (giving_changed waits o right left rights.0) bs refl (variables_pending g await bs variables)))
       (λ h next. (
