@@ -827,10 +827,11 @@ class RegionMaker(UniqueMaker):
         self.close()
 
     def aliased(self, depth):
-        found = self.full("@*")
-        if not found:
-            return self.own_local(depth)
-        name, type = self.pick(found)
+        if not self.full("@*"):
+            name = self.fresh("u")
+            self.put(f"{spelled(OWN_AT)} {name} = {self.own(OWN_AT, 1)};")
+            self.owned[-1][name] = Owned(OWN_AT, self.blocks)
+        name, type = self.pick(self.full("@*"))
         region, alias = self.fresh("a"), self.fresh("x")
         locked = [scope[name] for scope in self.owned if name in scope][0]
         self.open("{")
