@@ -9,7 +9,7 @@ use cyc_words::{Code, Fault};
 use std::fmt;
 
 /// How a call of the program came out. Its `Display` is the last line on standard error.
-#[derive(Clone, Copy, Debug, PartialEq, Eq)]
+#[derive(Clone, Copy)]
 pub enum Answer {
     /// The text was checked or compiled, or the image listed.
     Done,

@@ -12,7 +12,7 @@ use cyc_machine::constants::{MAX_CALLS, MAX_PAGES, MIN_CALLS, MIN_PAGES};
 use std::alloc::{AllocError, Global};
 
 /// What the words of a command line ask for.
-#[derive(Clone, Copy, Debug, PartialEq, Eq)]
+#[derive(Clone, Copy)]
 pub enum Request<'a> {
     /// `check SOURCE`: to say what is wrong with the program in the file `source`.
     Check {
