@@ -1,7 +1,7 @@
 //! Laws of the definitions in `specs/`. Each function does nothing: its contract is the law, and so it is proved with the
 //! crate.
 
-ghost use Rattle.std.specs.Prelude.{◌≡◌, ◌<◌, Bool, true, List, ℕ, Some, Ok, Result};
+ghost use Rattle.std.specs.Prelude.{◌≡◌, ◌<◌, Bool, List, ℕ, Some, Ok, Result};
 ghost use Rattle.std.specs.List.{AllByRecursion};
 ghost use Rattle.cyc_elf.specs.Image.{ImageContents};
 ghost use Rattle.cyc_elf.specs.Reading.{reading};
@@ -11,8 +11,6 @@ ghost use Rattle.cyc_machine.specs.Bounds.{Bounds, AreAllowed};
 ghost use Rattle.cyc_words.specs.declared.fault.Fault.{Fault};
 ghost use Rattle.cyc_types.specs.TypedTrees.{Program};
 ghost use Rattle.cyc_types.specs.Texts.{IsOfTextProgram};
-ghost use Rattle.cyc_soundness.specs.Frees.{frees_no_object};
-ghost use Rattle.cyc_soundness.specs.FreesLocals.{frees_locals};
 ghost use Rattle.cyc_soundness.specs.Sound.{IsSound};
 ghost use Rattle.cyc_system.specs.Front.{IsAcceptedText, IsRefusedText};
 ghost use Rattle.cyc_system.specs.Compiled.{IsCompiledText};
@@ -41,20 +39,11 @@ pub fn accepted_programs_are_of_texts()
     ensures { (text : List ℕ) (p : Program) → IsAcceptedText text p → IsOfTextProgram p }
 {}
 
-/// No run of the program of an accepted text is ever dead or wrong, if no expression of it gives an object back by `ufree`: so what
-/// `compile` answers for it is its image. Nothing else is asked.
-pub fn programs_that_free_no_object_are_sound()
-    ensures { (text : List ℕ) (p : Program) → IsAcceptedText text p → frees_no_object p ≡ true → IsSound p }
+/// No dead access: no run of the program of an accepted text is dead or wrong after any number of steps, whatever its input.
+pub fn accepted_programs_are_sound()
+    ensures { (text : List ℕ) (p : Program) → IsAcceptedText text p → IsSound p }
 {
-    cyc_soundness::laws::typed_programs_that_free_no_object_are_sound();
-}
-
-/// Nor is one that gives objects back, if it has no aliases (`frees_locals`, which is computed).
-pub fn programs_that_free_what_locals_have_are_sound()
-    ensures { (text : List ℕ) (p : Program) → IsAcceptedText text p → frees_locals p ≡ true → IsSound p }
-{
-    cyc_types::laws::typed_trees_are_well_typed();
-    cyc_soundness::laws::programs_that_free_what_locals_have_are_sound();
+    cyc_soundness::laws::typed_programs_are_sound();
 }
 
 /// What `compile` answers is read as an image, and the machine never answers that it has no place for it.
