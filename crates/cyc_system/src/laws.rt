@@ -15,7 +15,7 @@ ghost use Rattle.cyc_soundness.specs.Sound.{IsSound};
 ghost use Rattle.cyc_system.specs.Front.{IsAcceptedText, IsRefusedText};
 ghost use Rattle.cyc_system.specs.Compiled.{IsCompiledText};
 ghost use Rattle.cyc_system.specs.FullPreservation.{DoesTheSame, AreAlike, IsLoadable, IsImageOf, text_words};
-ghost use Rattle.cyc_system.specs.Engine.{Devices, AnswersAnew};
+ghost use Rattle.cyc_system.specs.Engine.{Devices, Answers, AnswersAnew};
 ghost use Rattle.cyc_system.specs.CompiledRuns.{RunsAs};
 ghost use Rattle.cyc_system.specs.declared.report.Report.{Report};
 ghost use Rattle.cyc_system.specs.declared.report.RunFault.{RunFault};
@@ -59,12 +59,16 @@ pub fn images_run_alike()
         → AllByRecursion (λ b. b < 256) input → AreAlike p image limits store input }
 {}
 
-/// `compile` and then `run`: what is written and answered for a text that was compiled is as the limited run of the text's program
-/// says, for all limits, over each new store, for each input that the reader tells, and each budget. With T words of text, a budget of
-/// (n + 1) * T lets the run come as far as the program comes in n steps.
+/// `compile` and then `run`, or `run_with` over any store that is new: what is written and answered for a text that was compiled is as
+/// the limited run of the text's program says, for all limits, for each input that the reader tells, and each budget. With T words of
+/// text, a budget of (n + 1) * T lets the run come as far as the program comes in n steps.
 pub fn compiled_programs_run()
-    ensures { (text : List ℕ) (p : Program) (file : List ℕ) → IsCompiledText text p → (is : IsImageOf p file)
+    ensures anew { (text : List ℕ) (p : Program) (file : List ℕ) → IsCompiledText text p → (is : IsImageOf p file)
         → (limits : Bounds) (input : List ℕ) → AreAllowed limits.pages limits.calls → AllByRecursion (λ b. b < 256) input
         → (grows : Bool) (budget : ℕ) (old new : Devices) (result : Result Report RunFault) → old.remaining ≡ Some input
         → AnswersAnew grows (reading file) limits budget old new result → RunsAs p limits input (text_words is.image) budget old new result }
+    ensures over_a_store { (text : List ℕ) (p : Program) (file : List ℕ) → IsCompiledText text p → (is : IsImageOf p file)
+        → (limits : Bounds) (input : List ℕ) → AreAllowed limits.pages limits.calls → AllByRecursion (λ b. b < 256) input
+        → (grows : Bool) (store : StoreState) → IsNew limits.pages store → (budget : ℕ) (old new : Devices) (result : Result Report RunFault) → old.remaining ≡ Some input
+        → Answers grows store (reading file) limits budget old new result → RunsAs p limits input (text_words is.image) budget old new result }
 {}
