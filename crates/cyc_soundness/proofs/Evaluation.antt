@@ -32,9 +32,9 @@ use Rattle.cyc_meaning.specs.State.{InRegion, Unique, World, heap_number, cell_a
 use Rattle.cyc_meaning.specs.Parts.{target_of_value, target_by, leads_to, wrong, computed, loaded_from, stored}
 use Rattle.cyc_meaning.specs.Nesting.{ends_of, AreOpen}
 use Rattle.cyc_meaning.specs.Step.{step_evaluating, addressed, counts, passes, assigned, decided, tested, awaits_right, chained, converts}
-use Rattle.cyc_soundness.specs.Lives.{Life, OfRegion, OfObject, Never, Owned, Kept, heap_life, as_heap, Reading, Lives, AsHeap, ByScope, RunTy, RunValue, Value, Into, looked, kind_at}
+use Rattle.cyc_soundness.specs.Lives.{Life, OfRegion, Owned, Kept, heap_life, as_heap, Reading, Lives, AsHeap, ByScope, RunTy, RunValue, Value, Into, looked, kind_at}
 use Rattle.cyc_soundness.specs.Lives as lives
-use Rattle.cyc_soundness.specs.Worlds.{Thing, Holder, Nobody, Hand, At, thing_of, Owns, AtStart, Claims, ClaimsPart, ClaimsBy, IsLookedAt, IsSlot, IsHere, given, marked, handing, Settled, IsOpenObject, IsNewOwner, IsPlain, HasType, Typing, IsFull, global_type, Outlasts, alike, globals as with_globals, AgreesWith, IsResult, AreOperands, IsTyped, IsHiding}
+use Rattle.cyc_soundness.specs.Worlds.{Thing, Holder, Nobody, Hand, At, thing_of, Owns, AtStart, Claims, ClaimsPart, ClaimsBy, IsLookedAt, IsSlot, IsHere, given, marked, handing, Settled, IsOpenObject, IsNewOwner, IsPlain, HasType, Typing, IsFull, global_type, Outlasts, alike, globals as with_globals, AgreesWith, IsResult, AreOperands, IsTyped, IsHiding, life_at}
 use Rattle.cyc_soundness.specs.Frames.{IsAmong, Bound, local_type, InScope, Variable, IsBound, AreVariables, IsHomed, LiveIn, IsSet, IsFullIn, Holds, Implies, Exits, IsContext, KnowsProgram, lives_in, read, read_value, frees_in}
 use Rattle.cyc_soundness.specs.Classes.{is_full, Relied, frees_of, and_looked, IsSpared, HasScopes, InExpression, InArguments, InOperations, Source}
 use Rattle.cyc_soundness.specs.Stacks.{KeepsUnique, IsCommonLife, IsPlainValue, IsChained, Evaluates, Val, Go, turned, relied_at, IsCalled, null, IsStack, IsFocus, IsWell}
@@ -46,7 +46,7 @@ use Rattle.cyc_soundness.proofs.WorldLemmas.{type_grown, result_grown}
 use Rattle.cyc_soundness.proofs.Hands.{Changed, at_no_hand, given_now, marked_now, marked_before, marked_keeps, handing_changed, variables_kept, holds_kept, taken_typed, hands_globals, kept_now}
 use Rattle.cyc_soundness.proofs.Sharing.{keeps_by, region_common, plain_read, all_freed, unique_by_type}
 use Rattle.cyc_soundness.proofs.StackLemmas.{emptied_other, stack_changed, comes_alone, keeps_passed, void_goes, pointer_left, bound_of, bound_to, lasting_open, kept_open, object_known, among_open, among_own, place_local, among_bound, among_variable, among_live, among_level, among_set, set_stored, open_of, globals_among, settled}
-use Rattle.cyc_soundness.proofs.ValueLemmas.{zero_is, converted_by, kind_given}
+use Rattle.cyc_soundness.proofs.ValueLemmas.{zero_is, converted_by, kind_given, lasts_itself}
 use Rattle.cyc_soundness.proofs.RegionLemmas.{agrees_of, there_of, cell_live, global_means, these_by, live_by, instance_is, parameters_mean, result_means}
 use Rattle.cyc_soundness.proofs.Cells.{lasting_common, open_object, plain_claims, pointer_plain, running, part_at, Content, content_of, reads, stored_typing, stores_marking, stores_on}
 use Rattle.cyc_soundness.proofs.Looking.{looked_expression, looked_converted, peeked_so}
@@ -129,8 +129,6 @@ thin_claims own h k marks.Fat t l object offset z same is = subst (λ v. Claims 
 -- what stands at the start stands there in another form
 start_sum : (l : Life) (start index : ℕ) → AtStart l start index → AtStart l (start + index) 0
 start_sum (OfRegion number ns us) start index at = tt
-start_sum (OfObject object) start index at = tt
-start_sum Never start index at = tt
 start_sum (Kept region) start index at = tt
 start_sum Owned start index (first, second) = ((let e : start + index ≡ 0 = omega (arith, first, second) in e), refl)
 
@@ -163,8 +161,6 @@ life_claims own h m t l n z keeps is = go n refl
     go : (n' : Life) → n ≡ n' → Claims own h (lives.Pointer m t n) z
     go Owned same = subst (λ e. Claims own h (lives.Pointer m t e) z) (keeps same ∙ sym same) is
     go (OfRegion number ns us) same = plain_claims own h (lives.Pointer m t n) z (pointer_plain m t n (subst (λ e. IsCommonLife e) (sym same) tt))
-    go (OfObject object) same = plain_claims own h (lives.Pointer m t n) z (pointer_plain m t n (subst (λ e. IsCommonLife e) (sym same) tt))
-    go Never same = plain_claims own h (lives.Pointer m t n) z (pointer_plain m t n (subst (λ e. IsCommonLife e) (sym same) tt))
     go (Kept region) same = plain_claims own h (lives.Pointer m t n) z (pointer_plain m t n (subst (λ e. IsCommonLife e) (sym same) tt))
 
 converted_claims : (g : Typing) (i : ℕ) (n : Lives) (c : Context) (s : ValueType) (t : Ty) (v : Operand) (z : values.Value) → KeepsUnique c.regions n → Converts c s t → IsResult g (lives.value_at n s) v → conversion (tests.kind_of t) v.value ≡ Gives z
@@ -537,7 +533,7 @@ module _ (p : Source) where
         subst (λ o. IsWell p (addressed o k e w)) (sym at)
         (hands k (read_value bs t) (Value (lives.Pointer marks.NonNull (read bs v) (lives_in bs r))) (record { kind = kinds.NonNull; value = values.Thin b.object 0 }) f h live holds known
         (ap (read_value bs) (same ∙ ap types.Value u_is))
-        (refl, (y, among_variable g l.among variables, l.hidden ∙ plain, subst (λ z. Outlasts b.life z) life (alike b.life), part))
+        (refl, (y, among_variable g l.among variables, l.hidden ∙ plain, subst (λ z. Outlasts (life_at b.object z) (lives_in bs r)) (sym life) (lasts_itself b.object (lives_in bs r)), part))
         (plain_claims g.own (Hand (stacks.operands_in k)) (lives.Pointer marks.NonNull (read bs v) (lives_in bs r)) (values.Thin b.object 0) (pointer_plain marks.NonNull (read bs v) (lives_in bs r) common)) stack)
     evaluate (AddressOfCell d u) k c t f h q opens live stands holds (inl (v, r, cell, plain, other, u_is, same)) flows kept stack =
         on (Locating d) (NeedsPlace TakeAddress ∷ k) live (

@@ -8,7 +8,7 @@ use Rattle.cyc_meaning.specs.Values.{Operand}
 use Rattle.cyc_meaning.specs.Values as values
 use Rattle.cyc_meaning.specs.State.{Dynamic, new_region, Region, Unique, Object, heap_number, is_open}
 use Rattle.cyc_meaning.proofs.ListLemmas.{slice_get-end, slice_get-set_other}
-use Rattle.cyc_soundness.specs.Lives.{Life, OfRegion, OfObject, Never, Owned, Kept, RunTy, RunValue, Void, Null, Value, Seen, Into}
+use Rattle.cyc_soundness.specs.Lives.{Life, OfRegion, Owned, Kept, RunTy, RunValue, Void, Null, Value, Seen, Into}
 use Rattle.cyc_soundness.specs.Worlds.{Pending, Settled, Awaits, IsHiding, IsKept, IsAmong, first as newest, later as behind, Slot, ObjectType, variable_type, Thing, KeyOf, PointerTo, Holder, Nobody, Hand, At, Lent, Typing, IsHeld, same_thing, thing_of, Owns, Claims, ClaimsPart, ClaimsBy, ClaimsAlone, IsLookedAt, IsSlot, IsHere, given, giving, marked, handing, AreOwned, IsUniqueObject, is_lent_by, lent_now, IsOpenIn, Stays, IsDynamic, IsFull, IsOwner, IsObject, IsTyped, Grows}
 use Rattle.cyc_soundness.specs.Frames.{InScope, Variable, Names, Instance, IsOfVariable, local_type, HoldsIts, IsFullIn, AreVariables, AreSet, Holds, KnowsProgram}
 use Rattle.cyc_soundness.specs.Classes.{Source}
@@ -204,16 +204,14 @@ module _ (old : Holder) (g h : Typing) (changed : Changed old g h) where
   alone_kept i Null v apart is = tt
   alone_kept i (Seen t) v apart is = tt
 
-  lent_kept : (region : ℕ) → is_lent_by g.loans old ≡ false → lent_now g region ≡ true → lent_now h region ≡ true
+  lent_kept : (a : Thing) → is_lent_by g.loans old ≡ false → lent_now g a ≡ true → lent_now h a ≡ true
   lent_kept region none e =
-      let apart : g.own (KeyOf region) ≢ old = (λ same. (let k : true ≡ false = sym e ∙ ap (λ h. is_lent_by g.loans h) same ∙ none in absurd (cc))) in
-      subst (λ n. is_lent_by n (h.own (KeyOf region)) ≡ true) (sym changed.loans) (subst (λ h. is_lent_by g.loans h ≡ true) (sym (changed.own (KeyOf region) apart)) e)
+      let apart : g.own a ≢ old = (λ same. (let k : true ≡ false = sym e ∙ ap (λ h. is_lent_by g.loans h) same ∙ none in absurd (cc))) in
+      subst (λ n. is_lent_by n (h.own a) ≡ true) (sym changed.loans) (subst (λ h. is_lent_by g.loans h ≡ true) (sym (changed.own a apart)) e)
 
   pub open_kept : (l : Life) → is_lent_by g.loans old ≡ false → IsOpenIn g l → IsOpenIn h l
   open_kept (Kept region) none is = lent_kept region none is
   open_kept (OfRegion number ns us) none is = λ r e. lent_kept r none (is r e)
-  open_kept (OfObject object) none is = tt
-  open_kept Never none is = tt
   open_kept Owned none is = tt
 
   one_kept : (b : InScope) → is_lent_by g.loans old ≡ false → IsOfVariable g b → IsOfVariable h b
@@ -472,10 +470,8 @@ lent_more n (At i j) e = e
 lent_more n (Lent j) e = let less : j < n = ltb-true j n e in lt-ltb j (suc n) (let past : j < suc n = omega (arith, less) in past)
 
 open_more : (g : Typing) (l : Life) → IsOpenIn g l → IsOpenIn (record g { loans = suc g.loans }) l
-open_more g (Kept region) is = lent_more g.loans (g.own (KeyOf region)) is
-open_more g (OfRegion number ns us) is = λ r e. lent_more g.loans (g.own (KeyOf r)) (is r e)
-open_more g (OfObject object) is = tt
-open_more g Never is = tt
+open_more g (Kept a) is = lent_more g.loans (g.own a) is
+open_more g (OfRegion number ns us) is = λ a e. lent_more g.loans (g.own a) (is a e)
 open_more g Owned is = tt
 
 -- which swap is under way is nothing to what is open
@@ -485,8 +481,6 @@ pending_grows g q = record { objects = λ n u is. is; filled = λ n count is. is
 open_pending : (g : Typing) (q : Pending) (l : Life) → IsOpenIn g l → IsOpenIn (record g { pending = q }) l
 open_pending g q (Kept region) is = is
 open_pending g q (OfRegion number ns us) is = is
-open_pending g q (OfObject object) is = tt
-open_pending g q Never is = tt
 open_pending g q Owned is = tt
 
 variable_pending : (g : Typing) (q : Pending) (b : InScope) → IsOfVariable g b → IsOfVariable (record g { pending = q }) b

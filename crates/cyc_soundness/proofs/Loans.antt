@@ -25,7 +25,7 @@ use Rattle.cyc_meaning.specs.Parts.{wrong}
 use Rattle.cyc_meaning.specs.Nesting.{ends_of, IsNested}
 use Rattle.cyc_meaning.specs.Regions.{is_dynamic, opened_by, opens_with, opens_dynamic, closes_dynamic, closes_with, aliased, frees_owned, frees_object, frees}
 use Rattle.cyc_meaning.specs.Objects.{freed}
-use Rattle.cyc_soundness.specs.Lives.{Life, OfRegion, OfObject, Never, Kept, heap_life, Value, at, Reading, AsHeap, ByScope, AllIn, IsKnown, owned_life}
+use Rattle.cyc_soundness.specs.Lives.{Life, OfRegion, Kept, heap_life, Value, at, Reading, AsHeap, ByScope, AllIn, IsKnown, owned_life}
 use Rattle.cyc_soundness.specs.Lives as lives
 use Rattle.cyc_soundness.specs.Worlds.{OfLocal, Thing, KeyOf, PointerTo, Nobody, Hand, At, Lent, thing_of, Owns, Claims, IsSlot, IsHere, giving, given, marked, handing, variable_type, IsHeld, is_lent_by, IsOpenIn, Stays, Grows, IsFull, IsPlain, Typing, IsKnownLife, IsNumber, IsKeyOf, HasType, IsResult, IsTyped, IsDynamic, IsKnownOwner, Settled, Holder}
 use Rattle.cyc_soundness.specs.Classes.{IsSpared, HasLoans, IsDeclarable, Source, HasAliases}
@@ -216,8 +216,8 @@ module _ (p : Source) (g : Typing) (x : Exits) (bs : List InScope) (e : Environm
       inner = Names r (life_named bs r) true ∷ bs
 
       by_life : (l : Life) → life_named bs r ≡ l → IsKeyOf l region → IsWell p (opens_with number lent js (values.Key region) k e w)
-      by_life (Kept n) is_kept same =
-          let key : b.of_type ≡ lives.Key (Kept n) = of_type ∙ ap (λ l. lives.Key l) is_kept in
+      by_life (Kept (KeyOf n)) is_kept same =
+          let key : b.of_type ≡ lives.Key (Kept (KeyOf n)) = of_type ∙ ap (λ l. lives.Key l) is_kept in
           let known : IsAmong n g.kept = subst (λ l. IsKnownLife g l) is_kept (name_known g bs r variables) in
           let by : IsByType b.of_type = subst (λ t. IsByType t) (sym key) tt in
           let has : g.own (KeyOf n) ≡ At b.object 0 = (subst (λ t. Claims g.own (At b.object 0) t values.Null) key (lender_has b f (settled p g x cs (Go i) k stack) among by (subst (λ m. IsFullIn f m) (sym number_of) full) holds values.Null)).0 in
@@ -227,7 +227,7 @@ module _ (p : Source) (g : Typing) (x : Exits) (bs : List InScope) (e : Environm
           let j = lending_typing b in
           let now : j.own (KeyOf n) ≡ Lent g.loans = subst (λ t. Owns j.own (Lent g.loans) (thing_of t values.Null)) key (given_now g.own (lent_thing b) (Lent g.loans)) in
           let opens : IsOpenIn j (life_named bs r) = subst (λ l. IsOpenIn j l) (sym is_kept) (subst (λ o. is_lent_by (suc g.loans) o ≡ true) (sym now) (lent_last g.loans)) in
-          let named : life_named inner r ≡ Kept n = same_name r (life_named bs r) (life_named bs r) ∙ is_kept in
+          let named : life_named inner r ≡ Kept (KeyOf n) = same_name r (life_named bs r) (life_named bs r) ∙ is_kept in
           let here = context_lending p x (Names r (life_named bs r) true ∷ bs) (with_key_opened r c) lent (context_again p x bs c stands loans alive r less) in
           subst (λ a. IsWell p (opened_by a region number lent js k e w)) (sym found)
           (subst (λ (y : Bool). IsWell p (if y then Running (Naming number (record { kind = kinds.Handle; value = values.Handle region }) js) (EndLoan lent ∷ k) e w else wrong w)) (sym dynamic)
@@ -250,9 +250,8 @@ module _ (p : Source) (g : Typing) (x : Exits) (bs : List InScope) (e : Environm
             next,
             z.stack,
           )))
+      by_life (Kept (PointerTo o)) is_kept same = absurd same
       by_life (OfRegion n ns us) is_kept same = absurd same
-      by_life (OfObject o) is_kept same = absurd same
-      by_life Never is_kept same = absurd same
       by_life lives.Owned is_kept same = absurd same
   opens_on number lent js v k cs c b r f h i live holds loans within stands among number_of of_type spared full less alive number_is next again is stack = absurd is
 
@@ -298,7 +297,7 @@ module _ (p : Source) (g : Typing) (x : Exits) (bs : List InScope) (e : Environm
       → IsStack p g x cs (Go h) k → IsWell p (opens_dynamic number js k e w)
   keys_on number r js k cs c f h nests live holds loans within stands region alive number_is next stack =
       let n = length w.regions in
-      let l : Life = Kept n in
+      let l : Life = Kept (KeyOf n) in
       let hand = Hand (operands_in k) in
       let key : lives.RunTy = lives.Key l in
       let o = giving g (Some (KeyOf n)) hand in
@@ -337,7 +336,7 @@ module _ (p : Source) (g : Typing) (x : Exits) (bs : List InScope) (e : Environm
   closes_on (values.Key region) k r f live holds is has stack = by_life (lives_in bs r) refl is has
     where
       by_life : (l : Life) → lives_in bs r ≡ l → IsKeyOf l region → Claims g.own (Hand (operands_in k)) (lives.Key l) (values.Key region) → IsWell p (closes_with (values.Key region) k e w)
-      by_life (Kept n) is_kept same claims =
+      by_life (Kept (KeyOf n)) is_kept same claims =
           let o : Option Thing = Some (KeyOf n) in
           let hand = Hand (operands_in k) in
           let h = giving g o Nobody in
@@ -351,9 +350,8 @@ module _ (p : Source) (g : Typing) (x : Exits) (bs : List InScope) (e : Environm
           (subst (λ m. IsTyped h (set w.regions m (record s { is_open = false })) w.objects) same (closed_by_key g w.regions w.objects n (operands_in k) (record s { is_open = false }) known claims.0 typed))
           (hands_globals p g (given o Nobody g.own) g.here globals) bound (variables_kept hand g h changed bs refl variables) Proceeding k live
           (f, holds_kept hand g h changed f bs (λ m object s here. at_no_hand object 0 (operands_in k)) holds, stack_changed p hand g h x bs (Go f) k changed (let le : operands_in k ≤ operands_in k = omega arith in le) stack)))
+      by_life (Kept (PointerTo o)) is_kept same claims = absurd same
       by_life (OfRegion n ns us) is_kept same claims = absurd same
-      by_life (OfObject o) is_kept same claims = absurd same
-      by_life Never is_kept same claims = absurd same
       by_life lives.Owned is_kept same claims = absurd same
   closes_on v k r f live holds is has stack = absurd is
 

@@ -20,12 +20,12 @@ use Rattle.cyc_meaning.specs.Values as values
 use Rattle.cyc_meaning.specs.State.{Object, Owner, Pass, MakeFields, Region, Access, Found, Closed, Missing, found_region, is_open, heap_number, globals_number, World, FillElement, AwaitingPlace, SwapRight, Write, Environment, with_local, Awaiting, ApplyPointer, StoreCell, Advance, Entry, Needs, NeedsPlace, Discard, Rest, Join, Loop, CloseRegion, CloseLexical, EndLoan, Handler, Caller, Main}
 use Rattle.cyc_meaning.specs.Nesting.{ends_of, IsFound, AreOpen, IsHome, IsNested}
 use Rattle.cyc_meaning.specs.Nesting as nesting
-use Rattle.cyc_soundness.specs.Lives.{Life, OfRegion, OfObject, Never, Owned, Kept, heap_life, RunTy, RunValue, Void, Null, Value, Seen, Into, looked, Lives, at, value_at, Reading}
+use Rattle.cyc_soundness.specs.Lives.{Life, OfRegion, Owned, Kept, heap_life, RunTy, RunValue, Void, Null, Value, Seen, Into, looked, Lives, at, value_at, Reading}
 use Rattle.cyc_soundness.specs.Lives as lives
-use Rattle.cyc_soundness.specs.Worlds.{OfLocal, Settled, Thing, KeyOf, ClaimsPart, IsHeld, Holder, Nobody, Hand, At, Lent, pointer_at, thing_of, Claims, ClaimsBy, IsHad, IsSlot, IsHere, is_lent_by, Stays, IsOpenIn, AreOperands, ObjectType, Typing, IsTyped, IsFull, variable_type, IsEndOf, whole, behind, Outlasts, alike, heap as for_ever, globals as with_globals, stays, encloses, IsOpenLife, Grows, IsKnownOwner, IsHiding}
+use Rattle.cyc_soundness.specs.Worlds.{OfLocal, Settled, Thing, KeyOf, ClaimsPart, IsHeld, Holder, Nobody, Hand, At, Lent, pointer_at, thing_of, Claims, ClaimsBy, IsHad, IsSlot, IsHere, is_lent_by, Stays, IsOpenIn, AreOperands, ObjectType, Typing, IsTyped, IsFull, variable_type, IsEndOf, whole, behind, Outlasts, alike, heap as for_ever, globals as with_globals, stays, encloses, borrows, PointerTo, IsOpenLife, Grows, IsKnownOwner, IsHiding}
 use Rattle.cyc_soundness.specs.Frames.{IsAmong, first, later, Bound, InScope, Variable, Level, Home, lives_in, read, IsThere, home_of, IsHomed, IsScope, AreBelow, IsBound, AreVariables, IsLasting, AreLiveIn, home_in, LiveIn, IsInner, Within, itself, older, IsSet, AreSet, IsFullIn, Holds, IsFullAt, AreFullAt, Exits, relying, frees_in, life_named, read_value, local_type}
 use Rattle.cyc_soundness.specs.Classes.{is_full, Relied, only, and_looked, IsSparedBy, IsSpared, InOperations, Source}
-use Rattle.cyc_soundness.specs.Stacks.{IsAccepted, Part, Whole, PartOf, part, part_of_place, relied_by, relied_at, WaitsPlace, Want, Nothing, Val, PlaceOf, Go, held, Waits, place_operand, count_held, count_place, IsThrough, IsArray, IsArrayOf, AreClaimed, IsHeldPart, operands_in, Keeps, IsSpot, of_local, of_global, of_cell, IsLeftSpot, left_variable, left_cell, KeepsPlace, AreSwapped, IsStack}
+use Rattle.cyc_soundness.specs.Stacks.{IsAccepted, Part, Whole, PartOf, part, part_of_place, relied_by, relied_at, WaitsPlace, Want, Nothing, Val, PlaceOf, Go, held, Waits, place_operand, count_held, count_place, IsThrough, IsArray, IsArrayOf, AreClaimed, IsHeldPart, operands_in, Keeps, IsSpot, of_local, of_global, of_cell, IsLeftSpot, left_variable, left_cell, KeepsPlace, AreSwapped, IsStack, IsCommonLife}
 use Rattle.cyc_soundness.specs.Stacks as stacks
 use Rattle.cyc_soundness.proofs.Numbers.{same_or_other, some_same}
 use Rattle.cyc_soundness.proofs.FlowLemmas.{other_set, other_full, full_put, reached_with}
@@ -907,20 +907,20 @@ end_among m ms ns (behind n os end) = later n os (end_among m ms os end)
 
 -- a dynamic region is open
 abbrev pub IsKeptOpen : List Region → Life → Type 0
-IsKeptOpen regions (Kept number) = is_open (slice_get regions number) ≡ true
+IsKeptOpen regions (Kept (KeyOf number)) = is_open (slice_get regions number) ≡ true
 IsKeptOpen regions l = Unit {0}
 
+-- what is lent somebody has
+pub lent_held : (count : ℕ) (h : Holder) → is_lent_by count h ≡ true → IsHeld h
+lent_held count Nobody e = absurd (let k : false ≡ true = e in cc)
+lent_held count (Hand i) e = tt
+lent_held count (At m i) e = tt
+lent_held count (Lent j) e = tt
+
 pub kept_open : (g : Typing) (regions : List Region) (objects : List Object) (l : Life) → IsTyped g regions objects → IsKnownOwner g l → IsOpenIn g l → IsKeptOpen regions l
-kept_open g regions objects (Kept number) typed known opens = dynamic_open (slice_get regions number) ((typed.kept number known).1 (lent_held g.loans (g.own (KeyOf number)) opens))
-  where
-    lent_held : (count : ℕ) (h : Holder) → is_lent_by count h ≡ true → IsHeld h
-    lent_held count Nobody e = absurd (let k : false ≡ true = e in cc)
-    lent_held count (Hand i) e = tt
-    lent_held count (At m i) e = tt
-    lent_held count (Lent j) e = tt
+kept_open g regions objects (Kept (KeyOf number)) typed known opens = dynamic_open (slice_get regions number) ((typed.kept number known).1 (lent_held g.loans (g.own (KeyOf number)) opens))
+kept_open g regions objects (Kept (PointerTo object)) typed known opens = tt
 kept_open g regions objects (OfRegion number ns us) typed known opens = tt
-kept_open g regions objects (OfObject object) typed known opens = tt
-kept_open g regions objects Never typed known opens = tt
 kept_open g regions objects Owned typed known opens = tt
 
 -- what has this life has not ended
@@ -930,9 +930,7 @@ IsPresent g ns l = IsLasting ns l × IsOpenIn g l
 
 lasting_present : (g : Typing) (ns : List ℕ) (l : Life) → IsLasting ns l → IsOpenIn g l → IsPresent g ns l
 lasting_present g ns (OfRegion number around lent) lasts opens = (lasts, opens)
-lasting_present g ns (OfObject object) lasts opens = absurd lasts
-lasting_present g ns Never lasts opens = absurd lasts
-lasting_present g ns (Kept region) lasts opens = (lasts, opens)
+lasting_present g ns (Kept a) lasts opens = (lasts, opens)
 lasting_present g ns Owned lasts opens = tt
 
 pub there_present : (g : Typing) (ns : List ℕ) (bs : List InScope) (r : Region') → AreLiveIn ns bs → AreVariables g bs → IsThere bs r → IsPresent g ns (lives_in bs r)
@@ -951,10 +949,9 @@ object_known g regions objects number t typed there = let (x, m, at, flag, is) =
 pub lasting_open : (regions : List Region) (ns : List ℕ) (l : Life) → AreOpen regions ns → is_open (slice_get regions heap_number) ≡ true → IsKeptOpen regions l → IsLasting ns l → IsOpenLife regions l
 lasting_open regions ns (OfRegion m ms us) opens heap kept (inl is_heap) = subst (λ l. IsOpenLife regions l) (sym is_heap) heap
 lasting_open regions ns (OfRegion m ms us) opens heap kept (inr end) = open_of regions (end_among m ms ns end) opens
-lasting_open regions ns (OfObject o) opens heap kept is = is
-lasting_open regions ns Never opens heap kept is = is
 lasting_open regions ns Owned opens heap kept is = absurd is
-lasting_open regions ns (Kept number) opens heap kept is = kept
+lasting_open regions ns (Kept (KeyOf number)) opens heap kept is = kept
+lasting_open regions ns (Kept (PointerTo object)) opens heap kept is = tt
 
 around_heap : (n : ℕ) (ns : List ℕ) (us : ℕ → Bool) → OfRegion n ns us ≡ heap_life → ns ≡ []
 around_heap n ns us e = ap around_of e
@@ -964,12 +961,13 @@ around_heap n ns us e = ap around_of e
     around_of l = []
 
 -- what outlasts what is open is open
-pub open_outlasting : (g : Typing) (l m : Life) → Outlasts l m → IsOpenIn g m → IsOpenIn g l
-open_outlasting g l m (alike _) opens = opens
-open_outlasting g l m (for_ever _) opens = λ r e. absurd (let k : false ≡ true = e in cc)
-open_outlasting g l m (with_globals _) opens = λ r e. absurd (let k : false ≡ true = e in cc)
-open_outlasting g l m (stays r n ns us has) opens = opens r has
-open_outlasting g l m (encloses a b as' bs us vs end more) opens = λ r e. opens r (more r e)
+pub open_outlasting : (g : Typing) (l m : Life) → Outlasts l m → IsCommonLife m → IsOpenIn g m → IsOpenIn g l
+open_outlasting g l m (alike _) common opens = opens
+open_outlasting g l m (for_ever _) common opens = λ r e. absurd (let k : false ≡ true = e in cc)
+open_outlasting g l m (with_globals _) common opens = λ r e. absurd (let k : false ≡ true = e in cc)
+open_outlasting g l m (stays a n ns us has) common opens = opens a has
+open_outlasting g l m (borrows object) common opens = absurd common
+open_outlasting g l m (encloses a b as' bs us vs end more) common opens = λ r e. opens r (more r e)
 
 -- what lasts as long as what has not ended is there
 pub outlasting_open : (regions : List Region) (ns : List ℕ) (l m : Life) → AreOpen regions ns → is_open (slice_get regions heap_number) ≡ true → is_open (slice_get regions globals_number) ≡ true → IsKeptOpen regions l → Outlasts l m
@@ -977,7 +975,9 @@ pub outlasting_open : (regions : List Region) (ns : List ℕ) (l m : Life) → A
 outlasting_open regions ns l m opens heap globals kept (alike _) is = lasting_open regions ns l opens heap kept is
 outlasting_open regions ns l m opens heap globals kept (for_ever _) is = heap
 outlasting_open regions ns l m opens heap globals kept (with_globals _) is = globals
-outlasting_open regions ns l m opens heap globals kept (stays r n os us has) is = kept
+outlasting_open regions ns l m opens heap globals kept (stays (KeyOf r) n os us has) is = kept
+outlasting_open regions ns l m opens heap globals kept (stays (PointerTo object) n os us has) is = tt
+outlasting_open regions ns l m opens heap globals kept (borrows object) is = tt
 outlasting_open regions ns l m opens heap globals kept (encloses a b as' bs us vs end more) (inl heap_is) = elim (subst (λ z. IsEndOf (a ∷ as') z) (around_heap b bs vs heap_is) end) [ ]
 outlasting_open regions ns l m opens heap globals kept (encloses a b as' bs us vs end more) (inr later') = open_of regions (end_among a as' ns (ends_through (a ∷ as') bs b ns end later')) opens
 

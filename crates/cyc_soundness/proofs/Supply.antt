@@ -29,9 +29,9 @@ use Rattle.cyc_meaning.specs.Nesting as nesting
 use Rattle.cyc_meaning.specs.Step.{chosen, looped, supplied}
 use Rattle.cyc_meaning.proofs.ListLemmas.{slice_get-end}
 use Rattle.cyc_meaning.proofs.NestingLemmas.{home_found}
-use Rattle.cyc_soundness.specs.Lives.{Life, OfRegion, OfObject, Never, Kept, Reading, Lives, at, AsHeap, ByScope, RunTy, RunValue, Value, kind_at}
+use Rattle.cyc_soundness.specs.Lives.{Life, OfRegion, Kept, Reading, Lives, at, AsHeap, ByScope, RunTy, RunValue, Value, kind_at}
 use Rattle.cyc_soundness.specs.Lives as lives
-use Rattle.cyc_soundness.specs.Worlds.{OfLocal, Thing, Holder, Hand, At, pointer_at, thing_of, Owns, Claims, ClaimsBy, ClaimsAlone, IsHere, giving, marked, AreOwned, IsOpenIn, ObjectType, IsKnownLife, IsNumber, IsOwner, Typing, IsFilled, variable_type, HasType, IsResult, AreCells, IsObject, IsTyped, Grows, Slot}
+use Rattle.cyc_soundness.specs.Worlds.{OfLocal, Thing, Holder, Hand, At, pointer_at, thing_of, Owns, Claims, ClaimsBy, ClaimsAlone, IsHere, giving, marked, AreOwned, IsOpenIn, ObjectType, IsKnownLife, IsNumber, IsOwner, Typing, IsFilled, variable_type, HasType, IsResult, AreCells, IsObject, IsTyped, Grows, Slot, KeyOf, PointerTo}
 use Rattle.cyc_soundness.specs.Worlds.{given as given_to}
 use Rattle.cyc_soundness.specs.Frames.{later, Bound, InScope, Variable, Level, life_named, lives_in, read, read_value, IsThere, IsHomed, AreBelow, IsBound, AreVariables, IsLasting, home_in, LiveIn, Within, itself, older, Holds, Implies, LoopExit, Exits, IsHome, IsContext, KnowsProgram}
 use Rattle.cyc_soundness.specs.Stacks.{Executes, Continues, IsLoop, Repeats, IsArray, IsNew, Want, Val, Go, operands_in, Comes, Keeps, inside, Waits, IsReturn, IsStack, IsFocus, IsWell, relied_at}
@@ -92,10 +92,9 @@ new_life (ByScope lends frees) bs region home k live (number, there) at_home = r
 
 pub owner_is : (l : Life) (region : ℕ) → IsNumber l region → IsOwner l (InRegion region)
 owner_is (OfRegion number ns us) region is = is
-owner_is (OfObject object) region is = absurd is
-owner_is Never region is = absurd is
 owner_is lives.Owned region is = absurd is
-owner_is (Kept number) region is = is
+owner_is (Kept (KeyOf number)) region is = is
+owner_is (Kept (PointerTo object)) region is = absurd is
 
 -- ---- a local is declared
 

@@ -8,7 +8,7 @@ use Rattle.cyc_meaning.specs.Values as values
 use Rattle.cyc_meaning.specs.State.{Region, Owner, InRegion, Unique, Object, World, Found, Closed, found_region, located, heap_number, is_open, is_live, cell_in, cell_at, written}
 use Rattle.cyc_meaning.specs.Nesting.{IsScoped, IsFound}
 use Rattle.cyc_meaning.proofs.ListLemmas.{slice_get-append, slice_get-end, slice_get-set_other}
-use Rattle.cyc_soundness.specs.Lives.{Life, OfRegion, OfObject, Never, Owned, Kept, RunTy, Int, Pointer, Handle, Key, Struct, RunValue, Void, Null, Value, Seen, Into, kind_at, at}
+use Rattle.cyc_soundness.specs.Lives.{Life, OfRegion, Owned, Kept, RunTy, Int, Pointer, Handle, Key, Struct, RunValue, Void, Null, Value, Seen, Into, kind_at, at}
 use Rattle.cyc_soundness.specs.Worlds.{Pending, IsKept, IsAmong, KeyOf, PointerTo, At, ObjectType, Typing, IsHeld, Claims, AreOwned, IsUniqueObject, IsOpenObject, Stays, IsKnownLife, IsKnownOwner, IsDynamic, IsFilled, IsPart, IsTarget, HasType, IsResult, AreOperands, IsContent, AreCells, IsOwner, IsObject, IsTyped, Grows, Thing, Holder, Nobody, Owns, thing_of}
 use Rattle.cyc_soundness.specs.Frames.{lives_among, KnowsProgram}
 use Rattle.cyc_soundness.specs.Classes.{frees_of, HasLoans, Source}
@@ -63,17 +63,15 @@ module _ (g h : Typing) (grows : Grows g h) where
   cells_grown (t ∷ ts) (c ∷ cs) (suc n) ((kind, is), are) = ((kind, content_grown true t c.content is), cells_grown ts cs n are)
 
   pub life_grown : (l : Life) → IsKnownLife g l → IsKnownLife h l
-  life_grown (Kept region) is = grows.kept region is
+  life_grown (Kept (KeyOf region)) is = grows.kept region is
+  life_grown (Kept (PointerTo object)) is = tt
   life_grown (OfRegion region ns us) is = tt
-  life_grown (OfObject object) is = tt
-  life_grown Never is = tt
   life_grown Owned is = absurd is
 
   pub owner_grown : (l : Life) → IsKnownOwner g l → IsKnownOwner h l
-  owner_grown (Kept region) is = grows.kept region is
+  owner_grown (Kept (KeyOf region)) is = grows.kept region is
+  owner_grown (Kept (PointerTo object)) is = tt
   owner_grown (OfRegion region ns us) is = tt
-  owner_grown (OfObject object) is = tt
-  owner_grown Never is = tt
   owner_grown Owned is = tt
 
   pub object_grown : (n : ℕ) (t : ObjectType) (x : Object) → IsObject g n t x → IsObject h n t x
@@ -263,15 +261,15 @@ live_object g w number x y typed there stands owner opens = go x.life refl y.own
     go : (l : Life) → x.life ≡ l → (o : Owner) → y.owner ≡ o → IsOwner l o → IsOpenObject g w.regions number l → is_live w o ≡ true
     go (OfRegion region ns us) e (InRegion m) f same opens = subst (λ n. is_open (slice_get w.regions n) ≡ true) same opens
     go (OfRegion region ns us) e (Unique live) f (heap, same) opens = same
-    go (Kept region) e (InRegion m) f same opens = subst (λ n. is_open (slice_get w.regions n) ≡ true) same opens
-    go (Kept region) e (Unique live) f is opens = absurd is
+    go (Kept (KeyOf region)) e (InRegion m) f same opens = subst (λ n. is_open (slice_get w.regions n) ≡ true) same opens
+    go (Kept (KeyOf region)) e (Unique live) f is opens = absurd is
+    go (Kept (PointerTo object)) e (InRegion m) f is opens = absurd is
+    go (Kept (PointerTo object)) e (Unique live) f is opens = absurd is
     go Owned e o f is held =
         let (t, z, at, owned, found, live) = typed.unique number held in
         let same : z ≡ y = some_same z y (sym found ∙ stands) in
         let owner_is : o ≡ Unique true = sym f ∙ ap (λ (z : Object). z.owner) (sym same) ∙ live in
         ap (λ z. is_live w z) owner_is
-    go (OfObject object) e o f is opens = absurd opens
-    go Never e o f is opens = absurd opens
 
 -- what stands at a number, and its cell of this type
 pub record HasCell (g : Typing) (w : World) (number offset : ℕ) (x : ObjectType) (t : RunTy) : Type 0 where

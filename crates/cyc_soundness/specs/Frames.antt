@@ -148,7 +148,7 @@ AreVariables g (b ∷ bs) = IsOfVariable g b × AreVariables g bs
 -- there to the end of one of these regions, of those that will end, or for ever
 abbrev pub IsLasting : List ℕ → Life → Type 0
 IsLasting regions (OfRegion number around lent) = (OfRegion number around lent ≡ heap_life) ⊎ IsEndOf (number ∷ around) regions
-IsLasting regions (Kept number) = Unit {0}
+IsLasting regions (Kept a) = Unit {0}
 IsLasting regions l = ⊥
 
 -- what is live has not ended
