@@ -28,7 +28,7 @@ use Rattle.cyc_meaning.specs.Nesting.{ends_of, IsNested}
 use Rattle.cyc_meaning.specs.Step.{step_executing, returns, continues_with}
 use Rattle.cyc_soundness.proofs.Looking.{looked_side}
 use Rattle.cyc_soundness.specs.Lives.{Life, Value, Seen, Reading, AsHeap, ByScope}
-use Rattle.cyc_soundness.specs.Worlds.{HasType, IsNumber, Typing, lent_now, IsTyped}
+use Rattle.cyc_soundness.specs.Worlds.{HasType, IsNumber, Typing, lent_now, IsTyped, Thing}
 use Rattle.cyc_soundness.specs.Frames.{InScope, Names, Home, life_named, lives_in, read, read_value, IsBound, AreVariables, LiveIn, Within, itself, older, IsSet, Holds, Implies, LoopExit, Exits, loop_of, around, lending, relying, AreBreaks, is_loop, IsContext, KnowsProgram}
 use Rattle.cyc_soundness.specs.Classes.{HasScopes, IsDeclarable, InSide, InStatement, InItems, InValue, InThrown, Source}
 use Rattle.cyc_soundness.specs.Stacks.{IsByType, Evaluates, Executes, Continues, Catches, IsLoop, Val, Go, operands_in, IsReturn, IsStack, IsFocus, IsWell}
@@ -87,7 +87,7 @@ pub context_after : (p : Source) (x : Exits) (bs : List InScope) (c : Context) (
 context_after p x bs c s stands = context_behind p x bs c (length (declared_types s)) (declared_regions s) stands
 
 -- the handle of a region that was opened
-handle_of : (m : Reading) (region : ℕ) (ns : List ℕ) (us : ℕ → Bool) → HasScopes m → IsNumber (opened_life m region ns us) region
+handle_of : (m : Reading) (region : ℕ) (ns : List ℕ) (us : Thing → Bool) → HasScopes m → IsNumber (opened_life m region ns us) region
 handle_of AsHeap region ns us scopes = absurd scopes
 handle_of (ByScope lends frees) region ns us scopes = refl
 

@@ -205,12 +205,12 @@ module _ (old : Holder) (g h : Typing) (changed : Changed old g h) where
   alone_kept i (Seen t) v apart is = tt
 
   lent_kept : (a : Thing) → is_lent_by g.loans old ≡ false → lent_now g a ≡ true → lent_now h a ≡ true
-  lent_kept region none e =
+  lent_kept a none e =
       let apart : g.own a ≢ old = (λ same. (let k : true ≡ false = sym e ∙ ap (λ h. is_lent_by g.loans h) same ∙ none in absurd (cc))) in
       subst (λ n. is_lent_by n (h.own a) ≡ true) (sym changed.loans) (subst (λ h. is_lent_by g.loans h ≡ true) (sym (changed.own a apart)) e)
 
   pub open_kept : (l : Life) → is_lent_by g.loans old ≡ false → IsOpenIn g l → IsOpenIn h l
-  open_kept (Kept region) none is = lent_kept region none is
+  open_kept (Kept a) none is = lent_kept a none is
   open_kept (OfRegion number ns us) none is = λ r e. lent_kept r none (is r e)
   open_kept Owned none is = tt
 

@@ -953,7 +953,7 @@ lasting_open regions ns Owned opens heap kept is = absurd is
 lasting_open regions ns (Kept (KeyOf number)) opens heap kept is = kept
 lasting_open regions ns (Kept (PointerTo object)) opens heap kept is = tt
 
-around_heap : (n : ℕ) (ns : List ℕ) (us : ℕ → Bool) → OfRegion n ns us ≡ heap_life → ns ≡ []
+around_heap : (n : ℕ) (ns : List ℕ) (us : Thing → Bool) → OfRegion n ns us ≡ heap_life → ns ≡ []
 around_heap n ns us e = ap around_of e
   where
     around_of : Life → List ℕ
