@@ -28,7 +28,7 @@ use Rattle.cyc_meaning.specs.Nesting.{ends_of, IsNested}
 use Rattle.cyc_meaning.specs.Step.{called, values_of, prints, reads, step_calling, step_entering, step_binding}
 use Rattle.cyc_soundness.specs.Lives.{Life, OfRegion, Kept, RunTy, RunValue, Value, Lives, at, value_at, lives_of, Reading, AsHeap, ByScope}
 use Rattle.cyc_soundness.specs.Lives as lives
-use Rattle.cyc_soundness.specs.Worlds.{Hand, IsHere, lent_now, IsOpenIn, Stays, Typing, IsKnownLife, HasType, AreOperands, IsTyped, Grows, KeyOf, PointerTo, Thing}
+use Rattle.cyc_soundness.specs.Worlds.{Hand, IsHere, lent_now, IsOpenIn, Stays, Typing, IsKnownLife, HasType, AreOperands, IsTyped, Grows, KeyOf, PointerTo}
 use Rattle.cyc_soundness.specs.Frames.{InScope, Variable, Names, Instance, Home, lives_in, read, IsScope, AreBelow, IsBound, AreVariables, IsLasting, LiveIn, Within, itself, older, AreSet, Holds, Implies, Exits, HasResult, loop_of, around, AreBreaks, Stand, IsHome, IsContext, KnowsProgram, frees_in}
 use Rattle.cyc_soundness.specs.Classes.{IsDeclarable, InItems, InClauses, Source}
 use Rattle.cyc_soundness.specs.Stacks.{regions_at_call, IsInstance, Continues, Catches, IsAccepted, Val, Go, turned, operands_in, AreClaimed, AreGiven, IsCalled, IsBlocked, AreFull, AreOwn, IsBody, IsStack, IsWell}

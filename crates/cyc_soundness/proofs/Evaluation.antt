@@ -1,5 +1,5 @@
 -- EVALUATION of a typed expression, and what waits for its value: each step leads to a typed state.
-use Rattle.std.proofs.Common.{◌≡◌, ◌≢◌, ◌⊎◌, set, inl, inr, ℕ, ◌≤◌, zero, suc, Bool, true, false, not, List, [], ◌∷◌, map, Option, Some, None, slice_get, refl, sym, ap, subst, ◌∙◌, arith}
+use Rattle.std.proofs.Common.{◌≡◌, ◌≢◌, ◌⊎◌, inl, inr, ℕ, ◌≤◌, zero, suc, Bool, true, false, not, List, [], ◌∷◌, map, Option, Some, None, slice_get, refl, sym, ap, subst, ◌∙◌, arith}
 use Rattle.std.specs.Prelude.{◌+◌, nat_lt, if◌then◌else◌, option_map, ◌||◌}
 use Rattle.cyc_syntax.specs.declared.tree.PointerKind.{PointerKind}
 use Rattle.cyc_syntax.specs.declared.tree.PointerKind.TheVariants as marks
@@ -34,9 +34,9 @@ use Rattle.cyc_meaning.specs.Nesting.{ends_of, AreOpen}
 use Rattle.cyc_meaning.specs.Step.{step_evaluating, addressed, counts, passes, assigned, decided, tested, awaits_right, chained, converts}
 use Rattle.cyc_soundness.specs.Lives.{Life, OfRegion, Owned, Kept, heap_life, as_heap, Reading, Lives, AsHeap, ByScope, RunTy, RunValue, Value, Into, looked, kind_at}
 use Rattle.cyc_soundness.specs.Lives as lives
-use Rattle.cyc_soundness.specs.Worlds.{Thing, Holder, Nobody, Hand, At, thing_of, Owns, AtStart, Claims, ClaimsPart, ClaimsBy, IsLookedAt, IsSlot, IsHere, given, marked, handing, Settled, IsOpenObject, IsNewOwner, IsPlain, HasType, Typing, IsFull, global_type, Outlasts, alike, globals as with_globals, AgreesWith, IsResult, AreOperands, IsTyped, IsHiding, life_at}
+use Rattle.cyc_soundness.specs.Worlds.{Thing, Holder, Nobody, Hand, At, thing_of, Owns, AtStart, Claims, ClaimsPart, ClaimsBy, IsLookedAt, IsSlot, IsHere, given, marked, handing, Settled, IsOpenObject, IsNewOwner, IsPlain, HasType, Typing, IsFull, global_type, Outlasts, globals as with_globals, AgreesWith, IsResult, AreOperands, IsTyped, IsHiding, life_at}
 use Rattle.cyc_soundness.specs.Frames.{IsAmong, Bound, local_type, InScope, Variable, IsBound, AreVariables, IsHomed, LiveIn, IsSet, IsFullIn, Holds, Implies, Exits, IsContext, KnowsProgram, lives_in, read, read_value, frees_in}
-use Rattle.cyc_soundness.specs.Classes.{is_full, Relied, frees_of, and_looked, IsSpared, HasScopes, InExpression, InArguments, InOperations, Source}
+use Rattle.cyc_soundness.specs.Classes.{Relied, frees_of, and_looked, IsSpared, HasScopes, InExpression, InArguments, InOperations, Source}
 use Rattle.cyc_soundness.specs.Stacks.{KeepsUnique, IsCommonLife, IsPlainValue, IsChained, Evaluates, Val, Go, turned, relied_at, IsCalled, null, IsStack, IsFocus, IsWell}
 use Rattle.cyc_soundness.specs.Stacks as stacks
 use Rattle.cyc_soundness.proofs.Numbers.{some_same, both}
