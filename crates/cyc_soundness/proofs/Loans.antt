@@ -1,5 +1,5 @@
 -- WHAT IS LENT to the end of a block: dynamic regions that their keys open, and what a unique pointer leads to, by an alias.
-use Rattle.std.proofs.Common.{◌≡◌, inl, inr, set, ℕ, suc, ◌≤◌, ◌<◌, Bool, true, false, List, [], ◌∷◌, length, Option, Some, None, slice_get, refl, sym, ap, subst, ◌∙◌, arith}
+use Rattle.std.proofs.Common.{◌≡◌, inl, inr, set, ℕ, suc, ◌+◌, ◌≤◌, ◌<◌, Bool, true, false, List, [], ◌∷◌, length, Option, Some, None, slice_get, refl, sym, ap, subst, ◌∙◌, arith}
 use Rattle.std.specs.Prelude.{if◌then◌else◌}
 use Rattle.std.proofs.lemmas.Bool.{eq-eqb}
 use Rattle.cyc_syntax.specs.declared.tree.PointerKind.{PointerKind}
@@ -27,17 +27,18 @@ use Rattle.cyc_meaning.specs.Regions.{is_dynamic, opened_by, opens_with, opens_d
 use Rattle.cyc_meaning.specs.Objects.{freed}
 use Rattle.cyc_soundness.specs.Lives.{Life, OfRegion, Kept, heap_life, Value, at, Reading, AsHeap, ByScope, AllIn, IsKnown, owned_life}
 use Rattle.cyc_soundness.specs.Lives as lives
-use Rattle.cyc_soundness.specs.Worlds.{OfLocal, Thing, KeyOf, PointerTo, Nobody, Hand, At, Lent, thing_of, Owns, Claims, IsSlot, IsHere, giving, given, marked, handing, variable_type, IsHeld, is_lent_by, IsOpenIn, Stays, Grows, IsFull, IsPlain, Typing, IsKnownLife, IsNumber, IsKeyOf, HasType, IsResult, IsTyped, IsDynamic, IsKnownOwner, Settled, Holder}
+use Rattle.cyc_soundness.specs.Worlds.{OfLocal, Thing, KeyOf, PointerTo, Nobody, Hand, At, Lent, thing_of, Owns, Claims, IsSlot, IsHere, giving, given, marked, handing, variable_type, IsHeld, is_lent_by, IsOpenIn, Stays, Grows, IsFull, IsPlain, Typing, IsKnownLife, IsNumber, IsKeyOf, HasType, IsResult, IsTyped, IsDynamic, IsKnownOwner, Settled, Holder, lent_now, IsTarget, ObjectType, Outlasts, alike, life_at}
 use Rattle.cyc_soundness.specs.Classes.{IsSpared, HasLoans, IsDeclarable, Source, HasAliases}
 use Rattle.cyc_soundness.specs.Frames.{IsAmong, first, later, Bound, InScope, Variable, Names, life_named, lives_in, read, IsBound, AreVariables, IsLasting, LiveIn, Within, older, IsFullIn, Holds, Implies, Exits, lending, AreKnownLocals, AreKnown, IsContext, KnowsProgram, frees_in, Stand, local_type}
-use Rattle.cyc_soundness.specs.Stacks.{IsByType, operands_in, Continues, Go, IsStack, IsWell}
+use Rattle.cyc_soundness.specs.Stacks.{IsByType, operands_in, Continues, Go, IsStack, IsWell, IsCommonLife}
+use Rattle.cyc_soundness.proofs.Numbers.{some_same}
 use Rattle.cyc_soundness.proofs.TypeLemmas.{all_in, read_alike}
 use Rattle.cyc_soundness.proofs.FlowLemmas.{full_set, reached_with}
 use Rattle.cyc_soundness.proofs.RegionLemmas.{contains_more, name_known, same_name, known_other, known_more, other_life, context_key, context_alias, context_again, region_owner}
 use Rattle.cyc_soundness.proofs.WorldLemmas.{globals_grown, result_grown}
 use Rattle.cyc_soundness.proofs.Hands.{Changed, at_no_hand, at_some, given_now, giving_changed, handing_changed, changed_after, variables_kept, holds_kept, taken_typed, here_claims, freed_typed, hands_globals, with_kept, kept_grows, kept_typed, variables_more, moment_typed, moment_globals, holds_lent, lent_last, closed_by_key, untaken_typed}
 use Rattle.cyc_soundness.proofs.Sharing.{life_common, by_type_read}
-use Rattle.cyc_soundness.proofs.StackLemmas.{emptied_other, stack_changed, above_globals, full_here, within_full_at, within_variables, among_bound, among_variable, among_own, among_set, set_stored, statement_relied, settled}
+use Rattle.cyc_soundness.proofs.StackLemmas.{emptied_other, stack_changed, above_globals, full_here, within_full_at, within_variables, among_bound, among_variable, among_own, among_set, set_stored, statement_relied, settled, lent_held}
 use Rattle.cyc_soundness.proofs.Cells.{pointer_plain, plain_claims, by_type_claims, running, plain_nothing, both_plain}
 
 -- ---- lists
@@ -89,19 +90,114 @@ unique_plain g bs (types.Handle r) variables none unique = absurd (let z : false
 unique_plain g bs (types.Key r) variables none unique = absurd (let z : false ≡ true = unique in cc)
 unique_plain g bs (types.Struct s rs) variables none unique = absurd (let z : false ≡ true = unique in cc)
 
--- an alias has the type of what it shares, as a run reads it
-alias_read : (bs : List InScope) (n : ℕ) (u : Ty) → frees_in bs ≡ false → is_unique u ≡ true → AllIn (IsKnown n) u → read (Names n heap_life true ∷ bs) (with_region_of (regions.Variable n) u) ≡ read bs u
-alias_read bs n (types.Pointer k t regions.Unique) none unique (known, one) =
-    let inner : List InScope = Names n heap_life true ∷ bs in
+-- what a unique pointer is
+unique_is : (u : Ty) → is_unique u ≡ true → (k : PointerKind) × (t : Ty) × (u ≡ types.Pointer k t regions.Unique)
+unique_is (types.Pointer k t regions.Unique) unique = (k, t, refl)
+unique_is (types.Pointer k t regions.Heap) unique = absurd (let z : false ≡ true = unique in cc)
+unique_is (types.Pointer k t (regions.Variable m)) unique = absurd (let z : false ≡ true = unique in cc)
+unique_is types.Int unique = absurd (let z : false ≡ true = unique in cc)
+unique_is (types.Handle r) unique = absurd (let z : false ≡ true = unique in cc)
+unique_is (types.Key r) unique = absurd (let z : false ≡ true = unique in cc)
+unique_is (types.Struct s rs) unique = absurd (let z : false ≡ true = unique in cc)
+
+-- how long there is what is shared of a unique pointer: while it is lent, or for ever where nothing is given back
+abbrev shared_life : Life → values.Value → Life
+shared_life lives.Owned (values.Thin object offset) = Kept (PointerTo object)
+shared_life lives.Owned (values.Fat object start count index) = Kept (PointerTo object)
+shared_life l v = heap_life
+
+-- an alias has the type of what it shares, but leads to what is there so long
+alias_read : (bs : List InScope) (n : ℕ) (l : Life) (k : PointerKind) (t : Ty) → AllIn (IsKnown n) t → read (Names n l true ∷ bs) (types.Pointer k t (regions.Variable n)) ≡ lives.Pointer k (read bs t) l
+alias_read bs n l k t known =
+    let inner : List InScope = Names n l true ∷ bs in
     let same : read inner t ≡ read bs t = sym (read_alike (lives_in bs) (lives_in inner) t
-    (all_in (IsKnown n) (λ r. lives_in bs r ≡ lives_in inner r) (λ r is. other_life n heap_life true bs r (known_other n r is)) t known)) in
-    ap (λ z. lives.Pointer k z (life_named inner n)) same ∙ ap (λ l. lives.Pointer k (read bs t) l) (same_name n heap_life (life_named bs n) ∙ sym (ap owned_life none))
-alias_read bs n (types.Pointer k t regions.Heap) none unique known = absurd (let z : false ≡ true = unique in cc)
-alias_read bs n (types.Pointer k t (regions.Variable m)) none unique known = absurd (let z : false ≡ true = unique in cc)
-alias_read bs n types.Int none unique known = absurd (let z : false ≡ true = unique in cc)
-alias_read bs n (types.Handle r) none unique known = absurd (let z : false ≡ true = unique in cc)
-alias_read bs n (types.Key r) none unique known = absurd (let z : false ≡ true = unique in cc)
-alias_read bs n (types.Struct s rs) none unique known = absurd (let z : false ≡ true = unique in cc)
+    (all_in (IsKnown n) (λ r. lives_in bs r ≡ lives_in inner r) (λ r is. other_life n l true bs r (known_other n r is)) t known)) in
+    ap (λ z. lives.Pointer k z (life_named inner n)) same ∙ ap (λ m. lives.Pointer k (read bs t) m) (same_name n l (life_named bs n))
+
+-- it is lent now, if it is anything
+abbrev IsLentNow : Typing → Option Thing → Type 0
+IsLentNow g None = Unit {0}
+IsLentNow g (Some a) = lent_now g a ≡ true
+
+abbrev IsNoPointer : values.Value → Type 0
+IsNoPointer (values.Int n) = Unit {0}
+IsNoPointer (values.Handle n) = Unit {0}
+IsNoPointer (values.Key n) = Unit {0}
+IsNoPointer v = ⊥
+
+-- a pointer that is lent may be used so long
+module _ (g : Typing) (regions : List state.Region) (objects : List state.Object) (typed : IsTyped g regions objects) where
+  shared_target : (t : lives.RunTy) (object offset : ℕ) → IsTarget g t lives.Owned object offset → lent_now g (PointerTo object) ≡ true → IsTarget g t (Kept (PointerTo object)) object offset
+  shared_target t object offset (x, there, shown, lasts, part) lent =
+      let (y, z, at, life, stands, owner) = typed.unique object (lent_held g.loans (g.own (PointerTo object)) lent) in
+      let owned : x.life ≡ lives.Owned = ap (λ (z : ObjectType). z.life) (some_same x y (sym there ∙ at)) ∙ life in
+      (x, there, shown, subst (λ m. Outlasts (life_at object m) (Kept (PointerTo object))) (sym owned) (alike (Kept (PointerTo object))), part)
+
+  shared_null : (k : PointerKind) (t : lives.RunTy) → HasType g (lives.Pointer k t lives.Owned) values.Null → HasType g (lives.Pointer k t heap_life) values.Null
+  shared_null marks.Nullable t is = tt
+  shared_null marks.NonNull t is = absurd is
+  shared_null marks.Fat t is = tt
+
+  shared_thin : (k : PointerKind) (t : lives.RunTy) (object offset : ℕ) → HasType g (lives.Pointer k t lives.Owned) (values.Thin object offset) → lent_now g (PointerTo object) ≡ true
+      → HasType g (lives.Pointer k t (Kept (PointerTo object))) (values.Thin object offset)
+  shared_thin marks.Nullable t object offset is lent = shared_target t object offset is lent
+  shared_thin marks.NonNull t object offset is lent = shared_target t object offset is lent
+  shared_thin marks.Fat t object offset is lent = absurd is
+
+  shared_fat : (k : PointerKind) (t : lives.RunTy) (object start count index : ℕ) → HasType g (lives.Pointer k t lives.Owned) (values.Fat object start count index) → lent_now g (PointerTo object) ≡ true
+      → HasType g (lives.Pointer k t (Kept (PointerTo object))) (values.Fat object start count index)
+  shared_fat marks.Nullable t object start count index is lent = absurd is
+  shared_fat marks.NonNull t object start count index is lent = absurd is
+  shared_fat marks.Fat t object start count index is lent = λ i less. shared_target t object (start + i) (is i less) lent
+
+  shared_other : {A : Type 0} (k : PointerKind) (t : lives.RunTy) (l : Life) (v : values.Value) → IsNoPointer v → HasType g (lives.Pointer k t l) v → A
+  shared_other marks.Nullable t l (values.Int n) other is = absurd is
+  shared_other marks.NonNull t l (values.Int n) other is = absurd is
+  shared_other marks.Fat t l (values.Int n) other is = absurd is
+  shared_other marks.Nullable t l (values.Handle n) other is = absurd is
+  shared_other marks.NonNull t l (values.Handle n) other is = absurd is
+  shared_other marks.Fat t l (values.Handle n) other is = absurd is
+  shared_other marks.Nullable t l (values.Key n) other is = absurd is
+  shared_other marks.NonNull t l (values.Key n) other is = absurd is
+  shared_other marks.Fat t l (values.Key n) other is = absurd is
+  shared_other k t l v other is = absurd other
+
+  shared_typed : (frees : Bool) (k : PointerKind) (t : lives.RunTy) (v : values.Value) → HasType g (lives.Pointer k t (owned_life frees)) v → IsLentNow g (thing_of (lives.Pointer k t (owned_life frees)) v)
+      → HasType g (lives.Pointer k t (shared_life (owned_life frees) v)) v
+  shared_typed false k t v is lent = is
+  shared_typed true k t values.Null is lent = shared_null k t is
+  shared_typed true k t (values.Thin object offset) is lent = shared_thin k t object offset is lent
+  shared_typed true k t (values.Fat object start count index) is lent = shared_fat k t object start count index is lent
+  shared_typed true k t (values.Int n) is lent = shared_other k t lives.Owned (values.Int n) tt is
+  shared_typed true k t (values.Handle n) is lent = shared_other k t lives.Owned (values.Handle n) tt is
+  shared_typed true k t (values.Key n) is lent = shared_other k t lives.Owned (values.Key n) tt is
+
+-- such a life
+module _ (frees : Bool) (v : values.Value) where
+  -- what is so of the heap and of whatever is lent
+  shared_by : (P : Life → Type 0) → P heap_life → ((object : ℕ) → P (Kept (PointerTo object))) → P (shared_life (owned_life frees) v)
+  shared_by P heap lent = go frees v
+    where
+      go : (frees : Bool) (v : values.Value) → P (shared_life (owned_life frees) v)
+      go false v = heap
+      go true values.Null = heap
+      go true (values.Thin object offset) = lent object
+      go true (values.Fat object start count index) = lent object
+      go true (values.Int n) = heap
+      go true (values.Handle n) = heap
+      go true (values.Key n) = heap
+
+heap_open : (g : Typing) → IsOpenIn g heap_life
+heap_open g a e = absurd (let z : false ≡ true = e in cc)
+
+shared_open : (g : Typing) (frees : Bool) (k : PointerKind) (t : lives.RunTy) (v : values.Value) → IsLentNow g (thing_of (lives.Pointer k t (owned_life frees)) v) → IsOpenIn g (shared_life (owned_life frees) v)
+shared_open g false k t v lent = heap_open g
+shared_open g true k t values.Null lent = heap_open g
+shared_open g true k t (values.Thin object offset) lent = lent
+shared_open g true k t (values.Fat object start count index) lent = lent
+shared_open g true k t (values.Int n) lent = heap_open g
+shared_open g true k t (values.Handle n) lent = heap_open g
+shared_open g true k t (values.Key n) lent = heap_open g
 
 dynamic_found : (o : Option state.Region) → IsDynamic o → (r : state.Region) × (found_region o ≡ Found r) × (is_dynamic r.sort ≡ true)
 dynamic_found None is = absurd is
@@ -263,30 +359,40 @@ module _ (p : Source) (g : Typing) (x : Exits) (bs : List InScope) (e : Environm
       → IsResult g (Value (read bs u)) v → IsStack p g x cs (Go i) k → IsWell p (aliased number lent js v k e w)
   aliases_on number lent js v k cs c b u t f h i live holds shares within stands among number_of type_is spared full unique known of_type alive number_is next again is stack =
       let loans : HasLoans p.reading = shared_loans p.reading shares in
-      let named : List InScope = Names c.next_region heap_life true ∷ bs in
       let none = unfreed p.reading c.regions bs shares stands.regions in
       let by : IsByType b.of_type = subst (λ z. IsByType z) (sym type_is) (by_type_read g bs variables u none) in
       let z = lends b lent f h i cs k within among by number_of full spared holds again stack in
       let j = lending_typing b in
-      let here = context_lending p x named (with_opened scopes.Alias c) lent (context_alias p x bs c stands loans alive heap_life) in
+      let (m, s, u_is) = unique_is u unique in
+      let l : Life = shared_life (owned_life (frees_in bs)) v.value in
+      let named : List InScope = Names c.next_region l true ∷ bs in
+      let here = context_lending p x named (with_opened scopes.Alias c) lent (context_alias p x bs c stands loans alive l) in
       let declared : IsDeclarable p.reading (suc c.next_region) t = subst (λ y. IsDeclarable p.reading (suc c.next_region) y) (sym of_type) (alias_known p.reading c.next_region u unique known) in
-      let same : read named t ≡ read bs u = ap (read named) of_type ∙ alias_read bs c.next_region u none unique known in
-      let is_now : IsResult j (Value (read bs u)) v = result_grown g j (lending_grows b) (Value (read bs u)) v is in
-      running p j (lending x lent) named e w z.objects z.knows (tt, bound) ((tt, λ e. λ r lent. let y : false ≡ true = lent in absurd (cc)), z.scope) (Naming number v js) (EndLoan lent ∷ k)
-      (((λ is. inl refl), live.0), live.1) (
+      let target : AllIn (IsKnown c.next_region) s = (subst (λ y. AllIn (IsKnown c.next_region) y) u_is known).0 in
+      let type_now : t ≡ types.Pointer m s (regions.Variable c.next_region) = of_type ∙ ap (with_region_of (regions.Variable c.next_region)) u_is in
+      let same : read named t ≡ lives.Pointer m (read bs s) l = ap (read named) type_now ∙ alias_read bs c.next_region l m s target in
+      let lent_is : IsLentNow j (thing_of (lives.Pointer m (read bs s) (owned_life (frees_in bs))) v.value) =
+      subst (λ o. IsLentNow j o) (sym (ap (λ y. thing_of (read bs y) v.value) (sym u_is) ∙ plain_nothing (read bs u) v.value (unique_plain g bs u variables none unique))) tt in
+      let is_now : IsResult j (Value (lives.Pointer m (read bs s) (owned_life (frees_in bs)))) v = subst (λ y. IsResult j (Value (read bs y)) v) u_is (result_grown g j (lending_grows b) (Value (read bs u)) v is) in
+      let result : IsResult j (Value (lives.Pointer m (read bs s) l)) v = (is_now.0, shared_typed j w.regions w.objects z.objects (frees_in bs) m (read bs s) v.value is_now.1 lent_is) in
+      let common : IsCommonLife l = shared_by (frees_in bs) v.value (λ l. IsCommonLife l) tt (λ object. tt) in
+      running p j (lending x lent) named e w z.objects z.knows (tt, bound)
+      ((shared_by (frees_in bs) v.value (λ l. IsKnownLife j l) tt (λ object. tt), λ e. shared_open j (frees_in bs) m (read bs s) v.value lent_is), z.scope) (Naming number v js) (EndLoan lent ∷ k)
+      (((λ is. shared_by (frees_in bs) v.value (λ l. IsLasting (ends_of k) l) (inl refl) (λ object. tt)), live.0), live.1) (
         with_opened scopes.Alias c,
         true,
         t,
         cs,
         with_fullness Locked f lent,
         h,
-        older (Names c.next_region heap_life true) cs bs tt within,
+        older (Names c.next_region l true) cs bs tt within,
         here,
         (z.holds.0, (tt, z.holds.1)),
         (declared, contains_more (regions.Variable c.next_region) (regions.Variable c.region) (live_regions c.regions.live c.regions.opened) alive),
         number_is,
-        subst (λ y. IsResult j (Value y) v) (sym same) is_now,
-        subst (λ y. Claims j.own (Hand (operands_in (EndLoan lent ∷ k))) y v.value) (sym same) (plain_claims j.own (Hand (operands_in (EndLoan lent ∷ k))) (read bs u) v.value (unique_plain g bs u variables none unique)),
+        subst (λ y. IsResult j (Value y) v) (sym same) result,
+        subst (λ y. Claims j.own (Hand (operands_in (EndLoan lent ∷ k))) y v.value) (sym same)
+        (plain_claims j.own (Hand (operands_in (EndLoan lent ∷ k))) (lives.Pointer m (read bs s) l) v.value (pointer_plain m (read bs s) l common)),
         next,
         z.stack,
       )
