@@ -185,6 +185,14 @@ only_first t (suc j) u found apart = absurd (let k : None ≡ Some u = found in 
 
 -- ---- a local is read
 
+-- a unique pointer is moved
+unique_moved : (u : Ty) → is_unique u ≡ true → is_moved u ≡ true
+unique_moved u unique = ap (λ (b : Bool). b || is_key u) unique
+
+looked_at : (g : Typing) (n object : ℕ) (o : Option Thing) → IsHere g g.depth n object → IsHiding g object true → Owns g.own (At object 0) o → IsLookedAt g n o
+looked_at g n object None here hidden is = tt
+looked_at g n object (Some a) here hidden is = (object, here, hidden, is)
+
 module _ (p : Source) (g : Typing) (x : Exits) (bs : List InScope) (e : Environment) (w : World) (typed : IsTyped g w.regions w.objects) (globals : KnowsProgram g p) (bound : IsBound e.locals e.counters bs) (variables : AreVariables g bs) where
   pub open_local : (k : List Entry) (b : Bound) → AreOpen w.regions (ends_of k) → LiveIn k bs → IsAmong (Variable b) bs → IsOpenObject g w.regions b.object b.life
   open_local k b opens live among =
@@ -213,6 +221,18 @@ module _ (p : Source) (g : Typing) (x : Exits) (bs : List InScope) (e : Environm
       subst (λ o. IsWell p (loaded_from (values.kind_of u) o k e w)) (sym there)
       (reads p g x bs e w typed globals bound variables k (values.kind_of u) b.object 0 b.of_type (local_type g.depth b) h live holds
       (among_variable g among variables) refl (open_local k b opens live among) full (ap kind_at of_type ∙ kind_meant (lives_in bs) u) r fits comes stack)
+
+  -- what is looked at through a local that is full
+  pub looks_bound : (k : List Entry) (n : ℕ) (u : Ty) (b : Bound) (h : flow.State) → AreOpen w.regions (ends_of k) → LiveIn k bs → Holds g h bs → IsAmong (Variable b) bs → b.number ≡ n → b.of_type ≡ read bs u → b.is_hidden ≡ is_moved u
+      → is_unique u ≡ true → IsFullIn h n → IsStack p g x bs (Val (Into (Some n) (read bs u)) h) k → IsWell p (loaded_from (values.kind_of u) (e.locals n) k e w)
+  looks_bound k n u b h opens live holds among number of_type hidden unique full stack =
+      let full_here : IsFullIn h b.number = subst (λ i. IsFullIn h i) (sym number) full in
+      let here = among_own g h among holds.1 full_here in
+      let still = settled p g x bs (Val (Into (Some n) (read bs u)) h) k stack in
+      from_bound k n u b h (Into (Some n) (read bs u)) opens live holds among number of_type (among_set g h among holds.1 (full_set (fullness h b.number) full_here))
+      (λ v is. (sym (kind_meant (lives_in bs) u), subst (λ z. HasType g z v) of_type is))
+      (λ c. looked_at g n b.object (thing_of (read bs u) c.value) (subst (λ i. IsHere g g.depth i b.object) number here) (local_type g.depth b, among_variable g among variables, hidden ∙ unique_moved u unique)
+      (subst (λ t. Claims g.own (At b.object 0) t c.value) of_type (its_own b (values.kind_of u) c still among here)).0) stack
 
   -- a local's value goes to an operand
   pub moves : (k : List Entry) (c : Context) (n : ℕ) (u : Ty) (f : flow.State) → AreOpen w.regions (ends_of k) → LiveIn k bs → IsContext p x bs c → Holds g f bs → (r : ℕ) × HasLocal c.locals n u r → is_moved u ≡ true → IsFullIn f n → IsSpared (relied_at x.relied k) n
@@ -246,10 +266,6 @@ module _ (p : Source) (g : Typing) (x : Exits) (bs : List InScope) (e : Environm
         (given_now g.own o hand, claims.1),
         stack_changed p (At b.object 0) g h x bs (Val (Value (read bs u)) f1) k changed (g.depth, n, slot, inl (refl, spared)) stack,
       )))
-
--- a unique pointer is moved
-unique_moved : (u : Ty) → is_unique u ≡ true → is_moved u ≡ true
-unique_moved u unique = ap (λ (b : Bool). b || is_key u) unique
 
 module _ (p : Source) where
   -- what is called takes and gives this, where its region variables stand for what is put in their place
@@ -311,16 +327,12 @@ module _ (p : Source) where
         (λ b v number hidden own among. plain_claims g.own (Hand (stacks.operands_in k)) (read bs u) v (plain_read g bs variables u plain)) (subst (λ z. IsStack p g x bs (Val z h) k) (ap (read_value bs) same) stack)
 
     -- and one that is looked at
-    looked_at : (n object : ℕ) (o : Option Thing) → IsHere g g.depth n object → IsHiding g object true → Owns g.own (At object 0) o → IsLookedAt g n o
-    looked_at n object None here hidden is = tt
-    looked_at n object (Some a) here hidden is = (object, here, hidden, is)
-
     peeks : (k : List Entry) (c : Context) (n : ℕ) (u : Ty) (t : ValueType) (f h : flow.State) → AreOpen w.regions (ends_of k) → LiveIn k bs → IsContext p x bs c → Holds g f bs
         → (i : ℕ) × HasLocal c.locals n u i → is_unique u ≡ true → IsFullIn f n → Implies f h → t ≡ types.Value u → IsStack p g x bs (Val (looked (Some n) (read_value bs t)) h) k → IsWell p (loaded_from (values.kind_of u) (e.locals n) k e w)
     peeks k c n u t f h opens live stands holds has unique full implies same stack =
         from_local k c n u f h (Into (Some n) (read bs u)) opens live stands holds has (full_set (fullness f n) full) implies (λ v is. (sym (kind_meant (lives_in bs) u), is))
         (λ b v number hidden own among. (let here = among_own g f among holds.1 (subst (λ i. IsFullIn f i) (sym number) full) in
-        looked_at n b.object (thing_of (read bs u) v) (subst (λ i. IsHere g g.depth i b.object) number here) (local_type g.depth b, among_variable g among variables, hidden ∙ unique_moved u unique) (own here).0))
+        looked_at g n b.object (thing_of (read bs u) v) (subst (λ i. IsHere g g.depth i b.object) number here) (local_type g.depth b, among_variable g among variables, hidden ∙ unique_moved u unique) (own here).0))
         (subst (λ z. IsStack p g x bs (Val (looked (Some n) (read_value bs z)) h) k) same stack)
 
     from_global : (k : List Entry) (c : Context) (n : ℕ) (u : Ty) (t : ValueType) (f : flow.State) → AreOpen w.regions (ends_of k) → LiveIn k bs → IsContext p x bs c → Holds g f bs

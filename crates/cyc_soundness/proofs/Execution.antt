@@ -29,19 +29,19 @@ use Rattle.cyc_meaning.specs.Step.{step_executing, returns, continues_with}
 use Rattle.cyc_soundness.proofs.Looking.{looked_side}
 use Rattle.cyc_soundness.specs.Lives.{Life, Value, Seen, Reading, AsHeap, ByScope}
 use Rattle.cyc_soundness.specs.Worlds.{HasType, IsNumber, Typing, lent_now, IsTyped, Thing}
-use Rattle.cyc_soundness.specs.Frames.{InScope, Names, Home, life_named, lives_in, read, read_value, IsBound, AreVariables, LiveIn, Within, itself, older, IsSet, Holds, Implies, LoopExit, Exits, loop_of, around, lending, relying, AreBreaks, is_loop, IsContext, KnowsProgram}
+use Rattle.cyc_soundness.specs.Frames.{InScope, Names, Home, life_named, lives_in, read, read_value, IsBound, AreVariables, LiveIn, Within, itself, older, IsSet, Holds, Implies, LoopExit, Exits, loop_of, around, lending, relying, AreBreaks, is_loop, IsContext, KnowsProgram, IsFullIn}
 use Rattle.cyc_soundness.specs.Classes.{HasScopes, IsDeclarable, InStatement, InItems, InValue, InThrown, Source}
 use Rattle.cyc_soundness.specs.Stacks.{IsByType, Evaluates, Executes, Continues, Catches, IsLoop, Val, Go, operands_in, IsReturn, IsStack, IsFocus, IsWell}
 use Rattle.cyc_soundness.specs.Stacks as stacks
 use Rattle.cyc_soundness.proofs.TypeLemmas.{target_typed, kind_read, kind_meant}
 use Rattle.cyc_soundness.proofs.FlowLemmas.{used_full, implies_self, implies_after, meet_first, meet_second, at_least_implies, emptied_implied, holds_implied, not_vacant, full_last}
 use Rattle.cyc_soundness.proofs.RuleLemmas.{breaks_statement, breaks_items, breaks_clauses, clauses_implied, nothing_locked}
-use Rattle.cyc_soundness.proofs.StackLemmas.{among_set, bound_of, within_bound, within_variables, within_live, within_holds, below_more}
+use Rattle.cyc_soundness.proofs.StackLemmas.{among_set, bound_of, within_bound, within_variables, within_live, within_holds, below_more, bound_to}
 use Rattle.cyc_soundness.proofs.RegionLemmas.{opened_known, contains_more, live_more, same_name, known_behind, opened_life, opened_lasting, agrees_of, context_inside, context_lexical}
 use Rattle.cyc_soundness.proofs.WorldLemmas.{opened_typed}
 use Rattle.cyc_soundness.proofs.Sharing.{keeps_by}
 use Rattle.cyc_soundness.proofs.Cells.{running}
-use Rattle.cyc_soundness.proofs.Evaluation.{from_bound}
+use Rattle.cyc_soundness.proofs.Evaluation.{from_bound, looks_bound}
 use Rattle.cyc_soundness.proofs.Loans.{type_known, keys_on, shared_loans}
 use Rattle.cyc_soundness.proofs.Touched.{relied_body}
 use Rattle.cyc_soundness.proofs.Supply.{declares_blank}
@@ -410,17 +410,18 @@ module _ (p : Source) (g : Typing) (x : Exits) (bs : List InScope) (e : Environm
       )
   continue_with (MoreItems (DeclareAlias r n t place source) js) k cs c f h before behind' ending nests live within stands holds ((region, less), (v, ((home, has), there), unique, of_type), (number, variable, alive), wjs) (l, (f1, (demands, known1), (u, known2)), djs) are (loans, spared, kjs) ends stack =
       let now : l ≡ record { now = with_fullness Full (with_fullness Locked f source) n; breaks = before } = known2 ∙ ap (λ z. record { now = z; breaks = before }) known1 in
-      let (b, bound_among, number_of, of_bound) = bound_of p.reading (lives_in bs) c.locals bs source v home stands.scope has in
+      let local = bound_to p.reading (lives_in bs) c.locals bs source v home stands.scope has in
+      let b = local.bound in
+      let full : IsFullIn f source = used_full f source demands.0 demands.1.0 in
       let set : IsSet f source = not_vacant (is_vacant (flow.fullness f source)) demands.0 in
       let rest = lent_rest source js (with_local true t (with_opened scopes.Alias c)) (with_fullness Full (with_fullness Locked f source) n) before behind' ending wjs
       (subst (λ (z : Known). Derives (rule_items (around (lending x source)) js z) (record { now = ending; breaks = behind' })) now djs) are kjs in
       subst (λ kind. IsWell p (loaded_from kind (e.locals source) (Needs (AliasOf n source js) ∷ k) e w)) (sym (ap values.kind_of of_type ∙ alias_kind (regions.Variable r) v))
-      (from_bound p g x bs e w typed' globals bound variables (Needs (AliasOf n source js) ∷ k) source v b f (Seen (read bs v)) nests.0 live holds bound_among number_of of_bound (among_set g f bound_among holds.1 (subst (λ i. IsSet f i) (sym number_of) set))
-      (λ u is. (sym (kind_meant (lives_in bs) v), subst (λ z. HasType g z u) of_bound is)) (λ z. tt) (
+      (looks_bound p g x bs e w typed' globals bound variables (Needs (AliasOf n source js) ∷ k) source v b f nests.0 live holds local.among local.number local.of_type local.hidden unique full (
         [],
         cs,
         Go h,
-        stacks.aliases cs c b v t f (with_each Full (locks_of js) ending) h loans within stands bound_among number_of of_bound set spared (used_full f source demands.0 demands.1.0) unique (type_known p.reading c source v home (shared_loans p.reading loans) stands.known has)
+        stacks.aliases cs c b v t f (with_each Full (locks_of js) ending) h loans within stands local.among local.number local.of_type set spared full unique (type_known p.reading c source v home (shared_loans p.reading loans) stands.known has)
             (of_type ∙ ap (λ i. with_region_of (regions.Variable i) v) region) alive number rest (again source js ending h ends),
         tt,
         stack,

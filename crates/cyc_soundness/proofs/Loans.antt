@@ -27,7 +27,7 @@ use Rattle.cyc_meaning.specs.Regions.{is_dynamic, opened_by, opens_with, opens_d
 use Rattle.cyc_meaning.specs.Objects.{freed}
 use Rattle.cyc_soundness.specs.Lives.{Life, OfRegion, Kept, heap_life, Value, at, Reading, AsHeap, ByScope, AllIn, IsKnown, owned_life}
 use Rattle.cyc_soundness.specs.Lives as lives
-use Rattle.cyc_soundness.specs.Worlds.{OfLocal, Thing, KeyOf, PointerTo, Nobody, Hand, At, Lent, thing_of, Owns, Claims, IsSlot, IsHere, giving, given, marked, handing, variable_type, IsHeld, is_lent_by, IsOpenIn, Stays, Grows, IsFull, IsPlain, Typing, IsKnownLife, IsNumber, IsKeyOf, HasType, IsResult, IsTyped, IsDynamic, IsKnownOwner, Settled, Holder, lent_now, IsTarget, ObjectType, Outlasts, alike, life_at}
+use Rattle.cyc_soundness.specs.Worlds.{OfLocal, Thing, KeyOf, PointerTo, Nobody, Hand, At, Lent, thing_of, Owns, Claims, IsSlot, IsHere, giving, given, marked, handing, variable_type, IsHeld, is_lent_by, IsOpenIn, Stays, Grows, IsFull, IsPlain, Typing, IsKnownLife, IsNumber, IsKeyOf, HasType, IsResult, IsTyped, IsDynamic, IsKnownOwner, Settled, Holder, lent_now, IsTarget, ObjectType, Outlasts, alike, life_at, IsLookedAt}
 use Rattle.cyc_soundness.specs.Classes.{IsSpared, HasLoans, IsDeclarable, Source, HasAliases}
 use Rattle.cyc_soundness.specs.Frames.{IsAmong, first, later, Bound, InScope, Variable, Names, life_named, lives_in, read, IsBound, AreVariables, IsLasting, LiveIn, Within, older, IsFullIn, Holds, Implies, Exits, lending, AreKnownLocals, AreKnown, IsContext, KnowsProgram, frees_in, Stand, local_type}
 use Rattle.cyc_soundness.specs.Stacks.{IsByType, operands_in, Continues, Go, IsStack, IsWell, IsCommonLife}
@@ -356,8 +356,8 @@ module _ (p : Source) (g : Typing) (x : Exits) (bs : List InScope) (e : Environm
       → IsContext p x bs c → IsAmong (Variable b) bs → b.number ≡ lent → b.of_type ≡ read bs u → IsSpared x.relied lent → IsFullIn f lent → is_unique u ≡ true → AllIn (IsKnown c.next_region) u → t ≡ with_region_of (regions.Variable c.next_region) u
       → IsLive c (regions.Variable c.region) → number ≡ c.next_local
       → Continues p.reading (lending x lent) (with_local true t (with_opened scopes.Alias c)) js (with_fullness Full (with_fullness Locked f lent) number) h → Implies (with_fullness Full h lent) i
-      → IsResult g (Value (read bs u)) v → IsStack p g x cs (Go i) k → IsWell p (aliased number lent js v k e w)
-  aliases_on number lent js v k cs c b u t f h i live holds shares within stands among number_of type_is spared full unique known of_type alive number_is next again is stack =
+      → IsLookedAt g lent (thing_of (read bs u) v.value) → IsResult g (Value (read bs u)) v → IsStack p g x cs (Go i) k → IsWell p (aliased number lent js v k e w)
+  aliases_on number lent js v k cs c b u t f h i live holds shares within stands among number_of type_is spared full unique known of_type alive number_is next again looks is stack =
       let loans : HasLoans p.reading = shared_loans p.reading shares in
       let none = unfreed p.reading c.regions bs shares stands.regions in
       let by : IsByType b.of_type = subst (λ z. IsByType z) (sym type_is) (by_type_read g bs variables u none) in

@@ -579,6 +579,9 @@ pointer_left (null_is_not k t r) e = let z : types.Null ≡ types.Void = e in ab
 value_void : {t : RunTy} → Value t ≡ Void → ⊥
 value_void {t} e = let k : Value t ≡ Void = e in absurd (cc)
 
+into_void : {n : Option ℕ} {t : RunTy} → Into n t ≡ Void → ⊥
+into_void {n} {t} e = let k : Into n t ≡ Void = e in absurd (cc)
+
 seen_void : {t : RunTy} → Seen t ≡ Void → ⊥
 seen_void {t} e = let k : Seen t ≡ Void = e in absurd (cc)
 
@@ -652,7 +655,7 @@ void_waits (stacks.frees_object k t f) e = value_void e
 void_waits (stacks.closes_by_key r f) e = value_void e
 void_waits (stacks.throws f h) e = value_void e
 void_waits (stacks.opens_by cs c b r f h i loans within stands among number of_type set spared full less alive next continues again) e = seen_void e
-void_waits (stacks.aliases cs c b u t f h i loans within stands among number same set spared full unique known of_type alive next continues again) e = seen_void e
+void_waits (stacks.aliases cs c b u t f h i loans within stands among number same set spared full unique known of_type alive next continues again) e = into_void e
 
 pub void_goes : (p : Source) (g : Typing) (x : Exits) (bs : List InScope) (f : flow.State) (r : RunValue) (k : List Entry) → r ≡ Void → IsStack p g x bs (Val r f) k → IsStack p g x bs (Go f) k
 void_goes p g x bs f r (Needs a ∷ k) e (ts, cs, next, waits, are, rest) = absurd (void_waits waits e)

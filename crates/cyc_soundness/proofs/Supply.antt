@@ -347,4 +347,4 @@ module _ (p : Source) (g : Typing) (x : Exits) (bs : List InScope) (e : Environm
   given v k nests live holds is comes (stacks.opens_by {number} {lent} {js} cs c b r f h i loans within stands among number_of of_type set spared full less alive number_is continues again) are stack =
       opens_on p g x bs e w typed globals bound variables number lent js v.value k cs c b r f h i live holds loans within stands among number_of of_type spared full less alive number_is continues again is.1 stack
   given v k nests live holds is comes (stacks.aliases {number} {lent} {js} cs c b u t f h i loans within stands among number_of type_is set spared full unique known of_type alive number_is continues again) are stack =
-      aliases_on p g x bs e w typed globals bound variables number lent js v k cs c b u t f h i live holds loans within stands among number_of type_is spared full unique known of_type alive number_is continues again is stack
+      aliases_on p g x bs e w typed globals bound variables number lent js v k cs c b u t f h i live holds loans within stands among number_of type_is spared full unique known of_type alive number_is continues again comes is stack
