@@ -35,7 +35,7 @@ use Rattle.cyc_meaning.specs.Allocation.{writes_from}
 use Rattle.cyc_meaning.specs.Parts.{target_of, target_of_value}
 use Rattle.cyc_soundness.specs.Lives.{Life, Owned, RunTy, RunValue, Value, Seen, Into, looked, at, value_at, heap_life, lives_of, as_heap, Reading, AllIn, IsKnown}
 use Rattle.cyc_soundness.specs.Lives as lives
-use Rattle.cyc_soundness.specs.Worlds.{OfLocal, Settled, Awaits, At, IsPlain, Thing, Holder, Hand, Lent, pointer_at, thing_of, Owns, Claims, ClaimsPart, ClaimsBy, ClaimsAlone, IsHad, IsHere, ObjectType, Typing, AgreesWith, variable_type, IsFilled, IsFull, HasType, IsResult, AreOperands, IsNewOwner, IsKeyless, AreKeyless, IsTyped}
+use Rattle.cyc_soundness.specs.Worlds.{OfLocal, Settled, Awaits, At, IsPlain, Thing, Holder, Hand, Lent, pointer_at, thing_of, Owns, Claims, ClaimsPart, ClaimsBy, ClaimsAlone, IsHad, IsHere, ObjectType, Typing, AgreesWith, variable_type, IsFilled, IsFull, HasType, IsResult, AreOperands, IsNewOwner, IsKeyless, AreKeyless, IsTyped, Away}
 use Rattle.cyc_soundness.specs.Classes.{Relied, frees_of, and_looked, IsSpared, HasLoans, HasAliases, InExpression, InPlace, InSide, InInitial, InArguments, InOperations, InStatement, InItems, InClauses, IsDeclarable, Source}
 use Rattle.cyc_soundness.specs.Frames.{IsAmong, Bound, InScope, Variable, Level, Names, Instance, Home, frees_in, life_named, lives_in, read, read_value, IsThere, IsScope, AreBelow, IsBound, AreVariables, LiveIn, Within, IsSet, IsFullIn, Holds, Implies, LoopExit, Exits, HasResult, around, lending, relying, AreFullAt, AreBreaks, is_loop, Stand, IsHome, IsContext, lives_among, KnowsProgram}
 
@@ -471,10 +471,9 @@ abbrev pub IsBlocked : Option Ty → flow.State → Type 0
 IsBlocked None f = Unit {0}
 IsBlocked (Some t) f = is_reached f ≡ false
 
--- what is in this variable of a local is lent by the last loan
+-- what is in this variable of a local, to which no pointer leads, is lent by the last loan
 abbrev pub IsLentOut : Typing → (lent loan : ℕ) → RunTy → (object : ℕ) → Type 0
-IsLentOut g lent j t object =
-    (l : Life) × (hidden : Bool) × (slice_get g.objects object ≡ Some (variable_type t l hidden (OfLocal g.depth lent))) × IsByType t × Owns g.own (Lent j) (thing_of t values.Null)
+IsLentOut g lent j t object = (l : Life) × (slice_get g.objects object ≡ Some (variable_type t l true (OfLocal g.depth lent))) × (g.here object ≡ Away j)
 
 abbrev pub IsStack : Source → Typing → Exits → List InScope → Want → List Entry → Type 0
 IsStack p g x bs Nothing [] = g.pending ≡ Settled
