@@ -1,10 +1,10 @@
 -- THINGS CHANGE HANDS: keys, and pointers to unique objects. What others have stays theirs, and so what is typed stays so.
-use Rattle.std.proofs.Common.{◌≡◌, ◌≢◌, ℕ, suc, ◌+◌, ◌≤◌, ◌<◌, Bool, true, false, List, [], ◌∷◌, ◌++◌, length, set, Option, Some, None, slice_get, refl, sym, ap, subst, ◌∙◌, inl, inr, arith, length-append, eqb}
+use Rattle.std.proofs.Common.{◌≡◌, ◌≢◌, ℕ, suc, ◌+◌, ◌≤◌, ◌<◌, Bool, true, false, List, [], ◌∷◌, ◌++◌, length, set, Option, Some, None, slice_get, refl, sym, ap, subst, ◌∙◌, inl, inr, arith, length-append, eqb, ◌⊎◌}
 use Rattle.std.specs.Prelude.{if◌then◌else◌, ◌==◌}
 use Rattle.std.proofs.lemmas.Bool.{ltb-true, lt-ltb, eqb-true, eq-eqb, false_from_ne_true}
 use Rattle.std.proofs.lemmas.List.{length-set}
 use Rattle.cyc_types.specs.flow.States as flow
-use Rattle.cyc_meaning.specs.Values.{Operand}
+use Rattle.cyc_meaning.specs.Values.{Operand, Cell}
 use Rattle.cyc_meaning.specs.Values as values
 use Rattle.cyc_meaning.specs.State.{Dynamic, new_region, Region, Unique, Object, heap_number, is_open}
 use Rattle.cyc_meaning.proofs.ListLemmas.{slice_get-end, slice_get-set_other}
@@ -81,6 +81,10 @@ marked_other object b here n apart = other_number n object b (here n) apart
 
 pub marked_before : (object : ℕ) (b : Standing) (here : ℕ → Standing) (n : ℕ) (s : Standing) → n ≢ object → marked object b here n ≡ s → here n ≡ s
 marked_before object b here n s apart e = sym (marked_other object b here n apart) ∙ e
+
+-- a variable that has more in it
+pub marked_keeps : (object : ℕ) (here : ℕ → Standing) (n : ℕ) → here n ≡ Here → marked object Here here n ≡ Here
+marked_keeps object here n is = by_test (n == object) (here n) Here Here (λ e. refl) (λ e. is)
 
 pub hand_same : (i j : ℕ) → Hand i ≡ Hand j → i ≡ j
 hand_same i j e = let k : Hand i ≡ Hand j = e in cc
@@ -204,6 +208,30 @@ handing_changed g o old new object b has back from = record {
 pub gone_changed : (g : Typing) (o : Option Thing) (new : Holder) (object : ℕ) → Owns g.own (At object 0) o → Changed (At object 0) g (handing g o new object Gone)
 gone_changed g o new object has = handing_changed g o (At object 0) new object Gone has (λ e. let k : Gone ≡ Here = e in absurd (cc)) (λ other. refl)
 
+-- It has what comes into it, which is nothing to who has lent other things, nor to it, where a pointer may lead to it.
+pub marked_changed : (g : Typing) (object : ℕ) → Changed (At object 0) g (record g { here = marked object Here g.here })
+marked_changed g object = record {
+  grows = same_grows g g.own (marked object Here g.here);
+  own = λ a apart. refl;
+  here = λ n is apart. marked_keeps object g.here n is;
+  away = λ n j hides is apart other. marked_other object Here g.here n (λ same. apart (ap (λ i. At i 0) same)) ∙ is;
+  pending = refl;
+  depth = refl;
+  loans = refl;
+}
+
+pub shown_changed : (g : Typing) (object : ℕ) (y : ObjectType) → slice_get g.objects object ≡ Some y → y.is_hidden ≡ false → Changed Nobody g (record g { here = marked object Here g.here })
+shown_changed g object y there shown = record {
+  grows = same_grows g g.own (marked object Here g.here);
+  own = λ a apart. refl;
+  here = λ n is apart. marked_keeps object g.here n is;
+  away = λ n j hides is apart other. marked_other object Here g.here n (λ same. let type_is : y ≡ hides.0 = some_same y hides.0 (sym there ∙ ap (λ i. slice_get g.objects i) (sym same) ∙ hides.1.0) in
+      let z : true ≡ false = sym hides.1.1 ∙ ap (λ (z : ObjectType). z.is_hidden) (sym type_is) ∙ shown in absurd (cc)) ∙ is;
+  pending = refl;
+  depth = refl;
+  loans = refl;
+}
+
 -- what is known of locals stays so, where those that are full have what is in them
 module _ (g h : Typing) (grows : Grows g h) (depth : h.depth ≡ g.depth) where
   one_here : (f : flow.State) (b : InScope) → ((n object : ℕ) → IsFullIn f n → IsHere g g.depth n object → IsHere h g.depth n object) → HoldsIts g f b → HoldsIts h f b
@@ -312,10 +340,6 @@ changed_raised old g h i changed raises = record {
   loans = raises.loans ∙ changed.loans;
 }
 
--- a variable that has more in it
-pub marked_keeps : (object : ℕ) (here : ℕ → Standing) (n : ℕ) → here n ≡ Here → marked object Here here n ≡ Here
-marked_keeps object here n is = by_test (n == object) (here n) Here Here (λ e. refl) (λ e. is)
-
 module _ (g h : Typing) (stays : Stays g h) where
   abbrev still : Changed Nobody g h
   still = stays_changed Nobody g h stays
@@ -333,7 +357,8 @@ module _ (g h : Typing) (stays : Stays g h) where
 
 -- A thing that somebody has goes to another; what cells then have they had, and it is not that.
 pub hands_typed : (g : Typing) (o : Option Thing) (old new : Holder) (here : ℕ → Standing) (regions : List Region) (objects : List Object) → Owns g.own old o → IsHeld old
-    → ((object i : ℕ) (y : ObjectType) → slice_get g.objects object ≡ Some y → IsKept (record g { own = given o new g.own; here = here }) object i y.is_hidden → IsKept g object i y.is_hidden × (At object i ≢ old))
+    → ((object i : ℕ) (t : ObjectType) (x : Object) → slice_get g.objects object ≡ Some t → slice_get objects object ≡ Some x → IsKept (record g { own = given o new g.own; here = here }) object i t.is_hidden
+        → (IsKept g object i t.is_hidden × (At object i ≢ old)) ⊎ ((u : RunTy) (c : Cell) (v : values.Value) → slice_get t.cells i ≡ Some u → slice_get x.cells i ≡ Some c → c.content ≡ Some v → Claims (given o new g.own) (At object i) u v))
     → ((object j : ℕ) (t : ObjectType) (x : Object) → slice_get g.objects object ≡ Some t → slice_get objects object ≡ Some x → here object ≡ Away j → t.is_hidden ≡ true
         → ((g.here object ≡ Away j) × (Lent j object ≢ old)) ⊎ ((i : ℕ) (u : RunTy) (c : Cell) (v : values.Value) → slice_get t.cells i ≡ Some u → slice_get x.cells i ≡ Some c → c.content ≡ Some v → Claims (given o new g.own) (Lent j object) u v)) → IsTyped g regions objects
     → IsTyped (record g { own = given o new g.own; here = here }) regions objects
@@ -345,8 +370,10 @@ hands_typed g o old new here regions objects has held before away typed = record
   kept = λ n among. ((typed.kept n among).0, λ now. (typed.kept n among).1 (held_before g.own o old new (KeyOf n) has held now));
   fresh = λ n less. none_before g.own o old new (KeyOf n) has held (typed.fresh n less);
   unique = λ object now. typed.unique object (held_before g.own o old new (PointerTo object) has held now);
-  owned = λ object t x there stands i u c v kept cell at content. (let (is, apart) = before object i t there kept in
-      claims_kept old g (giving g o new) (giving_changed g o old new has) (At object i) u v apart (typed.owned object t x there stands i u c v is cell at content));
+  owned = λ object t x there stands i u c v kept cell at content. elim (before object i t x there stands kept) [
+    | inl was ↦ claims_kept old g (giving g o new) (giving_changed g o old new has) (At object i) u v was.1 (typed.owned object t x there stands i u c v was.0 cell at content)
+    | inr is ↦ is u c v cell at content
+  ];
   lent = λ object t x there stands i j u c v now hides cell at content. elim (away object j t x there stands now hides) [
     | inl was ↦ claims_kept old g (giving g o new) (giving_changed g o old new has) (Lent j object) u v was.1 (typed.lent object t x there stands i j u c v was.0 hides cell at content)
     | inr is ↦ is i u c v cell at content
@@ -354,17 +381,18 @@ hands_typed g o old new here regions objects has held before away typed = record
 }
 
 pub given_typed : (g : Typing) (o : Option Thing) (old new : Holder) (regions : List Region) (objects : List Object) → Owns g.own old o → IsHeld old → ((object i : ℕ) → At object i ≢ old) → ((object j : ℕ) → Lent j object ≢ old) → IsTyped g regions objects → IsTyped (giving g o new) regions objects
-given_typed g o old new regions objects has held apart other typed = hands_typed g o old new g.here regions objects has held (λ object i y there kept. (kept, apart object i)) (λ object j t x there stands now hides. inl (now, other object j)) typed
+given_typed g o old new regions objects has held apart other typed = hands_typed g o old new g.here regions objects has held (λ object i t x there stands kept. inl (kept, apart object i)) (λ object j t x there stands now hides. inl (now, other object j)) typed
 
 -- it goes from a variable that no pointer leads to
 module _ (g : Typing) (o : Option Thing) (object : ℕ) (new : Holder) (y : ObjectType) (regions : List Region) (objects : List Object) (has : Owns g.own (At object 0) o) (there : slice_get g.objects object ≡ Some y) (hidden : y.is_hidden ≡ true) (typed : IsTyped g regions objects) where
   -- which has it no more
-  taken_kept : (a : Standing) → (a ≡ Here → ⊥) → (n i : ℕ) (u : ObjectType) → slice_get g.objects n ≡ Some u → IsKept (handing g o new object a) n i u.is_hidden → IsKept g n i u.is_hidden × (At n i ≢ At object 0)
-  taken_kept a none n i u found kept = elim (same_or_other n object) [
+  taken_kept : (a : Standing) → (a ≡ Here → ⊥) → (n i : ℕ) (u : ObjectType) (x : Object) → slice_get g.objects n ≡ Some u → slice_get objects n ≡ Some x → IsKept (handing g o new object a) n i u.is_hidden
+      → (IsKept g n i u.is_hidden × (At n i ≢ At object 0)) ⊎ ((r : RunTy) (c : Cell) (v : values.Value) → slice_get u.cells i ≡ Some r → slice_get x.cells i ≡ Some c → c.content ≡ Some v → Claims (given o new g.own) (At n i) r v)
+  taken_kept a none n i u x found stands kept = elim (same_or_other n object) [
     | inl same ↦ (let type_is : y ≡ u = some_same y u (sym there ∙ ap (λ k. slice_get g.objects k) (sym same) ∙ found) in
         let now = kept.0 (ap (λ (z : ObjectType). z.is_hidden) (sym type_is) ∙ hidden) in
         absurd (none (sym (same_number n object a (g.here n) same) ∙ now)))
-    | inr apart ↦ (((λ is. marked_before object a g.here n Here apart (kept.0 is)), kept.1), λ e. apart (at_same n i object 0 e).0)
+    | inr apart ↦ inl (((λ is. marked_before object a g.here n Here apart (kept.0 is)), kept.1), λ e. apart (at_same n i object 0 e).0)
   ]
 
   pub taken_typed : IsTyped (handing g o new object Gone) regions objects
@@ -392,26 +420,28 @@ module _ (g : Typing) (o : Option Thing) (object : ℕ) (new : Holder) (y : Obje
         | inr apart ↦ inl (marked_before object (Away j) g.here n (Away i) apart now, lent_not_at i n object 0)
       ]
 
--- a variable has what is in it from now on
-pub raised_typed : (g : Typing) (object : ℕ) (t : ObjectType) (regions : List Region) (objects : List Object) → slice_get g.objects object ≡ Some t
-    → ((x : Object) → slice_get objects object ≡ Some x → AreOwned (record g { here = marked object Here g.here }) object t x.cells) → IsTyped g regions objects → IsTyped (record g { here = marked object Here g.here }) regions objects
-raised_typed g object t regions objects there own typed = record {
-  count = typed.count;
-  counts = typed.counts;
-  each = λ n u at. (let (x, m, stands, flag, is) = typed.each n u at in (x, m, stands, flag, object_grown g _ (same_grows g g.own (marked object Here g.here)) m u x is));
-  heap = typed.heap;
-  kept = typed.kept;
-  fresh = typed.fresh;
-  unique = typed.unique;
-  owned = owned;
-  lent = lent;
-}
+-- a variable has again what it had lent
+pub returned_typed : (g : Typing) (o : Option Thing) (object j : ℕ) (y : ObjectType) (regions : List Region) (objects : List Object) → Owns g.own (Lent j object) o → slice_get g.objects object ≡ Some y
+    → ((x : Object) → slice_get objects object ≡ Some x → (i : ℕ) (u : RunTy) (c : Cell) (v : values.Value) → slice_get y.cells i ≡ Some u → slice_get x.cells i ≡ Some c → c.content ≡ Some v → Claims (given o (At object 0) g.own) (At object i) u v)
+    → IsTyped g regions objects → IsTyped (handing g o (At object 0) object Here) regions objects
+returned_typed g o object j y regions objects has there claims typed = hands_typed g o (Lent j object) (At object 0) (marked object Here g.here) regions objects has tt before away typed
   where
-    owned : (n : ℕ) (u : ObjectType) (x : Object) → slice_get g.objects n ≡ Some u → slice_get objects n ≡ Some x → AreOwned (record g { here = marked object Here g.here }) n u x.cells
-    owned n u x at stands = elim (same_or_other n object) [
-      | inl same ↦ (let type_is : t ≡ u = some_same t u (sym there ∙ ap (λ i. slice_get g.objects i) (sym same) ∙ at) in
-          subst (λ i. AreOwned (record g { here = marked object Here g.here }) i u x.cells) (sym same) (subst (λ z. AreOwned (record g { here = marked object Here g.here }) object z x.cells) type_is (own x (ap (λ i. slice_get objects i) (sym same) ∙ stands))))
-XX
+    before : (n i : ℕ) (t : ObjectType) (x : Object) → slice_get g.objects n ≡ Some t → slice_get objects n ≡ Some x → IsKept (handing g o (At object 0) object Here) n i t.is_hidden
+        → (IsKept g n i t.is_hidden × (At n i ≢ Lent j object)) ⊎ ((u : RunTy) (c : Cell) (v : values.Value) → slice_get t.cells i ≡ Some u → slice_get x.cells i ≡ Some c → c.content ≡ Some v → Claims (given o (At object 0) g.own) (At n i) u v)
+    before n i t x found stands kept = elim (same_or_other n object) [
+      | inl same ↦ (let type_is : y ≡ t = some_same y t (sym there ∙ ap (λ k. slice_get g.objects k) (sym same) ∙ found) in
+          inr (λ u c v cell at content. subst (λ k. Claims (given o (At object 0) g.own) (At k i) u v) (sym same)
+          (claims x (ap (λ k. slice_get objects k) (sym same) ∙ stands) i u c v (ap (λ (z : ObjectType). slice_get z.cells i) type_is ∙ cell) at content)))
+      | inr apart ↦ inl (((λ is. marked_before object Here g.here n Here apart (kept.0 is)), kept.1), at_not_lent n i j object)
+    ]
+
+    away : (n i : ℕ) (t : ObjectType) (x : Object) → slice_get g.objects n ≡ Some t → slice_get objects n ≡ Some x → marked object Here g.here n ≡ Away i → t.is_hidden ≡ true
+        → ((g.here n ≡ Away i) × (Lent i n ≢ Lent j object)) ⊎ ((m : ℕ) (u : RunTy) (c : Cell) (v : values.Value) → slice_get t.cells m ≡ Some u → slice_get x.cells m ≡ Some c → c.content ≡ Some v → Claims (given o (At object 0) g.own) (Lent i n) u v)
+    away n i t x found stands now hides = elim (same_or_other n object) [
+      | inl same ↦ absurd (away_not_here (marked object Here g.here n) i now (same_number n object Here (g.here n) same))
+      | inr apart ↦ inl (marked_before object Here g.here n (Away i) apart now, λ e. apart (lent_same i n j object e).1)
+    ]
+
 -- somebody has the pointer to a unique object that nobody had
 pub pointed_typed : (g : Typing) (object : ℕ) (new : Holder) (regions : List Region) (objects : List Object) → g.own (PointerTo object) ≡ Nobody → IsUniqueObject g objects object → IsTyped g regions objects → IsTyped (giving g (Some (PointerTo object)) new) regions objects
 pointed_typed g object new regions objects none is typed = record {
@@ -579,6 +609,24 @@ variable_pending g q b is = tt
 pub variables_pending : (g : Typing) (q : Pending) (bs : List InScope) → AreVariables g bs → AreVariables (record g { pending = q }) bs
 variables_pending g q [] are = tt
 variables_pending g q (b ∷ bs) (is, are) = (variable_pending g q b is, variables_pending g q bs are)
+
+-- nor is what variables have in them
+open_marked : (g : Typing) (here : ℕ → Standing) (l : Life) → IsOpenIn g l → IsOpenIn (record g { here = here }) l
+open_marked g here (Kept region) is = is
+open_marked g here (OfRegion number ns us) is = is
+open_marked g here (OfObject object) is = tt
+open_marked g here Never is = tt
+open_marked g here Owned is = tt
+
+variable_marked : (g : Typing) (here : ℕ → Standing) (b : InScope) → IsOfVariable g b → IsOfVariable (record g { here = here }) b
+variable_marked g here (Variable b) (is, opens) = (is, open_marked g here b.life opens)
+variable_marked g here (Names number l live) (is, opens) = (life_grown g (record g { here = here }) (same_grows g g.own here) l is, λ e. open_marked g here l (opens e))
+variable_marked g here (Instance frees these live) is = λ n. (life_grown g (record g { here = here }) (same_grows g g.own here) (these n) (is n).0, λ e. open_marked g here (these n) ((is n).1 e))
+variable_marked g here b is = tt
+
+pub variables_marked : (g : Typing) (here : ℕ → Standing) (bs : List InScope) → AreVariables g bs → AreVariables (record g { here = here }) bs
+variables_marked g here [] are = tt
+variables_marked g here (b ∷ bs) (is, are) = (variable_marked g here b is, variables_marked g here bs are)
 
 variable_more : (g : Typing) (b : InScope) → IsOfVariable g b → IsOfVariable (record g { loans = suc g.loans }) b
 variable_more g (Variable b) (is, opens) = (is, open_more g b.life opens)
