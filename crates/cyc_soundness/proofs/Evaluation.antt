@@ -36,7 +36,7 @@ use Rattle.cyc_soundness.specs.Lives.{Life, OfRegion, OfObject, Never, Owned, Ke
 use Rattle.cyc_soundness.specs.Lives as lives
 use Rattle.cyc_soundness.specs.Worlds.{Thing, Holder, Nobody, Hand, At, thing_of, Owns, AtStart, Claims, ClaimsPart, ClaimsBy, IsLookedAt, IsSlot, IsHere, given, marked, handing, Settled, IsOpenObject, IsNewOwner, IsPlain, HasType, Typing, IsFull, global_type, Outlasts, alike, globals as with_globals, AgreesWith, IsResult, AreOperands, IsTyped, IsHiding, Here, Gone, Away}
 use Rattle.cyc_soundness.specs.Frames.{IsAmong, Bound, local_type, InScope, Variable, IsBound, AreVariables, IsHomed, LiveIn, IsSet, IsFullIn, Holds, Implies, Exits, IsContext, KnowsProgram, lives_in, read, read_value, frees_in}
-use Rattle.cyc_soundness.specs.Classes.{is_full, Relied, frees_of, and_looked, IsSpared, HasScopes, InExpression, InArguments, InOperations, Source}
+use Rattle.cyc_soundness.specs.Classes.{is_full, Relied, frees_of, and_looked, IsSpared, HasScopes, InExpression, InArguments, InOperations, Source, SparesAssigned}
 use Rattle.cyc_soundness.specs.Stacks.{KeepsUnique, IsCommonLife, IsPlainValue, IsChained, Evaluates, Val, Go, turned, relied_at, IsCalled, null, IsStack, IsFocus, IsWell}
 use Rattle.cyc_soundness.specs.Stacks as stacks
 use Rattle.cyc_soundness.proofs.Numbers.{some_same, both}
@@ -251,8 +251,12 @@ module _ (p : Source) (g : Typing) (x : Exits) (bs : List InScope) (e : Environm
         stack_changed p (At b.object 0) g h x bs (Val (Value (read bs u)) f1) k changed (g.depth, n, slot, inl (refl, spared)) stack,
       )))
 
+-- what is assigned what is moved is spared
+moved_spared : (q : Relied) (place : Place) (n : ℕ) (v : Ty) (u : ValueType) → u ≡ assigned_type v → is_moved v ≡ true → SparesAssigned q (Local place n) u → IsSpared q n
+moved_spared q place n v u gives moved spared = subst (λ z. SparesAssigned q (Local place n) z) (gives ∙ ap (λ (b : Bool). if b then types.Void else types.Value v) moved) spared
+
 -- a unique pointer is moved
-unique_moved : (u : Ty) → is_unique u ≡ true → is_moved u ≡ true
+pub unique_moved : (u : Ty) → is_unique u ≡ true → is_moved u ≡ true
 unique_moved u unique = ap (λ (b : Bool). b || is_key u) unique
 
 module _ (p : Source) where
@@ -444,8 +448,13 @@ module _ (p : Source) where
             subst (λ z. IsStack p g x bs (Val (read_value bs z) h) k) same stack,
           ),
         )
-    evaluate (Assign (Local place n) (Convert from to a) u) k c t f h q opens live stands holds (inl (v, r, (m, has, region, there), (s, well, conv, from_is, to_is), gives_u, same)) (f1, d, (demands, known)) kept stack =
-        let (b, among, number, of_type) = bound_of p.reading (lives_in bs) c.locals bs n v m stands.scope (place_local c.locals n v m has) in
+    evaluate (Assign (Local place n) (Convert from to a) u) k c t f h q opens live stands holds (inl (v, r, (m, has, region, there), (s, well, conv, from_is, to_is), gives_u, same)) (f1, d, (demands, known)) (assigns, kept) stack =
+        let bound_is = bound_to p.reading (lives_in bs) c.locals bs n v m stands.scope (place_local c.locals n v m has) in
+        let b = bound_is.bound in
+        let among = bound_is.among in
+        let number = bound_is.number in
+        let of_type = bound_is.of_type in
+        let spared : b.is_hidden ≡ true → IsSpared (relied_at x.relied k) b.number = (λ hides. subst (λ i. IsSpared (relied_at x.relied k) i) (sym number) (moved_spared (relied_at x.relied k) place n v u gives_u (sym bound_is.hidden ∙ hides) assigns)) in
         let at : e.locals n ≡ Some b.object = ap e.locals (sym number) ∙ among_bound e among bound in
         let known_is : h ≡ with_fullness Full f1 b.number = known ∙ ap (λ i. with_fullness Full f1 i) (sym number) in
         subst (λ o. IsWell p (assigned o (Convert from to a) k e w)) (sym at) (
@@ -467,13 +476,13 @@ module _ (p : Source) where
               [],
               bs,
               Val (read_value bs (assigned_type v)) (with_fullness Full f1 b.number),
-              stacks.stores_local b v f1 among of_type,
+              stacks.stores_local b v f1 among of_type spared,
               tt,
               subst (λ z. IsStack p g x bs (Val (read_value bs (assigned_type v)) z) k) known_is (subst (λ z. IsStack p g x bs (Val (read_value bs z) h) k) (same ∙ gives_u) stack),
             ),
           ),
         ))
-    evaluate (Assign (Global n) (Convert from to a) u) k c t f h q opens live stands holds (inl (v, r, (region, there), (s, well, conv, from_is, to_is), gives_u, same)) (f1, d, (demands, known)) kept stack =
+    evaluate (Assign (Global n) (Convert from to a) u) k c t f h q opens live stands holds (inl (v, r, (region, there), (s, well, conv, from_is, to_is), gives_u, same)) (f1, d, (demands, known)) (assigns, kept) stack =
         on (Evaluating a) (Needs (ConvertTo from to (target_by a)) ∷ Needs (Store (values.Thin n 0)) ∷ k) live (
           c,
           s,

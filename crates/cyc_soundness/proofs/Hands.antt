@@ -225,8 +225,8 @@ shown_changed g object y there shown = record {
   grows = same_grows g g.own (marked object Here g.here);
   own = λ a apart. refl;
   here = λ n is apart. marked_keeps object g.here n is;
-  away = λ n j hides is apart other. marked_other object Here g.here n (λ same. let type_is : y ≡ hides.0 = some_same y hides.0 (sym there ∙ ap (λ i. slice_get g.objects i) (sym same) ∙ hides.1.0) in
-      let z : true ≡ false = sym hides.1.1 ∙ ap (λ (z : ObjectType). z.is_hidden) (sym type_is) ∙ shown in absurd (cc)) ∙ is;
+  away = λ n j hides is apart other. marked_other object Here g.here n (λ same. let type_is : y ≡ hides.0 = some_same y hides.0 (sym there ∙ ap (λ i. slice_get g.objects i) (sym same) ∙ hides.1) in
+      let z : true ≡ false = sym hides.2 ∙ ap (λ (z : ObjectType). z.is_hidden) (sym type_is) ∙ shown in absurd (cc)) ∙ is;
   pending = refl;
   depth = refl;
   loans = refl;

@@ -241,7 +241,7 @@ waits_whole (stacks.denies seen v f tested) peek e = part_whole None peek e
 waits_whole (stacks.chains seen c v t f h stands computes chained) peek e = part_whole None peek e
 waits_whole (stacks.applies f) peek e = part_whole None peek e
 waits_whole (stacks.decides seen v f h tested i) peek e = part_whole None peek e
-waits_whole (stacks.stores_local b t f among same) peek e = part_whole None peek e
+waits_whole (stacks.stores_local b t f among same spared) peek e = part_whole None peek e
 waits_whole (stacks.stores_global number t f there same) peek e = part_whole None peek e
 waits_whole (stacks.points {peek = o} also c t v w f stands op) peek e = part_whole o peek e
 waits_whole (stacks.null_points {peek = o} also c v w f op) peek e = part_whole o peek e
@@ -265,8 +265,8 @@ waits_whole (stacks.returns t u f h result gives) peek e = (h, refl)
 waits_whole (stacks.frees_object k t f) peek e = part_whole None peek e
 waits_whole (stacks.closes_by_key r f) peek e = part_whole None peek e
 waits_whole (stacks.throws f h) peek e = (h, refl)
-waits_whole (stacks.opens_by cs c b r f h i loans within stands among number of_type set spared full less alive next continues again) peek e = (i, refl)
-waits_whole (stacks.aliases cs c b u t f h i loans within stands among number same set spared full unique known of_type alive next continues again) peek e = (i, refl)
+waits_whole (stacks.opens_by cs c b r f h i loans within stands among number of_type hides set spared full less alive next continues again) peek e = (i, refl)
+waits_whole (stacks.aliases cs c b u t f h i loans within stands among number same hides set spared full unique known of_type alive next continues again) peek e = (i, refl)
 
 place_whole : {p : Source} {x : Exits} {q : Relied} {bs : List InScope} {a : AwaitingPlace} {o : Option ℕ} {t : RunTy} {l : Life} {f : flow.State} {next : Want} → WaitsPlace p x q bs a o t l f next → (peek : Option ℕ) → part_of_place a ≡ Whole peek → (h : flow.State) × (next ≡ Go h)
 place_whole (stacks.loads_from seen t r f alive by_type plain kind) peek e = part_whole None peek e
@@ -640,7 +640,7 @@ void_waits {bs = bs} (stacks.denies seen v f tested) e = void_tested (lives_in b
 void_waits {p} {q = q} {bs = bs} (stacks.chains {os} seen c v t f h stands computes chained) e = void_chain p.reading q c os t (subst (λ z. IsChain c z os t) (void_read (lives_in bs) v (looked_void seen (read_value bs v) e)) computes.typed) computes.kept
 void_waits (stacks.applies f) e = value_void e
 void_waits {bs = bs} (stacks.decides seen v f h tested i) e = void_tested (lives_in bs) v (looked_void seen (read_value bs v) e) tested
-void_waits (stacks.stores_local b t f among same) e = value_void e
+void_waits (stacks.stores_local b t f among same spared) e = value_void e
 void_waits (stacks.stores_global number t f there same) e = value_void e
 void_waits {bs = bs} (stacks.points also c t v w f stands op) e = pointer_right (lives_in bs) op (looked_void also (read_value bs v) e)
 void_waits {bs = bs} (stacks.null_points also c v w f op) e = pointer_right (lives_in bs) op (looked_void also (read_value bs v) e)
@@ -664,8 +664,8 @@ void_waits (stacks.returns t u f h result gives) e = value_void e
 void_waits (stacks.frees_object k t f) e = value_void e
 void_waits (stacks.closes_by_key r f) e = value_void e
 void_waits (stacks.throws f h) e = value_void e
-void_waits (stacks.opens_by cs c b r f h i loans within stands among number of_type set spared full less alive next continues again) e = seen_void e
-void_waits (stacks.aliases cs c b u t f h i loans within stands among number same set spared full unique known of_type alive next continues again) e = seen_void e
+void_waits (stacks.opens_by cs c b r f h i loans within stands among number of_type hides set spared full less alive next continues again) e = seen_void e
+void_waits (stacks.aliases cs c b u t f h i loans within stands among number same hides set spared full unique known of_type alive next continues again) e = seen_void e
 
 pub void_goes : (p : Source) (g : Typing) (x : Exits) (bs : List InScope) (f : flow.State) (r : RunValue) (k : List Entry) → r ≡ Void → IsStack p g x bs (Val r f) k → IsStack p g x bs (Go f) k
 void_goes p g x bs f r (Needs a ∷ k) e (ts, cs, next, waits, are, rest) = absurd (void_waits waits e)
@@ -1007,7 +1007,7 @@ waits_within {bs = bs} (stacks.denies seen v f tested) = itself bs
 waits_within {bs = bs} (stacks.chains seen c v t f h stands computes chained) = itself bs
 waits_within {bs = bs} (stacks.applies f) = itself bs
 waits_within {bs = bs} (stacks.decides seen v f h tested i) = itself bs
-waits_within {bs = bs} (stacks.stores_local b t f among same) = itself bs
+waits_within {bs = bs} (stacks.stores_local b t f among same spared) = itself bs
 waits_within {bs = bs} (stacks.stores_global number t f there same) = itself bs
 waits_within {bs = bs} (stacks.points also c t v w f stands op) = itself bs
 waits_within {bs = bs} (stacks.null_points also c v w f op) = itself bs
@@ -1031,5 +1031,5 @@ waits_within {bs = bs} (stacks.returns t u f h result gives) = itself bs
 waits_within {bs = bs} (stacks.frees_object k t f) = itself bs
 waits_within {bs = bs} (stacks.closes_by_key r f) = itself bs
 waits_within {bs = bs} (stacks.throws f h) = itself bs
-waits_within (stacks.opens_by cs c b r f h i loans within stands among number of_type set spared full less alive next continues again) = within
-waits_within (stacks.aliases cs c b u t f h i loans within stands among number same set spared full unique known of_type alive next continues again) = within
+waits_within (stacks.opens_by cs c b r f h i loans within stands among number of_type hides set spared full less alive next continues again) = within
+waits_within (stacks.aliases cs c b u t f h i loans within stands among number same hides set spared full unique known of_type alive next continues again) = within

@@ -150,7 +150,7 @@ module _ (p : Source) (g : Typing) (x : Exits) (bs : List InScope) (e : Environm
       let y = new_type g.depth number bs t l in
       let h = made_typing number t l n content in
       let has : Owns g.own (Hand i) o = content_owns g.own (Hand i) (read bs t) content claims in
-      let raises : Raises one h = record { grows = variable_grows one y n (marked m Here g.here); own = refl; here = λ object is. marked_keeps m g.here object is; away = λ object j hides is. marked_other m Here g.here object (λ same. beyond g.objects object hides.0 hides.1.0 (same ∙ typed.count)) ∙ is; pending = refl; depth = refl; loans = refl } in
+      let raises : Raises one h = record { grows = variable_grows one y n (marked m Here g.here); own = refl; here = λ object is. marked_keeps m g.here object is; away = λ object j hides is. marked_other m Here g.here object (λ same. beyond g.objects object hides.0 hides.1 (same ∙ typed.count)) ∙ is; pending = refl; depth = refl; loans = refl } in
       let changed : Changed (Hand i) g h = changed_raised (Hand i) g one h (giving_changed g o (Hand i) (At m 0) has) raises in
       let first' : IsTyped one w.regions w.objects = given_typed g o (Hand i) (At m 0) w.regions w.objects has tt (λ object j. at_no_hand object j i) (λ object j. lent_no_hand j object i) typed in
       let is : IsObject h n y (variable e.home kind content) =
@@ -298,8 +298,8 @@ module _ (p : Source) (g : Typing) (x : Exits) (bs : List InScope) (e : Environm
   given v k nests live holds is comes (stacks.applies {o} {left} f) ((left_is, unit), claims) stack =
       gives p g x bs e w typed globals bound variables k kinds.Int lives.Int f (binary_result o left.value v.value) live holds tt refl (combined g o left.value v.value left_is.1 is.1) stack
   given v k nests live holds is comes (stacks.decides seen s f h tested i) are stack = decided_on p g x bs e w typed globals bound variables seen v k s f h live holds tested i is stack
-  given v k nests live holds is comes (stacks.stores_local b t f among same) are stack =
-      writes_local p g x bs e w typed globals bound variables v k b t f nests.0 live among same holds is (comes_alone g k (Value (read bs t)) v.value comes) stack
+  given v k nests live holds is comes (stacks.stores_local b t f among same spared) are stack =
+      writes_local p g x bs e w typed globals bound variables v k b t f nests.0 live among same spared holds is (comes_alone g k (Value (read bs t)) v.value comes) stack
   given v k nests live holds is comes (stacks.stores_global number t f there means) are stack =
       writes_global p g x bs e w typed globals bound variables v k number t f nests.0 live there means holds is (comes_alone g k (Value (read bs t)) v.value comes) stack
   given v k nests live holds is comes (stacks.points {peek} {o} {left} also c t s u f stands op) ((left_is, unit), part) stack =
@@ -345,7 +345,7 @@ module _ (p : Source) (g : Typing) (x : Exits) (bs : List InScope) (e : Environm
   given v k nests live holds is comes (stacks.frees_object m t f) are stack = frees_on p g x bs e w typed globals bound variables m t v.value k f live holds is.1 (comes_alone g k (Value (lives.Pointer m t lives.Owned)) v.value comes) stack
   given v k nests live holds is comes (stacks.closes_by_key r f) are stack = closes_on p g x bs e w typed globals bound variables v.value k r f live holds is.1 (comes_alone g k (Value (lives.Key (lives_in bs r))) v.value comes) stack
   given v k nests live holds is comes (stacks.throws {tag} f h) are stack = thrown_on tag v.value k h live is.1 stack
-  given v k nests live holds is comes (stacks.opens_by {number} {lent} {js} cs c b r f h i loans within stands among number_of of_type set spared full less alive number_is continues again) are stack =
+  given v k nests live holds is comes (stacks.opens_by {number} {lent} {js} cs c b r f h i loans within stands among number_of of_type hides set spared full less alive number_is continues again) are stack =
       opens_on p g x bs e w typed globals bound variables number lent js v.value k cs c b r f h i live holds loans within stands among number_of of_type spared full less alive number_is continues again is.1 stack
-  given v k nests live holds is comes (stacks.aliases {number} {lent} {js} cs c b u t f h i loans within stands among number_of type_is set spared full unique known of_type alive number_is continues again) are stack =
+  given v k nests live holds is comes (stacks.aliases {number} {lent} {js} cs c b u t f h i loans within stands among number_of type_is hides set spared full unique known of_type alive number_is continues again) are stack =
       aliases_on p g x bs e w typed globals bound variables number lent js v k cs c b u t f h i live holds loans within stands among number_of type_is spared full unique known of_type alive number_is continues again is stack

@@ -22,7 +22,7 @@ use Rattle.cyc_soundness.proofs.Numbers.{some_same}
 use Rattle.cyc_soundness.proofs.FlowLemmas.{holds_implied, full_added}
 use Rattle.cyc_soundness.proofs.StackLemmas.{void_goes, given_back, stack_changed, none_lent, full_at_grown, not_heap, lexical_not_heap, within_bound, within_variables, within_live, within_holds, found_is, waits_within}
 use Rattle.cyc_soundness.proofs.WorldLemmas.{closed_typed, result_grown, typed_cell}
-use Rattle.cyc_soundness.proofs.Hands.{Changed, at_not_lent, given_now, marked_now, handing_changed, alone_kept, alone_comes, variables_kept, given_typed, raised_typed, hands_globals, moment_grows, moment_typed, moment_globals, holds_lent, returned_typed, away_same}
+use Rattle.cyc_soundness.proofs.Hands.{Changed, at_not_lent, given_now, marked_now, handing_changed, alone_kept, alone_comes, variables_kept, hands_globals, moment_grows, moment_typed, moment_globals, holds_lent, returned_typed, away_same}
 use Rattle.cyc_soundness.proofs.Cells.{by_type_claims, running}
 use Rattle.cyc_soundness.proofs.Execution.{continue_with}
 use Rattle.cyc_soundness.specs.Classes.{Source}
@@ -144,7 +144,7 @@ module _ (p : Source) (g : Typing) (e : Environment) (w : World) (typed : IsType
     pub proceed : (k : List Entry) (f : flow.State) → IsNested k e w → LiveIn k bs → Holds g f bs → IsStack p g x bs (Go f) k → IsWell p (step_proceeding k e w)
     proceed (Discard ∷ k) f nests live holds stack = on Proceeding k live (f, holds, stack)
     proceed (Rest js ∷ k) f nests live holds (cs, c, h, within, stands, rest, stack) =
-        continue_with p g x bs e w typed globals bound variables js k cs c f h rest.before rest.behind rest.ending nests live within stands holds rest.typed rest.flows rest.breaks rest.kept rest.ends stack
+        continue_with p g x bs e w typed globals bound variables js k cs c f h rest.before rest.behind rest.ending nests live within stands holds rest.typed rest.flows rest.breaks (rest.kept holds.0) rest.ends stack
     proceed (Join ∷ k) f nests live holds (h, i, stack) = on Proceeding k live (h, holds_implied g f h bs i holds, stack)
     proceed (Loop condition body ∷ k) f nests live holds (y, l, v, u, h, same, loop, i, stack) = tests_again condition body k y l v u h live loop (holds_implied g f l.head bs i holds) stack
     proceed (CloseRegion region home ∷ k) f nests live holds (cs, number, l, alive, h, same, i, outer, stack) =

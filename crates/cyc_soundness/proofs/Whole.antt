@@ -293,6 +293,7 @@ well_start p input accepted well (in_functions, in_globals, in_structs) =
       fresh = λ n less. refl;
       unique = λ n held. absurd held;
       owned = λ n t x there stands. globals_owned g (frees_of p.reading) p.program.globals well.globals n t x there stands n;
+      lent = λ n t x there stands i j u c v away. let k : Gone ≡ Away j = away in absurd (cc);
     } in
     let knows : KnowsProgram g p = record {
       globals = λ n t there. (let (object, flag, closed) = all_globals p.reading p.program.globals in_globals n t there in (object, (1, flag, (let one : 1 ≤ 1 = omega arith in one)), closed));

@@ -108,7 +108,7 @@ pub record Continues (m : Reading) (x : Exits) (c : Context) (js : Items) (f h :
   pub typed : WellTypedItems c js
   pub flows : Derives (rule_items (around x) js (record { now = f; breaks = before })) (record { now = ending; breaks = behind })
   pub breaks : AreBreaks x.loop behind
-  pub kept : InItems m x.relied c.next_region js
+  pub kept : is_reached f ≡ true → InItems m x.relied c.next_region js
   pub ends : Implies (with_each Full (locks_of js) ending) h
 
 -- clauses that begin with this known
@@ -298,7 +298,7 @@ pub data Waits (p : Source) (x : Exits) (q : Relied) (bs : List InScope) : Await
       → Waits p x q bs (Chain os) [] (looked peek (read_value bs v)) f bs (Val (Value (read bs t)) h)
   applies : {o : Operator} {left : Operand} (f : flow.State) → Waits p x q bs (Apply o left) (lives.Int ∷ []) (Value lives.Int) f bs (Val (Value lives.Int) f)
   decides : (peek : Option ℕ) (v : ValueType) (f h : flow.State) → is_tested v ≡ true → Implies f h → Waits p x q bs Decide [] (looked peek (read_value bs v)) f bs (Val (Value lives.Int) h)
-  stores_local : (b : Bound) (t : Ty) (f : flow.State) → IsAmong (Variable b) bs → b.of_type ≡ read bs t
+  stores_local : (b : Bound) (t : Ty) (f : flow.State) → IsAmong (Variable b) bs → b.of_type ≡ read bs t → (b.is_hidden ≡ true → IsSpared q b.number)
       → Waits p x q bs (Store (values.Thin b.object 0)) [] (Value (read bs t)) f bs (Val (read_value bs (assigned_type t)) (with_fullness Full f b.number))
   stores_global : (number : ℕ) (t : Ty) (f : flow.State) → slice_get (map (λ (v : GlobalVariable). v.of_type) p.program.globals) number ≡ Some t → read bs t ≡ at (as_heap (frees_of p.reading)) t
       → Waits p x q bs (Store (values.Thin number 0)) [] (Value (read bs t)) f bs (Val (read_value bs (assigned_type t)) f)
@@ -345,11 +345,11 @@ pub data Waits (p : Source) (x : Exits) (q : Relied) (bs : List InScope) : Await
   frees_object : (k : PointerKind) (t : RunTy) (f : flow.State) → Waits p x q bs FreeObject [] (Value (lives.Pointer k t Owned)) f bs (Go f)
   closes_by_key : (r : Region) (f : flow.State) → Waits p x q bs CloseByKey [] (Value (lives.Key (lives_in bs r))) f bs (Go f)
   throws : {tag : ℕ} (f h : flow.State) → Waits p x q bs (ThrowWith tag) [] (Value lives.Int) f bs (Go h)
-  opens_by : {number lent : ℕ} {js : Items} (cs : List InScope) (c : Context) (b : Bound) (r : ℕ) (f h i : flow.State) → HasLoans p.reading → Within cs bs → IsContext p x bs c → IsAmong (Variable b) bs → b.number ≡ lent → b.of_type ≡ lives.Key (life_named bs r) → IsSet f lent
+  opens_by : {number lent : ℕ} {js : Items} (cs : List InScope) (c : Context) (b : Bound) (r : ℕ) (f h i : flow.State) → HasLoans p.reading → Within cs bs → IsContext p x bs c → IsAmong (Variable b) bs → b.number ≡ lent → b.of_type ≡ lives.Key (life_named bs r) → b.is_hidden ≡ true → IsSet f lent
       → IsSpared x.relied lent → IsFullIn f lent → r < c.next_region → IsLive c (regions.Variable c.region) → number ≡ c.next_local
       → Continues p.reading (lending x lent) (with_local false (types.Handle (regions.Variable r)) (with_key_opened r c)) js (with_fullness Full (with_fullness Locked f lent) number) h
       → Implies (with_fullness Full h lent) i → Waits p x q bs (OpenBy number lent js) [] (Seen (lives.Key (life_named bs r))) f cs (Go i)
-  aliases : {number lent : ℕ} {js : Items} (cs : List InScope) (c : Context) (b : Bound) (u t : Ty) (f h i : flow.State) → HasAliases p.reading → Within cs bs → IsContext p x bs c → IsAmong (Variable b) bs → b.number ≡ lent → b.of_type ≡ read bs u → IsSet f lent
+  aliases : {number lent : ℕ} {js : Items} (cs : List InScope) (c : Context) (b : Bound) (u t : Ty) (f h i : flow.State) → HasAliases p.reading → Within cs bs → IsContext p x bs c → IsAmong (Variable b) bs → b.number ≡ lent → b.of_type ≡ read bs u → b.is_hidden ≡ true → IsSet f lent
       → IsSpared x.relied lent → IsFullIn f lent → is_unique u ≡ true → AllIn (IsKnown c.next_region) u → t ≡ with_region_of (regions.Variable c.next_region) u → IsLive c (regions.Variable c.region) → number ≡ c.next_local
       → Continues p.reading (lending x lent) (with_local true t (with_opened scopes.Alias c)) js (with_fullness Full (with_fullness Locked f lent) number) h
       → Implies (with_fullness Full h lent) i → Waits p x q bs (AliasOf number lent js) [] (Seen (read bs u)) f cs (Go i)
