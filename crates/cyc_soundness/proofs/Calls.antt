@@ -260,7 +260,7 @@ module _ (p : Source) (accepted : AreAccepted p) where
           typed = ok.typed.body;
           flows = flows;
           breaks = subst (λ o. AreBreaks o ok.breaks) (sym loop) tt;
-          kept = subst (λ q. InItems p.reading q (suc h.variables) h.body) (sym relied) ok.kept;
+          kept = λ reached. subst (λ q. InItems p.reading q (suc h.variables) h.body) (sym relied) ok.kept;
           ends = each_full_implies (locks_of h.body) end;
         } in
         let last : number ≤ length h.parameters = omega (arith, count) in
@@ -338,7 +338,7 @@ module _ (p : Source) (accepted : AreAccepted p) where
           typed = well;
           flows = flows;
           breaks = are;
-          kept = kept;
+          kept = λ reached. kept;
           ends = implies;
         } in
         running p g x (scope c k) (inside e w) (opened w) (opened_typed g w.regions (new_region Stack ∷ []) w.objects typed) globals (tt, (tt, bound)) (tt, (opened_known g p.reading (length w.regions) (ends_of k), variables)) Proceeding (Rest js ∷ region_end e w ∷ k)
@@ -369,7 +369,7 @@ module _ (p : Source) (accepted : AreAccepted p) where
           typed = well;
           flows = flows;
           breaks = are;
-          kept = kept;
+          kept = λ reached. kept;
           ends = implies;
         } in
         running p g x (scope c k) (inside e w) (opened w) (opened_typed g w.regions (new_region Stack ∷ []) w.objects typed) globals (tt, (tt, bound)) (tt, (opened_known g p.reading (length w.regions) (ends_of k), variables))

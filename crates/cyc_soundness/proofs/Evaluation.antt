@@ -34,16 +34,16 @@ use Rattle.cyc_meaning.specs.Nesting.{ends_of, AreOpen}
 use Rattle.cyc_meaning.specs.Step.{step_evaluating, addressed, counts, passes, assigned, decided, tested, awaits_right, chained, converts}
 use Rattle.cyc_soundness.specs.Lives.{Life, OfRegion, Owned, Kept, heap_life, as_heap, Reading, Lives, AsHeap, ByScope, RunTy, RunValue, Value, Into, looked, kind_at}
 use Rattle.cyc_soundness.specs.Lives as lives
-use Rattle.cyc_soundness.specs.Worlds.{Thing, Holder, Nobody, Hand, At, thing_of, Owns, AtStart, Claims, ClaimsPart, ClaimsBy, IsLookedAt, IsSlot, IsHere, given, marked, handing, Settled, IsOpenObject, IsNewOwner, IsPlain, HasType, Typing, IsFull, global_type, Outlasts, globals as with_globals, AgreesWith, IsResult, AreOperands, IsTyped, IsHiding, life_at}
+use Rattle.cyc_soundness.specs.Worlds.{Thing, Holder, Nobody, Hand, At, thing_of, Owns, AtStart, Claims, ClaimsPart, ClaimsBy, IsLookedAt, IsSlot, IsHere, given, marked, handing, Settled, IsOpenObject, IsNewOwner, IsPlain, HasType, Typing, IsFull, global_type, Outlasts, globals as with_globals, AgreesWith, IsResult, AreOperands, IsTyped, IsHiding, life_at, Here, Gone, Away}
 use Rattle.cyc_soundness.specs.Frames.{IsAmong, Bound, local_type, InScope, Variable, IsBound, AreVariables, IsHomed, LiveIn, IsSet, IsFullIn, Holds, Implies, Exits, IsContext, KnowsProgram, lives_in, read, read_value, frees_in}
-use Rattle.cyc_soundness.specs.Classes.{Relied, frees_of, and_looked, IsSpared, HasScopes, InExpression, InArguments, InOperations, Source}
+use Rattle.cyc_soundness.specs.Classes.{Relied, frees_of, and_looked, IsSpared, HasScopes, InExpression, InArguments, InOperations, Source, SparesAssigned}
 use Rattle.cyc_soundness.specs.Stacks.{KeepsUnique, IsCommonLife, IsPlainValue, IsChained, Evaluates, Val, Go, turned, relied_at, IsCalled, null, IsStack, IsFocus, IsWell}
 use Rattle.cyc_soundness.specs.Stacks as stacks
 use Rattle.cyc_soundness.proofs.Numbers.{some_same, both}
 use Rattle.cyc_soundness.proofs.TypeLemmas.{place_type, target_typed, is_kind_same, kind_read, kind_meant}
 use Rattle.cyc_soundness.proofs.FlowLemmas.{full_set, used_full, implies_self, meet_first, meet_second, vacant_implied, holds_implied, reached_with}
 use Rattle.cyc_soundness.proofs.WorldLemmas.{type_grown, result_grown}
-use Rattle.cyc_soundness.proofs.Hands.{Changed, at_no_hand, given_now, marked_now, marked_before, marked_keeps, handing_changed, variables_kept, holds_kept, taken_typed, hands_globals, kept_now}
+use Rattle.cyc_soundness.proofs.Hands.{Changed, at_no_hand, given_now, marked_now, marked_before, marked_keeps, handing_changed, variables_kept, holds_kept, taken_typed, hands_globals, kept_now, gone_changed, away_not_here, marked_changed, shown_changed, variables_marked, same_grows, holds_here}
 use Rattle.cyc_soundness.proofs.Sharing.{keeps_by, region_common, plain_read, all_freed, unique_by_type}
 use Rattle.cyc_soundness.proofs.StackLemmas.{emptied_other, stack_changed, comes_alone, keeps_passed, void_goes, pointer_left, bound_of, bound_to, lasting_open, kept_open, object_known, among_open, among_own, place_local, among_bound, among_variable, among_live, among_level, among_set, set_stored, open_of, globals_among, settled}
 use Rattle.cyc_soundness.proofs.ValueLemmas.{zero_is, converted_by, kind_given, lasts_itself}
@@ -186,7 +186,7 @@ only_first t (suc j) u found apart = absurd (let k : None ≡ Some u = found in 
 -- ---- a local is read
 
 -- a unique pointer is moved
-unique_moved : (u : Ty) → is_unique u ≡ true → is_moved u ≡ true
+pub unique_moved : (u : Ty) → is_unique u ≡ true → is_moved u ≡ true
 unique_moved u unique = ap (λ (b : Bool). b || is_key u) unique
 
 looked_at : (g : Typing) (n object : ℕ) (o : Option Thing) → IsHere g g.depth n object → IsHiding g object true → Owns g.own (At object 0) o → IsLookedAt g n o
@@ -252,12 +252,12 @@ module _ (p : Source) (g : Typing) (x : Exits) (bs : List InScope) (e : Environm
       let claims : Claims g.own (At b.object 0) (read bs u) v.value = subst (λ t. Claims g.own (At b.object 0) t v.value) of_type (its_own b (values.kind_of u) v still among here) in
       let o = thing_of (read bs u) v.value in
       let hand = Hand (stacks.operands_in k) in
-      let h = handing g o hand b.object false in
-      let changed : Changed (At b.object 0) g h = handing_changed g o (At b.object 0) hand b.object false claims.0 (λ same. refl) in
+      let h = handing g o hand b.object Gone in
+      let changed : Changed (At b.object 0) g h = gone_changed g o hand b.object claims.0 in
       let f1 = with_fullness Vacant f n in
       subst (λ i. IsWell p (loaded_from (values.kind_of u) i k e w)) (sym there)
       (subst (λ s. IsWell p s) (sym (v.loads k e))
-      (running p h x bs e w (taken_typed g o b.object hand (local_type g.depth b) w.regions w.objects claims.0 (among_variable g among variables) (l.hidden ∙ moved) typed) (hands_globals p g (given o hand g.own) (marked b.object false g.here) globals) bound (variables_kept (At b.object 0) g h changed bs refl variables)
+      (running p h x bs e w (taken_typed g o b.object hand (local_type g.depth b) w.regions w.objects claims.0 (among_variable g among variables) (l.hidden ∙ moved) typed) (hands_globals p g (given o hand g.own) (marked b.object Gone g.here) globals) bound (variables_kept (At b.object 0) g h changed bs refl variables)
       (Given (record { kind = values.kind_of u; value = v.value })) k live (
         Value (read bs u),
         f1,
@@ -266,6 +266,10 @@ module _ (p : Source) (g : Typing) (x : Exits) (bs : List InScope) (e : Environm
         (given_now g.own o hand, claims.1),
         stack_changed p (At b.object 0) g h x bs (Val (Value (read bs u)) f1) k changed (g.depth, n, slot, inl (refl, spared)) stack,
       )))
+
+-- what is assigned what is moved is spared
+moved_spared : (q : Relied) (place : Place) (n : ℕ) (v : Ty) (u : ValueType) → u ≡ assigned_type v → is_moved v ≡ true → SparesAssigned q (Local place n) u → IsSpared q n
+moved_spared q place n v u gives moved spared = subst (λ z. SparesAssigned q (Local place n) z) (gives ∙ ap (λ (b : Bool). if b then types.Void else types.Value v) moved) spared
 
 module _ (p : Source) where
   -- what is called takes and gives this, where its region variables stand for what is put in their place
@@ -452,8 +456,13 @@ module _ (p : Source) where
             subst (λ z. IsStack p g x bs (Val (read_value bs z) h) k) same stack,
           ),
         )
-    evaluate (Assign (Local place n) (Convert from to a) u) k c t f h q opens live stands holds (inl (v, r, (m, has, region, there), (s, well, conv, from_is, to_is), gives_u, same)) (f1, d, (demands, known)) kept stack =
-        let (b, among, number, of_type) = bound_of p.reading (lives_in bs) c.locals bs n v m stands.scope (place_local c.locals n v m has) in
+    evaluate (Assign (Local place n) (Convert from to a) u) k c t f h q opens live stands holds (inl (v, r, (m, has, region, there), (s, well, conv, from_is, to_is), gives_u, same)) (f1, d, (demands, known)) (assigns, kept) stack =
+        let bound_is = bound_to p.reading (lives_in bs) c.locals bs n v m stands.scope (place_local c.locals n v m has) in
+        let b = bound_is.bound in
+        let among = bound_is.among in
+        let number = bound_is.number in
+        let of_type = bound_is.of_type in
+        let spared : b.is_hidden ≡ true → IsSpared (relied_at x.relied k) b.number = (λ hides. subst (λ i. IsSpared (relied_at x.relied k) i) (sym number) (moved_spared (relied_at x.relied k) place n v u gives_u (sym bound_is.hidden ∙ hides) assigns)) in
         let at : e.locals n ≡ Some b.object = ap e.locals (sym number) ∙ among_bound e among bound in
         let known_is : h ≡ with_fullness Full f1 b.number = known ∙ ap (λ i. with_fullness Full f1 i) (sym number) in
         subst (λ o. IsWell p (assigned o (Convert from to a) k e w)) (sym at) (
@@ -475,13 +484,13 @@ module _ (p : Source) where
               [],
               bs,
               Val (read_value bs (assigned_type v)) (with_fullness Full f1 b.number),
-              stacks.stores_local b v f1 among of_type,
+              stacks.stores_local b v f1 among of_type spared,
               tt,
               subst (λ z. IsStack p g x bs (Val (read_value bs (assigned_type v)) z) k) known_is (subst (λ z. IsStack p g x bs (Val (read_value bs z) h) k) (same ∙ gives_u) stack),
             ),
           ),
         ))
-    evaluate (Assign (Global n) (Convert from to a) u) k c t f h q opens live stands holds (inl (v, r, (region, there), (s, well, conv, from_is, to_is), gives_u, same)) (f1, d, (demands, known)) kept stack =
+    evaluate (Assign (Global n) (Convert from to a) u) k c t f h q opens live stands holds (inl (v, r, (region, there), (s, well, conv, from_is, to_is), gives_u, same)) (f1, d, (demands, known)) (assigns, kept) stack =
         on (Evaluating a) (Needs (ConvertTo from to (target_by a)) ∷ Needs (Store (values.Thin n 0)) ∷ k) live (
           c,
           s,
@@ -788,29 +797,40 @@ module _ (p : Source) where
     handed h t v false is = is
 
     pub writes_local : (v : Operand) (k : List Entry) (b : Bound) (t : Ty) (f : flow.State) → AreOpen w.regions (ends_of k) → LiveIn k bs → IsAmong (Variable b) bs → b.of_type ≡ read bs t
+        → (b.is_hidden ≡ true → IsSpared (relied_at x.relied k) b.number)
         → Holds g f bs → IsResult g (Value (read bs t)) v → stacks.Comes g (Value (read bs t)) v k → IsStack p g x bs (Val (read_value bs (assigned_type t)) (with_fullness Full f b.number)) k
         → IsWell p (stored (cell_at w b.object 0) b.object 0 v (Given v) k e w)
-    writes_local v k b t f opens live among of_type holds is comes stack =
+    writes_local v k b t f opens live among of_type spared holds is comes stack =
         let u = read bs t in
         let i = stacks.operands_in k in
         let hand = Hand i in
         let y = local_type g.depth b in
         let there = among_variable g among variables in
         let (z, m, stands, flag, typed_is) = typed.each b.object y there in
-        let here = marked b.object true g.here in
+        let here = marked b.object Here g.here in
+        let one : Typing = record g { here = here } in
+        let before : Holds one f bs = holds_here g one (same_grows g g.own here) refl f bs (λ n object full' is. (marked_keeps b.object g.here object is.0, is.1)) holds in
+        let stack_now : IsStack p one x bs (Val (read_value bs (assigned_type t)) (with_fullness Full f b.number)) k = marked_stack b.is_hidden refl in
         stores_marking p g x bs e w typed globals bound variables v (Given v) k b.object 0 m i u y here live there (ap (λ z. Some z) of_type)
         (open_local p g x bs e w typed globals bound variables k b opens live among) flag (let few : 0 ≤ m = omega arith in few) is comes
-        (λ object j hidden apart kept. ((λ hides. marked_before b.object true g.here object apart (kept.0 hides)), kept.1))
-        (λ j z found apart kept. absurd (only_first b.of_type j z found apart)) (λ object now. marked_keeps b.object g.here object now)
+        (λ object j hidden apart kept. ((λ hides. marked_before b.object Here g.here object Here apart (kept.0 hides)), kept.1))
+        (λ j z found apart kept. absurd (only_first b.of_type j z found apart)) (λ hides j away. away_not_here (here b.object) j away (marked_now b.object Here g.here)) (λ object j apart now. marked_before b.object Here g.here object (Away j) apart now)
         (λ all full. (let h = stored_typing p g x bs e w typed globals bound variables v (Given v) k b.object 0 m i u y here in
-        let (reached, are) = holds_kept hand g h all f bs (λ n object full' here'. at_no_hand object 0 i) holds in (
+        let (reached, are) = holds_kept hand one h all f bs (λ n object full' here'. at_no_hand object 0 i) before in (
           read_value bs (assigned_type t),
           with_fullness Full f b.number,
-          (reached_with Full f b.number reached, set_stored h e Full f b.number b.object bs bound (among_bound e among bound) full reached (λ s. (marked_now b.object true g.here, (y, there, refl))) are),
-          handed h t v (is_moved t) (result_grown g h all.grows (Value u) v is),
-          moved_comes h (stacks.operands_in k) bs t v.value (variables_kept hand g h all bs refl variables),
-          stack_changed p hand g h x bs (Val (read_value bs (assigned_type t)) (with_fullness Full f b.number)) k all (let le : stacks.operands_in k ≤ stacks.operands_in k = omega arith in le) stack,
+          (reached_with Full f b.number reached, set_stored h e Full f b.number b.object bs bound (among_bound e among bound) full reached (λ s. (marked_now b.object Here g.here, (y, there, refl))) are),
+          handed h t v (is_moved t) (result_grown one h all.grows (Value u) v (result_grown g one (same_grows g g.own here) (Value u) v is)),
+          moved_comes h (stacks.operands_in k) bs t v.value (variables_kept hand one h all bs refl (variables_marked g here bs variables)),
+          stack_changed p hand one h x bs (Val (read_value bs (assigned_type t)) (with_fullness Full f b.number)) k all (let le : stacks.operands_in k ≤ stacks.operands_in k = omega arith in le) stack_now,
         )))
+      where
+        -- nothing relies on what is in a variable to which no pointer leads
+        marked_stack : (hidden : Bool) → b.is_hidden ≡ hidden → IsStack p (record g { here = marked b.object Here g.here }) x bs (Val (read_value bs (assigned_type t)) (with_fullness Full f b.number)) k
+        marked_stack true hides = stack_changed p (At b.object 0) g (record g { here = marked b.object Here g.here }) x bs (Val (read_value bs (assigned_type t)) (with_fullness Full f b.number)) k (marked_changed g b.object)
+            (g.depth, b.number, (local_type g.depth b, among_variable g among variables, refl), inl (refl, spared hides)) stack
+        marked_stack false shows = stack_changed p Nobody g (record g { here = marked b.object Here g.here }) x bs (Val (read_value bs (assigned_type t)) (with_fullness Full f b.number)) k
+            (shown_changed g b.object (local_type g.depth b) (among_variable g among variables) shows) tt stack
 
     pub writes_global : (v : Operand) (k : List Entry) (n : ℕ) (t : Ty) (f : flow.State) → AreOpen w.regions (ends_of k) → LiveIn k bs
         → slice_get (map (λ (v : GlobalVariable). v.of_type) p.program.globals) n ≡ Some t → read bs t ≡ lives.at (as_heap (frees_of p.reading)) t → Holds g f bs → IsResult g (Value (read bs t)) v → stacks.Comes g (Value (read bs t)) v k
@@ -822,7 +842,7 @@ module _ (p : Source) where
         let cell : slice_get z.cells 0 ≡ Some (read bs t) = ap (λ z. Some z) (sym means) in
         let i = stacks.operands_in k in
         let hand = Hand i in
-        stores_on p g x bs e w typed globals bound variables v (Given v) k n 0 m i (read bs t) z live at cell (open_of w.regions (globals_among k) opens) flag (let few : 0 ≤ m = omega arith in few) is comes
+        stores_on p g x bs e w typed globals bound variables v (Given v) k n 0 m i (read bs t) z live at cell (open_of w.regions (globals_among k) opens) flag (let few : 0 ≤ m = omega arith in few) refl is comes
         (λ changed now. (let h = stored_typing p g x bs e w typed globals bound variables v (Given v) k n 0 m i (read bs t) z g.here in (
           read_value bs (assigned_type t),
           f,

@@ -3,8 +3,8 @@ use Rattle.std.proofs.Common.{◌≡◌, ℕ, suc, ◌+◌, true, false, List, [
 use Rattle.std.specs.Prelude.{◌&&◌}
 use Rattle.std.specs.List.{list_all}
 use Rattle.cyc_syntax.specs.Trees.{Declaration}
-use Rattle.cyc_types.specs.Types.{Ty}
-use Rattle.cyc_types.specs.TypedTrees.{Local, Global, Expression, Number, NullPointer, HeapRegion, Counter, Copy, Move, Peek, Load, AddressOf, AddressOfCell, NumberOfElements, FreeUnique, FreeKey, Call, Unary, Binary, Assign, Store, New, Dereference, Target, Member, Element, Placement, OnHeap, AsUnique, ByHandle, Initial, Plain, Fields, Array, Converted, Convert, Arguments, NoArguments, MoreArguments, Operations, NoOperations, ThenCompute, ThenTest, ThenPointer, ThenPointerPeek, Side, VariableSide, CellSide, Statement, Block, Empty, Evaluate, Swap, If, While, Return, Break, Continue, Throw, Try, Items, NoItems, MoreItems, Execute, Declare, DeclareRegion, OpenRegion, DeclareAlias, DeclareKey, Clauses, NoClauses, Default, Case, StructType, GlobalVariable, Function, Program}
+use Rattle.cyc_types.specs.Types.{Ty, ValueType, Void, Null, Value}
+use Rattle.cyc_types.specs.TypedTrees.{Local, Global, Expression, Number, NullPointer, HeapRegion, Counter, Copy, Move, Peek, Load, AddressOf, AddressOfCell, NumberOfElements, FreeUnique, FreeKey, Call, Unary, Binary, Assign, Store, New, Dereference, Target, Member, Element, Placement, OnHeap, AsUnique, ByHandle, Initial, Plain, Fields, Array, Converted, Convert, Arguments, NoArguments, MoreArguments, Operations, NoOperations, ThenCompute, ThenTest, ThenPointer, ThenPointerPeek, Side, VariableSide, CellSide, Statement, Block, Empty, Evaluate, Swap, If, While, Return, Break, Continue, Throw, Try, Items, NoItems, MoreItems, Execute, Declare, DeclareRegion, OpenRegion, DeclareAlias, DeclareKey, Clauses, NoClauses, Default, Case, StructType, GlobalVariable, Function, Program, Lvalue}
 use Rattle.cyc_types.specs.Declarations.{declared_regions, item_regions}
 use Rattle.cyc_types.specs.typing.Formed.{IsFormedStatement, AreFormedItems, AreFormedClauses, AreFormedFunctions, AreFormedGlobals, AreFormedFields, AreFormedStructs, IsFormedProgram}
 use Rattle.cyc_types.specs.typing.Programs.{IsTypedProgram}
@@ -12,7 +12,7 @@ use Rattle.cyc_types.specs.flow.Programs.{IsAllowedProgram}
 use Rattle.cyc_types.proofs.typing.ProgramLemmas.{program_well}
 use Rattle.cyc_types.proofs.typing.FormedPrograms.{program_formed}
 use Rattle.cyc_soundness.specs.Lives.{Reading, ByScope}
-use Rattle.cyc_soundness.specs.Classes.{InExpression, InPlace, InPlacement, InInitial, InConverted, InArguments, InOperations, InValue, InThrown, InSide, InStatement, InItems, InClauses, InFunctions, InGlobals, InFields, InStructs, FreesNoObject}
+use Rattle.cyc_soundness.specs.Classes.{InExpression, InPlace, InPlacement, InInitial, InConverted, InArguments, InOperations, InValue, InThrown, InSide, InStatement, InItems, InClauses, InFunctions, InGlobals, InFields, InStructs, FreesNoObject, SparesAssigned}
 use Rattle.cyc_soundness.specs.Frees.{expression_frees_none, place_frees_none, placement_frees_none, initial_frees_none, converted_frees_none, arguments_free_none, operations_free_none, value_frees_none, thrown_frees_none, side_frees_none, statement_frees_none, items_free_none, clauses_free_none, function_frees_none, frees_no_object}
 use Rattle.cyc_soundness.specs.Sound.{IsSound}
 use Rattle.cyc_soundness.proofs.Numbers.{both_true}
@@ -23,6 +23,12 @@ reading = ByScope true false
 
 refused : {A : Type 0} → false ≡ true → A
 refused e = absurd (let k : false ≡ true = e in cc)
+
+assigned_kept : (l : Lvalue) (t : ValueType) → SparesAssigned [] l t
+assigned_kept (Local p n) Void = tt
+assigned_kept (Local p n) Null = tt
+assigned_kept (Local p n) (Value t) = tt
+assigned_kept (Global n) t = tt
 
 mutual
   expression_kept : (a : Expression) → expression_frees_none a ≡ true → InExpression reading [] a
@@ -43,7 +49,7 @@ mutual
   expression_kept (Call f cs t) frees = arguments_kept cs frees
   expression_kept (Unary o a) frees = expression_kept a frees
   expression_kept (Binary a os t) frees = let (one, two) = both_true (expression_frees_none a) (operations_free_none os) frees in (expression_kept a one, operations_kept os two)
-  expression_kept (Assign l c t) frees = converted_kept c frees
+  expression_kept (Assign l c t) frees = (assigned_kept l t, converted_kept c frees)
   expression_kept (Store d c t) frees = let (one, two) = both_true (place_frees_none d) (converted_frees_none c) frees in (place_kept d one, converted_kept c two)
   expression_kept (New w i t) frees = let (one, two) = both_true (placement_frees_none w) (initial_frees_none i) frees in (placement_kept w one, initial_kept i two)
 
@@ -107,7 +113,7 @@ mutual
 
   items_kept : (n : ℕ) (js : Items) → AreFormedItems n js → items_free_none js ≡ true → InItems reading [] n js
   items_kept n NoItems formed frees = tt
-  items_kept n (MoreItems (Execute s) js) (f, g) frees = let (one, two) = both_true (statement_frees_none s) (items_free_none js) frees in (statement_kept n s f one, items_kept (n + declared_regions s) js g two)
+  items_kept n (MoreItems (Execute s) js) (f, g) frees = let (one, two) = both_true (statement_frees_none s) (items_free_none js) frees in (statement_kept n s f one, λ ends. items_kept (n + declared_regions s) js g two)
   items_kept n (MoreItems (Declare l t v) js) (f, g) frees = let (one, two) = both_true (value_frees_none v) (items_free_none js) frees in (f, value_kept v one, items_kept n js g two)
   items_kept n (MoreItems (DeclareRegion r l) js) formed frees = (tt, items_kept (suc n) js formed (both_true true (items_free_none js) frees).1)
   items_kept n (MoreItems (OpenRegion r l p k) js) formed frees = (refl, tt, items_kept n js formed (both_true true (items_free_none js) frees).1)

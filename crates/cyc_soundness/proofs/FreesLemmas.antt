@@ -5,15 +5,15 @@ use Rattle.std.specs.List.{list_all}
 use Rattle.std.proofs.lemmas.Bool.{ltb-true}
 use Rattle.cyc_types.specs.declared.region.Region.{Region}
 use Rattle.cyc_types.specs.declared.region.Region.TheVariants as regions
-use Rattle.cyc_types.specs.Types.{Ty}
+use Rattle.cyc_types.specs.Types.{Ty, ValueType, Void, Null, Value}
 use Rattle.cyc_types.specs.Types as types
 use Rattle.cyc_types.specs.Declarations.{declared_regions, item_regions}
-use Rattle.cyc_types.specs.TypedTrees.{Local, Global, Expression, Number, NullPointer, HeapRegion, Counter, Copy, Move, Peek, Load, AddressOf, AddressOfCell, NumberOfElements, FreeUnique, FreeKey, Call, Unary, Binary, Assign, Store, New, Dereference, Target, Member, Element, Placement, OnHeap, AsUnique, ByHandle, Initial, Plain, Fields, Array, Converted, Convert, Arguments, NoArguments, MoreArguments, Operations, NoOperations, ThenCompute, ThenTest, ThenPointer, ThenPointerPeek, Side, VariableSide, CellSide, Statement, Block, Empty, Evaluate, Swap, If, While, Return, Break, Continue, Throw, Try, Items, NoItems, MoreItems, Execute, Declare, DeclareRegion, OpenRegion, DeclareAlias, DeclareKey, Clauses, NoClauses, Default, Case, StructType, GlobalVariable, Function, Program}
+use Rattle.cyc_types.specs.TypedTrees.{Local, Global, Expression, Number, NullPointer, HeapRegion, Counter, Copy, Move, Peek, Load, AddressOf, AddressOfCell, NumberOfElements, FreeUnique, FreeKey, Call, Unary, Binary, Assign, Store, New, Dereference, Target, Member, Element, Placement, OnHeap, AsUnique, ByHandle, Initial, Plain, Fields, Array, Converted, Convert, Arguments, NoArguments, MoreArguments, Operations, NoOperations, ThenCompute, ThenTest, ThenPointer, ThenPointerPeek, Side, VariableSide, CellSide, Statement, Block, Empty, Evaluate, Swap, If, While, Return, Break, Continue, Throw, Try, Items, NoItems, MoreItems, Execute, Declare, DeclareRegion, OpenRegion, DeclareAlias, DeclareKey, Clauses, NoClauses, Default, Case, StructType, GlobalVariable, Function, Program, Lvalue}
 use Rattle.cyc_types.specs.typing.Tests.{is_key}
 use Rattle.cyc_types.specs.typing.WellTyped.{IsWellTypedProgram}
 use Rattle.cyc_types.specs.flow.Programs.{IsAllowedProgram}
 use Rattle.cyc_soundness.specs.Lives.{Reading, ByScope, AllOf, AllIn, IsKnown}
-use Rattle.cyc_soundness.specs.Classes.{InExpression, InPlace, InPlacement, InInitial, InConverted, InArguments, InOperations, InValue, InThrown, InSide, InStatement, InItems, InClauses, InFunctions, InGlobals, InFields, InStructs, FreesLocals}
+use Rattle.cyc_soundness.specs.Classes.{InExpression, InPlace, InPlacement, InInitial, InConverted, InArguments, InOperations, InValue, InThrown, InSide, InStatement, InItems, InClauses, InFunctions, InGlobals, InFields, InStructs, FreesLocals, SparesAssigned}
 use Rattle.cyc_soundness.specs.FreesLocals.{is_known, is_declarable, expression_is_in, place_is_in, placement_is_in, initial_is_in, converted_is_in, arguments_are_in, operations_are_in, value_is_in, thrown_is_in, side_is_in, statement_is_in, items_are_in, clauses_are_in, function_is_in, global_is_in, field_is_in, struct_is_in, frees_locals}
 use Rattle.cyc_soundness.specs.Sound.{IsSound}
 use Rattle.cyc_soundness.proofs.Numbers.{both_true}
@@ -46,6 +46,12 @@ declarable_in n (types.Struct s rs) is = all_known n rs is
 abbrev reading : Reading
 reading = ByScope true true
 
+assigned_in : (l : Lvalue) (t : ValueType) → SparesAssigned [] l t
+assigned_in (Local p n) Void = tt
+assigned_in (Local p n) Null = tt
+assigned_in (Local p n) (Value t) = tt
+assigned_in (Global n) t = tt
+
 mutual
   expression_in : (a : Expression) → expression_is_in a ≡ true → InExpression reading [] a
   expression_in (Number n) is = tt
@@ -65,7 +71,7 @@ mutual
   expression_in (Call f cs t) is = arguments_in cs is
   expression_in (Unary o a) is = expression_in a is
   expression_in (Binary a os t) is = let both = both_true (expression_is_in a) (operations_are_in os) is in (expression_in a both.0, operations_in os both.1)
-  expression_in (Assign l c t) is = converted_in c is
+  expression_in (Assign l c t) is = (assigned_in l t, converted_in c is)
   expression_in (Store d c t) is = let both = both_true (place_is_in d) (converted_is_in c) is in (place_in d both.0, converted_in c both.1)
   expression_in (New w i t) is =
       let both = both_true (placement_is_in w) (initial_is_in i) is in
@@ -133,7 +139,7 @@ mutual
 
   items_in : (n : ℕ) (js : Items) → items_are_in n js ≡ true → InItems reading [] n js
   items_in n NoItems is = tt
-  items_in n (MoreItems (Execute s) js) is = let both = both_true (statement_is_in n s) (items_are_in (n + declared_regions s) js) is in (statement_in n s both.0, items_in (n + declared_regions s) js both.1)
+  items_in n (MoreItems (Execute s) js) is = let both = both_true (statement_is_in n s) (items_are_in (n + declared_regions s) js) is in (statement_in n s both.0, λ ends. items_in (n + declared_regions s) js both.1)
   items_in n (MoreItems (Declare l t v) js) is =
       let both = both_true (is_declarable n t) (value_is_in v && items_are_in n js) is in
       let each = both_true (value_is_in v) (items_are_in n js) both.1 in

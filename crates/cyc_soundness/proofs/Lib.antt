@@ -11,6 +11,7 @@ mod StackLemmas
 mod ValueLemmas
 mod Cells
 mod Looking
+mod Locking
 mod Objects
 mod Swapping
 mod Places

@@ -1,5 +1,5 @@
 -- WHAT IS LENT to the end of a block: dynamic regions that their keys open, and what a unique pointer leads to, by an alias.
-use Rattle.std.proofs.Common.{◌≡◌, inl, inr, set, ℕ, suc, ◌+◌, ◌≤◌, ◌<◌, Bool, true, false, List, [], ◌∷◌, length, Option, Some, None, slice_get, refl, sym, ap, subst, ◌∙◌, arith}
+use Rattle.std.proofs.Common.{◌≡◌, inl, inr, set, ℕ, suc, ◌+◌, ◌≤◌, ◌<◌, Bool, true, false, List, [], ◌∷◌, length, Option, Some, None, slice_get, refl, sym, ap, subst, ◌∙◌, arith, zero}
 use Rattle.std.specs.Prelude.{if◌then◌else◌}
 use Rattle.std.proofs.lemmas.Bool.{eq-eqb}
 use Rattle.cyc_syntax.specs.declared.tree.PointerKind.{PointerKind}
@@ -17,17 +17,17 @@ use Rattle.cyc_types.specs.typing.Tests.{is_unique}
 use Rattle.cyc_types.specs.typing.WellTyped.{LocalInScope, Context, HasLocal, IsLive, with_local, with_region, with_opened, with_key_opened}
 use Rattle.cyc_types.specs.flow.States as flow
 use Rattle.cyc_types.specs.flow.States.{Locked, Full, with_fullness}
-use Rattle.cyc_meaning.specs.Values.{Operand}
+use Rattle.cyc_meaning.specs.Values.{Operand, Cell}
 use Rattle.cyc_meaning.specs.Values as values
 use Rattle.cyc_meaning.specs.State as state
-use Rattle.cyc_meaning.specs.State.{World, Found, Closed, found_region, region_at, opened_as, Environment, Entry, EndLoan, Focus, Proceeding, Naming, closed, State, Running}
+use Rattle.cyc_meaning.specs.State.{World, Found, Closed, found_region, region_at, opened_as, Environment, Entry, EndLoan, Focus, Proceeding, Naming, closed, State, Running, Object}
 use Rattle.cyc_meaning.specs.Parts.{wrong}
 use Rattle.cyc_meaning.specs.Nesting.{ends_of, IsNested}
 use Rattle.cyc_meaning.specs.Regions.{is_dynamic, opened_by, opens_with, opens_dynamic, closes_dynamic, closes_with, aliased, frees_owned, frees_object, frees}
 use Rattle.cyc_meaning.specs.Objects.{freed}
 use Rattle.cyc_soundness.specs.Lives.{Life, OfRegion, Kept, heap_life, Value, at, Reading, AsHeap, ByScope, AllIn, IsKnown, owned_life}
 use Rattle.cyc_soundness.specs.Lives as lives
-use Rattle.cyc_soundness.specs.Worlds.{OfLocal, Thing, KeyOf, PointerTo, Nobody, Hand, At, Lent, thing_of, Owns, Claims, IsSlot, IsHere, giving, given, marked, handing, variable_type, IsHeld, is_lent_by, IsOpenIn, Stays, Grows, IsFull, IsPlain, Typing, IsKnownLife, IsNumber, IsKeyOf, HasType, IsResult, IsTyped, IsDynamic, IsKnownOwner, Settled, Holder, lent_now, IsTarget, ObjectType, Outlasts, alike, life_at, IsLookedAt}
+use Rattle.cyc_soundness.specs.Worlds.{OfLocal, Thing, KeyOf, PointerTo, Nobody, Hand, At, Lent, thing_of, Owns, Claims, IsSlot, IsHere, giving, given, marked, handing, variable_type, IsHeld, is_lent_by, IsOpenIn, Stays, Grows, IsFull, IsPlain, Typing, IsKnownLife, IsNumber, IsKeyOf, HasType, IsResult, IsTyped, IsDynamic, IsKnownOwner, Settled, Holder, lent_now, IsTarget, ObjectType, Outlasts, alike, life_at, IsLookedAt, Away, Here}
 use Rattle.cyc_soundness.specs.Classes.{IsSpared, HasLoans, IsDeclarable, Source, HasAliases}
 use Rattle.cyc_soundness.specs.Frames.{IsAmong, first, later, Bound, InScope, Variable, Names, life_named, lives_in, read, IsBound, AreVariables, IsLasting, LiveIn, Within, older, IsFullIn, Holds, Implies, Exits, lending, AreKnownLocals, AreKnown, IsContext, KnowsProgram, frees_in, Stand, local_type}
 use Rattle.cyc_soundness.specs.Stacks.{IsByType, operands_in, Continues, Go, IsStack, IsWell, IsCommonLife}
@@ -35,8 +35,8 @@ use Rattle.cyc_soundness.proofs.Numbers.{some_same}
 use Rattle.cyc_soundness.proofs.TypeLemmas.{all_in, read_alike}
 use Rattle.cyc_soundness.proofs.FlowLemmas.{full_set, reached_with}
 use Rattle.cyc_soundness.proofs.RegionLemmas.{contains_more, name_known, same_name, known_other, known_more, other_life, context_key, context_alias, context_again, region_owner}
-use Rattle.cyc_soundness.proofs.WorldLemmas.{globals_grown, result_grown}
-use Rattle.cyc_soundness.proofs.Hands.{Changed, at_no_hand, at_some, given_now, giving_changed, handing_changed, changed_after, variables_kept, holds_kept, taken_typed, here_claims, freed_typed, hands_globals, with_kept, kept_grows, kept_typed, variables_more, moment_typed, moment_globals, holds_lent, lent_last, closed_by_key, untaken_typed}
+use Rattle.cyc_soundness.proofs.WorldLemmas.{globals_grown, result_grown, typed_cell}
+use Rattle.cyc_soundness.proofs.Hands.{Changed, at_no_hand, at_some, given_now, giving_changed, handing_changed, changed_after, variables_kept, holds_kept, freed_typed, hands_globals, with_kept, kept_grows, kept_typed, variables_more, moment_typed, moment_globals, holds_lent, lent_last, closed_by_key, lent_typed, marked_now, kept_now}
 use Rattle.cyc_soundness.proofs.Sharing.{life_common, by_type_read}
 use Rattle.cyc_soundness.proofs.StackLemmas.{emptied_other, stack_changed, above_globals, full_here, within_full_at, within_variables, among_bound, among_variable, among_own, among_set, set_stored, statement_relied, settled, lent_held}
 use Rattle.cyc_soundness.proofs.Cells.{pointer_plain, plain_claims, by_type_claims, running, plain_nothing, both_plain}
@@ -222,67 +222,83 @@ context_lending p x bs c n stands = record {
 
 module _ (p : Source) (g : Typing) (x : Exits) (bs : List InScope) (e : Environment) (w : World) (typed : IsTyped g w.regions w.objects) (globals : KnowsProgram g p) (bound : IsBound e.locals e.counters bs) (variables : AreVariables g bs) where
   -- where a local has lent what it holds
-  abbrev lent_thing : Bound → Option Thing
-  lent_thing b = thing_of b.of_type values.Null
+  abbrev lent_out : Bound → values.Value → Typing
+  lent_out b v = handing g (thing_of b.of_type v) (Lent g.loans b.object) b.object (Away g.loans)
 
-  abbrev lent_out : Bound → Typing
-  lent_out b = handing g (lent_thing b) (Lent g.loans) b.object false
+  abbrev lending_typing : Bound → values.Value → Typing
+  lending_typing b v = record (lent_out b v) { loans = suc g.loans }
 
-  abbrev lending_typing : Bound → Typing
-  lending_typing b = record (lent_out b) { loans = suc g.loans }
-
-  lending_grows : (b : Bound) → Grows g (lending_typing b)
-  lending_grows b = record { objects = λ n u is. is; filled = λ n count is. is; fields = λ n ls ts is. is; kept = λ n is. is }
-
-  -- one that no pointer leads to gives away what it has, and any other has nothing
-  taken_lent : (b : Bound) (new : Holder) → IsAmong (Variable b) bs → IsByType b.of_type → Owns g.own (At b.object 0) (lent_thing b) → IsTyped (handing g (lent_thing b) new b.object false) w.regions w.objects
-  taken_lent b new among by has = go b.is_hidden refl
-    where
-      go : (hidden : Bool) → b.is_hidden ≡ hidden → IsTyped (handing g (lent_thing b) new b.object false) w.regions w.objects
-      go true hides = taken_typed g (lent_thing b) b.object new (local_type g.depth b) w.regions w.objects has (among_variable g among variables) hides typed
-      go false shows =
-          let (y, m, stands, flag, is) = typed.each b.object (local_type g.depth b) (among_variable g among variables) in
-          let none : lent_thing b ≡ None = plain_nothing b.of_type values.Null (both_plain b.of_type (is.keyless shows).0 by) in
-          subst (λ o. IsTyped (handing g o new b.object false) w.regions w.objects) (sym none) (untaken_typed g b.object new w.regions w.objects typed)
+  lending_grows : (b : Bound) (v : values.Value) → Grows g (lending_typing b v)
+  lending_grows b v = record { objects = λ n u is. is; filled = λ n count is. is; fields = λ n ls ts is. is; kept = λ n is. is }
 
   -- what is known then
   record IsLent (b : Bound) (lent : ℕ) (f h : flow.State) (cs : List InScope) (k : List Entry) : Type 0 where
-    objects : IsTyped (lending_typing b) w.regions w.objects
-    knows : KnowsProgram (lending_typing b) p
-    scope : AreVariables (lending_typing b) bs
-    holds : Holds (lending_typing b) (with_fullness Locked f lent) bs
-    stack : IsStack p (lending_typing b) (lending x lent) cs (Go h) (EndLoan lent ∷ k)
+    value : values.Value
+    claims : Claims g.own (At b.object 0) b.of_type value
+    objects : IsTyped (lending_typing b value) w.regions w.objects
+    knows : KnowsProgram (lending_typing b value) p
+    scope : AreVariables (lending_typing b value) bs
+    holds : Holds (lending_typing b value) (with_fullness Locked f lent) bs
+    stack : IsStack p (lending_typing b value) (lending x lent) cs (Go h) (EndLoan lent ∷ k)
 
-  -- it has it before
-  lender_has : (b : Bound) (f : flow.State) → g.pending ≡ Settled → IsAmong (Variable b) bs → IsByType b.of_type → IsFullIn f b.number → Holds g f bs → (v : values.Value) → Claims g.own (At b.object 0) b.of_type v
-  lender_has b f still among by full holds v =
-      let some : IsFull g b.object = among_set g f among holds.1 (full_set (flow.fullness f b.number) full) in
+  -- what is in it
+  record Content (b : Bound) : Type 0 where
+    value : values.Value
+    claims : Claims g.own (At b.object 0) b.of_type value
+    only_it : (own : Thing → Holder) (h : Holder) → Claims own h b.of_type value → (x : Object) → slice_get w.objects b.object ≡ Some x → (i : ℕ) (u : lives.RunTy) (c : Cell) (v : values.Value) → slice_get (b.of_type ∷ []) i ≡ Some u → slice_get x.cells i ≡ Some c → c.content ≡ Some v → Claims own h u v
+
+  lender_has : (b : Bound) (f : flow.State) → g.pending ≡ Settled → IsAmong (Variable b) bs → IsFullIn f b.number → Holds g f bs → Content b
+  lender_has b f still among full holds =
+      let (m, flag, enough) = among_set g f among holds.1 (full_set (flow.fullness f b.number) full) in
       let here : IsHere g g.depth b.number b.object = among_own g f among holds.1 full in
-      let (z, is) = here_claims g w.regions w.objects b.object b.of_type b.life b.is_hidden (OfLocal g.depth b.number) typed here.0 still (among_variable g among variables) some in
-      by_type_claims g.own (At b.object 0) b.of_type z v by is
+      let there = among_variable g among variables in
+      let (x, i, stands, filled, is) = typed.each b.object (local_type g.depth b) there in
+      let c = typed_cell g (b.of_type ∷ []) x.cells i 0 b.of_type is.cells refl in
+      let same : m ≡ i = some_same m i (sym flag ∙ filled) in
+      let (z, content, has) = c.content (let less : 0 < i = omega (arith, same, enough) in less) in
+      record {
+        value = z;
+        claims = typed.owned b.object (local_type g.depth b) x there stands 0 b.of_type c.cell z (kept_now g b.object 0 b.is_hidden here.0 still) refl c.at content;
+        only_it = λ own h claims y found n u d v type_is at full. one own h z c.cell claims x y n u d v stands c.at content found type_is at full;
+      }
+    where
+      one : (own : Thing → Holder) (h : Holder) (z : values.Value) (c : Cell) → Claims own h b.of_type z → (x y : Object) (n : ℕ) (u : lives.RunTy) (d : Cell) (v : values.Value) → slice_get w.objects b.object ≡ Some x → slice_get x.cells 0 ≡ Some c → c.content ≡ Some z
+          → slice_get w.objects b.object ≡ Some y → slice_get (b.of_type ∷ []) n ≡ Some u → slice_get y.cells n ≡ Some d → d.content ≡ Some v → Claims own h u v
+      one own h z c claims x y zero u d v stands at content found type_is there full =
+          let same : x ≡ y = some_same x y (sym stands ∙ found) in
+          let cell_is : c ≡ d = some_same c d (sym at ∙ ap (λ (o : Object). slice_get o.cells 0) same ∙ there) in
+          let value_is : z ≡ v = some_same z v (sym content ∙ ap (λ (o : Cell). o.content) cell_is ∙ full) in
+          subst (λ t. Claims own h t v) (some_same b.of_type u type_is) (subst (λ e. Claims own h b.of_type e) value_is claims)
+      one own h z c claims x y (suc n) u d v stands at content found type_is there full = absurd (let e : None ≡ Some u = type_is in cc)
 
-  lends : (b : Bound) (lent : ℕ) (f h i : flow.State) (cs : List InScope) (k : List Entry) → Within cs bs → IsAmong (Variable b) bs → IsByType b.of_type → b.number ≡ lent → IsFullIn f lent → IsSpared x.relied lent → Holds g f bs → Implies (with_fullness Full h lent) i
+  lends : (b : Bound) (lent : ℕ) (f h i : flow.State) (cs : List InScope) (k : List Entry) → Within cs bs → IsAmong (Variable b) bs → b.is_hidden ≡ true → b.number ≡ lent → IsFullIn f lent → IsSpared x.relied lent → Holds g f bs → Implies (with_fullness Full h lent) i
       → IsStack p g x cs (Go i) k → IsLent b lent f h cs k
-  lends b lent f h i cs k within among by number full spared holds again stack =
+  lends b lent f h i cs k within among hides number full spared holds again stack =
       let old = At b.object 0 in
-      let new = Lent g.loans in
-      let o = lent_out b in
-      let j = lending_typing b in
-      let f1 = with_fullness Locked f lent in
+      let new = Lent g.loans b.object in
       let full_here' : IsFullIn f b.number = subst (λ n. IsFullIn f n) (sym number) full in
-      let has : Owns g.own old (lent_thing b) = (lender_has b f (settled p g x cs (Go i) k stack) among by full_here' holds values.Null).0 in
+      let has = lender_has b f (settled p g x cs (Go i) k stack) among full_here' holds in
+      let thing = thing_of b.of_type has.value in
+      let o = lent_out b has.value in
+      let j = lending_typing b has.value in
+      let f1 = with_fullness Locked f lent in
       let there : e.locals lent ≡ Some b.object = ap e.locals (sym number) ∙ among_bound e among bound in
       let some : IsFull g b.object = among_set g f among holds.1 (full_set (flow.fullness f b.number) full_here') in
-      let type_is : slice_get g.objects b.object ≡ Some (variable_type b.of_type b.life b.is_hidden (OfLocal g.depth lent)) = subst (λ n. slice_get g.objects b.object ≡ Some (variable_type b.of_type b.life b.is_hidden (OfLocal g.depth n))) number (among_variable g among variables) in
-      let slot : IsSlot g g.depth lent b.object = (variable_type b.of_type b.life b.is_hidden (OfLocal g.depth lent), type_is, refl) in
-      let changed : Changed old g o = handing_changed g (lent_thing b) old new b.object false has (λ same. refl) in
+      let type_is : slice_get g.objects b.object ≡ Some (variable_type b.of_type b.life true (OfLocal g.depth lent)) =
+      subst (λ z. slice_get g.objects b.object ≡ Some (variable_type b.of_type b.life z (OfLocal g.depth lent))) hides (subst (λ n. slice_get g.objects b.object ≡ Some (variable_type b.of_type b.life b.is_hidden (OfLocal g.depth n))) number (among_variable g among variables)) in
+      let slot : IsSlot g g.depth lent b.object = (variable_type b.of_type b.life true (OfLocal g.depth lent), type_is, refl) in
+      let changed : Changed old g o = handing_changed g thing old new b.object (Away g.loans) has.claims.0 (λ e. let z : Away g.loans ≡ Here = e in absurd (cc)) (λ other. refl) in
       let locked : Holds g f1 bs = (reached_with Locked f lent holds.0, set_stored g e Locked f lent b.object bs bound there some holds.0 (λ s. let z : false ≡ true = s in absurd (cc)) holds.1) in
       let now : Holds o f1 bs = holds_kept old g o changed f1 bs (λ m other s its. emptied_other g Locked f lent m b.object other refl holds.0 s slot its.1) locked in
       let scope : AreVariables o bs = variables_kept old g o changed bs refl variables in
       let scope_now : AreVariables j bs = variables_more o bs scope in
+      let own = given thing new g.own in
       record {
-        objects = moment_typed o g.depth (suc g.loans) w.regions w.objects (taken_lent b new among by has);
-        knows = moment_globals p o g.depth (suc g.loans) (hands_globals p g (given (lent_thing b) new g.own) (marked b.object false g.here) globals);
+        value = has.value;
+        claims = has.claims;
+        objects = moment_typed o g.depth (suc g.loans) w.regions w.objects (lent_typed g thing b.object new (variable_type b.of_type b.life true (OfLocal g.depth lent)) w.regions w.objects has.claims.0 type_is refl typed g.loans refl
+            (λ x stands n u c v. has.only_it own new (given_now g.own thing new, has.claims.1) x stands n u c v));
+        knows = moment_globals p o g.depth (suc g.loans) (hands_globals p g own (marked b.object (Away g.loans) g.here) globals);
         scope = scope_now;
         holds = holds_lent o (suc g.loans) f1 bs now;
         stack = (
@@ -293,7 +309,7 @@ module _ (p : Source) (g : Typing) (x : Exits) (bs : List InScope) (e : Environm
           b.object,
           refl,
           refl,
-          (b.life, b.is_hidden, type_is, by, given_now g.own (lent_thing b) new),
+          (b.life, type_is, marked_now b.object (Away g.loans) g.here),
           again,
           within_full_at j lent b.object cs bs within (full_here j e lent b.object bs bound there some),
           within_variables o cs bs within scope,
@@ -303,10 +319,10 @@ module _ (p : Source) (g : Typing) (x : Exits) (bs : List InScope) (e : Environm
 
   -- the key of a region comes, which is opened
   pub opens_on : (number lent : ℕ) (js : Items) (v : values.Value) (k : List Entry) (cs : List InScope) (c : Context) (b : Bound) (r : ℕ) (f h i : flow.State) → LiveIn k bs → Holds g f bs → HasLoans p.reading → Within cs bs
-      → IsContext p x bs c → IsAmong (Variable b) bs → b.number ≡ lent → b.of_type ≡ lives.Key (life_named bs r) → IsSpared x.relied lent → IsFullIn f lent → r < c.next_region → IsLive c (regions.Variable c.region) → number ≡ c.next_local
+      → IsContext p x bs c → IsAmong (Variable b) bs → b.number ≡ lent → b.of_type ≡ lives.Key (life_named bs r) → b.is_hidden ≡ true → IsSpared x.relied lent → IsFullIn f lent → r < c.next_region → IsLive c (regions.Variable c.region) → number ≡ c.next_local
       → Continues p.reading (lending x lent) (with_local false (types.Handle (regions.Variable r)) (with_key_opened r c)) js (with_fullness Full (with_fullness Locked f lent) number) h → Implies (with_fullness Full h lent) i
       → HasType g (lives.Key (life_named bs r)) v → IsStack p g x cs (Go i) k → IsWell p (opens_with number lent js v k e w)
-  opens_on number lent js (values.Key region) k cs c b r f h i live holds loans within stands among number_of of_type spared full less alive number_is next again is stack = by_life (life_named bs r) refl is
+  opens_on number lent js (values.Key region) k cs c b r f h i live holds loans within stands among number_of of_type hides spared full less alive number_is next again is stack = by_life (life_named bs r) refl is
     where
       inner : List InScope
       inner = Names r (life_named bs r) true ∷ bs
@@ -315,14 +331,13 @@ module _ (p : Source) (g : Typing) (x : Exits) (bs : List InScope) (e : Environm
       by_life (Kept (KeyOf n)) is_kept same =
           let key : b.of_type ≡ lives.Key (Kept (KeyOf n)) = of_type ∙ ap (λ l. lives.Key l) is_kept in
           let known : IsAmong n g.kept = subst (λ l. IsKnownLife g l) is_kept (name_known g bs r variables) in
-          let by : IsByType b.of_type = subst (λ t. IsByType t) (sym key) tt in
-          let has : g.own (KeyOf n) ≡ At b.object 0 = (subst (λ t. Claims g.own (At b.object 0) t values.Null) key (lender_has b f (settled p g x cs (Go i) k stack) among by (subst (λ m. IsFullIn f m) (sym number_of) full) holds values.Null)).0 in
+          let z = lends b lent f h i cs k within among hides number_of full spared holds again stack in
+          let has : g.own (KeyOf n) ≡ At b.object 0 = (subst (λ t. Claims g.own (At b.object 0) t z.value) key z.claims).0 in
           let held : IsHeld (g.own (KeyOf n)) = subst (λ o. IsHeld o) (sym has) tt in
           let (s, found, dynamic) = dynamic_found (slice_get w.regions region) (subst (λ i. IsDynamic (slice_get w.regions i)) same ((typed.kept n known).1 held)) in
-          let z = lends b lent f h i cs k within among by number_of full spared holds again stack in
-          let j = lending_typing b in
-          let now : j.own (KeyOf n) ≡ Lent g.loans = subst (λ t. Owns j.own (Lent g.loans) (thing_of t values.Null)) key (given_now g.own (lent_thing b) (Lent g.loans)) in
-          let opens : IsOpenIn j (life_named bs r) = subst (λ l. IsOpenIn j l) (sym is_kept) (subst (λ o. is_lent_by (suc g.loans) o ≡ true) (sym now) (lent_last g.loans)) in
+          let j = lending_typing b z.value in
+          let now : j.own (KeyOf n) ≡ Lent g.loans b.object = subst (λ t. Owns j.own (Lent g.loans b.object) (thing_of t z.value)) key (given_now g.own (thing_of b.of_type z.value) (Lent g.loans b.object)) in
+          let opens : IsOpenIn j (life_named bs r) = subst (λ l. IsOpenIn j l) (sym is_kept) (subst (λ o. is_lent_by (suc g.loans) o ≡ true) (sym now) (lent_last g.loans b.object)) in
           let named : life_named inner r ≡ Kept (KeyOf n) = same_name r (life_named bs r) (life_named bs r) ∙ is_kept in
           let here = context_lending p x (Names r (life_named bs r) true ∷ bs) (with_key_opened r c) lent (context_again p x bs c stands loans alive r less) in
           subst (λ a. IsWell p (opened_by a region number lent js k e w)) (sym found)
@@ -349,20 +364,19 @@ module _ (p : Source) (g : Typing) (x : Exits) (bs : List InScope) (e : Environm
       by_life (Kept (PointerTo o)) is_kept same = absurd same
       by_life (OfRegion n ns us) is_kept same = absurd same
       by_life lives.Owned is_kept same = absurd same
-  opens_on number lent js v k cs c b r f h i live holds loans within stands among number_of of_type spared full less alive number_is next again is stack = absurd is
+  opens_on number lent js v k cs c b r f h i live holds loans within stands among number_of of_type hides spared full less alive number_is next again is stack = absurd is
 
   -- a unique pointer comes, which an alias shares
   pub aliases_on : (number lent : ℕ) (js : Items) (v : Operand) (k : List Entry) (cs : List InScope) (c : Context) (b : Bound) (u t : Ty) (f h i : flow.State) → LiveIn k bs → Holds g f bs → HasAliases p.reading → Within cs bs
-      → IsContext p x bs c → IsAmong (Variable b) bs → b.number ≡ lent → b.of_type ≡ read bs u → IsSpared x.relied lent → IsFullIn f lent → is_unique u ≡ true → AllIn (IsKnown c.next_region) u → t ≡ with_region_of (regions.Variable c.next_region) u
+      → IsContext p x bs c → IsAmong (Variable b) bs → b.number ≡ lent → b.of_type ≡ read bs u → b.is_hidden ≡ true → IsSpared x.relied lent → IsFullIn f lent → is_unique u ≡ true → AllIn (IsKnown c.next_region) u → t ≡ with_region_of (regions.Variable c.next_region) u
       → IsLive c (regions.Variable c.region) → number ≡ c.next_local
       → Continues p.reading (lending x lent) (with_local true t (with_opened scopes.Alias c)) js (with_fullness Full (with_fullness Locked f lent) number) h → Implies (with_fullness Full h lent) i
       → IsLookedAt g lent (thing_of (read bs u) v.value) → IsResult g (Value (read bs u)) v → IsStack p g x cs (Go i) k → IsWell p (aliased number lent js v k e w)
-  aliases_on number lent js v k cs c b u t f h i live holds shares within stands among number_of type_is spared full unique known of_type alive number_is next again looks is stack =
+  aliases_on number lent js v k cs c b u t f h i live holds shares within stands among number_of type_is hides spared full unique known of_type alive number_is next again looks is stack =
       let loans : HasLoans p.reading = shared_loans p.reading shares in
       let none = unfreed p.reading c.regions bs shares stands.regions in
-      let by : IsByType b.of_type = subst (λ z. IsByType z) (sym type_is) (by_type_read g bs variables u none) in
-      let z = lends b lent f h i cs k within among by number_of full spared holds again stack in
-      let j = lending_typing b in
+      let z = lends b lent f h i cs k within among hides number_of full spared holds again stack in
+      let j = lending_typing b z.value in
       let (m, s, u_is) = unique_is u unique in
       let l : Life = shared_life (owned_life (frees_in bs)) v.value in
       let named : List InScope = Names c.next_region l true ∷ bs in
@@ -373,7 +387,7 @@ module _ (p : Source) (g : Typing) (x : Exits) (bs : List InScope) (e : Environm
       let same : read named t ≡ lives.Pointer m (read bs s) l = ap (read named) type_now ∙ alias_read bs c.next_region l m s target in
       let lent_is : IsLentNow j (thing_of (lives.Pointer m (read bs s) (owned_life (frees_in bs))) v.value) =
       subst (λ o. IsLentNow j o) (sym (ap (λ y. thing_of (read bs y) v.value) (sym u_is) ∙ plain_nothing (read bs u) v.value (unique_plain g bs u variables none unique))) tt in
-      let is_now : IsResult j (Value (lives.Pointer m (read bs s) (owned_life (frees_in bs)))) v = subst (λ y. IsResult j (Value (read bs y)) v) u_is (result_grown g j (lending_grows b) (Value (read bs u)) v is) in
+      let is_now : IsResult j (Value (lives.Pointer m (read bs s) (owned_life (frees_in bs)))) v = subst (λ y. IsResult j (Value (read bs y)) v) u_is (result_grown g j (lending_grows b z.value) (Value (read bs u)) v is) in
       let result : IsResult j (Value (lives.Pointer m (read bs s) l)) v = (is_now.0, shared_typed j w.regions w.objects z.objects (frees_in bs) m (read bs s) v.value is_now.1 lent_is) in
       let common : IsCommonLife l = shared_by (frees_in bs) v.value (λ l. IsCommonLife l) tt (λ object. tt) in
       running p j (lending x lent) named e w z.objects z.knows (tt, bound)

@@ -40,7 +40,7 @@ use Rattle.cyc_soundness.proofs.FlowLemmas.{at_least_implies, holds_implied}
 use Rattle.cyc_soundness.proofs.TypeLemmas.{target_typed, is_kind_same, kind_read}
 use Rattle.cyc_soundness.proofs.ValueLemmas.{lasts_itself}
 use Rattle.cyc_soundness.proofs.WorldLemmas.{beyond, owner_grown, operands_grown, globals_grown, with_object, object_grows, object_stays, object_typed, typed_beside, open_region}
-use Rattle.cyc_soundness.proofs.Hands.{Changed, hand_same, at_no_hand, given_now, at_some, changed_after, giving_changed, owns_kept, claims_kept, variables_kept, holds_kept, given_typed, hands_globals, pointed_typed}
+use Rattle.cyc_soundness.proofs.Hands.{Changed, hand_same, at_no_hand, given_now, at_some, changed_after, giving_changed, owns_kept, claims_kept, variables_kept, holds_kept, given_typed, hands_globals, pointed_typed, lent_no_hand}
 use Rattle.cyc_soundness.proofs.Sharing.{at_start, keeps_by, plain_keyless}
 use Rattle.cyc_soundness.proofs.StackLemmas.{keeps_fields, stack_changed, kept_open, lasting_open}
 use Rattle.cyc_soundness.proofs.RegionLemmas.{region_owner, there_open, agrees_of, there_lasting, mapped_count, fields_mean}
@@ -218,7 +218,7 @@ unheld_new g regions objects typed = go (g.own (PointerTo (length objects))) ref
     go Nobody same = same
     go (Hand i) same = absurd (gone (typed.unique (length objects) (subst (λ h. IsHeld h) (sym same) tt)))
     go (At object offset) same = absurd (gone (typed.unique (length objects) (subst (λ h. IsHeld h) (sym same) tt)))
-    go (Lent j) same = absurd (gone (typed.unique (length objects) (subst (λ h. IsHeld h) (sym same) tt)))
+    go (Lent j object) same = absurd (gone (typed.unique (length objects) (subst (λ h. IsHeld h) (sym same) tt)))
 
 unheld_at : (g : Typing) (l : Life) (object : ℕ) → g.own (PointerTo object) ≡ Nobody → Owns g.own Nobody (pointer_at l object)
 unheld_at g (OfRegion number ns us) object none = tt
@@ -375,7 +375,7 @@ module _ (p : Source) (g : Typing) (x : Exits) (bs : List InScope) (e : Environm
       let grows = object_grows g t 0 in
       let made : Object = record { owner = owner; cells = cells } in
       let is : IsObject one 0 t made = record { owner = new_is_owner l owner owned; known = owner_grown g one grows l known; keyless = λ shown. keyless; cells = blanks_are one } in
-      let first' : IsTyped one w.regions (w.objects ++ made ∷ []) = object_typed g w.regions w.objects t 0 made g.here typed is (λ object apart here. here) (new_owned one n t cells empty) in
+      let first' : IsTyped one w.regions (w.objects ++ made ∷ []) = object_typed g w.regions w.objects t 0 made g.here typed is (λ object s apart here. here) (new_owned one n t cells empty) (λ j away hides. let z : false ≡ true = hides in absurd (cc)) in
       let there = subst (λ n. slice_get h.objects n ≡ Some t) (sym typed.count) (slice_get-end g.objects t) in
       let flag = subst (λ n. slice_get h.filled n ≡ Some 0) (sym typed.counts) (slice_get-end g.filled 0) in
       let second : IsTyped h w.regions (w.objects ++ made ∷ []) = claimed_new one l n (Hand i) t made w.regions (w.objects ++ made ∷ []) owned refl none there (slice_get-end w.objects made) first' in
@@ -527,7 +527,7 @@ module _ (p : Source) (g : Typing) (x : Exits) (bs : List InScope) (e : Environm
       subst (λ (b : Bool). IsWell p (if b then stored (cell_at w object index) object index v focus k e w else wrong w))
       (sym (is_kind_same v.kind kind (is.0 ∙ kind_read (lives_in bs) t ∙ sym repeats.kind_is)))
       (stores_on p g x bs e w typed globals bound variables v focus k object index m i (read bs t) y
-      live there (cells index less) opens flag enough is comes
+      live there (cells index less) opens flag enough shown is comes
       (λ changed now. (
         c,
         t,
@@ -556,7 +556,7 @@ module _ (p : Source) (g : Typing) (x : Exits) (bs : List InScope) (e : Environm
       let h = giving g o hand in
       let changed : Changed top g h = giving_changed g o top hand has in
       let all : IsFilled g object (length y.cells) = filled_up g object (length y.cells) offset (none_next g offset y.cells rest) full in
-      running p h x bs e w (given_typed g o top hand w.regions w.objects has tt (λ n i. at_no_hand n i (place + 0)) typed) (hands_globals p g (given o hand g.own) g.here globals) bound (variables_kept top g h changed bs refl variables)
+      running p h x bs e w (given_typed g o top hand w.regions w.objects has tt (λ n i. at_no_hand n i (place + 0)) (λ n i. lent_no_hand i n (place + 0)) typed) (hands_globals p g (given o hand g.own) g.here globals) bound (variables_kept top g h changed bs refl variables)
       (Given (record { kind = kinds.NonNull; value = values.Thin object 0 })) k live (
         Value (Pointer marks.NonNull t l),
         f,
@@ -575,7 +575,7 @@ module _ (p : Source) (g : Typing) (x : Exits) (bs : List InScope) (e : Environm
       let o = pointer_at l object in
       let same : place + suc (length vs) ≡ suc place + length vs = omega arith in
       stores_on p g x bs e w typed globals bound variables v focus k object offset m place u y live there at
-      (subst (λ m. IsOpenObject g w.regions object m) (sym life) (made_open g w.regions object (place + suc (length vs)) l (open_life r k all_open live alive) has)) flag enough is claims
+      (subst (λ m. IsOpenObject g w.regions object m) (sym life) (made_open g w.regions object (place + suc (length vs)) l (open_life r k all_open live alive) has)) flag enough shown is claims
       (λ changed now. (
         t,
         r,

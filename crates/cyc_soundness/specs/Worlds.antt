@@ -36,8 +36,15 @@ pub data Holder : Type 0 where
   Hand : ℕ → Holder
   -- this cell of an object
   At : (object offset : ℕ) → Holder
-  -- it is lent, behind so many other loans
-  Lent : ℕ → Holder
+  -- this variable has lent it, behind so many other loans
+  Lent : (before object : ℕ) → Holder
+
+-- whether a variable has what is in it
+pub data Standing : Type 0 where
+  Gone : Standing
+  Here : Standing
+  -- it is lent to the end of a block, behind so many other loans
+  Away : (before : ℕ) → Standing
 
 -- whether a swap is between its two writes, and which cell it has still to write
 pub data Pending : Type 0 where
@@ -53,10 +60,10 @@ pub record Typing : Type 0 where
   pub fields : ℕ → List Life → Option (List RunTy)
   -- the dynamic regions
   pub kept : List ℕ
-  -- AT THIS MOMENT: who has each thing, which variables have what is in them, how many calls are around the running one, and how many
+  -- AT THIS MOMENT: who has each thing, which variables have what is in them, or have lent it, how many calls are around the running one, and how many
   -- loans there are
   pub own : Thing → Holder
-  pub here : (object : ℕ) → Bool
+  pub here : (object : ℕ) → Standing
   pub pending : Pending
   pub depth : ℕ
   pub loans : ℕ
@@ -276,11 +283,11 @@ given (Some a) h own = λ b. if same_thing b a then h else own b
 abbrev pub giving : Typing → Option Thing → Holder → Typing
 giving g o h = record g { own = given o h g.own }
 
--- a variable has what is in it, or does not, from now on
-abbrev pub marked : (object : ℕ) → Bool → (ℕ → Bool) → ℕ → Bool
+-- a variable stands so to what is in it from now on
+abbrev pub marked : (object : ℕ) → Standing → (ℕ → Standing) → ℕ → Standing
 marked object b here = λ n. if n == object then b else here n
 
-abbrev pub handing : Typing → Option Thing → Holder → (object : ℕ) → Bool → Typing
+abbrev pub handing : Typing → Option Thing → Holder → (object : ℕ) → Standing → Typing
 handing g o h object b = record g { own = given o h g.own; here = marked object b g.here }
 
 -- the object is the variable of this local, in a call with so many others around
@@ -289,7 +296,7 @@ IsSlot g d n object = (x : ObjectType) × (slice_get g.objects object ≡ Some x
 
 -- and has what is in it
 abbrev pub IsHere : Typing → (depth number object : ℕ) → Type 0
-IsHere g d n object = (g.here object ≡ true) × IsSlot g d n object
+IsHere g d n object = (g.here object ≡ Here) × IsSlot g d n object
 
 -- whether a pointer may lead to an object
 abbrev pub IsHiding : Typing → (object : ℕ) → (is_hidden : Bool) → Type 0
@@ -323,10 +330,14 @@ ClaimsAlone own i r v = Unit {0}
 
 -- what is in this cell of an object is its own: a hidden one has what is in it or not
 abbrev pub IsKept : Typing → (object offset : ℕ) → (is_hidden : Bool) → Type 0
-IsKept g object offset hidden = (hidden ≡ true → g.here object ≡ true) × (g.pending ≢ Awaits object offset)
+IsKept g object offset hidden = (hidden ≡ true → g.here object ≡ Here) × (g.pending ≢ Awaits object offset)
 
 abbrev pub AreOwned : Typing → (object : ℕ) → ObjectType → List Cell → Type 0
 AreOwned g object y cs = (i : ℕ) (t : RunTy) (c : Cell) (v : values.Value) → IsKept g object i y.is_hidden → slice_get y.cells i ≡ Some t → slice_get cs i ≡ Some c → c.content ≡ Some v → Claims g.own (At object i) t v
+
+-- and what a hidden one has lent is still in it
+abbrev pub AreLent : Typing → (object : ℕ) → ObjectType → List Cell → Type 0
+AreLent g object y cs = (i j : ℕ) (t : RunTy) (c : Cell) (v : values.Value) → g.here object ≡ Away j → y.is_hidden ≡ true → slice_get y.cells i ≡ Some t → slice_get cs i ≡ Some c → c.content ≡ Some v → Claims g.own (Lent j object) t v
 
 -- a dynamic region that is open
 abbrev pub IsDynamic : Option Region → Type 0
@@ -349,6 +360,7 @@ pub record IsTyped (g : Typing) (regions : List Region) (objects : List Object) 
   pub fresh : (number : ℕ) → length regions ≤ number → g.own (KeyOf number) ≡ Nobody
   pub unique : (object : ℕ) → IsHeld (g.own (PointerTo object)) → IsUniqueObject g objects object
   pub owned : (object : ℕ) (t : ObjectType) (x : Object) → slice_get g.objects object ≡ Some t → slice_get objects object ≡ Some x → AreOwned g object t x.cells
+  pub lent : (object : ℕ) (t : ObjectType) (x : Object) → slice_get g.objects object ≡ Some t → slice_get objects object ≡ Some x → AreLent g object t x.cells
 
 -- where what has this life is made, by which regions are open
 abbrev pub IsOpenLife : List Region → Life → Type 0
@@ -363,7 +375,7 @@ IsOpenObject g regions object l = IsOpenLife regions l
 
 -- whether a thing is lent by one of so many loans, the first ones
 abbrev pub is_lent_by : ℕ → Holder → Bool
-is_lent_by count (Lent before) = nat_lt before count
+is_lent_by count (Lent before object) = nat_lt before count
 is_lent_by count h = false
 
 abbrev pub lent_now : Typing → Thing → Bool
