@@ -30,7 +30,7 @@ use Rattle.cyc_soundness.proofs.Looking.{looked_side}
 use Rattle.cyc_soundness.specs.Lives.{Life, Value, Seen, Reading, AsHeap, ByScope}
 use Rattle.cyc_soundness.specs.Worlds.{HasType, IsNumber, Typing, lent_now, IsTyped, Thing}
 use Rattle.cyc_soundness.specs.Frames.{InScope, Names, Home, life_named, lives_in, read, read_value, IsBound, AreVariables, LiveIn, Within, itself, older, IsSet, Holds, Implies, LoopExit, Exits, loop_of, around, lending, relying, AreBreaks, is_loop, IsContext, KnowsProgram, IsFullIn}
-use Rattle.cyc_soundness.specs.Classes.{HasScopes, IsDeclarable, InStatement, InItems, InValue, InThrown, Source}
+use Rattle.cyc_soundness.specs.Classes.{HasScopes, IsDeclarable, InSide, InStatement, InItems, InValue, InThrown, Source, may_end}
 use Rattle.cyc_soundness.specs.Stacks.{IsByType, Evaluates, Executes, Continues, Catches, IsLoop, Val, Go, operands_in, IsReturn, IsStack, IsFocus, IsWell}
 use Rattle.cyc_soundness.specs.Stacks as stacks
 use Rattle.cyc_soundness.proofs.TypeLemmas.{target_typed, kind_read, kind_meant}
@@ -41,13 +41,13 @@ use Rattle.cyc_soundness.proofs.RegionLemmas.{opened_known, contains_more, live_
 use Rattle.cyc_soundness.proofs.WorldLemmas.{opened_typed}
 use Rattle.cyc_soundness.proofs.Sharing.{keeps_by}
 use Rattle.cyc_soundness.proofs.Cells.{running}
-use Rattle.cyc_soundness.proofs.Evaluation.{from_bound, looks_bound}
+use Rattle.cyc_soundness.proofs.Evaluation.{from_bound, looks_bound, unique_moved}
 use Rattle.cyc_soundness.proofs.Loans.{type_known, keys_on, shared_loans}
 use Rattle.cyc_guard.specs.Held.{nowhere, updated}
 use Rattle.cyc_guard.proofs.Bools.{updated_same}
 use Rattle.cyc_guard.proofs.WellNumbered.{InScope as AreScoped, found_below, lent_below, next_in_scope, statement_fresh, items_fresh}
 use Rattle.cyc_soundness.proofs.Locking.{IsLockedIn, ends_so, locked_items, now_locked, scope_below}
-use Rattle.cyc_soundness.proofs.Touched.{relied_body}
+use Rattle.cyc_soundness.proofs.Touched.{relied_body, asked_of}
 use Rattle.cyc_soundness.proofs.Supply.{declares_blank}
 use Rattle.cyc_soundness.proofs.Swapping.{kept_both, swap_on}
 use Rattle.cyc_types.specs.flow.Touched.{touched_statement}
@@ -190,7 +190,7 @@ module _ (p : Source) (g : Typing) (x : Exits) (bs : List InScope) (e : Environm
         typed = well;
         flows = d;
         breaks = subst (λ z. AreBreaks x.loop z) breaks are;
-        kept = kept;
+        kept = λ reached. kept;
         ends = subst (λ z. Implies z h) now (implies_self h);
       } in
       running p g x (block_scope c k) (inside e w) (opened w) (opened_typed g w.regions (new_region Stack ∷ []) w.objects typed') globals (tt, (tt, bound)) (tt, (opened_known g p.reading (length w.regions) (ends_of k), variables)) Proceeding (Rest js ∷ region_end e w ∷ k)
@@ -335,7 +335,7 @@ module _ (p : Source) (g : Typing) (x : Exits) (bs : List InScope) (e : Environm
       let sooner : AreBreaks x.loop l.breaks = breaks_before x.loop l.breaks behind' (breaks_items (around x) js l (record { now = ending; breaks = behind' }) djs) are in
       let one : Executes p.reading x c s f l.now = record { before = before; behind = l.breaks; typed = ws; flows = ds; breaks = sooner; kept = ks } in
       let rest : Continues p.reading x (behind c s) js l.now h =
-      record { before = l.breaks; behind = behind'; ending = ending; typed = wjs; flows = djs; breaks = are; kept = λ reached. kjs (ends_so nowhere (around x) s (record { now = f; breaks = before }) l (statement_fresh nowhere c s (λ n s. let k : false ≡ true = s in absurd (cc)) (scope_below p x bs c stands) ws) ds reached); ends = ends } in
+      record { before = l.breaks; behind = behind'; ending = ending; typed = wjs; flows = djs; breaks = are; kept = λ reached. asked_of (may_end s) (ends_so nowhere (around x) s (record { now = f; breaks = before }) l (statement_fresh nowhere c s (λ n s. let k : false ≡ true = s in absurd (cc)) (scope_below p x bs c stands) ws) ds reached) kjs; ends = ends } in
       on (Executing s) (Rest js ∷ k) live (c, f, l.now, stands, holds, one, (cs, behind c s, h, within, context_after p x bs c s stands, rest, stack))
   continue_with (MoreItems (Declare n t None) js) k cs c f h before behind' ending nests live within stands holds ((number, has, alive), initial, wjs) (l, (f1, (u1, known1), (u2, known2)), djs') are (named, kv, kjs) ends stack =
       let djs = nothing_locked (around x) js l (record { now = ending; breaks = behind' }) djs' in

@@ -12,7 +12,8 @@ use Rattle.cyc_types.specs.flow.Programs.{IsAllowedProgram}
 use Rattle.cyc_types.proofs.typing.ProgramLemmas.{program_well}
 use Rattle.cyc_types.proofs.typing.FormedPrograms.{program_formed}
 use Rattle.cyc_soundness.specs.Lives.{Reading, ByScope}
-use Rattle.cyc_soundness.specs.Classes.{InExpression, InPlace, InPlacement, InInitial, InConverted, InArguments, InOperations, InValue, InThrown, InSide, InStatement, InItems, InClauses, InFunctions, InGlobals, InFields, InStructs, FreesNoObject, SparesAssigned}
+use Rattle.cyc_soundness.proofs.Touched.{asked}
+use Rattle.cyc_soundness.specs.Classes.{InExpression, InPlace, InPlacement, InInitial, InConverted, InArguments, InOperations, InValue, InThrown, InSide, InStatement, InItems, InClauses, InFunctions, InGlobals, InFields, InStructs, FreesNoObject, SparesAssigned, may_end}
 use Rattle.cyc_soundness.specs.Frees.{expression_frees_none, place_frees_none, placement_frees_none, initial_frees_none, converted_frees_none, arguments_free_none, operations_free_none, value_frees_none, thrown_frees_none, side_frees_none, statement_frees_none, items_free_none, clauses_free_none, function_frees_none, frees_no_object}
 use Rattle.cyc_soundness.specs.Sound.{IsSound}
 use Rattle.cyc_soundness.proofs.Numbers.{both_true}
@@ -113,7 +114,7 @@ mutual
 
   items_kept : (n : ℕ) (js : Items) → AreFormedItems n js → items_free_none js ≡ true → InItems reading [] n js
   items_kept n NoItems formed frees = tt
-  items_kept n (MoreItems (Execute s) js) (f, g) frees = let (one, two) = both_true (statement_frees_none s) (items_free_none js) frees in (statement_kept n s f one, λ ends. items_kept (n + declared_regions s) js g two)
+  items_kept n (MoreItems (Execute s) js) (f, g) frees = let (one, two) = both_true (statement_frees_none s) (items_free_none js) frees in (statement_kept n s f one, asked (may_end s) (items_kept (n + declared_regions s) js g two))
   items_kept n (MoreItems (Declare l t v) js) (f, g) frees = let (one, two) = both_true (value_frees_none v) (items_free_none js) frees in (f, value_kept v one, items_kept n js g two)
   items_kept n (MoreItems (DeclareRegion r l) js) formed frees = (tt, items_kept (suc n) js formed (both_true true (items_free_none js) frees).1)
   items_kept n (MoreItems (OpenRegion r l p k) js) formed frees = (refl, tt, items_kept n js formed (both_true true (items_free_none js) frees).1)

@@ -13,7 +13,8 @@ use Rattle.cyc_types.specs.typing.Tests.{is_key}
 use Rattle.cyc_types.specs.typing.WellTyped.{IsWellTypedProgram}
 use Rattle.cyc_types.specs.flow.Programs.{IsAllowedProgram}
 use Rattle.cyc_soundness.specs.Lives.{Reading, ByScope, AllOf, AllIn, IsKnown}
-use Rattle.cyc_soundness.specs.Classes.{InExpression, InPlace, InPlacement, InInitial, InConverted, InArguments, InOperations, InValue, InThrown, InSide, InStatement, InItems, InClauses, InFunctions, InGlobals, InFields, InStructs, FreesLocals, SparesAssigned}
+use Rattle.cyc_soundness.proofs.Touched.{asked}
+use Rattle.cyc_soundness.specs.Classes.{InExpression, InPlace, InPlacement, InInitial, InConverted, InArguments, InOperations, InValue, InThrown, InSide, InStatement, InItems, InClauses, InFunctions, InGlobals, InFields, InStructs, FreesLocals, SparesAssigned, may_end}
 use Rattle.cyc_soundness.specs.FreesLocals.{is_known, is_declarable, expression_is_in, place_is_in, placement_is_in, initial_is_in, converted_is_in, arguments_are_in, operations_are_in, value_is_in, thrown_is_in, side_is_in, statement_is_in, items_are_in, clauses_are_in, function_is_in, global_is_in, field_is_in, struct_is_in, frees_locals}
 use Rattle.cyc_soundness.specs.Sound.{IsSound}
 use Rattle.cyc_soundness.proofs.Numbers.{both_true}
@@ -139,7 +140,7 @@ mutual
 
   items_in : (n : ℕ) (js : Items) → items_are_in n js ≡ true → InItems reading [] n js
   items_in n NoItems is = tt
-  items_in n (MoreItems (Execute s) js) is = let both = both_true (statement_is_in n s) (items_are_in (n + declared_regions s) js) is in (statement_in n s both.0, λ ends. items_in (n + declared_regions s) js both.1)
+  items_in n (MoreItems (Execute s) js) is = let both = both_true (statement_is_in n s) (items_are_in (n + declared_regions s) js) is in (statement_in n s both.0, asked (may_end s) (items_in (n + declared_regions s) js both.1))
   items_in n (MoreItems (Declare l t v) js) is =
       let both = both_true (is_declarable n t) (value_is_in v && items_are_in n js) is in
       let each = both_true (value_is_in v) (items_are_in n js) both.1 in

@@ -18,6 +18,7 @@ mod Places
 mod Evaluation
 mod Loans
 mod Touched
+mod Locking
 mod Supply
 mod Execution
 mod Calls

@@ -1,5 +1,5 @@
 -- What is lent stays in its variable to the end of its block: nothing in between that may be run moves, assigns or lends the local again.
-use Rattle.std.proofs.Common.{◌≡◌, ◌<◌, arith, ℕ, zero, suc, Bool, true, false, not, ◌||◌, ◌&&◌, List, [], ◌∷◌, ◌++◌, Option, Some, None, refl, sym, ap, subst, ◌∙◌}
+use Rattle.std.proofs.Common.{◌≡◌, ◌<◌, arith, ℕ, zero, suc, Bool, true, false, not, ◌+◌, ◌||◌, ◌&&◌, List, [], ◌∷◌, ◌++◌, Option, Some, None, refl, sym, ap, subst, ◌∙◌}
 use Rattle.std.specs.Prelude.{◌≢◌, get_or, slice_set, if◌then◌else◌}
 use Rattle.std.proofs.lemmas.List.{get_or-set_other}
 use Rattle.cyc_types.specs.Types.{ValueType, Void, Null, Value}
@@ -23,15 +23,16 @@ use Rattle.cyc_guard.proofs.WellNumbered.{InScope as AreScoped}
 use Rattle.cyc_soundness.specs.Lives.{Reading, Lives}
 use Rattle.cyc_soundness.specs.Frames.{InScope, Variable, Level, Names, Instance, Home, lives_in, IsScope, AreBelow, Exits, IsContext}
 use Rattle.cyc_soundness.specs.Worlds.{IsAmong, first, later}
-use Rattle.cyc_soundness.specs.Classes.{Source, Relied, only, ends, items_end, clauses_end, SparesAssigned, InExpression, InPlace, InPlacement, InInitial, InConverted, InArguments, InOperations, InValue, InThrown, InSide, InStatement, InItems, InClauses}
+use Rattle.cyc_soundness.specs.Classes.{Source, Relied, only, may_end, items_may_end, clauses_may_end, SparesAssigned, InExpression, InPlace, InPlacement, InInitial, InConverted, InArguments, InOperations, InValue, InThrown, InSide, InStatement, InItems, InClauses}
 use Rattle.cyc_soundness.proofs.Numbers.{both_true}
 use Rattle.cyc_soundness.proofs.FlowLemmas.{not_vacant}
+use Rattle.cyc_soundness.proofs.Touched.{asked, asked_of, asked_nothing}
 use Rattle.cyc_soundness.proofs.Looking.{only_other}
 
 -- ---- what is never run
 
 -- the guard that a state fits
-guard_at : flow.State → Guard
+abbrev guard_at : flow.State → Guard
 guard_at f = record { relied = nowhere; locked = λ n. is_locked (fullness f n); peeked = nowhere }
 
 fits_own : (f : flow.State) → Fits (guard_at f) false f
@@ -94,15 +95,19 @@ neither : (a b : Bool) → (a || b) ≡ false → (a ≡ false) × (b ≡ false)
 neither true b e = let k : true ≡ false = e in absurd (cc)
 neither false b e = (refl, e)
 
+either : {A : Type 0} (x y : Bool) → (x && y) ≡ false → (x ≡ false → A) → (y ≡ false → A) → A
+either true y e one two = two e
+either false y e one two = one refl
+
 -- where a statement never ends, nothing behind it is run
 mutual
-  never_statement : (w : ℕ → Bool) (c : Around) (s : Statement) (a b : Known) → IsFresh w s → Derives (rule_statement c s a) b → ends s ≡ false → is_reached b.now ≡ false
+  never_statement : (w : ℕ → Bool) (c : Around) (s : Statement) (a b : Known) → IsFresh w s → Derives (rule_statement c s a) b → may_end s ≡ false → is_reached b.now ≡ false
   never_statement w c (Block r js) a b fresh (l, d, (u, same)) e = subst (λ (z : Known). is_reached z.now ≡ false) (sym same) (each_reached Full (locks_of js) l.now ∙ never_items w c js a l fresh d e)
   never_statement w c Empty a b fresh flows e = let k : true ≡ false = e in absurd (cc)
   never_statement w c (Evaluate x) a b fresh flows e = let k : true ≡ false = e in absurd (cc)
   never_statement w c (Swap x y) a b fresh flows e = let k : true ≡ false = e in absurd (cc)
   never_statement w c (If x s t) a b (one, two) (f, d, (l, ds, (m, dt, (u, same)))) e =
-      let none = neither (ends s) (ends t) e in
+      let none = neither (may_end s) (may_end t) e in
       subst (λ (z : Known). is_reached z.now ≡ false) (sym same) (meet_none l.now m.now (never_statement w c s (at f a) l one ds none.0) (never_statement w c t (at f l) m two dt none.1))
   never_statement w c (While p x s) a b fresh flows e = let k : true ≡ false = e in absurd (cc)
   never_statement w c (Return v) a b fresh (f, d, (u, same)) e = ap (λ (z : Known). is_reached z.now) same
@@ -110,36 +115,34 @@ mutual
   never_statement w c Continue a b fresh (demands, same) e = ap (λ (z : Known). is_reached z.now) same
   never_statement w c (Throw t v) a b fresh (f, d, (u, same)) e = ap (λ (z : Known). is_reached z.now) same
   never_statement w c (Try s cs) a b (one, two) (l, ds, dcs) e =
-      let none = neither (ends s) (clauses_end cs) e in
+      let none = neither (may_end s) (clauses_may_end cs) e in
       never_clauses w c (caught a.now s) cs l b two dcs none.1 (never_statement w c s a l one ds none.0)
 
-  never_items : (w : ℕ → Bool) (c : Around) (js : Items) (a b : Known) → AreFresh w js → Derives (rule_items c js a) b → items_end js ≡ false → is_reached b.now ≡ false
+  never_items : (w : ℕ → Bool) (c : Around) (js : Items) (a b : Known) → AreFresh w js → Derives (rule_items c js a) b → items_may_end js ≡ false → is_reached b.now ≡ false
   never_items w c NoItems a b fresh flows e = let k : true ≡ false = e in absurd (cc)
-  never_items w c (MoreItems (Execute s) js) a b (one, fresh) (l, d, ds) e = go (ends s) refl
-    where
-      go : (z : Bool) → ends s ≡ z → is_reached b.now ≡ false
-      go true same = never_items w (statements.behind_item (Execute s) c) js l b fresh ds (sym (ap (λ z. z && items_end js) same) ∙ e)
-      go false same = items_unreached w (statements.behind_item (Execute s) c) js l b fresh ds (never_statement w c s a l one d same)
+  never_items w c (MoreItems (Execute s) js) a b (one, fresh) (l, d, ds) e =
+      either (may_end s) (items_may_end js) e (λ same. items_unreached w (statements.behind_item (Execute s) c) js l b fresh ds (never_statement w c s a l one d same))
+      (λ rest. never_items w (statements.behind_item (Execute s) c) js l b fresh ds rest)
   never_items w c (MoreItems (Declare n t v) js) a b (one, fresh) (l, d, ds) e = never_items w (statements.behind_item (Declare n t v) c) js l b fresh ds e
   never_items w c (MoreItems (DeclareRegion r n) js) a b (one, fresh) (l, d, ds) e = never_items w (statements.behind_item (DeclareRegion r n) c) js l b fresh ds e
   never_items w c (MoreItems (OpenRegion r n p k) js) a b (one, fresh) (l, d, ds) e = never_items (updated w k true) (statements.behind_item (OpenRegion r n p k) c) js l b fresh ds e
   never_items w c (MoreItems (DeclareAlias r n t p k) js) a b (one, fresh) (l, d, ds) e = never_items (updated w k true) (statements.behind_item (DeclareAlias r n t p k) c) js l b fresh ds e
   never_items w c (MoreItems (DeclareKey r n) js) a b (one, fresh) (l, d, ds) e = never_items w (statements.behind_item (DeclareKey r n) c) js l b fresh ds e
 
-  never_clauses : (w : ℕ → Bool) (c : Around) (start : flow.State) (cs : Clauses) (a b : Known) → AreFreshClauses w cs → Derives (rule_clauses c start cs a) b → clauses_end cs ≡ false → is_reached a.now ≡ false → is_reached b.now ≡ false
+  never_clauses : (w : ℕ → Bool) (c : Around) (start : flow.State) (cs : Clauses) (a b : Known) → AreFreshClauses w cs → Derives (rule_clauses c start cs a) b → clauses_may_end cs ≡ false → is_reached a.now ≡ false → is_reached b.now ≡ false
   never_clauses w c start NoClauses a b fresh (u, same) e none = ap (λ (z : Known). is_reached z.now) same ∙ none
   never_clauses w c start (Default r js) a b fresh (l, d, (u, same)) e none =
       subst (λ (z : Known). is_reached z.now ≡ false) (sym same) (meet_none a.now (with_each Full (locks_of js) l.now) none (each_reached Full (locks_of js) l.now ∙ never_items w c js (at start a) l fresh d e))
   never_clauses w c start (Case t n r js cs) a b (caught', fresh, more) (l, d, ds) e none =
-      let both = neither (items_end js) (clauses_end cs) e in
+      let both = neither (items_may_end js) (clauses_may_end cs) e in
       never_clauses w c start cs (or_clause a.now js l) b more ds both.1
       (meet_none a.now (with_each Full (locks_of js) l.now) none (each_reached Full (locks_of js) l.now ∙ never_items w c js (at (statements.with_caught n start) a) l fresh d both.0))
 
 -- control comes to what is behind only where the statement may end
-pub ends_so : (w : ℕ → Bool) (c : Around) (s : Statement) (a b : Known) → IsFresh w s → Derives (rule_statement c s a) b → is_reached b.now ≡ true → ends s ≡ true
-ends_so w c s a b fresh flows reached = go (ends s) refl
+pub ends_so : (w : ℕ → Bool) (c : Around) (s : Statement) (a b : Known) → IsFresh w s → Derives (rule_statement c s a) b → is_reached b.now ≡ true → may_end s ≡ true
+ends_so w c s a b fresh flows reached = go (may_end s) refl
   where
-    go : (z : Bool) → ends s ≡ z → ends s ≡ true
+    go : (z : Bool) → may_end s ≡ z → may_end s ≡ true
     go true same = same
     go false same = let k : true ≡ false = sym reached ∙ never_statement w c s a b fresh flows same in absurd (cc)
 
@@ -341,13 +344,13 @@ module _ (n : ℕ) where
     leaves : {A : Type 0} (c : Around) (a b : Known) → A → b ≡ at Unreached a → Locks A false c a b
     leaves {A} c a b kept same = subst (λ z. Locks A false c a z) (sym same) (record { kept = kept; now = λ e. (let k : false ≡ true = e in absurd (cc)); reached = λ e. (let k : false ≡ true = e in absurd (cc)); breaks = λ out before. before })
 
-    end_if : (w : ℕ → Bool) (c : Around) (js : Items) (a l : Known) → AreFresh w js → Derives (rule_items c js a) l → (items_end js ≡ true → IsOut (locks_of js)) → IsLockedIf l.now → IsLockedIf (with_each Full (locks_of js) l.now)
-    end_if w c js a l fresh flows out locked reached = go (items_end js) refl
+    end_if : (w : ℕ → Bool) (c : Around) (js : Items) (a l : Known) → AreFresh w js → Derives (rule_items c js a) l → (items_may_end js ≡ true → IsOut (locks_of js)) → IsLockedIf l.now → IsLockedIf (with_each Full (locks_of js) l.now)
+    end_if w c js a l fresh flows out locked reached = go (items_may_end js) refl
       where
         there : is_reached l.now ≡ true
         there = sym (each_reached Full (locks_of js) l.now) ∙ reached
 
-        go : (z : Bool) → items_end js ≡ z → is_locked (fullness (with_each Full (locks_of js) l.now) n) ≡ true
+        go : (z : Bool) → items_may_end js ≡ z → is_locked (fullness (with_each Full (locks_of js) l.now) n) ≡ true
         go true same = (each_still (locks_of js) l.now (out same) (there, locked there)).1
         go false same = let k : true ≡ false = sym there ∙ never_items w c js a l fresh flows same in absurd (cc)
 
@@ -356,7 +359,7 @@ module _ (n : ℕ) where
       kept : InClauses m locking k cs
       now : IsLockedIf b.now
       before : is_reached a.now ≡ true → is_reached b.now ≡ true
-      reached : clauses_end cs ≡ true → is_reached b.now ≡ true
+      reached : clauses_may_end cs ≡ true → is_reached b.now ≡ true
       breaks : IsOut c.locks → IsLockedIf a.breaks → IsLockedIf b.breaks
 
     either_end : (x y : Bool) (f g : flow.State) → (x ≡ true → is_reached f ≡ true) → (y ≡ true → is_reached g ≡ true) → (x || y) ≡ true → is_reached (meet f g) ≡ true
@@ -382,11 +385,35 @@ module _ (n : ℕ) where
     out_front k ks apart out (first as') = apart refl
     out_front k ks apart out (later b as' among) = out among
 
+    -- of the items behind a statement, which may end
+    behind_statement : (w : ℕ → Bool) (k : ℕ) (c : Around) (s : Statement) (js : Items) (a b l : Known) → AreFresh w js → Derives (rule_items (statements.behind_item (Execute s) c) js l) b → Locks (InStatement m locking k s) (may_end s) c a l → (may_end s ≡ false → is_reached l.now ≡ false)
+        → (may_end s ≡ true → Locks (InItems m locking (k + declared_regions s) js) (items_may_end js) (statements.behind_item (Execute s) c) l b × (items_may_end js ≡ true → IsOut (locks_of js)))
+        → Locks (InItems m locking k (MoreItems (Execute s) js)) (may_end s && items_may_end js) c a b × ((may_end s && items_may_end js) ≡ true → IsOut (locks_of js))
+    behind_statement w k c s js a b l fresh flows y never on = go (may_end s) refl
+      where
+        go : (end : Bool) → may_end s ≡ end → Locks (InItems m locking k (MoreItems (Execute s) js)) (may_end s && items_may_end js) c a b × ((may_end s && items_may_end js) ≡ true → IsOut (locks_of js))
+        go true same =
+            let (z, out) = on same in
+            (record {
+              kept = (y.kept, asked (may_end s) z.kept);
+              now = z.now;
+              reached = λ e. z.reached (both_true (may_end s) (items_may_end js) e).1;
+              breaks = λ around before. z.breaks (out_none c.locks around) (y.breaks around before);
+            }, λ e. out (both_true (may_end s) (items_may_end js) e).1)
+        go false same =
+            let none : is_reached b.now ≡ false = items_unreached w (statements.behind_item (Execute s) c) js l b fresh flows (never same) in
+            (record {
+              kept = (y.kept, asked_nothing (InItems m locking (k + declared_regions s) js) (may_end s) same);
+              now = λ e. (let z : true ≡ false = sym e ∙ none in absurd (cc));
+              reached = λ e. (let z : false ≡ true = sym same ∙ (both_true (may_end s) (items_may_end js) e).0 in absurd (cc));
+              breaks = λ around before. breaks_locked w (statements.behind_item (Execute s) c) js l b fresh flows (never same) n (y.breaks around before);
+            }, λ e. (let z : false ≡ true = sym same ∙ (both_true (may_end s) (items_may_end js) e).0 in absurd (cc)))
+
     mutual
-      locks_statement : (w : ℕ → Bool) (k : ℕ) (c : Around) (s : Statement) (a b : Known) → w n ≡ true → IsFresh w s → IsLockedIn a.now → Derives (rule_statement c s a) b → InStatement m q k s → Locks (InStatement m locking k s) (ends s) c a b
+      locks_statement : (w : ℕ → Bool) (k : ℕ) (c : Around) (s : Statement) (a b : Known) → w n ≡ true → IsFresh w s → IsLockedIn a.now → Derives (rule_statement c s a) b → InStatement m q k s → Locks (InStatement m locking k s) (may_end s) c a b
       locks_statement w k c (Block r js) a b mine fresh locked (l, d, (u, same)) kept =
           let (z, out) = locks_items w (suc k) c js a l mine fresh locked d kept in
-          subst (λ y. Locks (InItems m locking (suc k) js) (items_end js) c a y) (sym same) (record {
+          subst (λ y. Locks (InItems m locking (suc k) js) (items_may_end js) c a y) (sym same) (record {
             kept = z.kept;
             now = end_if w c js a l fresh d out z.now;
             reached = λ e. each_reached Full (locks_of js) l.now ∙ z.reached e;
@@ -402,10 +429,10 @@ module _ (n : ℕ) where
           let (is, still) = locks_expression x [] a.now f locked d kx in
           let y = locks_statement w k c s (at f a) l mine one still ds ks in
           let z = locks_statement w (k + declared_regions s) c t (at f l) o mine two still dt kt in
-          subst (λ v. Locks (InStatement m locking k (If x s t)) (ends s || ends t) c a v) (sym same) (record {
+          subst (λ v. Locks (InStatement m locking k (If x s t)) (may_end s || may_end t) c a v) (sym same) (record {
             kept = (is, y.kept, z.kept);
             now = meet_if l.now o.now y.now z.now;
-            reached = λ e. either_end (ends s) (ends t) l.now o.now y.reached z.reached e;
+            reached = λ e. either_end (may_end s) (may_end t) l.now o.now y.reached z.reached e;
             breaks = λ out before. z.breaks out (y.breaks out before);
           })
       locks_statement w k c (While p x s) a b mine fresh locked (f, d, (l, ds, (demands, same))) (kx, ks) =
@@ -430,35 +457,17 @@ module _ (n : ℕ) where
           record {
             kept = (y.kept, z.kept);
             now = z.now;
-            reached = λ e. tried (ends s) (clauses_end cs) l.now b.now y.reached z.before z.reached e;
+            reached = λ e. tried (may_end s) (clauses_may_end cs) l.now b.now y.reached z.before z.reached e;
             breaks = λ out before. z.breaks out (y.breaks out before);
           }
 
       locks_items : (w : ℕ → Bool) (k : ℕ) (c : Around) (js : Items) (a b : Known) → w n ≡ true → AreFresh w js → IsLockedIn a.now → Derives (rule_items c js a) b → InItems m q k js
-          → Locks (InItems m locking k js) (items_end js) c a b × (items_end js ≡ true → IsOut (locks_of js))
+          → Locks (InItems m locking k js) (items_may_end js) c a b × (items_may_end js ≡ true → IsOut (locks_of js))
       locks_items w k c NoItems a b mine fresh locked (u, same) kept = (subst (λ y. Locks (Unit {0}) true c a y) (sym same) (record { kept = tt; now = locked_if a.now locked; reached = λ e. locked.0; breaks = λ out before. before }), λ e among. elim among [ ])
       locks_items w k c (MoreItems (Execute s) js) a b mine (one, fresh) locked (l, d, ds) (ks, kjs) =
           let y = locks_statement w k c s a l mine one locked d ks in
-          go (ends s) refl y.kept y.now y.reached y.breaks
-        where
-          go : (end : Bool) → ends s ≡ end → InStatement m locking k s → IsLockedIf l.now → (ends s ≡ true → is_reached l.now ≡ true) → (IsOut c.locks → IsLockedIf a.breaks → IsLockedIf l.breaks)
-              → Locks (InItems m locking k (MoreItems (Execute s) js)) (ends s && items_end js) c a b × ((ends s && items_end js) ≡ true → IsOut (locks_of js))
-          go true same is now reached breaks =
-              let (z, out) = locks_items w (k + declared_regions s) (statements.behind_item (Execute s) c) js l b mine fresh (reached same, now (reached same)) ds (kjs same) in
-              (record {
-                kept = (is, λ e. z.kept);
-                now = z.now;
-                reached = λ e. z.reached (both_true (ends s) (items_end js) e).1;
-                breaks = λ around before. z.breaks (out_none c.locks around) (breaks around before);
-              }, λ e. out (both_true (ends s) (items_end js) e).1)
-          go false same is now reached breaks =
-              let none : is_reached b.now ≡ false = items_unreached w (statements.behind_item (Execute s) c) js l b fresh ds (never_statement w c s a l one d same) in
-              (record {
-                kept = (is, λ e. (let z : false ≡ true = sym same ∙ e in absurd (cc)));
-                now = λ e. (let z : true ≡ false = sym e ∙ none in absurd (cc));
-                reached = λ e. (let z : false ≡ true = sym same ∙ (both_true (ends s) (items_end js) e).0 in absurd (cc));
-                breaks = λ around before. breaks_locked w (statements.behind_item (Execute s) c) js l b fresh ds (never_statement w c s a l one d same) n (breaks around before);
-              }, λ e. (let z : false ≡ true = sym same ∙ (both_true (ends s) (items_end js) e).0 in absurd (cc)))
+          behind_statement w k c s js a b l fresh ds y (λ same. never_statement w c s a l one d same)
+          (λ same. locks_items w (k + declared_regions s) (statements.behind_item (Execute s) c) js l b mine fresh (y.reached same, y.now (y.reached same)) ds (asked_of (may_end s) same kjs))
       locks_items w k c (MoreItems (Declare l t v) js) a b mine (one, fresh) locked (o, (f, d, (u, same)), ds) (named, kv, kjs) =
           let (is, still) = locks_declared l v a.now f (fresh_apart w l mine one) locked d kv in
           let (z, out) = locks_items w k (statements.behind_item (Declare l t v) c) js (at f a) b mine fresh still (subst (λ y. Derives (rule_items (statements.behind_item (Declare l t v) c) js y) b) same ds) kjs in
@@ -504,7 +513,7 @@ module _ (n : ℕ) where
             kept = (z.kept, y.kept);
             now = y.now;
             before = λ e. y.before (meet_left a.now end e);
-            reached = λ e. case_end (items_end js) (clauses_end cs) b.now (λ e. y.before (meet_right a.now end (each_reached Full (locks_of js) l.now ∙ z.reached e))) y.reached e;
+            reached = λ e. case_end (items_may_end js) (clauses_may_end cs) b.now (λ e. y.before (meet_right a.now end (each_reached Full (locks_of js) l.now ∙ z.reached e))) y.reached e;
             breaks = λ out before. y.breaks out (z.breaks out before);
           }
 

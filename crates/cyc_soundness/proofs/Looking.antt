@@ -27,7 +27,7 @@ free_other n m w (first as') e = λ same. (let k : not (eqb n m) ≡ true = (or_
     let z : eqb n m ≡ true = eq-eqb n m same in let y : false ≡ true = sym (ap (λ b. not b) z) ∙ k in absurd (cc))
 free_other n m w (later b as' is) e = free_other n m as' is (or_false (nat_eq b m) (list_any (λ k. nat_eq k m) as') e).1
 
-only_other : (n m : ℕ) → n ≢ m → is_full (get_or (only n) m Vacant) ≡ false
+pub only_other : (n m : ℕ) → n ≢ m → is_full (get_or (only n) m Vacant) ≡ false
 only_other zero zero apart = absurd (apart refl)
 only_other zero (suc m) apart = refl
 only_other (suc n) zero apart = refl

@@ -345,6 +345,6 @@ module _ (p : Source) (g : Typing) (x : Exits) (bs : List InScope) (e : Environm
   given v k nests live holds is comes (stacks.closes_by_key r f) are stack = closes_on p g x bs e w typed globals bound variables v.value k r f live holds is.1 (comes_alone g k (Value (lives.Key (lives_in bs r))) v.value comes) stack
   given v k nests live holds is comes (stacks.throws {tag} f h) are stack = thrown_on tag v.value k h live is.1 stack
   given v k nests live holds is comes (stacks.opens_by {number} {lent} {js} cs c b r f h i loans within stands among number_of of_type hides set spared full less alive number_is continues again) are stack =
-      opens_on p g x bs e w typed globals bound variables number lent js v.value k cs c b r f h i live holds loans within stands among number_of of_type spared full less alive number_is continues again is.1 stack
+      opens_on p g x bs e w typed globals bound variables number lent js v.value k cs c b r f h i live holds loans within stands among number_of of_type hides spared full less alive number_is continues again is.1 stack
   given v k nests live holds is comes (stacks.aliases {number} {lent} {js} cs c b u t f h i loans within stands among number_of type_is hides set spared full unique known of_type alive number_is continues again) are stack =
-      aliases_on p g x bs e w typed globals bound variables number lent js v k cs c b u t f h i live holds loans within stands among number_of type_is spared full unique known of_type alive number_is continues again comes is stack
+      aliases_on p g x bs e w typed globals bound variables number lent js v k cs c b u t f h i live holds loans within stands among number_of type_is hides spared full unique known of_type alive number_is continues again comes is stack

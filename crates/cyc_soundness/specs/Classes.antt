@@ -75,32 +75,37 @@ SparesAssigned q l t = Unit {0}
 
 -- control may come to what is behind
 abbrev mutual
-  pub ends : Statement → Bool
-  ends (Block r js) = items_end js
-  ends Empty = true
-  ends (Evaluate a) = true
-  ends (Swap x y) = true
-  ends (If a s t) = ends s || ends t
-  ends (While p a s) = true
-  ends (Return v) = false
-  ends Break = false
-  ends Continue = false
-  ends (Throw e v) = false
-  ends (Try s cs) = ends s || clauses_end cs
+  pub may_end : Statement → Bool
+  may_end (Block r js) = items_may_end js
+  may_end Empty = true
+  may_end (Evaluate a) = true
+  may_end (Swap x y) = true
+  may_end (If a s t) = may_end s || may_end t
+  may_end (While p a s) = true
+  may_end (Return v) = false
+  may_end Break = false
+  may_end Continue = false
+  may_end (Throw e v) = false
+  may_end (Try s cs) = may_end s || clauses_may_end cs
 
-  pub items_end : Items → Bool
-  items_end NoItems = true
-  items_end (MoreItems (Execute s) js) = ends s && items_end js
-  items_end (MoreItems (Declare l t v) js) = items_end js
-  items_end (MoreItems (DeclareRegion r l) js) = items_end js
-  items_end (MoreItems (OpenRegion r l p k) js) = items_end js
-  items_end (MoreItems (DeclareAlias r l t p s) js) = items_end js
-  items_end (MoreItems (DeclareKey r l) js) = items_end js
+  pub items_may_end : Items → Bool
+  items_may_end NoItems = true
+  items_may_end (MoreItems (Execute s) js) = may_end s && items_may_end js
+  items_may_end (MoreItems (Declare l t v) js) = items_may_end js
+  items_may_end (MoreItems (DeclareRegion r l) js) = items_may_end js
+  items_may_end (MoreItems (OpenRegion r l p k) js) = items_may_end js
+  items_may_end (MoreItems (DeclareAlias r l t p s) js) = items_may_end js
+  items_may_end (MoreItems (DeclareKey r l) js) = items_may_end js
 
-  pub clauses_end : Clauses → Bool
-  clauses_end NoClauses = false
-  clauses_end (Default r js) = items_end js
-  clauses_end (Case e v r js cs) = items_end js || clauses_end cs
+  pub clauses_may_end : Clauses → Bool
+  clauses_may_end NoClauses = false
+  clauses_may_end (Default r js) = items_may_end js
+  clauses_may_end (Case e v r js cs) = items_may_end js || clauses_may_end cs
+
+-- this is asked where code may be run
+abbrev pub Asked : (run : Bool) → Type 0 → Type 0
+Asked false A = Unit {0}
+Asked true A = A
 
 -- ---- classes
 
@@ -190,7 +195,7 @@ abbrev mutual
 
   pub InItems : Reading → Relied → ℕ → Items → Type 0
   InItems m q n NoItems = Unit {0}
-  InItems m q n (MoreItems (Execute s) js) = InStatement m q n s × (ends s ≡ true → InItems m q (n + declared_regions s) js)
+  InItems m q n (MoreItems (Execute s) js) = InStatement m q n s × Asked (may_end s) (InItems m q (n + declared_regions s) js)
   InItems m q n (MoreItems (Declare l t v) js) = IsDeclarable m n t × InValue m q v × InItems m q n js
   InItems m q n (MoreItems (DeclareRegion r l) js) = HasScopes m × InItems m q (suc n) js
   InItems m q n (MoreItems (OpenRegion r l p k) js) = HasLoans m × IsSpared q k × InItems m q n js
