@@ -33,7 +33,7 @@ use Rattle.cyc_meaning.specs.State.{InRegion, Unique, World, heap_number, cell_a
 use Rattle.cyc_meaning.specs.Parts.{target_of_value, target_by, leads_to, wrong, computed, loaded_from, stored}
 use Rattle.cyc_meaning.specs.Nesting.{ends_of, AreOpen}
 use Rattle.cyc_meaning.specs.Step.{step_evaluating, addressed, counts, passes, assigned, decided, tested, awaits_right, chained, converts}
-use Rattle.cyc_soundness.specs.Lives.{Life, OfRegion, Owned, Kept, heap_life, as_heap, Reading, Lives, AsHeap, ByScope, RunTy, RunValue, Value, Into, looked, kind_at}
+use Rattle.cyc_soundness.specs.Lives.{Life, OfRegion, Owned, Kept, heap_life, as_heap, Reading, Lives, AsHeap, ByScope, RunTy, RunValue, Value, Into, looked, kind_at, Seen}
 use Rattle.cyc_soundness.specs.Lives as lives
 use Rattle.cyc_soundness.specs.Worlds.{Thing, Holder, Nobody, Hand, At, thing_of, Owns, AtStart, Claims, ClaimsPart, ClaimsBy, IsLookedAt, IsSlot, IsHere, given, marked, handing, Settled, IsOpenObject, IsNewOwner, IsPlain, HasType, Typing, IsFull, global_type, Outlasts, globals as with_globals, AgreesWith, IsResult, AreOperands, IsTyped, IsHiding, life_at, Here, Gone, Away}
 use Rattle.cyc_soundness.specs.Frames.{IsAmong, Bound, local_type, InScope, Variable, IsBound, AreVariables, IsHomed, LiveIn, IsSet, IsFullIn, Holds, Implies, Exits, IsContext, KnowsProgram, lives_in, read, read_value, frees_in}
@@ -224,16 +224,15 @@ module _ (p : Source) (g : Typing) (x : Exits) (bs : List InScope) (e : Environm
       (among_variable g among variables) refl (open_local k b opens live among) full (ap kind_at of_type ∙ kind_meant (lives_in bs) u) r fits comes stack)
 
   -- what is looked at through a local that is full
-  pub looks_bound : (k : List Entry) (n : ℕ) (u : Ty) (b : Bound) (h : flow.State) → AreOpen w.regions (ends_of k) → LiveIn k bs → Holds g h bs → IsAmong (Variable b) bs → b.number ≡ n → b.of_type ≡ read bs u → b.is_hidden ≡ is_moved u
-      → is_unique u ≡ true → IsFullIn h n → IsStack p g x bs (Val (Into (Some n) (read bs u)) h) k → IsWell p (loaded_from (values.kind_of u) (e.locals n) k e w)
-  looks_bound k n u b h opens live holds among number of_type hidden unique full stack =
+  pub looks_bound : (k : List Entry) (n : ℕ) (u : Ty) (b : Bound) (h : flow.State) → AreOpen w.regions (ends_of k) → LiveIn k bs → Holds g h bs → IsAmong (Variable b) bs → b.number ≡ n → b.of_type ≡ read bs u → IsFullIn h n
+      → IsStack p g x bs (Val (Seen b.object (read bs u)) h) k → IsWell p (loaded_from (values.kind_of u) (e.locals n) k e w)
+  looks_bound k n u b h opens live holds among number of_type full stack =
       let full_here : IsFullIn h b.number = subst (λ i. IsFullIn h i) (sym number) full in
       let here = among_own g h among holds.1 full_here in
-      let still = settled p g x bs (Val (Into (Some n) (read bs u)) h) k stack in
-      from_bound k n u b h (Into (Some n) (read bs u)) opens live holds among number of_type (among_set g h among holds.1 (full_set (fullness h b.number) full_here))
+      let still = settled p g x bs (Val (Seen b.object (read bs u)) h) k stack in
+      from_bound k n u b h (Seen b.object (read bs u)) opens live holds among number of_type (among_set g h among holds.1 (full_set (fullness h b.number) full_here))
       (λ v is. (sym (kind_meant (lives_in bs) u), subst (λ z. HasType g z v) of_type is))
-      (λ c. looked_at g n b.object (thing_of (read bs u) c.value) (subst (λ i. IsHere g g.depth i b.object) number here) (local_type g.depth b, among_variable g among variables, hidden ∙ unique_moved u unique)
-      (subst (λ t. Claims g.own (At b.object 0) t c.value) of_type (its_own b (values.kind_of u) c still among here)).0) stack
+      (λ c. (subst (λ t. Claims g.own (At b.object 0) t c.value) of_type (its_own b (values.kind_of u) c still among here)).0) stack
 
   -- a local's value goes to an operand
   pub moves : (k : List Entry) (c : Context) (n : ℕ) (u : Ty) (f : flow.State) → AreOpen w.regions (ends_of k) → LiveIn k bs → IsContext p x bs c → Holds g f bs → (r : ℕ) × HasLocal c.locals n u r → is_moved u ≡ true → IsFullIn f n → IsSpared (relied_at x.relied k) n

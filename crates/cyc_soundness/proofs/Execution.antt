@@ -412,8 +412,7 @@ module _ (p : Source) (g : Typing) (x : Exits) (bs : List InScope) (e : Environm
       let set : IsSet f key = not_vacant (is_vacant (flow.fullness f key)) demands.0 in
       let rest = lent_rest key js (with_local false (types.Handle (regions.Variable r)) (with_key_opened r c)) (with_fullness Full (with_fullness Locked f key) n) before behind' ending (let past : key < suc c.next_local = omega (arith, less) in past) lent_now' (next_in_scope c below) wjs
       (subst (λ (z : Known). Derives (rule_items (around (lending x key)) js z) (record { now = ending; breaks = behind' })) now djs) are kjs in
-      from_bound p g x bs e w typed' globals bound variables (Needs (OpenBy n key js) ∷ k) key t b f (Seen (read bs t)) nests.0 live holds bound_among number_of of_type (among_set g f bound_among holds.1 (subst (λ i. IsSet f i) (sym number_of) set))
-      (λ v is. (sym (kind_meant (lives_in bs) t), subst (λ z. HasType g z v) of_type is)) (λ z. tt) (
+      looks_bound p g x bs e w typed' globals bound variables (Needs (OpenBy n key js) ∷ k) key t b f nests.0 live holds bound_among number_of of_type (used_full f key demands.0 demands.1.0) (
         [],
         cs,
         Go h,
@@ -437,7 +436,7 @@ module _ (p : Source) (g : Typing) (x : Exits) (bs : List InScope) (e : Environm
       let rest = lent_rest source js (with_local true t (with_opened scopes.Alias c)) (with_fullness Full (with_fullness Locked f source) n) before behind' ending (let past : source < suc c.next_local = omega (arith, less') in past) lent_now' (next_in_scope c below) wjs
       (subst (λ (z : Known). Derives (rule_items (around (lending x source)) js z) (record { now = ending; breaks = behind' })) now djs) are kjs in
       subst (λ kind. IsWell p (loaded_from kind (e.locals source) (Needs (AliasOf n source js) ∷ k) e w)) (sym (ap values.kind_of of_type ∙ alias_kind (regions.Variable r) v))
-      (looks_bound p g x bs e w typed' globals bound variables (Needs (AliasOf n source js) ∷ k) source v b f nests.0 live holds bound_among number_of of_bound bound_is.hidden unique full (
+      (looks_bound p g x bs e w typed' globals bound variables (Needs (AliasOf n source js) ∷ k) source v b f nests.0 live holds bound_among number_of of_bound full (
         [],
         cs,
         Go h,

@@ -280,7 +280,7 @@ module _ (old : Holder) (g h : Typing) (changed : Changed old g h) where
   alone_kept i (Into peek t) v apart is = is
   alone_kept i Void v apart is = tt
   alone_kept i Null v apart is = tt
-  alone_kept i (Seen t) v apart is = tt
+  alone_kept i (Seen object t) v apart is = absurd is
 
   lent_kept : (a : Thing) → is_lent_by g.loans old ≡ false → lent_now g a ≡ true → lent_now h a ≡ true
   lent_kept a none e =
@@ -418,6 +418,71 @@ module _ (g : Typing) (o : Option Thing) (object : ℕ) (new : Holder) (y : Obje
         | inr apart ↦ inl (marked_before object (Away j) g.here n (Away i) apart now, lent_not_at i n object 0)
       ]
 
+-- a holder keeps what he has where he gets more
+pub given_keeps : (own : Thing → Holder) (o c : Option Thing) (h : Holder) → Owns own h c → Owns (given o h own) h c
+given_keeps own None c h is = is
+given_keeps own (Some a) None h is = tt
+given_keeps own (Some a) (Some b) h is = go (same_thing b a)
+  where
+    go : (z : Bool) → (if z then h else own b) ≡ h
+    go true = refl
+    go false = is
+
+-- what a variable had when it lent what is in it, it has still or has lent
+pub also_lent : (own : Thing → Holder) (o also : Option Thing) (old new : Holder) → Owns own old also → Owns (given o new own) old also ⊎ Owns (given o new own) new also
+also_lent own o None old new has = inl tt
+also_lent own None (Some b) old new has = inl has
+also_lent own (Some a) (Some b) old new has = go (same_thing b a)
+  where
+    go : (z : Bool) → ((if z then new else own b) ≡ old) ⊎ ((if z then new else own b) ≡ new)
+    go true = inr refl
+    go false = inl has
+
+-- and lends it too
+pub also_typed : (g : Typing) (o : Option Thing) (object j : ℕ) (y : ObjectType) (regions : List Region) (objects : List Object) → slice_get g.objects object ≡ Some y → y.is_hidden ≡ true → g.here object ≡ Away j
+    → Owns g.own (At object 0) o ⊎ Owns g.own (Lent j object) o → IsTyped g regions objects → IsTyped (giving g o (Lent j object)) regions objects
+also_typed g o object j y regions objects there hidden lent (inl has) typed = hands_typed g o (At object 0) (Lent j object) g.here regions objects has tt before (λ n i t x found stands now hides. inl (now, lent_not_at i n object 0)) typed
+  where
+    before : (n i : ℕ) (t : ObjectType) (x : Object) → slice_get g.objects n ≡ Some t → slice_get objects n ≡ Some x → IsKept (giving g o (Lent j object)) n i t.is_hidden
+        → (IsKept g n i t.is_hidden × (At n i ≢ At object 0)) ⊎ ((u : RunTy) (c : Cell) (v : values.Value) → slice_get t.cells i ≡ Some u → slice_get x.cells i ≡ Some c → c.content ≡ Some v → Claims (given o (Lent j object) g.own) (At n i) u v)
+    before n i t x found stands kept = inl (kept, λ e.
+        (let same = (at_same n i object 0 e).0 in
+        let type_is : y ≡ t = some_same y t (sym there ∙ ap (λ k. slice_get g.objects k) (sym same) ∙ found) in
+        let here : g.here n ≡ Here = kept.0 (ap (λ (z : ObjectType). z.is_hidden) (sym type_is) ∙ hidden) in
+        absurd (let z : Away j ≡ Here = sym lent ∙ ap g.here (sym same) ∙ here in cc)))
+also_typed g o object j y regions objects there hidden lent (inr has) typed =
+    hands_typed g o (Lent j object) (Lent j object) g.here regions objects has tt (λ n i t x found stands kept. inl (kept, at_not_lent n i j object)) away typed
+  where
+    away : (n i : ℕ) (t : ObjectType) (x : Object) → slice_get g.objects n ≡ Some t → slice_get objects n ≡ Some x → g.here n ≡ Away i → t.is_hidden ≡ true
+        → ((g.here n ≡ Away i) × (Lent i n ≢ Lent j object)) ⊎ ((m : ℕ) (u : RunTy) (c : Cell) (v : values.Value) → slice_get t.cells m ≡ Some u → slice_get x.cells m ≡ Some c → c.content ≡ Some v → Claims (given o (Lent j object) g.own) (Lent i n) u v)
+    away n i t x found stands now hides = elim (same_or_other n object) [
+      | inl same ↦ (let number : i ≡ j = away_same i j (sym now ∙ ap g.here same ∙ lent) in
+          let holder : Lent j object ≡ Lent i n = ap (λ k. Lent k object) (sym number) ∙ ap (λ k. Lent i k) (sym same) in
+          inr (λ m u c v cell at content. (let is = typed.lent n t x found stands m i u c v now hides cell at content in
+          (subst (λ h. Owns (given o h g.own) (Lent i n) (thing_of u v)) (sym holder) (given_keeps g.own o (thing_of u v) (Lent i n) is.0), is.1))))
+      | inr apart ↦ inl (now, λ e. apart (lent_same i n j object e).1)
+    ]
+
+-- nothing else changes hands then
+pub also_changed : (old new : Holder) (g h : Typing) (o : Option Thing) → Owns g.own old o → Changed old g h → Changed old g (giving h o new)
+also_changed old new g h o has changed = record {
+  grows = record { objects = changed.grows.objects; filled = changed.grows.filled; fields = changed.grows.fields; kept = changed.grows.kept };
+  own = λ a apart. other o has a apart;
+  here = changed.here;
+  away = changed.away;
+  pending = changed.pending;
+  depth = changed.depth;
+  loans = changed.loans;
+}
+  where
+    twice : (z : Bool) (a b : Holder) → (if z then new else b) ≡ b → a ≡ b → (if z then new else a) ≡ b
+    twice true a b first second = first
+    twice false a b first second = second
+
+    other : (o : Option Thing) → Owns g.own old o → (a : Thing) → g.own a ≢ old → given o new h.own a ≡ g.own a
+    other None has a apart = changed.own a apart
+    other (Some b) has a apart = twice (same_thing a b) (h.own a) (g.own a) (given_other g.own (Some b) old new a has apart) (changed.own a apart)
+
 -- a variable has again what it had lent
 pub returned_typed : (g : Typing) (o : Option Thing) (object j : ℕ) (y : ObjectType) (regions : List Region) (objects : List Object) → Owns g.own (Lent j object) o → slice_get g.objects object ≡ Some y
     → ((x : Object) → slice_get objects object ≡ Some x → (i : ℕ) (u : RunTy) (c : Cell) (v : values.Value) → slice_get y.cells i ≡ Some u → slice_get x.cells i ≡ Some c → c.content ≡ Some v → Claims (given o (At object 0) g.own) (At object i) u v)
@@ -547,7 +612,7 @@ alone_comes g i (Value t) v is = is
 alone_comes g i (Into peek t) v is = absurd is
 alone_comes g i Void v is = tt
 alone_comes g i Null v is = tt
-alone_comes g i (Seen t) v is = tt
+alone_comes g i (Seen object t) v is = absurd is
 
 -- ---- a call or a loan more or less
 

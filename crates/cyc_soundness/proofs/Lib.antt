@@ -11,7 +11,6 @@ mod StackLemmas
 mod ValueLemmas
 mod Cells
 mod Looking
-mod Locking
 mod Objects
 mod Swapping
 mod Places

@@ -36,7 +36,7 @@ use Rattle.cyc_soundness.proofs.TypeLemmas.{all_in, read_alike}
 use Rattle.cyc_soundness.proofs.FlowLemmas.{full_set, reached_with}
 use Rattle.cyc_soundness.proofs.RegionLemmas.{contains_more, name_known, same_name, known_other, known_more, other_life, context_key, context_alias, context_again, region_owner}
 use Rattle.cyc_soundness.proofs.WorldLemmas.{globals_grown, result_grown, typed_cell}
-use Rattle.cyc_soundness.proofs.Hands.{Changed, at_no_hand, at_some, given_now, giving_changed, handing_changed, changed_after, variables_kept, holds_kept, freed_typed, hands_globals, with_kept, kept_grows, kept_typed, variables_more, moment_typed, moment_globals, holds_lent, lent_last, closed_by_key, lent_typed, marked_now, kept_now}
+use Rattle.cyc_soundness.proofs.Hands.{Changed, at_no_hand, at_some, given_now, giving_changed, handing_changed, changed_after, variables_kept, holds_kept, freed_typed, hands_globals, with_kept, kept_grows, kept_typed, variables_more, moment_typed, moment_globals, holds_lent, lent_last, closed_by_key, lent_typed, marked_now, kept_now, also_changed, also_typed, also_lent}
 use Rattle.cyc_soundness.proofs.Sharing.{life_common, by_type_read}
 use Rattle.cyc_soundness.proofs.StackLemmas.{emptied_other, stack_changed, above_globals, full_here, within_full_at, within_variables, among_bound, among_variable, among_own, among_set, set_stored, statement_relied, settled, lent_held}
 use Rattle.cyc_soundness.proofs.Cells.{pointer_plain, plain_claims, by_type_claims, running, plain_nothing, both_plain}
@@ -78,18 +78,6 @@ pub shared_loans : (m : Reading) → HasAliases m → HasLoans m
 shared_loans AsHeap shares = shares
 shared_loans (ByScope lends frees) shares = shares.0
 
-unfreed : (m : Reading) (c : RegionContext) (bs : List InScope) → HasAliases m → Stand m c bs → frees_in bs ≡ false
-unfreed AsHeap c bs shares stand = absurd shares
-unfreed (ByScope lends frees) c bs shares (same, stand) = same ∙ shares.1
-
--- and unique pointers are as others
-unique_plain : (g : Typing) (bs : List InScope) (u : Ty) → AreVariables g bs → frees_in bs ≡ false → is_unique u ≡ true → IsPlain (read bs u)
-unique_plain g bs (types.Pointer k t r) variables none unique = pointer_plain k (read bs t) (lives_in bs r) (life_common g bs variables r none)
-unique_plain g bs types.Int variables none unique = absurd (let z : false ≡ true = unique in cc)
-unique_plain g bs (types.Handle r) variables none unique = absurd (let z : false ≡ true = unique in cc)
-unique_plain g bs (types.Key r) variables none unique = absurd (let z : false ≡ true = unique in cc)
-unique_plain g bs (types.Struct s rs) variables none unique = absurd (let z : false ≡ true = unique in cc)
-
 -- what a unique pointer is
 unique_is : (u : Ty) → is_unique u ≡ true → (k : PointerKind) × (t : Ty) × (u ≡ types.Pointer k t regions.Unique)
 unique_is (types.Pointer k t regions.Unique) unique = (k, t, refl)
@@ -124,6 +112,10 @@ IsNoPointer (values.Int n) = Unit {0}
 IsNoPointer (values.Handle n) = Unit {0}
 IsNoPointer (values.Key n) = Unit {0}
 IsNoPointer v = ⊥
+
+lent_by_now : (g : Typing) (object j : ℕ) (o : Option Thing) → g.loans ≡ suc j → Owns g.own (Lent j object) o → IsLentNow g o
+lent_by_now g object j None loans is = tt
+lent_by_now g object j (Some a) loans is = subst (λ h. is_lent_by g.loans h ≡ true) (sym is) (subst (λ n. is_lent_by n (Lent j object) ≡ true) (sym loans) (lent_last j object))
 
 -- a pointer that is lent may be used so long
 module _ (g : Typing) (regions : List state.Region) (objects : List state.Object) (typed : IsTyped g regions objects) where
@@ -222,24 +214,28 @@ context_lending p x bs c n stands = record {
 
 module _ (p : Source) (g : Typing) (x : Exits) (bs : List InScope) (e : Environment) (w : World) (typed : IsTyped g w.regions w.objects) (globals : KnowsProgram g p) (bound : IsBound e.locals e.counters bs) (variables : AreVariables g bs) where
   -- where a local has lent what it holds
-  abbrev lent_out : Bound → values.Value → Typing
-  lent_out b v = handing g (thing_of b.of_type v) (Lent g.loans b.object) b.object (Away g.loans)
+  abbrev lent_content : Bound → values.Value → Typing
+  lent_content b v = handing g (thing_of b.of_type v) (Lent g.loans b.object) b.object (Away g.loans)
 
-  abbrev lending_typing : Bound → values.Value → Typing
-  lending_typing b v = record (lent_out b v) { loans = suc g.loans }
+  -- and what was read of it, which is the same
+  abbrev lent_out : Bound → values.Value → Option Thing → Typing
+  lent_out b v also = giving (lent_content b v) also (Lent g.loans b.object)
 
-  lending_grows : (b : Bound) (v : values.Value) → Grows g (lending_typing b v)
-  lending_grows b v = record { objects = λ n u is. is; filled = λ n count is. is; fields = λ n ls ts is. is; kept = λ n is. is }
+  abbrev lending_typing : Bound → values.Value → Option Thing → Typing
+  lending_typing b v also = record (lent_out b v also) { loans = suc g.loans }
+
+  lending_grows : (b : Bound) (v : values.Value) (also : Option Thing) → Grows g (lending_typing b v also)
+  lending_grows b v also = record { objects = λ n u is. is; filled = λ n count is. is; fields = λ n ls ts is. is; kept = λ n is. is }
 
   -- what is known then
-  record IsLent (b : Bound) (lent : ℕ) (f h : flow.State) (cs : List InScope) (k : List Entry) : Type 0 where
+  record IsLent (also : Option Thing) (b : Bound) (lent : ℕ) (f h : flow.State) (cs : List InScope) (k : List Entry) : Type 0 where
     value : values.Value
     claims : Claims g.own (At b.object 0) b.of_type value
-    objects : IsTyped (lending_typing b value) w.regions w.objects
-    knows : KnowsProgram (lending_typing b value) p
-    scope : AreVariables (lending_typing b value) bs
-    holds : Holds (lending_typing b value) (with_fullness Locked f lent) bs
-    stack : IsStack p (lending_typing b value) (lending x lent) cs (Go h) (EndLoan lent ∷ k)
+    objects : IsTyped (lending_typing b value also) w.regions w.objects
+    knows : KnowsProgram (lending_typing b value also) p
+    scope : AreVariables (lending_typing b value also) bs
+    holds : Holds (lending_typing b value also) (with_fullness Locked f lent) bs
+    stack : IsStack p (lending_typing b value also) (lending x lent) cs (Go h) (EndLoan lent ∷ k)
 
   -- what is in it
   record Content (b : Bound) : Type 0 where
@@ -271,33 +267,35 @@ module _ (p : Source) (g : Typing) (x : Exits) (bs : List InScope) (e : Environm
           subst (λ t. Claims own h t v) (some_same b.of_type u type_is) (subst (λ e. Claims own h b.of_type e) value_is claims)
       one own h z c claims x y (suc n) u d v stands at content found type_is there full = absurd (let e : None ≡ Some u = type_is in cc)
 
-  lends : (b : Bound) (lent : ℕ) (f h i : flow.State) (cs : List InScope) (k : List Entry) → Within cs bs → IsAmong (Variable b) bs → b.is_hidden ≡ true → b.number ≡ lent → IsFullIn f lent → IsSpared x.relied lent → Holds g f bs → Implies (with_fullness Full h lent) i
-      → IsStack p g x cs (Go i) k → IsLent b lent f h cs k
-  lends b lent f h i cs k within among hides number full spared holds again stack =
+  lends : (also : Option Thing) (b : Bound) (lent : ℕ) (f h i : flow.State) (cs : List InScope) (k : List Entry) → Within cs bs → IsAmong (Variable b) bs → b.is_hidden ≡ true → b.number ≡ lent → IsFullIn f lent → IsSpared x.relied lent → Holds g f bs → Implies (with_fullness Full h lent) i
+      → Owns g.own (At b.object 0) also → IsStack p g x cs (Go i) k → IsLent also b lent f h cs k
+  lends also b lent f h i cs k within among hides number full spared holds again others stack =
       let old = At b.object 0 in
       let new = Lent g.loans b.object in
       let full_here' : IsFullIn f b.number = subst (λ n. IsFullIn f n) (sym number) full in
       let has = lender_has b f (settled p g x cs (Go i) k stack) among full_here' holds in
       let thing = thing_of b.of_type has.value in
-      let o = lent_out b has.value in
-      let j = lending_typing b has.value in
+      let content = lent_content b has.value in
+      let o = lent_out b has.value also in
+      let j = lending_typing b has.value also in
       let f1 = with_fullness Locked f lent in
       let there : e.locals lent ≡ Some b.object = ap e.locals (sym number) ∙ among_bound e among bound in
       let some : IsFull g b.object = among_set g f among holds.1 (full_set (flow.fullness f b.number) full_here') in
       let type_is : slice_get g.objects b.object ≡ Some (variable_type b.of_type b.life true (OfLocal g.depth lent)) =
       subst (λ z. slice_get g.objects b.object ≡ Some (variable_type b.of_type b.life z (OfLocal g.depth lent))) hides (subst (λ n. slice_get g.objects b.object ≡ Some (variable_type b.of_type b.life b.is_hidden (OfLocal g.depth n))) number (among_variable g among variables)) in
       let slot : IsSlot g g.depth lent b.object = (variable_type b.of_type b.life true (OfLocal g.depth lent), type_is, refl) in
-      let changed : Changed old g o = handing_changed g thing old new b.object (Away g.loans) has.claims.0 (λ e. let z : Away g.loans ≡ Here = e in absurd (cc)) (λ other. refl) in
+      let changed : Changed old g o = also_changed old new g content also others (handing_changed g thing old new b.object (Away g.loans) has.claims.0 (λ e. let z : Away g.loans ≡ Here = e in absurd (cc)) (λ other. refl)) in
       let locked : Holds g f1 bs = (reached_with Locked f lent holds.0, set_stored g e Locked f lent b.object bs bound there some holds.0 (λ s. let z : false ≡ true = s in absurd (cc)) holds.1) in
       let now : Holds o f1 bs = holds_kept old g o changed f1 bs (λ m other s its. emptied_other g Locked f lent m b.object other refl holds.0 s slot its.1) locked in
       let scope : AreVariables o bs = variables_kept old g o changed bs refl variables in
       let scope_now : AreVariables j bs = variables_more o bs scope in
-      let own = given thing new g.own in
+      let own = given also new (given thing new g.own) in
+      let away : content.here b.object ≡ Away g.loans = marked_now b.object (Away g.loans) g.here in
       record {
         value = has.value;
         claims = has.claims;
-        objects = moment_typed o g.depth (suc g.loans) w.regions w.objects (lent_typed g thing b.object new (variable_type b.of_type b.life true (OfLocal g.depth lent)) w.regions w.objects has.claims.0 type_is refl typed g.loans refl
-            (λ x stands n u c v. has.only_it own new (given_now g.own thing new, has.claims.1) x stands n u c v));
+        objects = moment_typed o g.depth (suc g.loans) w.regions w.objects (also_typed content also b.object g.loans (variable_type b.of_type b.life true (OfLocal g.depth lent)) w.regions w.objects type_is refl away (also_lent g.own thing also old new others) (lent_typed g thing b.object new (variable_type b.of_type b.life true (OfLocal g.depth lent)) w.regions w.objects has.claims.0 type_is refl typed g.loans refl
+            (λ x stands n u c v. has.only_it (given thing new g.own) new (given_now g.own thing new, has.claims.1) x stands n u c v)));
         knows = moment_globals p o g.depth (suc g.loans) (hands_globals p g own (marked b.object (Away g.loans) g.here) globals);
         scope = scope_now;
         holds = holds_lent o (suc g.loans) f1 bs now;
@@ -331,11 +329,11 @@ module _ (p : Source) (g : Typing) (x : Exits) (bs : List InScope) (e : Environm
       by_life (Kept (KeyOf n)) is_kept same =
           let key : b.of_type ≡ lives.Key (Kept (KeyOf n)) = of_type ∙ ap (λ l. lives.Key l) is_kept in
           let known : IsAmong n g.kept = subst (λ l. IsKnownLife g l) is_kept (name_known g bs r variables) in
-          let z = lends b lent f h i cs k within among hides number_of full spared holds again stack in
+          let z = lends None b lent f h i cs k within among hides number_of full spared holds again tt stack in
           let has : g.own (KeyOf n) ≡ At b.object 0 = (subst (λ t. Claims g.own (At b.object 0) t z.value) key z.claims).0 in
           let held : IsHeld (g.own (KeyOf n)) = subst (λ o. IsHeld o) (sym has) tt in
           let (s, found, dynamic) = dynamic_found (slice_get w.regions region) (subst (λ i. IsDynamic (slice_get w.regions i)) same ((typed.kept n known).1 held)) in
-          let j = lending_typing b z.value in
+          let j = lending_typing b z.value None in
           let now : j.own (KeyOf n) ≡ Lent g.loans b.object = subst (λ t. Owns j.own (Lent g.loans b.object) (thing_of t z.value)) key (given_now g.own (thing_of b.of_type z.value) (Lent g.loans b.object)) in
           let opens : IsOpenIn j (life_named bs r) = subst (λ l. IsOpenIn j l) (sym is_kept) (subst (λ o. is_lent_by (suc g.loans) o ≡ true) (sym now) (lent_last g.loans b.object)) in
           let named : life_named inner r ≡ Kept (KeyOf n) = same_name r (life_named bs r) (life_named bs r) ∙ is_kept in
@@ -371,12 +369,12 @@ module _ (p : Source) (g : Typing) (x : Exits) (bs : List InScope) (e : Environm
       → IsContext p x bs c → IsAmong (Variable b) bs → b.number ≡ lent → b.of_type ≡ read bs u → b.is_hidden ≡ true → IsSpared x.relied lent → IsFullIn f lent → is_unique u ≡ true → AllIn (IsKnown c.next_region) u → t ≡ with_region_of (regions.Variable c.next_region) u
       → IsLive c (regions.Variable c.region) → number ≡ c.next_local
       → Continues p.reading (lending x lent) (with_local true t (with_opened scopes.Alias c)) js (with_fullness Full (with_fullness Locked f lent) number) h → Implies (with_fullness Full h lent) i
-      → IsLookedAt g lent (thing_of (read bs u) v.value) → IsResult g (Value (read bs u)) v → IsStack p g x cs (Go i) k → IsWell p (aliased number lent js v k e w)
+      → Owns g.own (At b.object 0) (thing_of (read bs u) v.value) → IsResult g (Value (read bs u)) v → IsStack p g x cs (Go i) k → IsWell p (aliased number lent js v k e w)
   aliases_on number lent js v k cs c b u t f h i live holds shares within stands among number_of type_is hides spared full unique known of_type alive number_is next again looks is stack =
       let loans : HasLoans p.reading = shared_loans p.reading shares in
-      let none = unfreed p.reading c.regions bs shares stands.regions in
-      let z = lends b lent f h i cs k within among hides number_of full spared holds again stack in
-      let j = lending_typing b z.value in
+      let also = thing_of (read bs u) v.value in
+      let z = lends also b lent f h i cs k within among hides number_of full spared holds again looks stack in
+      let j = lending_typing b z.value also in
       let (m, s, u_is) = unique_is u unique in
       let l : Life = shared_life (owned_life (frees_in bs)) v.value in
       let named : List InScope = Names c.next_region l true ∷ bs in
@@ -386,8 +384,8 @@ module _ (p : Source) (g : Typing) (x : Exits) (bs : List InScope) (e : Environm
       let type_now : t ≡ types.Pointer m s (regions.Variable c.next_region) = of_type ∙ ap (with_region_of (regions.Variable c.next_region)) u_is in
       let same : read named t ≡ lives.Pointer m (read bs s) l = ap (read named) type_now ∙ alias_read bs c.next_region l m s target in
       let lent_is : IsLentNow j (thing_of (lives.Pointer m (read bs s) (owned_life (frees_in bs))) v.value) =
-      subst (λ o. IsLentNow j o) (sym (ap (λ y. thing_of (read bs y) v.value) (sym u_is) ∙ plain_nothing (read bs u) v.value (unique_plain g bs u variables none unique))) tt in
-      let is_now : IsResult j (Value (lives.Pointer m (read bs s) (owned_life (frees_in bs)))) v = subst (λ y. IsResult j (Value (read bs y)) v) u_is (result_grown g j (lending_grows b z.value) (Value (read bs u)) v is) in
+      subst (λ y. IsLentNow j (thing_of (read bs y) v.value)) u_is (lent_by_now j b.object g.loans also refl (given_now (given (thing_of b.of_type z.value) (Lent g.loans b.object) g.own) also (Lent g.loans b.object))) in
+      let is_now : IsResult j (Value (lives.Pointer m (read bs s) (owned_life (frees_in bs)))) v = subst (λ y. IsResult j (Value (read bs y)) v) u_is (result_grown g j (lending_grows b z.value also) (Value (read bs u)) v is) in
       let result : IsResult j (Value (lives.Pointer m (read bs s) l)) v = (is_now.0, shared_typed j w.regions w.objects z.objects (frees_in bs) m (read bs s) v.value is_now.1 lent_is) in
       let common : IsCommonLife l = shared_by (frees_in bs) v.value (λ l. IsCommonLife l) tt (λ object. tt) in
       running p j (lending x lent) named e w z.objects z.knows (tt, bound)

@@ -592,11 +592,8 @@ pointer_left (null_is_not k t r) e = let z : types.Null ≡ types.Void = e in ab
 value_void : {t : RunTy} → Value t ≡ Void → ⊥
 value_void {t} e = let k : Value t ≡ Void = e in absurd (cc)
 
-into_void : {n : Option ℕ} {t : RunTy} → Into n t ≡ Void → ⊥
-into_void {n} {t} e = let k : Into n t ≡ Void = e in absurd (cc)
-
-seen_void : {t : RunTy} → Seen t ≡ Void → ⊥
-seen_void {t} e = let k : Seen t ≡ Void = e in absurd (cc)
+seen_void : {object : ℕ} {t : RunTy} → Seen object t ≡ Void → ⊥
+seen_void {object} {t} e = let k : Seen object t ≡ Void = e in absurd (cc)
 
 null_void : Null ≡ Void → ⊥
 null_void e = cc
@@ -628,7 +625,7 @@ looked_void None r e = e
 looked_void (Some n) Void e = refl
 looked_void (Some n) Null e = absurd (let k : Null ≡ Void = e in cc)
 looked_void (Some n) (Value t) e = absurd (let k : Into (Some n) t ≡ Void = e in cc)
-looked_void (Some n) (Seen t) e = absurd (let k : Seen t ≡ Void = e in cc)
+looked_void (Some n) (Seen object t) e = absurd (let k : Seen object t ≡ Void = e in cc)
 looked_void (Some n) (Into peek t) e = absurd (let k : Into peek t ≡ Void = e in cc)
 
 through_void : (peek : Option ℕ) (t : RunTy) (r : RunValue) → IsThrough peek t r → r ≡ Void → ⊥
@@ -668,7 +665,7 @@ void_waits (stacks.frees_object k t f) e = value_void e
 void_waits (stacks.closes_by_key r f) e = value_void e
 void_waits (stacks.throws f h) e = value_void e
 void_waits (stacks.opens_by cs c b r f h i loans within stands among number of_type hides set spared full less alive next continues again) e = seen_void e
-void_waits (stacks.aliases cs c b u t f h i loans within stands among number same hides set spared full unique known of_type alive next continues again) e = into_void e
+void_waits (stacks.aliases cs c b u t f h i loans within stands among number same hides set spared full unique known of_type alive next continues again) e = seen_void e
 
 pub void_goes : (p : Source) (g : Typing) (x : Exits) (bs : List InScope) (f : flow.State) (r : RunValue) (k : List Entry) → r ≡ Void → IsStack p g x bs (Val r f) k → IsStack p g x bs (Go f) k
 void_goes p g x bs f r (Needs a ∷ k) e (ts, cs, next, waits, are, rest) = absurd (void_waits waits e)

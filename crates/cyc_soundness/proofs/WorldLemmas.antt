@@ -42,7 +42,7 @@ module _ (g h : Typing) (grows : Grows g h) where
   result_grown Void v is = tt
   result_grown Null v is = is
   result_grown (Value t) v (kind, is) = (kind, type_grown t v.value is)
-  result_grown (Seen t) v (kind, is) = (kind, type_grown t v.value is)
+  result_grown (Seen object t) v (kind, is) = (kind, type_grown t v.value is)
   result_grown (Into peek t) v (kind, is) = (kind, type_grown t v.value is)
 
   pub operands_grown : (ts : List RunTy) (vs : List Operand) → AreOperands g ts vs → AreOperands h ts vs

@@ -39,8 +39,8 @@ pub data RunValue : Type 0 where
   Void : RunValue
   Null : RunValue
   Value : RunTy → RunValue
-  -- of this type, and looked at only
-  Seen : RunTy → RunValue
+  -- of this type, and looked at only: the variable of this object has it
+  Seen : (object : ℕ) → RunTy → RunValue
   -- a pointer into what is looked at in this local, or else is in hand
   Into : (peek : Option ℕ) → RunTy → RunValue
 

@@ -348,11 +348,11 @@ pub data Waits (p : Source) (x : Exits) (q : Relied) (bs : List InScope) : Await
   opens_by : {number lent : ℕ} {js : Items} (cs : List InScope) (c : Context) (b : Bound) (r : ℕ) (f h i : flow.State) → HasLoans p.reading → Within cs bs → IsContext p x bs c → IsAmong (Variable b) bs → b.number ≡ lent → b.of_type ≡ lives.Key (life_named bs r) → b.is_hidden ≡ true → IsSet f lent
       → IsSpared x.relied lent → IsFullIn f lent → r < c.next_region → IsLive c (regions.Variable c.region) → number ≡ c.next_local
       → Continues p.reading (lending x lent) (with_local false (types.Handle (regions.Variable r)) (with_key_opened r c)) js (with_fullness Full (with_fullness Locked f lent) number) h
-      → Implies (with_fullness Full h lent) i → Waits p x q bs (OpenBy number lent js) [] (Seen (lives.Key (life_named bs r))) f cs (Go i)
+      → Implies (with_fullness Full h lent) i → Waits p x q bs (OpenBy number lent js) [] (Seen b.object (lives.Key (life_named bs r))) f cs (Go i)
   aliases : {number lent : ℕ} {js : Items} (cs : List InScope) (c : Context) (b : Bound) (u t : Ty) (f h i : flow.State) → HasAliases p.reading → Within cs bs → IsContext p x bs c → IsAmong (Variable b) bs → b.number ≡ lent → b.of_type ≡ read bs u → b.is_hidden ≡ true → IsSet f lent
       → IsSpared x.relied lent → IsFullIn f lent → is_unique u ≡ true → AllIn (IsKnown c.next_region) u → t ≡ with_region_of (regions.Variable c.next_region) u → IsLive c (regions.Variable c.region) → number ≡ c.next_local
       → Continues p.reading (lending x lent) (with_local true t (with_opened scopes.Alias c)) js (with_fullness Full (with_fullness Locked f lent) number) h
-      → Implies (with_fullness Full h lent) i → Waits p x q bs (AliasOf number lent js) [] (Into (Some lent) (read bs u)) f cs (Go i)
+      → Implies (with_fullness Full h lent) i → Waits p x q bs (AliasOf number lent js) [] (Seen b.object (read bs u)) f cs (Go i)
 
 -- what waits for a place, of this type and there so long, and what goes on then
 pub data WaitsPlace (p : Source) (x : Exits) (q : Relied) (bs : List InScope) : AwaitingPlace → Option ℕ → RunTy → Life → flow.State → Want → Type 0 where

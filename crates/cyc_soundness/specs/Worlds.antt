@@ -161,7 +161,7 @@ abbrev pub IsResult : Typing → RunValue → Operand → Type 0
 IsResult g Void v = Unit {0}
 IsResult g Null v = (v.kind ≡ kinds.Nullable) × (v.value ≡ values.Null)
 IsResult g (Value t) v = (v.kind ≡ kind_at t) × HasType g t v.value
-IsResult g (Seen t) v = (v.kind ≡ kind_at t) × HasType g t v.value
+IsResult g (Seen object t) v = (v.kind ≡ kind_at t) × HasType g t v.value
 IsResult g (Into peek t) v = (v.kind ≡ kind_at t) × HasType g t v.value
 
 -- what was computed: a value of this type, or an exception
@@ -319,12 +319,14 @@ IsHad g (Some a) = IsHeld (g.own a)
 
 abbrev pub ClaimsBy : Typing → (hand : ℕ) → RunValue → values.Value → Type 0
 ClaimsBy g i (Value t) v = Claims g.own (Hand i) t v
+ClaimsBy g i (Seen object t) v = Owns g.own (At object 0) (thing_of t v)
 ClaimsBy g i (Into peek t) v = ClaimsPart g i peek (thing_of t v)
 ClaimsBy g i r v = Unit {0}
 
 -- also where a call is left
 abbrev pub ClaimsAlone : (own : Thing → Holder) → (hand : ℕ) → RunValue → values.Value → Type 0
 ClaimsAlone own i (Value t) v = Claims own (Hand i) t v
+ClaimsAlone own i (Seen object t) v = ⊥
 ClaimsAlone own i (Into peek t) v = ⊥
 ClaimsAlone own i r v = Unit {0}
 
