@@ -380,7 +380,7 @@ shared : EndsWithLoans (check_of texts (
     (block (MoreItems (Alias (named 8 9) (into 8) (named 3 10) (named 2 11)) (assigned (behind 3) (plus (behind 3) (Number (at 12) 1)) NoItems))
     (returned (behind 2))))
     ∷ [])) (HasEnded (Returned (pos 6)))
-shared = (refl, ((((tt, tt), (tt, tt), (((refl, refl), tt, ((tt, (tt, (tt, tt))), tt)), (tt, tt))), tt), tt, tt), refl)
+shared = (refl, ((((tt, tt), (tt, tt), ((refl, tt, ((tt, (tt, (tt, tt))), tt)), (tt, tt))), tt), tt, tt), refl)
 
 -- int main(){ let NewDynamicRegion{<`r> i} = new_ukey(); while (1) { region<`r> h = open(i); break; } { region<`r> h = open(i); int @`r p = rnew(h) 3; return *p; } }
 left_by_break : EndsWithLoans (check_of texts (

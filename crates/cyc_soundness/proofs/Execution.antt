@@ -42,7 +42,7 @@ use Rattle.cyc_soundness.proofs.WorldLemmas.{opened_typed}
 use Rattle.cyc_soundness.proofs.Sharing.{keeps_by}
 use Rattle.cyc_soundness.proofs.Cells.{running}
 use Rattle.cyc_soundness.proofs.Evaluation.{from_bound, looks_bound, unique_moved}
-use Rattle.cyc_soundness.proofs.Loans.{type_known, keys_on, shared_loans}
+use Rattle.cyc_soundness.proofs.Loans.{type_known, keys_on}
 use Rattle.cyc_guard.specs.Held.{nowhere, updated}
 use Rattle.cyc_guard.proofs.Bools.{updated_same}
 use Rattle.cyc_guard.proofs.WellNumbered.{InScope as AreScoped, found_below, lent_below, next_in_scope, statement_fresh, items_fresh}
@@ -440,7 +440,7 @@ module _ (p : Source) (g : Typing) (x : Exits) (bs : List InScope) (e : Environm
         [],
         cs,
         Go h,
-        stacks.aliases cs c b v t f (with_each Full (locks_of js) ending) h loans within stands bound_among number_of of_bound hides set spared full unique (type_known p.reading c source v home (shared_loans p.reading loans) stands.known has)
+        stacks.aliases cs c b v t f (with_each Full (locks_of js) ending) h loans within stands bound_among number_of of_bound hides set spared full unique (type_known p.reading c source v home loans stands.known has)
             (of_type ∙ ap (λ i. with_region_of (regions.Variable i) v) region) alive number rest (again source js ending h ends),
         tt,
         stack,

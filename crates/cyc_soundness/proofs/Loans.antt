@@ -28,7 +28,7 @@ use Rattle.cyc_meaning.specs.Objects.{freed}
 use Rattle.cyc_soundness.specs.Lives.{Life, OfRegion, Kept, heap_life, Value, at, Reading, AsHeap, ByScope, AllIn, IsKnown, owned_life}
 use Rattle.cyc_soundness.specs.Lives as lives
 use Rattle.cyc_soundness.specs.Worlds.{OfLocal, Thing, KeyOf, PointerTo, Nobody, Hand, At, Lent, thing_of, Owns, Claims, IsSlot, IsHere, giving, given, marked, handing, variable_type, IsHeld, is_lent_by, IsOpenIn, Stays, Grows, IsFull, IsPlain, Typing, IsKnownLife, IsNumber, IsKeyOf, HasType, IsResult, IsTyped, IsDynamic, IsKnownOwner, Settled, Holder, lent_now, IsTarget, ObjectType, Outlasts, alike, life_at, IsLookedAt, Away, Here}
-use Rattle.cyc_soundness.specs.Classes.{IsSpared, HasLoans, IsDeclarable, Source, HasAliases}
+use Rattle.cyc_soundness.specs.Classes.{IsSpared, HasLoans, IsDeclarable, Source}
 use Rattle.cyc_soundness.specs.Frames.{IsAmong, first, later, Bound, InScope, Variable, Names, life_named, lives_in, read, IsBound, AreVariables, IsLasting, LiveIn, Within, older, IsFullIn, Holds, Implies, Exits, lending, AreKnownLocals, AreKnown, IsContext, KnowsProgram, frees_in, Stand, local_type}
 use Rattle.cyc_soundness.specs.Stacks.{IsByType, operands_in, Continues, Go, IsStack, IsWell, IsCommonLife}
 use Rattle.cyc_soundness.proofs.Numbers.{some_same}
@@ -72,11 +72,6 @@ alias_known (ByScope lends frees) n types.Int unique known = absurd (let z : fal
 alias_known (ByScope lends frees) n (types.Handle r) unique known = absurd (let z : false ≡ true = unique in cc)
 alias_known (ByScope lends frees) n (types.Key r) unique known = absurd (let z : false ≡ true = unique in cc)
 alias_known (ByScope lends frees) n (types.Struct s rs) unique known = absurd (let z : false ≡ true = unique in cc)
-
--- where there are aliases, no object is given back
-pub shared_loans : (m : Reading) → HasAliases m → HasLoans m
-shared_loans AsHeap shares = shares
-shared_loans (ByScope lends frees) shares = shares.0
 
 -- what a unique pointer is
 unique_is : (u : Ty) → is_unique u ≡ true → (k : PointerKind) × (t : Ty) × (u ≡ types.Pointer k t regions.Unique)
@@ -365,13 +360,12 @@ module _ (p : Source) (g : Typing) (x : Exits) (bs : List InScope) (e : Environm
   opens_on number lent js v k cs c b r f h i live holds loans within stands among number_of of_type hides spared full less alive number_is next again is stack = absurd is
 
   -- a unique pointer comes, which an alias shares
-  pub aliases_on : (number lent : ℕ) (js : Items) (v : Operand) (k : List Entry) (cs : List InScope) (c : Context) (b : Bound) (u t : Ty) (f h i : flow.State) → LiveIn k bs → Holds g f bs → HasAliases p.reading → Within cs bs
+  pub aliases_on : (number lent : ℕ) (js : Items) (v : Operand) (k : List Entry) (cs : List InScope) (c : Context) (b : Bound) (u t : Ty) (f h i : flow.State) → LiveIn k bs → Holds g f bs → HasLoans p.reading → Within cs bs
       → IsContext p x bs c → IsAmong (Variable b) bs → b.number ≡ lent → b.of_type ≡ read bs u → b.is_hidden ≡ true → IsSpared x.relied lent → IsFullIn f lent → is_unique u ≡ true → AllIn (IsKnown c.next_region) u → t ≡ with_region_of (regions.Variable c.next_region) u
       → IsLive c (regions.Variable c.region) → number ≡ c.next_local
       → Continues p.reading (lending x lent) (with_local true t (with_opened scopes.Alias c)) js (with_fullness Full (with_fullness Locked f lent) number) h → Implies (with_fullness Full h lent) i
       → Owns g.own (At b.object 0) (thing_of (read bs u) v.value) → IsResult g (Value (read bs u)) v → IsStack p g x cs (Go i) k → IsWell p (aliased number lent js v k e w)
-  aliases_on number lent js v k cs c b u t f h i live holds shares within stands among number_of type_is hides spared full unique known of_type alive number_is next again looks is stack =
-      let loans : HasLoans p.reading = shared_loans p.reading shares in
+  aliases_on number lent js v k cs c b u t f h i live holds loans within stands among number_of type_is hides spared full unique known of_type alive number_is next again looks is stack =
       let also = thing_of (read bs u) v.value in
       let z = lends also b lent f h i cs k within among hides number_of full spared holds again looks stack in
       let j = lending_typing b z.value also in

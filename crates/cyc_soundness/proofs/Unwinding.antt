@@ -14,7 +14,7 @@ use Rattle.cyc_meaning.specs.Nesting.{IsNested}
 use Rattle.cyc_meaning.specs.Step.{step_proceeding, step_breaking, step_continuing, returned, main_returned, step_returning, step_throwing}
 use Rattle.cyc_soundness.specs.Lives.{Life, RunTy, RunValue, Value}
 use Rattle.cyc_soundness.specs.Lives as lives
-use Rattle.cyc_soundness.specs.Worlds.{OfLocal, Hand, At, Lent, thing_of, IsStart, Claims, giving, given, marked, handing, AreOwned, variable_type, Typing, HasType, IsTyped, Slot, Here, Thing, Holder, Owns, IsHere, Away}
+use Rattle.cyc_soundness.specs.Worlds.{OfLocal, Hand, At, Lent, thing_of, Claims, given, marked, handing, variable_type, Typing, HasType, IsTyped, Here, Thing, Holder, Owns, IsHere}
 use Rattle.cyc_soundness.specs.Frames.{InScope, Names, Home, IsBound, AreVariables, AreFullAt, LiveIn, Holds, Implies, LoopExit, Exits, HasResult, is_loop, KnowsProgram}
 use Rattle.cyc_soundness.specs.Stacks.{IsByType, IsLentOut, IsLoop, Want, Nothing, Val, PlaceOf, Go, operands_in, IsBlocked, IsReturn, IsStack, IsFocus, IsWell}
 use Rattle.cyc_soundness.specs.Stacks as stacks
@@ -23,7 +23,7 @@ use Rattle.cyc_soundness.proofs.FlowLemmas.{holds_implied, full_added}
 use Rattle.cyc_soundness.proofs.StackLemmas.{void_goes, given_back, stack_changed, none_lent, full_at_grown, not_heap, lexical_not_heap, within_bound, within_variables, within_live, within_holds, found_is, waits_within}
 use Rattle.cyc_soundness.proofs.WorldLemmas.{closed_typed, result_grown, typed_cell}
 use Rattle.cyc_soundness.proofs.Hands.{Changed, at_not_lent, given_now, marked_now, handing_changed, alone_kept, alone_comes, variables_kept, hands_globals, moment_grows, moment_typed, moment_globals, holds_lent, returned_typed, away_same}
-use Rattle.cyc_soundness.proofs.Cells.{by_type_claims, running}
+use Rattle.cyc_soundness.proofs.Cells.{running}
 use Rattle.cyc_soundness.proofs.Execution.{continue_with}
 use Rattle.cyc_soundness.specs.Classes.{Source}
 

@@ -18,11 +18,6 @@ abbrev pub HasLoans : Reading → Type 0
 HasLoans AsHeap = ⊥
 HasLoans (ByScope lends frees) = lends ≡ true
 
--- a form that shares what a unique pointer leads to: not yet where objects are given back
-abbrev pub HasAliases : Reading → Type 0
-HasAliases AsHeap = ⊥
-HasAliases (ByScope lends frees) = (lends ≡ true) × (frees ≡ false)
-
 -- a form that gives a unique object back
 abbrev pub HasFrees : Reading → Type 0
 HasFrees AsHeap = ⊥
@@ -111,7 +106,7 @@ Asked true A = A
 
 -- Programs of a class. All types are there, objects in the heap, unique ones and those of regions, places behind pointers, swaps,
 -- functions with regions, conversions between all marks, loops and exceptions. Only where things are lent do they have dynamic regions,
--- keys and aliases, and only where objects are given back `ufree`: then there are no aliases. Read as the heap, they have no lexical regions, and take the address of no local. What is consumed
+-- keys and aliases, and only where objects are given back `ufree`. Read as the heap, they have no lexical regions, and take the address of no local. What is consumed
 -- or lent, or assigned what only one may have, is nothing that the clauses around rely on: at the start of a function there are none, and of
 -- the body of a `try` that is shown. Of code that is never run nothing is asked.
 abbrev mutual
@@ -199,7 +194,7 @@ abbrev mutual
   InItems m q n (MoreItems (Declare l t v) js) = IsDeclarable m n t × InValue m q v × InItems m q n js
   InItems m q n (MoreItems (DeclareRegion r l) js) = HasScopes m × InItems m q (suc n) js
   InItems m q n (MoreItems (OpenRegion r l p k) js) = HasLoans m × IsSpared q k × InItems m q n js
-  InItems m q n (MoreItems (DeclareAlias r l t p s) js) = HasAliases m × IsSpared q s × InItems m q (suc n) js
+  InItems m q n (MoreItems (DeclareAlias r l t p s) js) = HasLoans m × IsSpared q s × InItems m q (suc n) js
   InItems m q n (MoreItems (DeclareKey r l) js) = HasLoans m × InItems m q (suc n) js
 
   pub InClauses : Reading → Relied → ℕ → Clauses → Type 0

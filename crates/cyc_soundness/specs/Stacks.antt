@@ -35,8 +35,8 @@ use Rattle.cyc_meaning.specs.Allocation.{writes_from}
 use Rattle.cyc_meaning.specs.Parts.{target_of, target_of_value}
 use Rattle.cyc_soundness.specs.Lives.{Life, Owned, RunTy, RunValue, Value, Seen, Into, looked, at, value_at, heap_life, lives_of, as_heap, Reading, AllIn, IsKnown}
 use Rattle.cyc_soundness.specs.Lives as lives
-use Rattle.cyc_soundness.specs.Worlds.{OfLocal, Settled, Awaits, At, IsPlain, Thing, Holder, Hand, Lent, pointer_at, thing_of, Owns, Claims, ClaimsPart, ClaimsBy, ClaimsAlone, IsHad, IsHere, ObjectType, Typing, AgreesWith, variable_type, IsFilled, IsFull, HasType, IsResult, AreOperands, IsNewOwner, IsKeyless, AreKeyless, IsTyped, Away}
-use Rattle.cyc_soundness.specs.Classes.{Relied, frees_of, and_looked, IsSpared, HasLoans, HasAliases, InExpression, InPlace, InSide, InInitial, InArguments, InOperations, InStatement, InItems, InClauses, IsDeclarable, Source}
+use Rattle.cyc_soundness.specs.Worlds.{OfLocal, Settled, Awaits, At, IsPlain, Thing, Holder, Hand, pointer_at, thing_of, Owns, Claims, ClaimsPart, ClaimsBy, ClaimsAlone, IsHad, IsHere, ObjectType, Typing, AgreesWith, variable_type, IsFilled, IsFull, HasType, IsResult, AreOperands, IsNewOwner, IsKeyless, AreKeyless, IsTyped, Away}
+use Rattle.cyc_soundness.specs.Classes.{Relied, frees_of, and_looked, IsSpared, HasLoans, InExpression, InPlace, InSide, InInitial, InArguments, InOperations, InStatement, InItems, InClauses, IsDeclarable, Source}
 use Rattle.cyc_soundness.specs.Frames.{IsAmong, Bound, InScope, Variable, Level, Names, Instance, Home, frees_in, life_named, lives_in, read, read_value, IsThere, IsScope, AreBelow, IsBound, AreVariables, LiveIn, Within, IsSet, IsFullIn, Holds, Implies, LoopExit, Exits, HasResult, around, lending, relying, AreFullAt, AreBreaks, is_loop, Stand, IsHome, IsContext, lives_among, KnowsProgram}
 
 -- ---- trees, with what is known before and behind them
@@ -349,7 +349,7 @@ pub data Waits (p : Source) (x : Exits) (q : Relied) (bs : List InScope) : Await
       → IsSpared x.relied lent → IsFullIn f lent → r < c.next_region → IsLive c (regions.Variable c.region) → number ≡ c.next_local
       → Continues p.reading (lending x lent) (with_local false (types.Handle (regions.Variable r)) (with_key_opened r c)) js (with_fullness Full (with_fullness Locked f lent) number) h
       → Implies (with_fullness Full h lent) i → Waits p x q bs (OpenBy number lent js) [] (Seen b.object (lives.Key (life_named bs r))) f cs (Go i)
-  aliases : {number lent : ℕ} {js : Items} (cs : List InScope) (c : Context) (b : Bound) (u t : Ty) (f h i : flow.State) → HasAliases p.reading → Within cs bs → IsContext p x bs c → IsAmong (Variable b) bs → b.number ≡ lent → b.of_type ≡ read bs u → b.is_hidden ≡ true → IsSet f lent
+  aliases : {number lent : ℕ} {js : Items} (cs : List InScope) (c : Context) (b : Bound) (u t : Ty) (f h i : flow.State) → HasLoans p.reading → Within cs bs → IsContext p x bs c → IsAmong (Variable b) bs → b.number ≡ lent → b.of_type ≡ read bs u → b.is_hidden ≡ true → IsSet f lent
       → IsSpared x.relied lent → IsFullIn f lent → is_unique u ≡ true → AllIn (IsKnown c.next_region) u → t ≡ with_region_of (regions.Variable c.next_region) u → IsLive c (regions.Variable c.region) → number ≡ c.next_local
       → Continues p.reading (lending x lent) (with_local true t (with_opened scopes.Alias c)) js (with_fullness Full (with_fullness Locked f lent) number) h
       → Implies (with_fullness Full h lent) i → Waits p x q bs (AliasOf number lent js) [] (Seen b.object (read bs u)) f cs (Go i)
