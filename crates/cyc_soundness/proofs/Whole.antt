@@ -32,7 +32,7 @@ use Rattle.cyc_soundness.specs.Lives.{Life, RunTy, RunValue, at, heap_life, live
 use Rattle.cyc_soundness.specs.Lives as lives
 use Rattle.cyc_soundness.specs.Worlds.{Nobody, thing_of, ClaimsPart, IsKeyless, ObjectType, Typing, Outlasts, heap as for_ever, global_type, HasType, IsResult, AreOperands, IsObject, IsTyped, Thing, Holder, At, Claims, AreOwned, Settled, Gone, Away}
 use Rattle.cyc_soundness.specs.Frames.{InScope, Instance, read, read_value, IsThereBy, IsBound, AreVariables, LiveIn, Holds, Exits, StandBy, lives_among, KnowsProgram}
-use Rattle.cyc_soundness.specs.Classes.{IsDeclarable, InFunctions, InGlobals, InFields, InStructs, IsOfTheHeap, IsOfScopes, FreesNoObject, FreesLocals, HasLoans, Source, IsInClass, frees_of}
+use Rattle.cyc_soundness.specs.Classes.{IsDeclarable, InFunctions, InGlobals, InFields, InStructs, IsOfTheHeap, IsOfScopes, FreesNoObject, FreesObjects, HasLoans, Source, IsInClass, frees_of}
 use Rattle.cyc_soundness.specs.Stacks.{IsAccepted, operands_in, Comes, AreGiven, Val, PlaceOf, regions_at_call, IsStack, IsFocus, IsWell}
 use Rattle.cyc_soundness.specs.Sound.{IsSound}
 use Rattle.cyc_soundness.proofs.Numbers.{some_same}
@@ -327,8 +327,8 @@ sound_by p well allowed kept input count =
     let accepted : AreAccepted p = accepted_among p p.program.functions well.functions allowed kept.0 in
     well_alive p (run p.program input count) (well_steps p count (start p.program input) accepted (nests_start p.program input) (well_start p input accepted well kept))
 
--- programs that give back unique objects to which locals have the pointers
-pub freeing_sound : (p : Program) → IsWellTypedProgram p → IsAllowedProgram p → FreesLocals p → IsSound p
+-- programs that give back unique objects
+pub freeing_sound : (p : Program) → IsWellTypedProgram p → IsAllowedProgram p → FreesObjects p → IsSound p
 freeing_sound p well allowed kept = sound_by (record { program = p; reading = ByScope true true }) well allowed kept
 
 -- programs that give no object back

@@ -238,9 +238,9 @@ IsOfScopes p = InFunctions (ByScope false false) p.functions × InGlobals (BySco
 abbrev pub FreesNoObject : Program → Type 0
 FreesNoObject p = InFunctions (ByScope true false) p.functions × InGlobals (ByScope true false) p.globals × InStructs (ByScope true false) p.structs
 
--- programs that give back unique objects, and have no aliases
-abbrev pub FreesLocals : Program → Type 0
-FreesLocals p = InFunctions (ByScope true true) p.functions × InGlobals (ByScope true true) p.globals × InStructs (ByScope true true) p.structs
+-- programs that give back unique objects
+abbrev pub FreesObjects : Program → Type 0
+FreesObjects p = InFunctions (ByScope true true) p.functions × InGlobals (ByScope true true) p.globals × InStructs (ByScope true true) p.structs
 
 -- a program, and how its regions are read
 pub record Source : Type 0 where
