@@ -15,13 +15,13 @@ use Rattle.cyc_meaning.specs.Parts.{wrong, read, loaded, stored}
 use Rattle.cyc_meaning.specs.Nesting.{ends_of, AreOpen}
 use Rattle.cyc_soundness.specs.Lives.{Life, OfRegion, Owned, Kept, RunTy, RunValue, Int, Pointer, Handle, Key, Struct, Value, Lives, at, kind_at, heap_life}
 use Rattle.cyc_soundness.specs.Lives.{at as at'}
-use Rattle.cyc_soundness.specs.Worlds.{IsKept, IsPlain, PointerTo, thing_of, same_thing, given, giving, Thing, Holder, Nobody, Hand, At, IsHeld, pointer_at, Owns, Claims, ClaimsPart, ClaimsBy, IsHad, IsOpenObject, IsKeyless, AreKeyless, Stays, ObjectType, Typing, IsOpenIn, Outlasts, alike, heap as for_ever, globals as with_globals, stays, encloses, IsFilled, IsPart, IsTarget, HasType, IsResult, IsTyped, IsOpenLife, borrows, KeyOf, life_at, lent_now, global_life, Standing, Here, Away, IsHiding}
+use Rattle.cyc_soundness.specs.Worlds.{IsKept, IsPlain, PointerTo, thing_of, same_thing, given, giving, Thing, Holder, Nobody, Hand, At, IsHeld, pointer_at, Owns, Claims, ClaimsPart, ClaimsBy, IsHad, IsOpenObject, IsKeyless, AreKeyless, Stays, ObjectType, Typing, IsOpenIn, Outlasts, alike, heap as for_ever, globals as with_globals, stays, encloses, IsFilled, IsPart, IsTarget, HasType, IsResult, IsTyped, IsOpenLife, borrows, KeyOf, life_at, lent_now, global_life, Standing, Away}
 use Rattle.cyc_soundness.specs.Frames.{InScope, IsBound, AreVariables, LiveIn, Holds, Exits, KnowsProgram, IsLasting}
 use Rattle.cyc_soundness.specs.Stacks.{IsCommonLife, IsByType, Val, operands_in, IsStack, IsFocus, IsWell}
 use Rattle.cyc_soundness.proofs.Numbers.{slice_get-set_same, some_same}
 use Rattle.cyc_soundness.proofs.TypeLemmas.{is_kind_same}
 use Rattle.cyc_soundness.proofs.WorldLemmas.{typed_cell, cell_there, live_object, result_grown, risen, risen_past, with_filled, written_grows, cell_written, globals_grown}
-use Rattle.cyc_soundness.proofs.Hands.{Changed, Raises, raises_changed, changed_raised, at_no_hand, given_now, giving_changed, given_typed, hands_globals, variables_kept, changed_after, variables_marked, variables_grown, lent_no_hand}
+use Rattle.cyc_soundness.proofs.Hands.{Changed, at_no_hand, given_now, giving_changed, given_typed, hands_globals, variables_kept, changed_after, variables_marked, variables_grown, lent_no_hand}
 use Rattle.cyc_soundness.proofs.StackLemmas.{open_of, globals_among, kept_open, object_known, open_outlasting, IsPresent, outlasting_open, lent_held}
 use Rattle.cyc_soundness.specs.Classes.{Source}
 

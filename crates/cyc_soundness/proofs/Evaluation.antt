@@ -46,7 +46,7 @@ use Rattle.cyc_soundness.proofs.FlowLemmas.{full_set, used_full, implies_self, m
 use Rattle.cyc_soundness.proofs.WorldLemmas.{type_grown, result_grown}
 use Rattle.cyc_soundness.proofs.Hands.{Changed, at_no_hand, given_now, marked_now, marked_before, marked_keeps, variables_kept, holds_kept, taken_typed, hands_globals, kept_now, gone_changed, away_not_here, marked_changed, shown_changed, variables_marked, same_grows, holds_here}
 use Rattle.cyc_soundness.proofs.Sharing.{keeps_by, region_common, plain_read, all_freed, unique_by_type}
-use Rattle.cyc_soundness.proofs.StackLemmas.{emptied_other, stack_changed, comes_alone, keeps_passed, void_goes, pointer_left, bound_of, bound_to, lasting_open, kept_open, object_known, among_open, among_own, place_local, among_bound, among_variable, among_live, among_level, among_set, set_stored, open_of, globals_among, settled}
+use Rattle.cyc_soundness.proofs.StackLemmas.{emptied_other, stack_changed, comes_alone, keeps_passed, void_goes, pointer_left, bound_to, lasting_open, kept_open, object_known, among_open, among_own, place_local, among_bound, among_variable, among_live, among_level, among_set, set_stored, open_of, globals_among, settled}
 use Rattle.cyc_soundness.proofs.ValueLemmas.{zero_is, converted_by, kind_given, lasts_itself}
 use Rattle.cyc_soundness.proofs.RegionLemmas.{agrees_of, there_of, cell_live, global_means, these_by, live_by, instance_is, parameters_mean, result_means}
 use Rattle.cyc_soundness.proofs.Cells.{lasting_common, open_object, plain_claims, pointer_plain, running, part_at, Content, content_of, reads, stored_typing, stores_marking, stores_on}

@@ -1,6 +1,6 @@
 -- Texts of which the theorem speaks: both sets of rules accept them, they stand in the class, and their runs end as is said. Each is
 -- proved by computation, so that the theorem is not about nothing.
-use Rattle.std.proofs.Common.{◌≡◌, ℕ, suc, true, List, [], ◌∷◌, ◌<◌, Some, None, Ok, Err, pos, refl, arith}
+use Rattle.std.proofs.Common.{◌≡◌, ℕ, suc, List, [], ◌∷◌, ◌<◌, Some, None, Ok, Err, pos, refl, arith}
 use Rattle.std.specs.Prelude.{codes}
 use Rattle.cyc_words.specs.Word.{slt_of}
 use Rattle.cyc_words.specs.Ending.{Returned}

@@ -27,21 +27,21 @@ use Rattle.cyc_meaning.specs.Exceptions.{throws}
 use Rattle.cyc_meaning.specs.Nesting.{ends_of, IsNested}
 use Rattle.cyc_meaning.specs.Step.{step_executing, returns, continues_with}
 use Rattle.cyc_soundness.proofs.Looking.{looked_side}
-use Rattle.cyc_soundness.specs.Lives.{Life, Value, Seen, Reading, AsHeap, ByScope}
-use Rattle.cyc_soundness.specs.Worlds.{HasType, IsNumber, Typing, lent_now, IsTyped, Thing}
+use Rattle.cyc_soundness.specs.Lives.{Life, Value, Reading, AsHeap, ByScope}
+use Rattle.cyc_soundness.specs.Worlds.{IsNumber, Typing, lent_now, IsTyped, Thing}
 use Rattle.cyc_soundness.specs.Frames.{InScope, Names, Home, life_named, lives_in, read, read_value, IsBound, AreVariables, LiveIn, Within, itself, older, IsSet, Holds, Implies, LoopExit, Exits, loop_of, around, lending, relying, AreBreaks, is_loop, IsContext, KnowsProgram, IsFullIn}
-use Rattle.cyc_soundness.specs.Classes.{HasScopes, IsDeclarable, InSide, InStatement, InItems, InValue, InThrown, Source, may_end}
+use Rattle.cyc_soundness.specs.Classes.{HasScopes, IsDeclarable, InStatement, InItems, InValue, InThrown, Source, may_end}
 use Rattle.cyc_soundness.specs.Stacks.{IsByType, Evaluates, Executes, Continues, Catches, IsLoop, Val, Go, operands_in, IsReturn, IsStack, IsFocus, IsWell}
 use Rattle.cyc_soundness.specs.Stacks as stacks
 use Rattle.cyc_soundness.proofs.TypeLemmas.{target_typed, kind_read, kind_meant}
 use Rattle.cyc_soundness.proofs.FlowLemmas.{used_full, implies_self, implies_after, meet_first, meet_second, at_least_implies, emptied_implied, holds_implied, not_vacant, full_last}
 use Rattle.cyc_soundness.proofs.RuleLemmas.{breaks_statement, breaks_items, breaks_clauses, clauses_implied, nothing_locked}
-use Rattle.cyc_soundness.proofs.StackLemmas.{among_set, within_bound, within_variables, within_live, within_holds, below_more, bound_to}
+use Rattle.cyc_soundness.proofs.StackLemmas.{within_bound, within_variables, within_live, within_holds, below_more, bound_to}
 use Rattle.cyc_soundness.proofs.RegionLemmas.{opened_known, contains_more, live_more, same_name, known_behind, opened_life, opened_lasting, agrees_of, context_inside, context_lexical}
 use Rattle.cyc_soundness.proofs.WorldLemmas.{opened_typed}
 use Rattle.cyc_soundness.proofs.Sharing.{keeps_by}
 use Rattle.cyc_soundness.proofs.Cells.{running}
-use Rattle.cyc_soundness.proofs.Evaluation.{from_bound, looks_bound, unique_moved}
+use Rattle.cyc_soundness.proofs.Evaluation.{looks_bound, unique_moved}
 use Rattle.cyc_soundness.proofs.Loans.{type_known, keys_on}
 use Rattle.cyc_guard.specs.Held.{nowhere, updated}
 use Rattle.cyc_guard.proofs.Bools.{updated_same}

@@ -8,7 +8,7 @@ use Rattle.cyc_types.specs.declared.region.Region.{Region as Region'}
 use Rattle.cyc_types.specs.declared.region.Region.TheVariants as regions
 use Rattle.cyc_types.specs.declared.scope.ScopeKind.TheVariants as scopes
 use Rattle.cyc_types.specs.declared.typed.Kind.TheVariants as kinds
-use Rattle.cyc_types.specs.Outlives.{live_regions, RegionContext}
+use Rattle.cyc_types.specs.Outlives.{live_regions}
 use Rattle.cyc_types.specs.Types.{Ty}
 use Rattle.cyc_types.specs.Types as types
 use Rattle.cyc_types.specs.TypedTrees.{Items}
@@ -27,19 +27,18 @@ use Rattle.cyc_meaning.specs.Regions.{is_dynamic, opened_by, opens_with, opens_d
 use Rattle.cyc_meaning.specs.Objects.{freed}
 use Rattle.cyc_soundness.specs.Lives.{Life, OfRegion, Kept, heap_life, Value, at, Reading, AsHeap, ByScope, AllIn, IsKnown, owned_life}
 use Rattle.cyc_soundness.specs.Lives as lives
-use Rattle.cyc_soundness.specs.Worlds.{OfLocal, Thing, KeyOf, PointerTo, Nobody, Hand, At, Lent, thing_of, Owns, Claims, IsSlot, IsHere, giving, given, marked, handing, variable_type, IsHeld, is_lent_by, IsOpenIn, Stays, Grows, IsFull, IsPlain, Typing, IsKnownLife, IsNumber, IsKeyOf, HasType, IsResult, IsTyped, IsDynamic, IsKnownOwner, Settled, Holder, lent_now, IsTarget, ObjectType, Outlasts, alike, life_at, IsLookedAt, Away, Here}
+use Rattle.cyc_soundness.specs.Worlds.{OfLocal, Thing, KeyOf, PointerTo, Nobody, Hand, At, Lent, thing_of, Owns, Claims, IsSlot, IsHere, giving, given, marked, handing, variable_type, IsHeld, is_lent_by, IsOpenIn, Stays, Grows, IsFull, Typing, IsKnownLife, IsNumber, IsKeyOf, HasType, IsResult, IsTyped, IsDynamic, IsKnownOwner, Settled, Holder, lent_now, IsTarget, ObjectType, Outlasts, alike, life_at, Away, Here}
 use Rattle.cyc_soundness.specs.Classes.{IsSpared, HasLoans, IsDeclarable, Source}
-use Rattle.cyc_soundness.specs.Frames.{IsAmong, first, later, Bound, InScope, Variable, Names, life_named, lives_in, read, IsBound, AreVariables, IsLasting, LiveIn, Within, older, IsFullIn, Holds, Implies, Exits, lending, AreKnownLocals, AreKnown, IsContext, KnowsProgram, frees_in, Stand, local_type}
-use Rattle.cyc_soundness.specs.Stacks.{IsByType, operands_in, Continues, Go, IsStack, IsWell, IsCommonLife}
+use Rattle.cyc_soundness.specs.Frames.{IsAmong, first, later, Bound, InScope, Variable, Names, life_named, lives_in, read, IsBound, AreVariables, IsLasting, LiveIn, Within, older, IsFullIn, Holds, Implies, Exits, lending, AreKnownLocals, AreKnown, IsContext, KnowsProgram, frees_in, local_type}
+use Rattle.cyc_soundness.specs.Stacks.{operands_in, Continues, Go, IsStack, IsWell, IsCommonLife}
 use Rattle.cyc_soundness.proofs.Numbers.{some_same}
 use Rattle.cyc_soundness.proofs.TypeLemmas.{all_in, read_alike}
 use Rattle.cyc_soundness.proofs.FlowLemmas.{full_set, reached_with}
 use Rattle.cyc_soundness.proofs.RegionLemmas.{contains_more, name_known, same_name, known_other, known_more, other_life, context_key, context_alias, context_again, region_owner}
 use Rattle.cyc_soundness.proofs.WorldLemmas.{globals_grown, result_grown, typed_cell}
 use Rattle.cyc_soundness.proofs.Hands.{Changed, at_no_hand, at_some, given_now, giving_changed, handing_changed, changed_after, variables_kept, holds_kept, freed_typed, hands_globals, with_kept, kept_grows, kept_typed, variables_more, moment_typed, moment_globals, holds_lent, lent_last, closed_by_key, lent_typed, marked_now, kept_now, also_changed, also_typed, also_lent}
-use Rattle.cyc_soundness.proofs.Sharing.{life_common, by_type_read}
 use Rattle.cyc_soundness.proofs.StackLemmas.{emptied_other, stack_changed, above_globals, full_here, within_full_at, within_variables, among_bound, among_variable, among_own, among_set, set_stored, statement_relied, settled, lent_held}
-use Rattle.cyc_soundness.proofs.Cells.{pointer_plain, plain_claims, by_type_claims, running, plain_nothing, both_plain}
+use Rattle.cyc_soundness.proofs.Cells.{pointer_plain, plain_claims, running}
 
 -- ---- lists
 
