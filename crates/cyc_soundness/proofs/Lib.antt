@@ -17,6 +17,7 @@ mod Places
 mod Evaluation
 mod Loans
 mod Touched
+mod Locking
 mod Supply
 mod Execution
 mod Calls
@@ -25,8 +26,6 @@ mod Unwinding
 pub mod Whole
 -- what comes of texts
 mod FormedLemmas
--- what is computed of a program that gives objects back
-pub mod FreesLemmas
 -- texts, and programs that the rules accept and refuse
 mod Examples
 mod LaterRegions
