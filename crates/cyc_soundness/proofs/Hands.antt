@@ -356,9 +356,9 @@ module _ (g h : Typing) (stays : Stays g h) where
 -- A thing that somebody has goes to another; what cells then have they had, and it is not that.
 pub hands_typed : (g : Typing) (o : Option Thing) (old new : Holder) (here : ℕ → Standing) (regions : List Region) (objects : List Object) → Owns g.own old o → IsHeld old
     → ((object i : ℕ) (t : ObjectType) (x : Object) → slice_get g.objects object ≡ Some t → slice_get objects object ≡ Some x → IsKept (record g { own = given o new g.own; here = here }) object i t.is_hidden
-        → (IsKept g object i t.is_hidden × (At object i ≢ old)) ⊎ ((u : RunTy) (c : Cell) (v : values.Value) → slice_get t.cells i ≡ Some u → slice_get x.cells i ≡ Some c → c.content ≡ Some v → Claims (given o new g.own) (At object i) u v))
+    → (IsKept g object i t.is_hidden × (At object i ≢ old)) ⊎ ((u : RunTy) (c : Cell) (v : values.Value) → slice_get t.cells i ≡ Some u → slice_get x.cells i ≡ Some c → c.content ≡ Some v → Claims (given o new g.own) (At object i) u v))
     → ((object j : ℕ) (t : ObjectType) (x : Object) → slice_get g.objects object ≡ Some t → slice_get objects object ≡ Some x → here object ≡ Away j → t.is_hidden ≡ true
-        → ((g.here object ≡ Away j) × (Lent j object ≢ old)) ⊎ ((i : ℕ) (u : RunTy) (c : Cell) (v : values.Value) → slice_get t.cells i ≡ Some u → slice_get x.cells i ≡ Some c → c.content ≡ Some v → Claims (given o new g.own) (Lent j object) u v)) → IsTyped g regions objects
+    → ((g.here object ≡ Away j) × (Lent j object ≢ old)) ⊎ ((i : ℕ) (u : RunTy) (c : Cell) (v : values.Value) → slice_get t.cells i ≡ Some u → slice_get x.cells i ≡ Some c → c.content ≡ Some v → Claims (given o new g.own) (Lent j object) u v)) → IsTyped g regions objects
     → IsTyped (record g { own = given o new g.own; here = here }) regions objects
 hands_typed g o old new here regions objects has held before away typed = record {
   count = typed.count;
@@ -445,11 +445,14 @@ also_typed g o object j y regions objects there hidden lent (inl has) typed = ha
   where
     before : (n i : ℕ) (t : ObjectType) (x : Object) → slice_get g.objects n ≡ Some t → slice_get objects n ≡ Some x → IsKept (giving g o (Lent j object)) n i t.is_hidden
         → (IsKept g n i t.is_hidden × (At n i ≢ At object 0)) ⊎ ((u : RunTy) (c : Cell) (v : values.Value) → slice_get t.cells i ≡ Some u → slice_get x.cells i ≡ Some c → c.content ≡ Some v → Claims (given o (Lent j object) g.own) (At n i) u v)
-    before n i t x found stands kept = inl (kept, λ e.
-        (let same = (at_same n i object 0 e).0 in
-        let type_is : y ≡ t = some_same y t (sym there ∙ ap (λ k. slice_get g.objects k) (sym same) ∙ found) in
-        let here : g.here n ≡ Here = kept.0 (ap (λ (z : ObjectType). z.is_hidden) (sym type_is) ∙ hidden) in
-        absurd (let z : Away j ≡ Here = sym lent ∙ ap g.here (sym same) ∙ here in cc)))
+    before n i t x found stands kept = inl (
+      kept,
+      λ e.
+          (let same = (at_same n i object 0 e).0 in
+          let type_is : y ≡ t = some_same y t (sym there ∙ ap (λ k. slice_get g.objects k) (sym same) ∙ found) in
+          let here : g.here n ≡ Here = kept.0 (ap (λ (z : ObjectType). z.is_hidden) (sym type_is) ∙ hidden) in
+          absurd (let z : Away j ≡ Here = sym lent ∙ ap g.here (sym same) ∙ here in cc)),
+    )
 also_typed g o object j y regions objects there hidden lent (inr has) typed =
     hands_typed g o (Lent j object) (Lent j object) g.here regions objects has tt (λ n i t x found stands kept. inl (kept, at_not_lent n i j object)) away typed
   where

@@ -397,7 +397,7 @@ module _ (p : Source) (g : Typing) (x : Exits) (bs : List InScope) (e : Environm
         number_is,
         subst (λ y. IsResult j (Value y) v) (sym same) result,
         subst (λ y. Claims j.own (Hand (operands_in (EndLoan lent ∷ k))) y v.value) (sym same)
-        (plain_claims j.own (Hand (operands_in (EndLoan lent ∷ k))) (lives.Pointer m (read bs s) l) v.value (pointer_plain m (read bs s) l common)),
+            (plain_claims j.own (Hand (operands_in (EndLoan lent ∷ k))) (lives.Pointer m (read bs s) l) v.value (pointer_plain m (read bs s) l common)),
         next,
         z.stack,
       )

@@ -392,21 +392,25 @@ module _ (n : ℕ) where
       where
         go : (end : Bool) → may_end s ≡ end → Locks (InItems m locking k (MoreItems (Execute s) js)) (may_end s && items_may_end js) c a b × ((may_end s && items_may_end js) ≡ true → IsOut (locks_of js))
         go true same =
-            let (z, out) = on same in
-            (record {
-              kept = (y.kept, asked (may_end s) z.kept);
-              now = z.now;
-              reached = λ e. z.reached (both_true (may_end s) (items_may_end js) e).1;
-              breaks = λ around before. z.breaks (out_none c.locks around) (y.breaks around before);
-            }, λ e. out (both_true (may_end s) (items_may_end js) e).1)
+            let (z, out) = on same in (
+              record {
+                kept = (y.kept, asked (may_end s) z.kept);
+                now = z.now;
+                reached = λ e. z.reached (both_true (may_end s) (items_may_end js) e).1;
+                breaks = λ around before. z.breaks (out_none c.locks around) (y.breaks around before);
+              },
+              λ e. out (both_true (may_end s) (items_may_end js) e).1,
+            )
         go false same =
-            let none : is_reached b.now ≡ false = items_unreached w (statements.behind_item (Execute s) c) js l b fresh flows (never same) in
-            (record {
-              kept = (y.kept, asked_nothing (InItems m locking (k + declared_regions s) js) (may_end s) same);
-              now = λ e. (let z : true ≡ false = sym e ∙ none in absurd (cc));
-              reached = λ e. (let z : false ≡ true = sym same ∙ (both_true (may_end s) (items_may_end js) e).0 in absurd (cc));
-              breaks = λ around before. breaks_locked w (statements.behind_item (Execute s) c) js l b fresh flows (never same) n (y.breaks around before);
-            }, λ e. (let z : false ≡ true = sym same ∙ (both_true (may_end s) (items_may_end js) e).0 in absurd (cc)))
+            let none : is_reached b.now ≡ false = items_unreached w (statements.behind_item (Execute s) c) js l b fresh flows (never same) in (
+              record {
+                kept = (y.kept, asked_nothing (InItems m locking (k + declared_regions s) js) (may_end s) same);
+                now = λ e. (let z : true ≡ false = sym e ∙ none in absurd (cc));
+                reached = λ e. (let z : false ≡ true = sym same ∙ (both_true (may_end s) (items_may_end js) e).0 in absurd (cc));
+                breaks = λ around before. breaks_locked w (statements.behind_item (Execute s) c) js l b fresh flows (never same) n (y.breaks around before);
+              },
+              λ e. (let z : false ≡ true = sym same ∙ (both_true (may_end s) (items_may_end js) e).0 in absurd (cc)),
+            )
 
     mutual
       locks_statement : (w : ℕ → Bool) (k : ℕ) (c : Around) (s : Statement) (a b : Known) → w n ≡ true → IsFresh w s → IsLockedIn a.now → Derives (rule_statement c s a) b → InStatement m q k s → Locks (InStatement m locking k s) (may_end s) c a b

@@ -86,17 +86,24 @@ module _ (p : Source) (g : Typing) (e : Environment) (w : World) (typed : IsType
       where
         go : (x : Object) → slice_get w.objects object ≡ Some x → (c : Cell) → slice_get x.cells 0 ≡ Some c → (content : Option values.Value) → c.content ≡ content
             → (o : Option Thing) × Owns g.own (Lent j object) o × ((own : Thing → Holder) → Owns own (At object 0) o → (x : Object) → slice_get w.objects object ≡ Some x → (c : Cell) (v : values.Value) → slice_get x.cells 0 ≡ Some c → c.content ≡ Some v → Claims own (At object 0) t v)
-        go x stands c at None content = (None, tt, λ own owns y found d v there full.
-            (let same : x ≡ y = some_same x y (sym stands ∙ found) in
-            let one : c ≡ d = some_same c d (sym at ∙ ap (λ (z : Object). slice_get z.cells 0) same ∙ there) in
-            let k : None ≡ Some v = sym content ∙ ap (λ (z : Cell). z.content) one ∙ full in absurd (cc)))
+        go x stands c at None content = (
+          None,
+          tt,
+          λ own owns y found d v there full.
+              (let same : x ≡ y = some_same x y (sym stands ∙ found) in
+              let one : c ≡ d = some_same c d (sym at ∙ ap (λ (z : Object). slice_get z.cells 0) same ∙ there) in
+              let k : None ≡ Some v = sym content ∙ ap (λ (z : Cell). z.content) one ∙ full in absurd (cc)),
+        )
         go x stands c at (Some u) content =
-            let claims : Claims g.own (Lent j object) t u = typed.lent object (variable_type t l true (OfLocal g.depth lent)) x there stands 0 j t c u away refl refl at content in
-            (thing_of t u, claims.0, λ own owns y found d v there full.
-            (let same : x ≡ y = some_same x y (sym stands ∙ found) in
-            let one : c ≡ d = some_same c d (sym at ∙ ap (λ (z : Object). slice_get z.cells 0) same ∙ there) in
-            let value_is : u ≡ v = some_same u v (sym content ∙ ap (λ (z : Cell). z.content) one ∙ full) in
-            subst (λ z. Claims own (At object 0) t z) value_is (owns, claims.1)))
+            let claims : Claims g.own (Lent j object) t u = typed.lent object (variable_type t l true (OfLocal g.depth lent)) x there stands 0 j t c u away refl refl at content in (
+              thing_of t u,
+              claims.0,
+              λ own owns y found d v there full.
+                  (let same : x ≡ y = some_same x y (sym stands ∙ found) in
+                  let one : c ≡ d = some_same c d (sym at ∙ ap (λ (z : Object). slice_get z.cells 0) same ∙ there) in
+                  let value_is : u ≡ v = some_same u v (sym content ∙ ap (λ (z : Cell). z.content) one ∙ full) in
+                  subst (λ z. Claims own (At object 0) t z) value_is (owns, claims.1)),
+            )
 
     ends : (lent j : ℕ) (t : RunTy) (object : ℕ) (y : Exits) (h : flow.State) (k : List Entry) → IsLentOut g lent j t object → AreVariables (record g { loans = j }) bs → IsStack p (record g { loans = j }) y bs (Go h) k → HasEnded lent j object y h k
     ends lent j t object y h k (l, there, away) scope stack =
