@@ -25,7 +25,7 @@ mod Unwinding
 -- what `cyc_system` cites
 pub mod Whole
 -- what comes of texts
-mod FormedLemmas
+pub mod FormedLemmas
 -- texts, and programs that the rules accept and refuse
 mod Examples
 mod LaterRegions
