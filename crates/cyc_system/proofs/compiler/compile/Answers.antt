@@ -1,7 +1,10 @@
-use Rattle.std.proofs.Common.{◌≡◌, sym, subst}
+use Rattle.std.proofs.Common.{◌≡◌, Result, Ok, Err, sym, subst}
+use Rattle.std.specs.Prelude.{IfOk}
 use Rattle.std.proofs.lemmas.Result.{err_from_is_err_and}
+use Rattle.cyc_types.specs.TypedTrees.{Program}
 use Rattle.cyc_types.specs.TypedTreeView.{view_program}
 use Rattle.cyc_types.proofs.typing.ProgramLemmas.{program_well}
+use Rattle.cyc_soundness.specs.Sound.{IsSound}
 use Rattle.cyc_lower.proofs.Accepted.{accepted_can_be_lowered}
 use Rattle.cyc_system.specs.Front.{names_in, IsAcceptedText}
 use Rattle.cyc_system.specs.FullPreservation.{IsImageOf}
@@ -12,7 +15,7 @@ use Rattle.cyc_system.proofs.compiler.compile.Goals as goal
 pub returns-in_err-program : goal.returns-in_err-program
 returns-in_err-program c =
     let e = err_from_is_err_and c.from_residual.result c.from_residual.ensures.1 in
-    record { decides = rw (e.1, e.2) (front_answers (λ p file. IsImageOf p file.items) c.args.text.now (λ p v. view_program v.tree ≡ p) c.in_err-program.field-0.0 c.in_err-program.ensures.decides) }
+    record { decides = rw (e.1, e.2) (front_answers (λ p file. IsImageOf p file.items) c.args.text.now (λ p v. view_program v.tree ≡ p) c.in_err-program.field-0.0 c.in_err-program.ensures.decides); sound = rw (e.1, e.2) tt }
 
 pub build-requires-clause-well_typed : goal.build-requires-clause-well_typed
 build-requires-clause-well_typed c =
@@ -31,6 +34,11 @@ build-requires-clause-can_be c =
     let a = subst (IsAcceptedText c.args.text.now) (sym same) is in
     accepted_can_be_lowered (names_in a.tokens) c.args.text.now a.tokens a.tree (view_program c.in_ok-program.program.tree) a.has_tokens.rule a.has_tokens.within a.has_tree.has a.has_tree.within a.typed
 
+-- what holds of any answer
+said : {X F : Type 0} (result : Result X F) (A : Type 0) → A → IfOk result (λ x. A)
+said (Ok x) A a = a
+said (Err f) A a = tt
+
 pub returns : goal.returns
 returns c =
     let text = c.args.text.now in
@@ -40,4 +48,5 @@ returns c =
       decides =
           behind_answers (λ p file. IsImageOf p file.items) text (view_program c.in_ok-program.program.tree) (subst (IsAcceptedText text) (sym same) is) d.accepts d.refuses
           c.build.result c.build.ensures;
+      sound = said c.build.result ((q : Program) → IsAcceptedText text q → IsSound q) (λ q accepted. accepted_sound text q accepted);
     }
