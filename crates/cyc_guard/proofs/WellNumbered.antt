@@ -10,11 +10,11 @@ use Rattle.cyc_guard.proofs.Numbers.{IsFresh, AreFresh, AreFreshClauses}
 use Rattle.cyc_guard.proofs.Whole.{AreAllFresh}
 
 -- what is lent out has a lower number than this
-abbrev AreBelow : (locked : ℕ → Bool) → ℕ → Type 0
+abbrev pub AreBelow : (locked : ℕ → Bool) → ℕ → Type 0
 AreBelow w m = (n : ℕ) → w n ≡ true → n < m
 
 -- and so have the locals in scope
-abbrev InScope : List LocalInScope → ℕ → Type 0
+abbrev pub InScope : List LocalInScope → ℕ → Type 0
 InScope [] m = Unit {0}
 InScope (v ∷ vs) m = (v.number < m) × InScope vs m
 
@@ -25,7 +25,7 @@ in_scope_more (v ∷ vs) m n l (h, k) = (omega arith, in_scope_more vs m n l k)
 below_more : (w : ℕ → Bool) (m n : ℕ) → m ≤ n → AreBelow w m → AreBelow w n
 below_more w m n l h k e = let x : k < m = h k e in omega arith
 
-found_below : (vs : List LocalInScope) (m n : ℕ) (t : Ty) (r : ℕ) → InScope vs m → HasLocal vs n t r → n < m
+pub found_below : (vs : List LocalInScope) (m n : ℕ) (t : Ty) (r : ℕ) → InScope vs m → HasLocal vs n t r → n < m
 found_below [] m n t r h x = absurd x
 found_below (v ∷ vs) m n t r (h, k) (inl (e, y, z)) = subst (λ i. i < m) e h
 found_below (v ∷ vs) m n t r (h, k) (inr x) = found_below vs m n t r k x
@@ -38,7 +38,7 @@ next_fresh w m n h e = go (w n) (h n)
     go true k = let x : n < m = k refl in absurd (omega arith)
     go false k = refl
 
-lent_below : (w : ℕ → Bool) (m k : ℕ) → AreBelow w m → k < m → AreBelow (updated w k true) m
+pub lent_below : (w : ℕ → Bool) (m k : ℕ) → AreBelow w m → k < m → AreBelow (updated w k true) m
 lent_below w m k h l n = go (nat_eq k n) (told k n)
   where
     go : (b : Bool) → Told k n b → cond b true (w n) ≡ true → n < m
@@ -48,7 +48,7 @@ lent_below w m k h l n = go (nat_eq k n) (told k n)
 below_next : (w : ℕ → Bool) (c : Context) → AreBelow w c.next_local → AreBelow w (suc c.next_local)
 below_next w c h = below_more w c.next_local (suc c.next_local) (omega arith) h
 
-next_in_scope : (c : Context) → InScope c.locals c.next_local → (c.next_local < suc c.next_local) × InScope c.locals (suc c.next_local)
+pub next_in_scope : (c : Context) → InScope c.locals c.next_local → (c.next_local < suc c.next_local) × InScope c.locals (suc c.next_local)
 next_in_scope c k = (omega arith, in_scope_more c.locals c.next_local (suc c.next_local) (omega arith) k)
 
 caught_fresh : (w : ℕ → Bool) (c : Context) (has : Bool) (n : ℕ) → AreBelow w c.next_local → IsCaught c has (Some n) → w n ≡ false
@@ -56,7 +56,7 @@ caught_fresh w c true n h (e, x) = next_fresh w c.next_local n h e
 caught_fresh w c false n h x = absurd x
 
 mutual
-  statement_fresh : (w : ℕ → Bool) (c : Context) (s : Statement) → AreBelow w c.next_local → InScope c.locals c.next_local → WellTypedStatement c s → IsFresh w s
+  pub statement_fresh : (w : ℕ → Bool) (c : Context) (s : Statement) → AreBelow w c.next_local → InScope c.locals c.next_local → WellTypedStatement c s → IsFresh w s
   statement_fresh w c (Block r js) h k (x, y) = items_fresh w _ js h k y
   statement_fresh w c Empty h k x = tt
   statement_fresh w c (Evaluate a) h k x = tt
@@ -73,7 +73,7 @@ mutual
       let m = c.next_local + length (declared_types s) in
       (statement_fresh w c s h k x, clauses_fresh w (behind c s) cs (below_more w c.next_local m (omega arith) h) (in_scope_more c.locals c.next_local m (omega arith) k) y)
 
-  items_fresh : (w : ℕ → Bool) (c : Context) (js : Items) → AreBelow w c.next_local → InScope c.locals c.next_local → WellTypedItems c js → AreFresh w js
+  pub items_fresh : (w : ℕ → Bool) (c : Context) (js : Items) → AreBelow w c.next_local → InScope c.locals c.next_local → WellTypedItems c js → AreFresh w js
   items_fresh w c NoItems h k x = tt
   items_fresh w c (MoreItems (Execute s) js) h k (x, y) =
       let m = c.next_local + length (declared_types s) in

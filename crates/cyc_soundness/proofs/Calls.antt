@@ -26,9 +26,9 @@ use Rattle.cyc_meaning.specs.Parts.{wrong, inside, region_end, declared}
 use Rattle.cyc_meaning.specs.Exceptions.{catches, step_catching}
 use Rattle.cyc_meaning.specs.Nesting.{ends_of, IsNested}
 use Rattle.cyc_meaning.specs.Step.{called, values_of, prints, reads, step_calling, step_entering, step_binding}
-use Rattle.cyc_soundness.specs.Lives.{Life, OfRegion, OfObject, Never, Kept, RunTy, RunValue, Value, Lives, at, value_at, lives_of, Reading, AsHeap, ByScope}
+use Rattle.cyc_soundness.specs.Lives.{Life, OfRegion, Kept, RunTy, RunValue, Value, Lives, at, value_at, lives_of, Reading, AsHeap, ByScope}
 use Rattle.cyc_soundness.specs.Lives as lives
-use Rattle.cyc_soundness.specs.Worlds.{Hand, IsHere, lent_now, IsOpenIn, Stays, Typing, IsKnownLife, HasType, AreOperands, IsTyped, Grows}
+use Rattle.cyc_soundness.specs.Worlds.{Hand, IsHere, lent_now, IsOpenIn, Stays, Typing, IsKnownLife, HasType, AreOperands, IsTyped, Grows, KeyOf, PointerTo}
 use Rattle.cyc_soundness.specs.Frames.{InScope, Variable, Names, Instance, Home, lives_in, read, IsScope, AreBelow, IsBound, AreVariables, IsLasting, LiveIn, Within, itself, older, AreSet, Holds, Implies, Exits, HasResult, loop_of, around, AreBreaks, Stand, IsHome, IsContext, KnowsProgram, frees_in}
 use Rattle.cyc_soundness.specs.Classes.{IsDeclarable, InItems, InClauses, Source}
 use Rattle.cyc_soundness.specs.Stacks.{regions_at_call, IsInstance, Continues, Catches, IsAccepted, Val, Go, turned, operands_in, AreClaimed, AreGiven, IsCalled, IsBlocked, AreFull, AreOwn, IsBody, IsStack, IsWell}
@@ -72,15 +72,12 @@ own_kept g h i (b ∷ bs) changed (is, are) = (tt, own_kept g h i bs changed are
 open_inside : (g : Typing) (d : ℕ) (l : Life) → IsOpenIn g l → IsOpenIn (record g { depth = d }) l
 open_inside g d (OfRegion number ns us) opens = opens
 open_inside g d (Kept region) opens = opens
-open_inside g d (OfObject object) opens = opens
-open_inside g d Never opens = opens
 open_inside g d lives.Owned opens = opens
 
 known_inside : (g : Typing) (d : ℕ) (l : Life) → IsKnownLife g l → IsKnownLife (record g { depth = d }) l
 known_inside g d (OfRegion number ns us) known = known
-known_inside g d (Kept region) known = known
-known_inside g d (OfObject object) known = known
-known_inside g d Never known = known
+known_inside g d (Kept (KeyOf region)) known = known
+known_inside g d (Kept (PointerTo object)) known = known
 known_inside g d lives.Owned known = known
 
 -- and around it all is as it was
@@ -263,7 +260,7 @@ module _ (p : Source) (accepted : AreAccepted p) where
           typed = ok.typed.body;
           flows = flows;
           breaks = subst (λ o. AreBreaks o ok.breaks) (sym loop) tt;
-          kept = subst (λ q. InItems p.reading q (suc h.variables) h.body) (sym relied) ok.kept;
+          kept = λ reached. subst (λ q. InItems p.reading q (suc h.variables) h.body) (sym relied) ok.kept;
           ends = each_full_implies (locks_of h.body) end;
         } in
         let last : number ≤ length h.parameters = omega (arith, count) in
@@ -341,7 +338,7 @@ module _ (p : Source) (accepted : AreAccepted p) where
           typed = well;
           flows = flows;
           breaks = are;
-          kept = kept;
+          kept = λ reached. kept;
           ends = implies;
         } in
         running p g x (scope c k) (inside e w) (opened w) (opened_typed g w.regions (new_region Stack ∷ []) w.objects typed) globals (tt, (tt, bound)) (tt, (opened_known g p.reading (length w.regions) (ends_of k), variables)) Proceeding (Rest js ∷ region_end e w ∷ k)
@@ -372,7 +369,7 @@ module _ (p : Source) (accepted : AreAccepted p) where
           typed = well;
           flows = flows;
           breaks = are;
-          kept = kept;
+          kept = λ reached. kept;
           ends = implies;
         } in
         running p g x (scope c k) (inside e w) (opened w) (opened_typed g w.regions (new_region Stack ∷ []) w.objects typed) globals (tt, (tt, bound)) (tt, (opened_known g p.reading (length w.regions) (ends_of k), variables))

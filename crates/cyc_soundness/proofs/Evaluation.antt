@@ -1,5 +1,5 @@
 -- EVALUATION of a typed expression, and what waits for its value: each step leads to a typed state.
-use Rattle.std.proofs.Common.{◌≡◌, ◌≢◌, ◌⊎◌, set, inl, inr, ℕ, ◌≤◌, zero, suc, Bool, true, false, not, List, [], ◌∷◌, map, Option, Some, None, slice_get, refl, sym, ap, subst, ◌∙◌, arith}
+use Rattle.std.proofs.Common.{◌≡◌, ◌≢◌, ◌⊎◌, inl, inr, ℕ, ◌≤◌, zero, suc, Bool, true, false, not, List, [], ◌∷◌, map, Option, Some, None, slice_get, refl, sym, ap, subst, ◌∙◌, arith}
 use Rattle.std.specs.Prelude.{◌+◌, nat_lt, if◌then◌else◌, option_map, ◌||◌}
 use Rattle.cyc_syntax.specs.declared.tree.PointerKind.{PointerKind}
 use Rattle.cyc_syntax.specs.declared.tree.PointerKind.TheVariants as marks
@@ -11,6 +11,7 @@ use Rattle.cyc_types.specs.declared.typed.Callee.TheVariants as callees
 use Rattle.cyc_types.specs.declared.typed.UnaryOperator.TheVariants as unary
 use Rattle.cyc_types.specs.declared.region.Region.{Region}
 use Rattle.cyc_types.specs.declared.region.Region.TheVariants as regions
+use Rattle.cyc_syntax.specs.Symbols.{Place}
 use Rattle.cyc_types.specs.Types.{Ty, ValueType, result_type, substituted_ty}
 use Rattle.cyc_types.specs.Types as types
 use Rattle.cyc_types.specs.TypedTrees.{Local, Global, Expression, Number, NullPointer, HeapRegion, Counter, Copy, Move, Peek, Load, AddressOf, AddressOfCell, NumberOfElements, FreeUnique, FreeKey, Call, Unary, Binary, Assign, New, OnHeap, AsUnique, ByHandle, type_of_place, peeked, Convert, Arguments, NoArguments, MoreArguments, Operations, NoOperations, ThenCompute, ThenTest, ThenPointer, ThenPointerPeek, GlobalVariable, Signature, Function, Program}
@@ -32,21 +33,21 @@ use Rattle.cyc_meaning.specs.State.{InRegion, Unique, World, heap_number, cell_a
 use Rattle.cyc_meaning.specs.Parts.{target_of_value, target_by, leads_to, wrong, computed, loaded_from, stored}
 use Rattle.cyc_meaning.specs.Nesting.{ends_of, AreOpen}
 use Rattle.cyc_meaning.specs.Step.{step_evaluating, addressed, counts, passes, assigned, decided, tested, awaits_right, chained, converts}
-use Rattle.cyc_soundness.specs.Lives.{Life, OfRegion, OfObject, Never, Owned, Kept, heap_life, as_heap, Reading, Lives, AsHeap, ByScope, RunTy, RunValue, Value, Into, looked, kind_at}
+use Rattle.cyc_soundness.specs.Lives.{Life, OfRegion, Owned, Kept, heap_life, as_heap, Reading, Lives, AsHeap, ByScope, RunTy, RunValue, Value, Into, looked, kind_at, Seen}
 use Rattle.cyc_soundness.specs.Lives as lives
-use Rattle.cyc_soundness.specs.Worlds.{Thing, Holder, Nobody, Hand, At, thing_of, Owns, AtStart, Claims, ClaimsPart, ClaimsBy, IsLookedAt, IsSlot, IsHere, given, marked, handing, Settled, IsOpenObject, IsNewOwner, IsPlain, HasType, Typing, IsFull, global_type, Outlasts, alike, globals as with_globals, AgreesWith, IsResult, AreOperands, IsTyped, IsHiding}
+use Rattle.cyc_soundness.specs.Worlds.{Thing, Holder, Nobody, Hand, At, thing_of, Owns, AtStart, Claims, ClaimsPart, ClaimsBy, IsLookedAt, IsSlot, IsHere, given, marked, handing, Settled, IsOpenObject, IsNewOwner, IsPlain, HasType, Typing, IsFull, global_type, Outlasts, globals as with_globals, AgreesWith, IsResult, AreOperands, IsTyped, IsHiding, life_at, Here, Gone, Away}
 use Rattle.cyc_soundness.specs.Frames.{IsAmong, Bound, local_type, InScope, Variable, IsBound, AreVariables, IsHomed, LiveIn, IsSet, IsFullIn, Holds, Implies, Exits, IsContext, KnowsProgram, lives_in, read, read_value, frees_in}
-use Rattle.cyc_soundness.specs.Classes.{is_full, Relied, frees_of, and_looked, IsSpared, HasScopes, InExpression, InArguments, InOperations, Source}
+use Rattle.cyc_soundness.specs.Classes.{Relied, frees_of, and_looked, IsSpared, HasScopes, InExpression, InArguments, InOperations, Source, SparesAssigned}
 use Rattle.cyc_soundness.specs.Stacks.{KeepsUnique, IsCommonLife, IsPlainValue, IsChained, Evaluates, Val, Go, turned, relied_at, IsCalled, null, IsStack, IsFocus, IsWell}
 use Rattle.cyc_soundness.specs.Stacks as stacks
 use Rattle.cyc_soundness.proofs.Numbers.{some_same, both}
 use Rattle.cyc_soundness.proofs.TypeLemmas.{place_type, target_typed, is_kind_same, kind_read, kind_meant}
 use Rattle.cyc_soundness.proofs.FlowLemmas.{full_set, used_full, implies_self, meet_first, meet_second, vacant_implied, holds_implied, reached_with}
 use Rattle.cyc_soundness.proofs.WorldLemmas.{type_grown, result_grown}
-use Rattle.cyc_soundness.proofs.Hands.{Changed, at_no_hand, given_now, marked_now, marked_before, marked_keeps, handing_changed, variables_kept, holds_kept, taken_typed, hands_globals, kept_now}
+use Rattle.cyc_soundness.proofs.Hands.{Changed, at_no_hand, given_now, marked_now, marked_before, marked_keeps, variables_kept, holds_kept, taken_typed, hands_globals, kept_now, gone_changed, away_not_here, marked_changed, shown_changed, variables_marked, same_grows, holds_here}
 use Rattle.cyc_soundness.proofs.Sharing.{keeps_by, region_common, plain_read, all_freed, unique_by_type}
-use Rattle.cyc_soundness.proofs.StackLemmas.{emptied_other, stack_changed, comes_alone, keeps_passed, void_goes, pointer_left, bound_of, bound_to, lasting_open, kept_open, object_known, among_open, among_own, place_local, among_bound, among_variable, among_live, among_level, among_set, set_stored, open_of, globals_among, settled}
-use Rattle.cyc_soundness.proofs.ValueLemmas.{zero_is, converted_by, kind_given}
+use Rattle.cyc_soundness.proofs.StackLemmas.{emptied_other, stack_changed, comes_alone, keeps_passed, void_goes, pointer_left, bound_to, lasting_open, kept_open, object_known, among_open, among_own, place_local, among_bound, among_variable, among_live, among_level, among_set, set_stored, open_of, globals_among, settled}
+use Rattle.cyc_soundness.proofs.ValueLemmas.{zero_is, converted_by, kind_given, lasts_itself}
 use Rattle.cyc_soundness.proofs.RegionLemmas.{agrees_of, there_of, cell_live, global_means, these_by, live_by, instance_is, parameters_mean, result_means}
 use Rattle.cyc_soundness.proofs.Cells.{lasting_common, open_object, plain_claims, pointer_plain, running, part_at, Content, content_of, reads, stored_typing, stores_marking, stores_on}
 use Rattle.cyc_soundness.proofs.Looking.{looked_expression, looked_converted, peeked_so}
@@ -129,8 +130,6 @@ thin_claims own h k marks.Fat t l object offset z same is = subst (λ v. Claims 
 -- what stands at the start stands there in another form
 start_sum : (l : Life) (start index : ℕ) → AtStart l start index → AtStart l (start + index) 0
 start_sum (OfRegion number ns us) start index at = tt
-start_sum (OfObject object) start index at = tt
-start_sum Never start index at = tt
 start_sum (Kept region) start index at = tt
 start_sum Owned start index (first, second) = ((let e : start + index ≡ 0 = omega (arith, first, second) in e), refl)
 
@@ -163,8 +162,6 @@ life_claims own h m t l n z keeps is = go n refl
     go : (n' : Life) → n ≡ n' → Claims own h (lives.Pointer m t n) z
     go Owned same = subst (λ e. Claims own h (lives.Pointer m t e) z) (keeps same ∙ sym same) is
     go (OfRegion number ns us) same = plain_claims own h (lives.Pointer m t n) z (pointer_plain m t n (subst (λ e. IsCommonLife e) (sym same) tt))
-    go (OfObject object) same = plain_claims own h (lives.Pointer m t n) z (pointer_plain m t n (subst (λ e. IsCommonLife e) (sym same) tt))
-    go Never same = plain_claims own h (lives.Pointer m t n) z (pointer_plain m t n (subst (λ e. IsCommonLife e) (sym same) tt))
     go (Kept region) same = plain_claims own h (lives.Pointer m t n) z (pointer_plain m t n (subst (λ e. IsCommonLife e) (sym same) tt))
 
 converted_claims : (g : Typing) (i : ℕ) (n : Lives) (c : Context) (s : ValueType) (t : Ty) (v : Operand) (z : values.Value) → KeepsUnique c.regions n → Converts c s t → IsResult g (lives.value_at n s) v → conversion (tests.kind_of t) v.value ≡ Gives z
@@ -188,6 +185,14 @@ only_first t zero u found apart = apart refl
 only_first t (suc j) u found apart = absurd (let k : None ≡ Some u = found in cc)
 
 -- ---- a local is read
+
+-- a unique pointer is moved
+pub unique_moved : (u : Ty) → is_unique u ≡ true → is_moved u ≡ true
+unique_moved u unique = ap (λ (b : Bool). b || is_key u) unique
+
+looked_at : (g : Typing) (n object : ℕ) (o : Option Thing) → IsHere g g.depth n object → IsHiding g object true → Owns g.own (At object 0) o → IsLookedAt g n o
+looked_at g n object None here hidden is = tt
+looked_at g n object (Some a) here hidden is = (object, here, hidden, is)
 
 module _ (p : Source) (g : Typing) (x : Exits) (bs : List InScope) (e : Environment) (w : World) (typed : IsTyped g w.regions w.objects) (globals : KnowsProgram g p) (bound : IsBound e.locals e.counters bs) (variables : AreVariables g bs) where
   pub open_local : (k : List Entry) (b : Bound) → AreOpen w.regions (ends_of k) → LiveIn k bs → IsAmong (Variable b) bs → IsOpenObject g w.regions b.object b.life
@@ -218,6 +223,17 @@ module _ (p : Source) (g : Typing) (x : Exits) (bs : List InScope) (e : Environm
       (reads p g x bs e w typed globals bound variables k (values.kind_of u) b.object 0 b.of_type (local_type g.depth b) h live holds
       (among_variable g among variables) refl (open_local k b opens live among) full (ap kind_at of_type ∙ kind_meant (lives_in bs) u) r fits comes stack)
 
+  -- what is looked at through a local that is full
+  pub looks_bound : (k : List Entry) (n : ℕ) (u : Ty) (b : Bound) (h : flow.State) → AreOpen w.regions (ends_of k) → LiveIn k bs → Holds g h bs → IsAmong (Variable b) bs → b.number ≡ n → b.of_type ≡ read bs u → IsFullIn h n
+      → IsStack p g x bs (Val (Seen b.object (read bs u)) h) k → IsWell p (loaded_from (values.kind_of u) (e.locals n) k e w)
+  looks_bound k n u b h opens live holds among number of_type full stack =
+      let full_here : IsFullIn h b.number = subst (λ i. IsFullIn h i) (sym number) full in
+      let here = among_own g h among holds.1 full_here in
+      let still = settled p g x bs (Val (Seen b.object (read bs u)) h) k stack in
+      from_bound k n u b h (Seen b.object (read bs u)) opens live holds among number of_type (among_set g h among holds.1 (full_set (fullness h b.number) full_here))
+      (λ v is. (sym (kind_meant (lives_in bs) u), subst (λ z. HasType g z v) of_type is))
+      (λ c. (subst (λ t. Claims g.own (At b.object 0) t c.value) of_type (its_own b (values.kind_of u) c still among here)).0) stack
+
   -- a local's value goes to an operand
   pub moves : (k : List Entry) (c : Context) (n : ℕ) (u : Ty) (f : flow.State) → AreOpen w.regions (ends_of k) → LiveIn k bs → IsContext p x bs c → Holds g f bs → (r : ℕ) × HasLocal c.locals n u r → is_moved u ≡ true → IsFullIn f n → IsSpared (relied_at x.relied k) n
       → IsStack p g x bs (Val (Value (read bs u)) (with_fullness Vacant f n)) k → IsWell p (loaded_from (values.kind_of u) (e.locals n) k e w)
@@ -236,12 +252,12 @@ module _ (p : Source) (g : Typing) (x : Exits) (bs : List InScope) (e : Environm
       let claims : Claims g.own (At b.object 0) (read bs u) v.value = subst (λ t. Claims g.own (At b.object 0) t v.value) of_type (its_own b (values.kind_of u) v still among here) in
       let o = thing_of (read bs u) v.value in
       let hand = Hand (stacks.operands_in k) in
-      let h = handing g o hand b.object false in
-      let changed : Changed (At b.object 0) g h = handing_changed g o (At b.object 0) hand b.object false claims.0 (λ same. refl) in
+      let h = handing g o hand b.object Gone in
+      let changed : Changed (At b.object 0) g h = gone_changed g o hand b.object claims.0 in
       let f1 = with_fullness Vacant f n in
       subst (λ i. IsWell p (loaded_from (values.kind_of u) i k e w)) (sym there)
       (subst (λ s. IsWell p s) (sym (v.loads k e))
-      (running p h x bs e w (taken_typed g o b.object hand (local_type g.depth b) w.regions w.objects claims.0 (among_variable g among variables) (l.hidden ∙ moved) typed) (hands_globals p g (given o hand g.own) (marked b.object false g.here) globals) bound (variables_kept (At b.object 0) g h changed bs refl variables)
+      (running p h x bs e w (taken_typed g o b.object hand (local_type g.depth b) w.regions w.objects claims.0 (among_variable g among variables) (l.hidden ∙ moved) typed) (hands_globals p g (given o hand g.own) (marked b.object Gone g.here) globals) bound (variables_kept (At b.object 0) g h changed bs refl variables)
       (Given (record { kind = values.kind_of u; value = v.value })) k live (
         Value (read bs u),
         f1,
@@ -251,9 +267,9 @@ module _ (p : Source) (g : Typing) (x : Exits) (bs : List InScope) (e : Environm
         stack_changed p (At b.object 0) g h x bs (Val (Value (read bs u)) f1) k changed (g.depth, n, slot, inl (refl, spared)) stack,
       )))
 
--- a unique pointer is moved
-unique_moved : (u : Ty) → is_unique u ≡ true → is_moved u ≡ true
-unique_moved u unique = ap (λ (b : Bool). b || is_key u) unique
+-- what is assigned what is moved is spared
+moved_spared : (q : Relied) (place : Place) (n : ℕ) (v : Ty) (u : ValueType) → u ≡ assigned_type v → is_moved v ≡ true → SparesAssigned q (Local place n) u → IsSpared q n
+moved_spared q place n v u gives moved spared = subst (λ z. SparesAssigned q (Local place n) z) (gives ∙ ap (λ (b : Bool). if b then types.Void else types.Value v) moved) spared
 
 module _ (p : Source) where
   -- what is called takes and gives this, where its region variables stand for what is put in their place
@@ -315,16 +331,12 @@ module _ (p : Source) where
         (λ b v number hidden own among. plain_claims g.own (Hand (stacks.operands_in k)) (read bs u) v (plain_read g bs variables u plain)) (subst (λ z. IsStack p g x bs (Val z h) k) (ap (read_value bs) same) stack)
 
     -- and one that is looked at
-    looked_at : (n object : ℕ) (o : Option Thing) → IsHere g g.depth n object → IsHiding g object true → Owns g.own (At object 0) o → IsLookedAt g n o
-    looked_at n object None here hidden is = tt
-    looked_at n object (Some a) here hidden is = (object, here, hidden, is)
-
     peeks : (k : List Entry) (c : Context) (n : ℕ) (u : Ty) (t : ValueType) (f h : flow.State) → AreOpen w.regions (ends_of k) → LiveIn k bs → IsContext p x bs c → Holds g f bs
         → (i : ℕ) × HasLocal c.locals n u i → is_unique u ≡ true → IsFullIn f n → Implies f h → t ≡ types.Value u → IsStack p g x bs (Val (looked (Some n) (read_value bs t)) h) k → IsWell p (loaded_from (values.kind_of u) (e.locals n) k e w)
     peeks k c n u t f h opens live stands holds has unique full implies same stack =
         from_local k c n u f h (Into (Some n) (read bs u)) opens live stands holds has (full_set (fullness f n) full) implies (λ v is. (sym (kind_meant (lives_in bs) u), is))
         (λ b v number hidden own among. (let here = among_own g f among holds.1 (subst (λ i. IsFullIn f i) (sym number) full) in
-        looked_at n b.object (thing_of (read bs u) v) (subst (λ i. IsHere g g.depth i b.object) number here) (local_type g.depth b, among_variable g among variables, hidden ∙ unique_moved u unique) (own here).0))
+        looked_at g n b.object (thing_of (read bs u) v) (subst (λ i. IsHere g g.depth i b.object) number here) (local_type g.depth b, among_variable g among variables, hidden ∙ unique_moved u unique) (own here).0))
         (subst (λ z. IsStack p g x bs (Val (looked (Some n) (read_value bs z)) h) k) same stack)
 
     from_global : (k : List Entry) (c : Context) (n : ℕ) (u : Ty) (t : ValueType) (f : flow.State) → AreOpen w.regions (ends_of k) → LiveIn k bs → IsContext p x bs c → Holds g f bs
@@ -444,8 +456,13 @@ module _ (p : Source) where
             subst (λ z. IsStack p g x bs (Val (read_value bs z) h) k) same stack,
           ),
         )
-    evaluate (Assign (Local place n) (Convert from to a) u) k c t f h q opens live stands holds (inl (v, r, (m, has, region, there), (s, well, conv, from_is, to_is), gives_u, same)) (f1, d, (demands, known)) kept stack =
-        let (b, among, number, of_type) = bound_of p.reading (lives_in bs) c.locals bs n v m stands.scope (place_local c.locals n v m has) in
+    evaluate (Assign (Local place n) (Convert from to a) u) k c t f h q opens live stands holds (inl (v, r, (m, has, region, there), (s, well, conv, from_is, to_is), gives_u, same)) (f1, d, (demands, known)) (assigns, kept) stack =
+        let bound_is = bound_to p.reading (lives_in bs) c.locals bs n v m stands.scope (place_local c.locals n v m has) in
+        let b = bound_is.bound in
+        let among = bound_is.among in
+        let number = bound_is.number in
+        let of_type = bound_is.of_type in
+        let spared : b.is_hidden ≡ true → IsSpared (relied_at x.relied k) b.number = (λ hides. subst (λ i. IsSpared (relied_at x.relied k) i) (sym number) (moved_spared (relied_at x.relied k) place n v u gives_u (sym bound_is.hidden ∙ hides) assigns)) in
         let at : e.locals n ≡ Some b.object = ap e.locals (sym number) ∙ among_bound e among bound in
         let known_is : h ≡ with_fullness Full f1 b.number = known ∙ ap (λ i. with_fullness Full f1 i) (sym number) in
         subst (λ o. IsWell p (assigned o (Convert from to a) k e w)) (sym at) (
@@ -467,13 +484,13 @@ module _ (p : Source) where
               [],
               bs,
               Val (read_value bs (assigned_type v)) (with_fullness Full f1 b.number),
-              stacks.stores_local b v f1 among of_type,
+              stacks.stores_local b v f1 among of_type spared,
               tt,
               subst (λ z. IsStack p g x bs (Val (read_value bs (assigned_type v)) z) k) known_is (subst (λ z. IsStack p g x bs (Val (read_value bs z) h) k) (same ∙ gives_u) stack),
             ),
           ),
         ))
-    evaluate (Assign (Global n) (Convert from to a) u) k c t f h q opens live stands holds (inl (v, r, (region, there), (s, well, conv, from_is, to_is), gives_u, same)) (f1, d, (demands, known)) kept stack =
+    evaluate (Assign (Global n) (Convert from to a) u) k c t f h q opens live stands holds (inl (v, r, (region, there), (s, well, conv, from_is, to_is), gives_u, same)) (f1, d, (demands, known)) (assigns, kept) stack =
         on (Evaluating a) (Needs (ConvertTo from to (target_by a)) ∷ Needs (Store (values.Thin n 0)) ∷ k) live (
           c,
           s,
@@ -537,7 +554,7 @@ module _ (p : Source) where
         subst (λ o. IsWell p (addressed o k e w)) (sym at)
         (hands k (read_value bs t) (Value (lives.Pointer marks.NonNull (read bs v) (lives_in bs r))) (record { kind = kinds.NonNull; value = values.Thin b.object 0 }) f h live holds known
         (ap (read_value bs) (same ∙ ap types.Value u_is))
-        (refl, (y, among_variable g l.among variables, l.hidden ∙ plain, subst (λ z. Outlasts b.life z) life (alike b.life), part))
+        (refl, (y, among_variable g l.among variables, l.hidden ∙ plain, subst (λ z. Outlasts (life_at b.object z) (lives_in bs r)) (sym life) (lasts_itself b.object (lives_in bs r)), part))
         (plain_claims g.own (Hand (stacks.operands_in k)) (lives.Pointer marks.NonNull (read bs v) (lives_in bs r)) (values.Thin b.object 0) (pointer_plain marks.NonNull (read bs v) (lives_in bs r) common)) stack)
     evaluate (AddressOfCell d u) k c t f h q opens live stands holds (inl (v, r, cell, plain, other, u_is, same)) flows kept stack =
         on (Locating d) (NeedsPlace TakeAddress ∷ k) live (
@@ -780,29 +797,40 @@ module _ (p : Source) where
     handed h t v false is = is
 
     pub writes_local : (v : Operand) (k : List Entry) (b : Bound) (t : Ty) (f : flow.State) → AreOpen w.regions (ends_of k) → LiveIn k bs → IsAmong (Variable b) bs → b.of_type ≡ read bs t
+        → (b.is_hidden ≡ true → IsSpared (relied_at x.relied k) b.number)
         → Holds g f bs → IsResult g (Value (read bs t)) v → stacks.Comes g (Value (read bs t)) v k → IsStack p g x bs (Val (read_value bs (assigned_type t)) (with_fullness Full f b.number)) k
         → IsWell p (stored (cell_at w b.object 0) b.object 0 v (Given v) k e w)
-    writes_local v k b t f opens live among of_type holds is comes stack =
+    writes_local v k b t f opens live among of_type spared holds is comes stack =
         let u = read bs t in
         let i = stacks.operands_in k in
         let hand = Hand i in
         let y = local_type g.depth b in
         let there = among_variable g among variables in
         let (z, m, stands, flag, typed_is) = typed.each b.object y there in
-        let here = marked b.object true g.here in
+        let here = marked b.object Here g.here in
+        let one : Typing = record g { here = here } in
+        let before : Holds one f bs = holds_here g one (same_grows g g.own here) refl f bs (λ n object full' is. (marked_keeps b.object g.here object is.0, is.1)) holds in
+        let stack_now : IsStack p one x bs (Val (read_value bs (assigned_type t)) (with_fullness Full f b.number)) k = marked_stack b.is_hidden refl in
         stores_marking p g x bs e w typed globals bound variables v (Given v) k b.object 0 m i u y here live there (ap (λ z. Some z) of_type)
         (open_local p g x bs e w typed globals bound variables k b opens live among) flag (let few : 0 ≤ m = omega arith in few) is comes
-        (λ object j hidden apart kept. ((λ hides. marked_before b.object true g.here object apart (kept.0 hides)), kept.1))
-        (λ j z found apart kept. absurd (only_first b.of_type j z found apart)) (λ object now. marked_keeps b.object g.here object now)
+        (λ object j hidden apart kept. ((λ hides. marked_before b.object Here g.here object Here apart (kept.0 hides)), kept.1))
+        (λ j z found apart kept. absurd (only_first b.of_type j z found apart)) (λ hides j away. away_not_here (here b.object) j away (marked_now b.object Here g.here)) (λ object j apart now. marked_before b.object Here g.here object (Away j) apart now)
         (λ all full. (let h = stored_typing p g x bs e w typed globals bound variables v (Given v) k b.object 0 m i u y here in
-        let (reached, are) = holds_kept hand g h all f bs (λ n object full' here'. at_no_hand object 0 i) holds in (
+        let (reached, are) = holds_kept hand one h all f bs (λ n object full' here'. at_no_hand object 0 i) before in (
           read_value bs (assigned_type t),
           with_fullness Full f b.number,
-          (reached_with Full f b.number reached, set_stored h e Full f b.number b.object bs bound (among_bound e among bound) full reached (λ s. (marked_now b.object true g.here, (y, there, refl))) are),
-          handed h t v (is_moved t) (result_grown g h all.grows (Value u) v is),
-          moved_comes h (stacks.operands_in k) bs t v.value (variables_kept hand g h all bs refl variables),
-          stack_changed p hand g h x bs (Val (read_value bs (assigned_type t)) (with_fullness Full f b.number)) k all (let le : stacks.operands_in k ≤ stacks.operands_in k = omega arith in le) stack,
+          (reached_with Full f b.number reached, set_stored h e Full f b.number b.object bs bound (among_bound e among bound) full reached (λ s. (marked_now b.object Here g.here, (y, there, refl))) are),
+          handed h t v (is_moved t) (result_grown one h all.grows (Value u) v (result_grown g one (same_grows g g.own here) (Value u) v is)),
+          moved_comes h (stacks.operands_in k) bs t v.value (variables_kept hand one h all bs refl (variables_marked g here bs variables)),
+          stack_changed p hand one h x bs (Val (read_value bs (assigned_type t)) (with_fullness Full f b.number)) k all (let le : stacks.operands_in k ≤ stacks.operands_in k = omega arith in le) stack_now,
         )))
+      where
+        -- nothing relies on what is in a variable to which no pointer leads
+        marked_stack : (hidden : Bool) → b.is_hidden ≡ hidden → IsStack p (record g { here = marked b.object Here g.here }) x bs (Val (read_value bs (assigned_type t)) (with_fullness Full f b.number)) k
+        marked_stack true hides = stack_changed p (At b.object 0) g (record g { here = marked b.object Here g.here }) x bs (Val (read_value bs (assigned_type t)) (with_fullness Full f b.number)) k (marked_changed g b.object)
+            (g.depth, b.number, (local_type g.depth b, among_variable g among variables, refl), inl (refl, spared hides)) stack
+        marked_stack false shows = stack_changed p Nobody g (record g { here = marked b.object Here g.here }) x bs (Val (read_value bs (assigned_type t)) (with_fullness Full f b.number)) k
+            (shown_changed g b.object (local_type g.depth b) (among_variable g among variables) shows) tt stack
 
     pub writes_global : (v : Operand) (k : List Entry) (n : ℕ) (t : Ty) (f : flow.State) → AreOpen w.regions (ends_of k) → LiveIn k bs
         → slice_get (map (λ (v : GlobalVariable). v.of_type) p.program.globals) n ≡ Some t → read bs t ≡ lives.at (as_heap (frees_of p.reading)) t → Holds g f bs → IsResult g (Value (read bs t)) v → stacks.Comes g (Value (read bs t)) v k
@@ -814,7 +842,7 @@ module _ (p : Source) where
         let cell : slice_get z.cells 0 ≡ Some (read bs t) = ap (λ z. Some z) (sym means) in
         let i = stacks.operands_in k in
         let hand = Hand i in
-        stores_on p g x bs e w typed globals bound variables v (Given v) k n 0 m i (read bs t) z live at cell (open_of w.regions (globals_among k) opens) flag (let few : 0 ≤ m = omega arith in few) is comes
+        stores_on p g x bs e w typed globals bound variables v (Given v) k n 0 m i (read bs t) z live at cell (open_of w.regions (globals_among k) opens) flag (let few : 0 ≤ m = omega arith in few) refl is comes
         (λ changed now. (let h = stored_typing p g x bs e w typed globals bound variables v (Given v) k n 0 m i (read bs t) z g.here in (
           read_value bs (assigned_type t),
           f,

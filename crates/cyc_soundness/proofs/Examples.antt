@@ -1,6 +1,6 @@
 -- Texts of which the theorem speaks: both sets of rules accept them, they stand in the class, and their runs end as is said. Each is
 -- proved by computation, so that the theorem is not about nothing.
-use Rattle.std.proofs.Common.{◌≡◌, ℕ, suc, true, List, [], ◌∷◌, ◌<◌, Some, None, Ok, Err, pos, refl, arith}
+use Rattle.std.proofs.Common.{◌≡◌, ℕ, suc, List, [], ◌∷◌, ◌<◌, Some, None, Ok, Err, pos, refl, arith}
 use Rattle.std.specs.Prelude.{codes}
 use Rattle.cyc_words.specs.Word.{slt_of}
 use Rattle.cyc_words.specs.Ending.{Returned}
@@ -20,12 +20,9 @@ use Rattle.cyc_types.proofs.typing.ProgramLemmas.{program_well}
 use Rattle.cyc_meaning.specs.State.{Status, HasEnded, status_of}
 use Rattle.cyc_meaning.specs.Run.{run}
 use Rattle.cyc_soundness.specs.Classes.{IsOfTheHeap, IsOfScopes, FreesNoObject}
-use Rattle.cyc_soundness.specs.Frees.{frees_no_object}
-use Rattle.cyc_soundness.specs.FreesLocals.{frees_locals}
 use Rattle.cyc_soundness.specs.Sound.{IsSound}
 use Rattle.cyc_soundness.proofs.Whole.{heap_sound, lending_sound, scopes_sound}
 use Rattle.cyc_soundness.proofs.FormedLemmas.{typed_sound}
-use Rattle.cyc_soundness.proofs.FreesLemmas.{locals_freed_sound}
 
 -- ---- what is said of a text
 
@@ -159,44 +156,38 @@ by_handle : Ends (check_of texts (
     ∷ [])) (HasEnded (Returned (pos 6)))
 by_handle = (refl, ((tt, (tt, tt), (tt, tt)), (((tt, tt), tt), tt)), refl)
 
--- ---- texts in which no object is given back, and those in which one is that locals have
+-- ---- texts in which unique objects are given back
 
-abbrev KeepsObjects : typed.Program → Type 0
-KeepsObjects p = frees_no_object p ≡ true
+-- of what the rules derive nothing else is asked
+abbrev Any : typed.Program → Type 0
+Any p = Unit {0}
 
-abbrev FreesObjects : typed.Program → Type 0
-FreesObjects p = frees_locals p ≡ true
-
-pub never_dead_typed : (texts : List (List ℕ)) (tree : List Declaration) (s : Status) → EndsIn KeepsObjects (check_of texts tree) s
+pub never_dead_typed : (texts : List (List ℕ)) (tree : List Declaration) (s : Status) → EndsIn Any (check_of texts tree) s
     → (p : typed.Program) × IsTypedProgram texts tree p × IsSound p × (status_of (run p [] 200) ≡ s)
-never_dead_typed texts tree s ends = never_dead_in KeepsObjects texts tree (λ p derived. typed_sound texts tree p derived) s ends
-
-pub never_dead_freeing : (texts : List (List ℕ)) (tree : List Declaration) (s : Status) → EndsIn FreesObjects (check_of texts tree) s
-    → (p : typed.Program) × IsTypedProgram texts tree p × IsSound p × (status_of (run p [] 200) ≡ s)
-never_dead_freeing texts tree s ends = never_dead_in FreesObjects texts tree (λ p derived. locals_freed_sound p (program_well texts tree p derived)) s ends
+never_dead_typed texts tree s ends = never_dead_in Any texts tree (λ p derived allowed any. typed_sound texts tree p derived allowed) s ends
 
 -- int main(){ int @`U p = rnew(unique_region) 5; int ?n = new {for i < 3 : i * i}; *p :=: n[2]; return *p + numelts(n); }
-objects_kept : EndsIn KeepsObjects (check_of texts (
+objects_kept : EndsIn Any (check_of texts (
     main (
     MoreItems (Local (into 6) (named 2 5) (Some (RegionNew (at 6) (UniqueRegion (at 7)) (Plain (Number (at 8) 5)))))
     (MoreItems (Local (written Int (marks.Fat ∷ [])) (named 4 9) (Some (New (at 10) (Array (at 11) (named 5 12) (Number (at 13) 3) (Binary (Variable (named 5 14)) (ThenOperation operators.Multiply (at 15) (Variable (named 5 16)) NoOperations))))))
     (MoreItems (Execute (Swap (Prefixed (at 17) prefixes.Dereference (Variable (named 2 18))) (Chained (Variable (named 4 19)) (ThenIndex (Number (at 20) 2) NoPostfixes))))
     (MoreItems (Execute (Return (at 21) (Some (plus (Prefixed (at 22) prefixes.Dereference (Variable (named 2 23))) (NumberOfElements (at 24) (Variable (named 4 25))))))) NoItems))))
     ∷ [])) (HasEnded (Returned (pos 7)))
-objects_kept = (refl, refl, refl)
+objects_kept = (refl, tt, refl)
 
 -- int main(){ int @`U p = rnew(unique_region) 5; int x = *p; ufree(p); return x; }
-object_freed : EndsIn FreesObjects (check_of texts (
+object_freed : EndsIn Any (check_of texts (
     main (
     MoreItems (Local (into 6) (named 2 5) (Some (RegionNew (at 6) (UniqueRegion (at 7)) (Plain (Number (at 8) 5)))))
     (MoreItems (Local (written Int []) (named 3 9) (Some (Prefixed (at 10) prefixes.Dereference (Variable (named 2 11)))))
     (MoreItems (Execute (Evaluate (FreeUnique (at 12) (Variable (named 2 13)))))
     (MoreItems (Execute (Return (at 14) (Some (Variable (named 3 15))))) NoItems))))
     ∷ [])) (HasEnded (Returned (pos 5)))
-object_freed = (refl, refl, refl)
+object_freed = (refl, tt, refl)
 
 -- int main(){ int @`U p = rnew(unique_region) 5; try return 1 / (*p - 5); catch { default: if (*p) ufree(p); return 9; } }
-freed_in_a_clause : EndsIn FreesObjects (check_of texts (
+freed_in_a_clause : EndsIn Any (check_of texts (
     main (
     MoreItems (Local (into 6) (named 2 5) (Some (RegionNew (at 6) (UniqueRegion (at 7)) (Plain (Number (at 8) 5)))))
     (MoreItems (Execute (Try (at 9)
@@ -206,20 +197,20 @@ freed_in_a_clause : EndsIn FreesObjects (check_of texts (
     (MoreItems (Execute (Return (at 22) (Some (Number (at 23) 9)))) NoItems)))))
     NoItems))
     ∷ [])) (HasEnded (Returned (pos 9)))
-freed_in_a_clause = (refl, refl, refl)
+freed_in_a_clause = (refl, tt, refl)
 
 -- int f(int @`U p){ int x = *p; ufree(p); return x; } int main(){ return f(rnew(unique_region) 3); }
-freed_by_a_call : EndsIn FreesObjects (check_of texts (
+freed_by_a_call : EndsIn Any (check_of texts (
     Function (Some (written Int [])) (named 7 1) (record { list = Listed (record { of_type = into 6; name = named 2 3 } ∷ []); effect = None; constraints = [] }) (Braces (at 4) (
     MoreItems (Local (written Int []) (named 3 5) (Some (Prefixed (at 6) prefixes.Dereference (Variable (named 2 7)))))
     (MoreItems (Execute (Evaluate (FreeUnique (at 8) (Variable (named 2 9)))))
     (MoreItems (Execute (Return (at 10) (Some (Variable (named 3 11))))) NoItems))) (at 12))
     ∷ main (MoreItems (Execute (Return (at 14) (Some (Call (named 7 15) (MoreExpressions (RegionNew (at 16) (UniqueRegion (at 17)) (Plain (Number (at 18) 3))) NoExpressions))))) NoItems)
     ∷ [])) (HasEnded (Returned (pos 3)))
-freed_by_a_call = (refl, refl, refl)
+freed_by_a_call = (refl, tt, refl)
 
 -- int main(){ int ?`U p = rnew(unique_region) {for i < 3 : i * i}; int x = p[2]; p[x - 3] = 1; ufree(p); return x; }
-elements_freed : EndsIn FreesObjects (check_of texts (
+elements_freed : EndsIn Any (check_of texts (
     main (
     MoreItems (Local (record { place = at 1; base = Int; marks = record { kind = marks.Fat; region = Some (named 6 3) } ∷ [] }) (named 2 5) (Some (RegionNew (at 6) (UniqueRegion (at 7))
     (Array (at 8) (named 5 9) (Number (at 10) 3) (Binary (Variable (named 5 11)) (ThenOperation operators.Multiply (at 12) (Variable (named 5 13)) NoOperations))))))
@@ -228,10 +219,10 @@ elements_freed : EndsIn FreesObjects (check_of texts (
     (MoreItems (Execute (Evaluate (FreeUnique (at 22) (Variable (named 2 23)))))
     (MoreItems (Execute (Return (at 24) (Some (Variable (named 3 25))))) NoItems)))))
     ∷ [])) (HasEnded (Returned (pos 4)))
-elements_freed = (refl, refl, refl)
+elements_freed = (refl, tt, refl)
 
 -- int main(){ int @`U p = rnew(unique_region) 5; int ?n = new {for i < 3 : i}; *p :=: n[2]; int x = *p + n[2]; ufree(p); return x; }
-swapped_and_freed : EndsIn FreesObjects (check_of texts (
+swapped_and_freed : EndsIn Any (check_of texts (
     main (
     MoreItems (Local (into 6) (named 2 5) (Some (RegionNew (at 6) (UniqueRegion (at 7)) (Plain (Number (at 8) 5)))))
     (MoreItems (Local (written Int (marks.Fat ∷ [])) (named 4 9) (Some (New (at 10) (Array (at 11) (named 5 12) (Number (at 13) 3) (Variable (named 5 14))))))
@@ -240,10 +231,10 @@ swapped_and_freed : EndsIn FreesObjects (check_of texts (
     (MoreItems (Execute (Evaluate (FreeUnique (at 26) (Variable (named 2 27)))))
     (MoreItems (Execute (Return (at 28) (Some (Variable (named 3 29))))) NoItems))))))
     ∷ [])) (HasEnded (Returned (pos 7)))
-swapped_and_freed = (refl, refl, refl)
+swapped_and_freed = (refl, tt, refl)
 
 -- struct S { int x; int @`U n; }; int main(){ struct S @p = new S{4, rnew(unique_region) 5}; int @`U i = rnew(unique_region) 3; p->n = rnew(unique_region) 3; ufree(i); return p->x; }
-stored_and_freed : EndsIn FreesObjects (check_of texts (
+stored_and_freed : EndsIn Any (check_of texts (
     StructType (named 1 1) [] (record { of_type = written Int []; name = named 3 2 } ∷ record { of_type = into 6; name = named 4 3 } ∷ [])
     ∷ main (
     MoreItems (Local (written (Struct (named 1 4) []) (marks.NonNull ∷ [])) (named 2 5) (Some (New (at 6) (Fields (named 1 7) [] (MoreExpressions (Number (at 8) 4) (MoreExpressions (RegionNew (at 9) (UniqueRegion (at 10)) (Plain (Number (at 11) 5))) NoExpressions))))))
@@ -252,10 +243,10 @@ stored_and_freed : EndsIn FreesObjects (check_of texts (
     (MoreItems (Execute (Evaluate (FreeUnique (at 25) (Variable (named 5 26)))))
     (MoreItems (Execute (Return (at 27) (Some (field 3)))) NoItems)))))
     ∷ [])) (HasEnded (Returned (pos 4)))
-stored_and_freed = (refl, refl, refl)
+stored_and_freed = (refl, tt, refl)
 
 -- int main(){ int n = 0; while (n < 6) { int @`U p = rnew(unique_region) 3; n = n + *p; ufree(p); } return n; }
-freed_in_a_loop : EndsIn FreesObjects (check_of texts (
+freed_in_a_loop : EndsIn Any (check_of texts (
     main (
     MoreItems (Local (written Int []) (named 4 5) (Some (Number (at 6) 0)))
     (MoreItems (Execute (While (at 7) (Binary (Variable (named 4 8)) (ThenOperation operators.Less (at 9) (Number (at 10) 6) NoOperations)) (Block (Braces (at 11) (
@@ -265,7 +256,7 @@ freed_in_a_loop : EndsIn FreesObjects (check_of texts (
     (MoreItems (Execute (Return (at 23) (Some (Variable (named 4 24))))) NoItems)))
     ∷ [])) (HasEnded (Returned (pos 6)))
 unfolding slt_of
-freed_in_a_loop = (refl, refl, refl)
+freed_in_a_loop = (refl, tt, refl)
 
 -- ---- texts of the class by scope
 
@@ -336,7 +327,7 @@ opened_again : EndsByScope (check_of texts (
     (returned (Variable (named 4 21)))))
     ∷ [])) (HasEnded (Returned (pos 6)))
 unfolding slt_of
-opened_again = (refl, (((tt, tt, (((tt, (tt, tt)), (tt, ((tt, less 2), (tt, tt), ((tt, (tt, tt)), tt)))), (tt, tt))), tt), tt, tt), refl)
+opened_again = (refl, (((tt, tt, (((tt, (tt, tt)), (tt, ((tt, less 2), (tt, tt), ((tt, (tt, (tt, tt))), tt)))), (tt, tt))), tt), tt, tt), refl)
 
 -- int main(){ try { region<`r> h; int *p = NULL; return *p; } catch { default: return 9; } }
 left_by_exception : EndsByScope (check_of texts (
@@ -371,7 +362,7 @@ opened_twice : EndsWithLoans (check_of texts (
     (block (opened (assigned (Variable (named 2 9)) (RegionNew (at 10) (Variable (named 9 11)) (Plain (Number (at 12) 4))) NoItems))
     (block (opened (returned (behind 2))) NoItems))))
     ∷ [])) (HasEnded (Returned (pos 4)))
-opened_twice = (refl, (((refl, ((tt, less 1), tt, ((refl, tt, ((tt, tt), tt)), ((refl, tt, (tt, tt)), tt)))), tt), tt, tt), refl)
+opened_twice = (refl, (((refl, ((tt, less 1), tt, ((refl, tt, ((tt, (tt, tt)), tt)), ((refl, tt, (tt, tt)), tt)))), tt), tt, tt), refl)
 
 -- int main(){ int @`U p = rnew(unique_region) 5; { let alias <`r> int @`r x = p; *x = *x + 1; } return *p; }
 shared : EndsWithLoans (check_of texts (
@@ -380,7 +371,7 @@ shared : EndsWithLoans (check_of texts (
     (block (MoreItems (Alias (named 8 9) (into 8) (named 3 10) (named 2 11)) (assigned (behind 3) (plus (behind 3) (Number (at 12) 1)) NoItems))
     (returned (behind 2))))
     ∷ [])) (HasEnded (Returned (pos 6)))
-shared = (refl, ((((tt, tt), (tt, tt), (((refl, refl), tt, ((tt, (tt, (tt, tt))), tt)), (tt, tt))), tt), tt, tt), refl)
+shared = (refl, ((((tt, tt), (tt, tt), ((refl, tt, ((tt, (tt, (tt, tt))), tt)), (tt, tt))), tt), tt, tt), refl)
 
 -- int main(){ let NewDynamicRegion{<`r> i} = new_ukey(); while (1) { region<`r> h = open(i); break; } { region<`r> h = open(i); int @`r p = rnew(h) 3; return *p; } }
 left_by_break : EndsWithLoans (check_of texts (
@@ -443,4 +434,73 @@ given_back_in_a_loop : EndsWithLoans (check_of texts (
     ∷ [])) (HasEnded (Returned (pos 6)))
 unfolding slt_of
 given_back_in_a_loop =
-    (refl, (((tt, tt, (((tt, (tt, tt)), (refl, ((refl, tt, ((tt, (let few : 2 < 4 = omega arith in few)), (tt, tt), ((tt, (tt, tt)), tt))), ((refl, tt), tt)))), (tt, tt))), tt), tt, tt), refl)
+    (refl, (((tt, tt, (((tt, (tt, tt)), (refl, ((refl, tt, ((tt, (let few : 2 < 4 = omega arith in few)), (tt, tt), ((tt, (tt, (tt, tt))), tt))), ((refl, tt), tt)))), (tt, tt))), tt), tt, tt), refl)
+
+-- ---- texts that share what is unique, and give it back
+
+abbrev with_unique : Items → Items
+with_unique is = MoreItems (Local (into 6) (named 2 5) (Some (RegionNew (at 6) (UniqueRegion (at 7)) (Plain (Number (at 8) 5))))) is
+
+abbrev aliased : Items → Items
+aliased is = MoreItems (Alias (named 8 55) (into 8) (named 3 56) (named 2 57)) is
+
+abbrev unique_freed : Items → Items
+unique_freed is = MoreItems (Execute (Evaluate (FreeUnique (at 60) (Variable (named 2 61))))) is
+
+-- int f(int @`r x){ return *x; } int main(){ int @`U p = rnew(unique_region) 5; int n = 0; { let alias <`r> int @`r x = p; *x = f(x) + 1; n = *x; } ufree(p); return n; }
+shared_then_freed : EndsIn Any (check_of texts (
+    Function (Some (written Int [])) (named 7 1) (record { list = Listed (record { of_type = into 8; name = named 3 3 } ∷ []); effect = None; constraints = [] }) (Braces (at 4) (returned (behind 3)) (at 5))
+    ∷ main (
+    with_unique (
+    MoreItems (Local (written Int []) (named 4 9) (Some (Number (at 10) 0)))
+    (block (aliased (
+    assigned (behind 3) (plus (Call (named 7 15) (MoreExpressions (Variable (named 3 16)) NoExpressions)) (Number (at 17) 1))
+    (assigned (Variable (named 4 18)) (behind 3) NoItems)))
+    (unique_freed (returned (Variable (named 4 20)))))))
+    ∷ [])) (HasEnded (Returned (pos 6)))
+shared_then_freed = (refl, tt, refl)
+
+-- int main(){ int @`U p = rnew(unique_region) 5; { let alias <`r> int @`r x = p; *x = *x + 2; } { let alias <`S> int @`S i = p; *i = *i + 3; } int n = *p; ufree(p); return n; }
+shared_again : EndsIn Any (check_of texts (
+    main (
+    with_unique (
+    block (aliased (assigned (behind 3) (plus (behind 3) (Number (at 12) 2)) NoItems))
+    (block (MoreItems (Alias (named 1 15) (into 1) (named 5 16) (named 2 17)) (assigned (behind 5) (plus (behind 5) (Number (at 13) 3)) NoItems))
+    (MoreItems (Local (written Int []) (named 4 14) (Some (behind 2)))
+    (unique_freed (returned (Variable (named 4 20))))))))
+    ∷ [])) (HasEnded (Returned (pos 10)))
+shared_again = (refl, tt, refl)
+
+-- int main(){ int *`U p = NULL; { let alias <`r> int *`r x = p; int *`r i = x; } ufree(p); return 3; }
+nothing_shared : EndsIn Any (check_of texts (
+    main (
+    MoreItems (Local (may_be_into 6) (named 2 5) (Some (Null (at 6))))
+    (block (MoreItems (Alias (named 8 55) (may_be_into 8) (named 3 56) (named 2 57)) (MoreItems (Local (may_be_into 8) (named 5 9) (Some (Variable (named 3 10)))) NoItems))
+    (unique_freed (returned (Number (at 20) 3)))))
+    ∷ [])) (HasEnded (Returned (pos 3)))
+nothing_shared = (refl, tt, refl)
+
+-- int main(){ int @`U p = rnew(unique_region) 5; try { let alias <`r> int @`r x = p; return 1 / (*x - 5); } catch { default: return 7; } }
+loan_left_by_exception : EndsIn Any (check_of texts (
+    main (
+    with_unique (
+    MoreItems (Execute (Try (at 9) (Block (Braces (at 10) (aliased (
+    returned (Binary (Number (at 11) 1) (ThenOperation operators.Divide (at 12) (Binary (behind 3) (ThenOperation operators.Subtract (at 15) (Number (at 16) 5) NoOperations)) NoOperations)))) (at 17)))
+    (Default (returned (Number (at 23) 7))))) NoItems))
+    ∷ [])) (HasEnded (Returned (pos 7)))
+loan_left_by_exception = (refl, tt, refl)
+
+-- int main(){ int @`U p = rnew(unique_region) 5; { let alias <`r> int @`r x = p; { int @`r i = x; region<`S> h; int @`r @`S n = rnew(h) i; **n = **n + 1; } } int x = *p; ufree(p); return x; }
+reached_inside_a_loan : EndsIn Any (check_of texts (
+    main (
+    with_unique (
+    block (aliased (block (
+    MoreItems (Local (into 8) (named 5 12) (Some (Variable (named 3 13))))
+    (MoreItems (Region (named 1 14) (named 9 15) None)
+    (MoreItems (Local (record { place = at 1; base = Int; marks = record { kind = marks.NonNull; region = Some (named 8 3) } ∷ record { kind = marks.NonNull; region = Some (named 1 4) } ∷ [] }) (named 4 16)
+    (Some (RegionNew (at 17) (Variable (named 9 18)) (Plain (Variable (named 5 19))))))
+    (assigned (Prefixed (at 21) prefixes.Dereference (behind 4)) (plus (Prefixed (at 22) prefixes.Dereference (behind 4)) (Number (at 23) 1)) NoItems)))) NoItems))
+    (MoreItems (Local (written Int []) (named 3 24) (Some (behind 2)))
+    (unique_freed (returned (Variable (named 3 25)))))))
+    ∷ [])) (HasEnded (Returned (pos 6)))
+reached_inside_a_loan = (refl, tt, refl)

@@ -12,7 +12,7 @@ use Rattle.cyc_types.specs.declared.region.Region.{Region}
 use Rattle.cyc_types.specs.declared.region.Region.TheVariants as regions
 use Rattle.cyc_types.specs.declared.scope.ScopeKind.TheVariants as scopes
 use Rattle.cyc_types.specs.declared.typed.Kind.TheVariants as kinds
-use Rattle.cyc_types.specs.typing.WellTyped.{Context, IsSide, IsReturned, IsThrown, in_block, behind, IsLive, with_local, with_opened, with_key_opened, WellTypedStatement, WellTypedItems}
+use Rattle.cyc_types.specs.typing.WellTyped.{Context, IsReturned, IsThrown, in_block, behind, IsLive, with_local, with_opened, with_key_opened, WellTypedStatement, WellTypedItems}
 use Rattle.cyc_types.specs.typing.Statements.{with_region_of}
 use Rattle.cyc_types.specs.flow.States as flow
 use Rattle.cyc_types.specs.flow.States.{Unreached, Vacant, Locked, Full, is_vacant, meet, with_fullness, with_each}
@@ -27,23 +27,27 @@ use Rattle.cyc_meaning.specs.Exceptions.{throws}
 use Rattle.cyc_meaning.specs.Nesting.{ends_of, IsNested}
 use Rattle.cyc_meaning.specs.Step.{step_executing, returns, continues_with}
 use Rattle.cyc_soundness.proofs.Looking.{looked_side}
-use Rattle.cyc_soundness.specs.Lives.{Life, Value, Seen, Reading, AsHeap, ByScope}
-use Rattle.cyc_soundness.specs.Worlds.{HasType, IsNumber, Typing, lent_now, IsTyped}
-use Rattle.cyc_soundness.specs.Frames.{InScope, Names, Home, life_named, lives_in, read, read_value, IsBound, AreVariables, LiveIn, Within, itself, older, IsSet, Holds, Implies, LoopExit, Exits, loop_of, around, lending, relying, AreBreaks, is_loop, IsContext, KnowsProgram}
-use Rattle.cyc_soundness.specs.Classes.{HasScopes, IsDeclarable, InSide, InStatement, InItems, InValue, InThrown, Source}
+use Rattle.cyc_soundness.specs.Lives.{Life, Value, Reading, AsHeap, ByScope}
+use Rattle.cyc_soundness.specs.Worlds.{IsNumber, Typing, lent_now, IsTyped, Thing}
+use Rattle.cyc_soundness.specs.Frames.{InScope, Names, Home, life_named, lives_in, read, read_value, IsBound, AreVariables, LiveIn, Within, itself, older, IsSet, Holds, Implies, LoopExit, Exits, loop_of, around, lending, relying, AreBreaks, is_loop, IsContext, KnowsProgram, IsFullIn}
+use Rattle.cyc_soundness.specs.Classes.{HasScopes, IsDeclarable, InStatement, InItems, InValue, InThrown, Source, may_end}
 use Rattle.cyc_soundness.specs.Stacks.{IsByType, Evaluates, Executes, Continues, Catches, IsLoop, Val, Go, operands_in, IsReturn, IsStack, IsFocus, IsWell}
 use Rattle.cyc_soundness.specs.Stacks as stacks
-use Rattle.cyc_soundness.proofs.TypeLemmas.{target_typed, place_type, kind_read, kind_meant}
+use Rattle.cyc_soundness.proofs.TypeLemmas.{target_typed, kind_read, kind_meant}
 use Rattle.cyc_soundness.proofs.FlowLemmas.{used_full, implies_self, implies_after, meet_first, meet_second, at_least_implies, emptied_implied, holds_implied, not_vacant, full_last}
 use Rattle.cyc_soundness.proofs.RuleLemmas.{breaks_statement, breaks_items, breaks_clauses, clauses_implied, nothing_locked}
-use Rattle.cyc_soundness.proofs.StackLemmas.{among_set, bound_of, within_bound, within_variables, within_live, within_holds, below_more}
+use Rattle.cyc_soundness.proofs.StackLemmas.{within_bound, within_variables, within_live, within_holds, below_more, bound_to}
 use Rattle.cyc_soundness.proofs.RegionLemmas.{opened_known, contains_more, live_more, same_name, known_behind, opened_life, opened_lasting, agrees_of, context_inside, context_lexical}
 use Rattle.cyc_soundness.proofs.WorldLemmas.{opened_typed}
 use Rattle.cyc_soundness.proofs.Sharing.{keeps_by}
 use Rattle.cyc_soundness.proofs.Cells.{running}
-use Rattle.cyc_soundness.proofs.Evaluation.{from_bound}
-use Rattle.cyc_soundness.proofs.Loans.{type_known, keys_on, shared_loans}
-use Rattle.cyc_soundness.proofs.Touched.{relied_body}
+use Rattle.cyc_soundness.proofs.Evaluation.{looks_bound, unique_moved}
+use Rattle.cyc_soundness.proofs.Loans.{type_known, keys_on}
+use Rattle.cyc_guard.specs.Held.{nowhere, updated}
+use Rattle.cyc_guard.proofs.Bools.{updated_same}
+use Rattle.cyc_guard.proofs.WellNumbered.{InScope as AreScoped, found_below, lent_below, next_in_scope, statement_fresh, items_fresh}
+use Rattle.cyc_soundness.proofs.Locking.{IsLockedIn, ends_so, locked_items, now_locked, scope_below}
+use Rattle.cyc_soundness.proofs.Touched.{relied_body, asked_of}
 use Rattle.cyc_soundness.proofs.Supply.{declares_blank}
 use Rattle.cyc_soundness.proofs.Swapping.{kept_both, swap_on}
 use Rattle.cyc_types.specs.flow.Touched.{touched_statement}
@@ -87,7 +91,7 @@ pub context_after : (p : Source) (x : Exits) (bs : List InScope) (c : Context) (
 context_after p x bs c s stands = context_behind p x bs c (length (declared_types s)) (declared_regions s) stands
 
 -- the handle of a region that was opened
-handle_of : (m : Reading) (region : ℕ) (ns : List ℕ) (us : ℕ → Bool) → HasScopes m → IsNumber (opened_life m region ns us) region
+handle_of : (m : Reading) (region : ℕ) (ns : List ℕ) (us : Thing → Bool) → HasScopes m → IsNumber (opened_life m region ns us) region
 handle_of AsHeap region ns us scopes = absurd scopes
 handle_of (ByScope lends frees) region ns us scopes = refl
 
@@ -186,7 +190,7 @@ module _ (p : Source) (g : Typing) (x : Exits) (bs : List InScope) (e : Environm
         typed = well;
         flows = d;
         breaks = subst (λ z. AreBreaks x.loop z) breaks are;
-        kept = kept;
+        kept = λ reached. kept;
         ends = subst (λ z. Implies z h) now (implies_self h);
       } in
       running p g x (block_scope c k) (inside e w) (opened w) (opened_typed g w.regions (new_region Stack ∷ []) w.objects typed') globals (tt, (tt, bound)) (tt, (opened_known g p.reading (length w.regions) (ends_of k), variables)) Proceeding (Rest js ∷ region_end e w ∷ k)
@@ -300,17 +304,18 @@ module _ (p : Source) (g : Typing) (x : Exits) (bs : List InScope) (e : Environm
   -- ---- items
 
   -- what is left of a block behind an item that lends this
-  lent_rest : (lent : ℕ) (js : Items) (c : Context) (f before behind' ending : flow.State) → WellTypedItems c js
+  lent_rest : (lent : ℕ) (js : Items) (c : Context) (f before behind' ending : flow.State) → lent < c.next_local → IsLockedIn lent f → AreScoped c.locals c.next_local → WellTypedItems c js
       → Derives (rule_items (around (lending x lent)) js (record { now = f; breaks = before })) (record { now = ending; breaks = behind' }) → AreBreaks x.loop behind' → InItems p.reading x.relied c.next_region js
       → Continues p.reading (lending x lent) c js f (with_each Full (locks_of js) ending)
-  lent_rest lent js c f before behind' ending well flows are kept = record {
+  lent_rest lent js c f before behind' ending less locked scope well flows are kept = record {
     before = before;
     behind = behind';
     ending = ending;
     typed = well;
     flows = flows;
     breaks = are;
-    kept = kept;
+    kept = λ reached. locked_items p.reading x.relied lent (updated nowhere lent true) c.next_region (around (lending x lent)) js (record { now = f; breaks = before }) (record { now = ending; breaks = behind' }) (updated_same nowhere lent true lent refl)
+        (items_fresh (updated nowhere lent true) c js (lent_below nowhere c.next_local lent (λ n s. let k : false ≡ true = s in absurd (cc)) less) scope well) locked flows kept;
     ends = implies_self (with_each Full (locks_of js) ending);
   }
 
@@ -330,20 +335,20 @@ module _ (p : Source) (g : Typing) (x : Exits) (bs : List InScope) (e : Environm
       let sooner : AreBreaks x.loop l.breaks = breaks_before x.loop l.breaks behind' (breaks_items (around x) js l (record { now = ending; breaks = behind' }) djs) are in
       let one : Executes p.reading x c s f l.now = record { before = before; behind = l.breaks; typed = ws; flows = ds; breaks = sooner; kept = ks } in
       let rest : Continues p.reading x (behind c s) js l.now h =
-      record { before = l.breaks; behind = behind'; ending = ending; typed = wjs; flows = djs; breaks = are; kept = kjs; ends = ends } in
+      record { before = l.breaks; behind = behind'; ending = ending; typed = wjs; flows = djs; breaks = are; kept = λ reached. asked_of (may_end s) (ends_so nowhere (around x) s (record { now = f; breaks = before }) l (statement_fresh nowhere c s (λ n s. let k : false ≡ true = s in absurd (cc)) (scope_below p x bs c stands) ws) ds reached) kjs; ends = ends } in
       on (Executing s) (Rest js ∷ k) live (c, f, l.now, stands, holds, one, (cs, behind c s, h, within, context_after p x bs c s stands, rest, stack))
   continue_with (MoreItems (Declare n t None) js) k cs c f h before behind' ending nests live within stands holds ((number, has, alive), initial, wjs) (l, (f1, (u1, known1), (u2, known2)), djs') are (named, kv, kjs) ends stack =
       let djs = nothing_locked (around x) js l (record { now = ending; breaks = behind' }) djs' in
       let l_is : l ≡ record { now = with_fullness Vacant f n; breaks = before } = known2 ∙ ap (λ z. record { now = z; breaks = before }) known1 in
       let flows = subst (λ (z : Known). Derives (rule_items (around x) js z) (record { now = ending; breaks = behind' })) l_is djs in
       declares_blank p g x bs e w typed' globals bound variables n (values.kind_of t) t js cs c f h k nests live within stands holds (named, alive) number (sym (kind_meant (lives_in bs) t))
-      (record { before = before; behind = behind'; ending = ending; typed = wjs; flows = flows; breaks = are; kept = kjs; ends = ends }) stack
+      (record { before = before; behind = behind'; ending = ending; typed = wjs; flows = flows; breaks = are; kept = λ reached. kjs; ends = ends }) stack
   continue_with (MoreItems (Declare n t (Some (Convert from to a))) js) k cs c f h before behind' ending nests live within stands holds ((number, has, alive), (s, well, conv, from_is, to_is), wjs) (l, (f2, (f1, d, (u1, known1)), (u2, known2)), djs') are (named, kv, kjs) ends stack =
       let djs = nothing_locked (around x) js l (record { now = ending; breaks = behind' }) djs' in
       let l_is : l ≡ record { now = with_fullness Full f1 n; breaks = before } = known2 ∙ ap (λ z. record { now = z; breaks = before }) known1 in
       let flows = subst (λ (z : Known). Derives (rule_items (around x) js z) (record { now = ending; breaks = behind' })) l_is djs in
       let rest : Continues p.reading x (with_local true t c) js (with_fullness Full f1 n) h =
-      record { before = before; behind = behind'; ending = ending; typed = wjs; flows = flows; breaks = are; kept = kjs; ends = ends } in
+      record { before = before; behind = behind'; ending = ending; typed = wjs; flows = flows; breaks = are; kept = λ reached. kjs; ends = ends } in
       on (Evaluating a) (Needs (ConvertTo from to (target_by a)) ∷ Needs (Initialise n (values.kind_of t) js) ∷ k) live (
         c,
         s,
@@ -367,7 +372,7 @@ module _ (p : Source) (g : Typing) (x : Exits) (bs : List InScope) (e : Environm
       let t : Ty = types.Handle (regions.Variable r) in
       let d : Context = with_opened scopes.Lexical c in
       let rest : Continues p.reading x (with_local false t d) js (with_fullness Full f n) h =
-      record { before = before; behind = behind'; ending = ending; typed = wjs; flows = flows; breaks = are; kept = kjs; ends = ends } in
+      record { before = before; behind = behind'; ending = ending; typed = wjs; flows = flows; breaks = are; kept = λ reached. kjs; ends = ends } in
       let l : Life = opened_life p.reading (length w.regions) (ends_of k) (lent_now g) in
       let inner : List InScope = Names c.next_region l true ∷ bs in
       let here : IsContext p x inner d = context_lexical p x bs c stands g variables (length w.regions) (ends_of k) live.0 alive in
@@ -395,32 +400,47 @@ module _ (p : Source) (g : Typing) (x : Exits) (bs : List InScope) (e : Environm
   continue_with (MoreItems (OpenRegion r n place key) js) k cs c f h before behind' ending nests live within stands holds (((home, has), there), (number, variable, alive), wjs) (l, (f1, (demands, known1), (u, known2)), djs) are (loans, spared, kjs) ends stack =
       let t : Ty = types.Key (regions.Variable r) in
       let now : l ≡ record { now = with_fullness Full (with_fullness Locked f key) n; breaks = before } = known2 ∙ ap (λ z. record { now = z; breaks = before }) known1 in
-      let (b, bound_among, number_of, of_type) = bound_of p.reading (lives_in bs) c.locals bs key t home stands.scope has in
+      let bound_is = bound_to p.reading (lives_in bs) c.locals bs key t home stands.scope has in
+      let b = bound_is.bound in
+      let bound_among = bound_is.among in
+      let number_of = bound_is.number in
+      let of_type = bound_is.of_type in
+      let hides : b.is_hidden ≡ true = bound_is.hidden in
+      let below = scope_below p x bs c stands in
+      let less : key < c.next_local = found_below c.locals c.next_local key t home below has in
+      let lent_now' : IsLockedIn key (with_fullness Full (with_fullness Locked f key) n) = now_locked f key n holds.0 demands.0 (λ same. let e : key ≡ n = same in absurd (omega (arith, less, e, number))) in
       let set : IsSet f key = not_vacant (is_vacant (flow.fullness f key)) demands.0 in
-      let rest = lent_rest key js (with_local false (types.Handle (regions.Variable r)) (with_key_opened r c)) (with_fullness Full (with_fullness Locked f key) n) before behind' ending wjs
+      let rest = lent_rest key js (with_local false (types.Handle (regions.Variable r)) (with_key_opened r c)) (with_fullness Full (with_fullness Locked f key) n) before behind' ending (let past : key < suc c.next_local = omega (arith, less) in past) lent_now' (next_in_scope c below) wjs
       (subst (λ (z : Known). Derives (rule_items (around (lending x key)) js z) (record { now = ending; breaks = behind' })) now djs) are kjs in
-      from_bound p g x bs e w typed' globals bound variables (Needs (OpenBy n key js) ∷ k) key t b f (Seen (read bs t)) nests.0 live holds bound_among number_of of_type (among_set g f bound_among holds.1 (subst (λ i. IsSet f i) (sym number_of) set))
-      (λ v is. (sym (kind_meant (lives_in bs) t), subst (λ z. HasType g z v) of_type is)) (λ z. tt) (
+      looks_bound p g x bs e w typed' globals bound variables (Needs (OpenBy n key js) ∷ k) key t b f nests.0 live holds bound_among number_of of_type (used_full f key demands.0 demands.1.0) (
         [],
         cs,
         Go h,
-        stacks.opens_by cs c b r f (with_each Full (locks_of js) ending) h loans within stands bound_among number_of of_type set spared (used_full f key demands.0 demands.1.0) (type_known p.reading c key t home loans stands.known has) alive number rest (again key js ending h ends),
+        stacks.opens_by cs c b r f (with_each Full (locks_of js) ending) h loans within stands bound_among number_of of_type hides set spared (used_full f key demands.0 demands.1.0) (type_known p.reading c key t home loans stands.known has) alive number rest (again key js ending h ends),
         tt,
         stack,
       )
   continue_with (MoreItems (DeclareAlias r n t place source) js) k cs c f h before behind' ending nests live within stands holds ((region, less), (v, ((home, has), there), unique, of_type), (number, variable, alive), wjs) (l, (f1, (demands, known1), (u, known2)), djs) are (loans, spared, kjs) ends stack =
       let now : l ≡ record { now = with_fullness Full (with_fullness Locked f source) n; breaks = before } = known2 ∙ ap (λ z. record { now = z; breaks = before }) known1 in
-      let (b, bound_among, number_of, of_bound) = bound_of p.reading (lives_in bs) c.locals bs source v home stands.scope has in
+      let bound_is = bound_to p.reading (lives_in bs) c.locals bs source v home stands.scope has in
+      let b = bound_is.bound in
+      let bound_among = bound_is.among in
+      let number_of = bound_is.number in
+      let of_bound = bound_is.of_type in
+      let hides : b.is_hidden ≡ true = bound_is.hidden ∙ unique_moved v unique in
+      let below = scope_below p x bs c stands in
+      let less' : source < c.next_local = found_below c.locals c.next_local source v home below has in
+      let lent_now' : IsLockedIn source (with_fullness Full (with_fullness Locked f source) n) = now_locked f source n holds.0 demands.0 (λ same. let e : source ≡ n = same in absurd (omega (arith, less', e, number))) in
+      let full : IsFullIn f source = used_full f source demands.0 demands.1.0 in
       let set : IsSet f source = not_vacant (is_vacant (flow.fullness f source)) demands.0 in
-      let rest = lent_rest source js (with_local true t (with_opened scopes.Alias c)) (with_fullness Full (with_fullness Locked f source) n) before behind' ending wjs
+      let rest = lent_rest source js (with_local true t (with_opened scopes.Alias c)) (with_fullness Full (with_fullness Locked f source) n) before behind' ending (let past : source < suc c.next_local = omega (arith, less') in past) lent_now' (next_in_scope c below) wjs
       (subst (λ (z : Known). Derives (rule_items (around (lending x source)) js z) (record { now = ending; breaks = behind' })) now djs) are kjs in
       subst (λ kind. IsWell p (loaded_from kind (e.locals source) (Needs (AliasOf n source js) ∷ k) e w)) (sym (ap values.kind_of of_type ∙ alias_kind (regions.Variable r) v))
-      (from_bound p g x bs e w typed' globals bound variables (Needs (AliasOf n source js) ∷ k) source v b f (Seen (read bs v)) nests.0 live holds bound_among number_of of_bound (among_set g f bound_among holds.1 (subst (λ i. IsSet f i) (sym number_of) set))
-      (λ u is. (sym (kind_meant (lives_in bs) v), subst (λ z. HasType g z u) of_bound is)) (λ z. tt) (
+      (looks_bound p g x bs e w typed' globals bound variables (Needs (AliasOf n source js) ∷ k) source v b f nests.0 live holds bound_among number_of of_bound full (
         [],
         cs,
         Go h,
-        stacks.aliases cs c b v t f (with_each Full (locks_of js) ending) h loans within stands bound_among number_of of_bound set spared (used_full f source demands.0 demands.1.0) unique (type_known p.reading c source v home (shared_loans p.reading loans) stands.known has)
+        stacks.aliases cs c b v t f (with_each Full (locks_of js) ending) h loans within stands bound_among number_of of_bound hides set spared full unique (type_known p.reading c source v home loans stands.known has)
             (of_type ∙ ap (λ i. with_region_of (regions.Variable i) v) region) alive number rest (again source js ending h ends),
         tt,
         stack,
@@ -429,4 +449,4 @@ module _ (p : Source) (g : Typing) (x : Exits) (bs : List InScope) (e : Environm
       let djs = nothing_locked (around x) js l (record { now = ending; breaks = behind' }) djs' in
       let flows = subst (λ (z : Known). Derives (rule_items (around x) js z) (record { now = ending; breaks = behind' })) known djs in
       keys_on p g x bs e w typed' globals bound variables n r js k cs c f h nests live holds loans within stands region alive number
-      (record { before = before; behind = behind'; ending = ending; typed = wjs; flows = flows; breaks = are; kept = kjs; ends = ends }) stack
+      (record { before = before; behind = behind'; ending = ending; typed = wjs; flows = flows; breaks = are; kept = λ reached. kjs; ends = ends }) stack

@@ -1,15 +1,15 @@
 -- THINGS CHANGE HANDS: keys, and pointers to unique objects. What others have stays theirs, and so what is typed stays so.
-use Rattle.std.proofs.Common.{◌≡◌, ◌≢◌, ℕ, suc, ◌+◌, ◌≤◌, ◌<◌, Bool, true, false, List, [], ◌∷◌, ◌++◌, length, set, Option, Some, None, slice_get, refl, sym, ap, subst, ◌∙◌, inl, inr, arith, length-append, eqb}
+use Rattle.std.proofs.Common.{◌≡◌, ◌≢◌, ℕ, suc, ◌+◌, ◌≤◌, ◌<◌, Bool, true, false, List, [], ◌∷◌, ◌++◌, length, set, Option, Some, None, slice_get, refl, sym, ap, subst, ◌∙◌, inl, inr, arith, length-append, eqb, ◌⊎◌}
 use Rattle.std.specs.Prelude.{if◌then◌else◌, ◌==◌}
 use Rattle.std.proofs.lemmas.Bool.{ltb-true, lt-ltb, eqb-true, eq-eqb, false_from_ne_true}
 use Rattle.std.proofs.lemmas.List.{length-set}
 use Rattle.cyc_types.specs.flow.States as flow
-use Rattle.cyc_meaning.specs.Values.{Operand}
+use Rattle.cyc_meaning.specs.Values.{Operand, Cell}
 use Rattle.cyc_meaning.specs.Values as values
 use Rattle.cyc_meaning.specs.State.{Dynamic, new_region, Region, Unique, Object, heap_number, is_open}
 use Rattle.cyc_meaning.proofs.ListLemmas.{slice_get-end, slice_get-set_other}
-use Rattle.cyc_soundness.specs.Lives.{Life, OfRegion, OfObject, Never, Owned, Kept, RunTy, RunValue, Void, Null, Value, Seen, Into}
-use Rattle.cyc_soundness.specs.Worlds.{Pending, Settled, Awaits, IsHiding, IsKept, IsAmong, first as newest, later as behind, Slot, ObjectType, variable_type, Thing, KeyOf, PointerTo, Holder, Nobody, Hand, At, Lent, Typing, IsHeld, same_thing, thing_of, Owns, Claims, ClaimsPart, ClaimsBy, ClaimsAlone, IsLookedAt, IsSlot, IsHere, given, giving, marked, handing, AreOwned, IsUniqueObject, is_lent_by, lent_now, IsOpenIn, Stays, IsDynamic, IsFull, IsOwner, IsObject, IsTyped, Grows}
+use Rattle.cyc_soundness.specs.Lives.{Life, OfRegion, Owned, Kept, RunTy, RunValue, Void, Null, Value, Seen, Into}
+use Rattle.cyc_soundness.specs.Worlds.{Pending, Settled, Awaits, IsHiding, IsKept, IsAmong, first as newest, later as behind, Slot, ObjectType, variable_type, Thing, KeyOf, PointerTo, Holder, Nobody, Hand, At, Lent, Typing, IsHeld, same_thing, thing_of, Owns, Claims, ClaimsPart, ClaimsBy, ClaimsAlone, IsLookedAt, IsSlot, IsHere, given, giving, marked, handing, AreOwned, IsUniqueObject, is_lent_by, lent_now, IsOpenIn, Stays, IsDynamic, IsFull, IsOwner, IsObject, IsTyped, Grows, Standing, Here, Away, Gone, AreLent}
 use Rattle.cyc_soundness.specs.Frames.{InScope, Variable, Names, Instance, IsOfVariable, local_type, HoldsIts, IsFullIn, AreVariables, AreSet, Holds, KnowsProgram}
 use Rattle.cyc_soundness.specs.Classes.{Source}
 use Rattle.cyc_soundness.proofs.Numbers.{same_or_other, slice_get-set_same, some_same}
@@ -73,14 +73,18 @@ pub none_before : (own : Thing → Holder) (o : Option Thing) (old new : Holder)
 none_before own None old new a has held none = none
 none_before own (Some b) old new a has held none = by_test (same_thing a b) (own a) new Nobody (λ e. absurd (subst (λ h. IsHeld h) (sym has ∙ ap own (sym (the_same a b e)) ∙ none) held)) (λ e. none)
 
-pub marked_now : (object : ℕ) (b : Bool) (here : ℕ → Bool) → marked object b here object ≡ b
+pub marked_now : (object : ℕ) (b : Standing) (here : ℕ → Standing) → marked object b here object ≡ b
 marked_now object b here = same_number object object b (here object) refl
 
-pub marked_other : (object : ℕ) (b : Bool) (here : ℕ → Bool) (n : ℕ) → n ≢ object → marked object b here n ≡ here n
+pub marked_other : (object : ℕ) (b : Standing) (here : ℕ → Standing) (n : ℕ) → n ≢ object → marked object b here n ≡ here n
 marked_other object b here n apart = other_number n object b (here n) apart
 
-pub marked_before : (object : ℕ) (b : Bool) (here : ℕ → Bool) (n : ℕ) → n ≢ object → marked object b here n ≡ true → here n ≡ true
-marked_before object b here n apart e = sym (marked_other object b here n apart) ∙ e
+pub marked_before : (object : ℕ) (b : Standing) (here : ℕ → Standing) (n : ℕ) (s : Standing) → n ≢ object → marked object b here n ≡ s → here n ≡ s
+marked_before object b here n s apart e = sym (marked_other object b here n apart) ∙ e
+
+-- a variable that has more in it
+pub marked_keeps : (object : ℕ) (here : ℕ → Standing) (n : ℕ) → here n ≡ Here → marked object Here here n ≡ Here
+marked_keeps object here n is = by_test (n == object) (here n) Here Here (λ e. refl) (λ e. is)
 
 pub hand_same : (i j : ℕ) → Hand i ≡ Hand j → i ≡ j
 hand_same i j e = let k : Hand i ≡ Hand j = e in cc
@@ -91,8 +95,33 @@ at_same m i n j e = let k : At m i ≡ At n j = e in (cc, cc)
 pub at_no_hand : (m n i : ℕ) → At m n ≢ Hand i
 at_no_hand m n i e = let k : At m n ≡ Hand i = e in absurd (cc)
 
-pub at_not_lent : (m n j : ℕ) → At m n ≢ Lent j
-at_not_lent m n j e = let k : At m n ≡ Lent j = e in absurd (cc)
+pub at_not_lent : (m n j o : ℕ) → At m n ≢ Lent j o
+at_not_lent m n j o e = let k : At m n ≡ Lent j o = e in absurd (cc)
+
+pub lent_same : (i m j n : ℕ) → Lent i m ≡ Lent j n → (i ≡ j) × (m ≡ n)
+lent_same i m j n e = let k : Lent i m ≡ Lent j n = e in (cc, cc)
+
+pub lent_some : (i m : ℕ) → Lent i m ≢ Nobody
+lent_some i m e = let k : Lent i m ≡ Nobody = e in absurd (cc)
+
+pub lent_no_hand : (i m j : ℕ) → Lent i m ≢ Hand j
+lent_no_hand i m j e = let k : Lent i m ≡ Hand j = e in absurd (cc)
+
+pub lent_not_at : (i m n o : ℕ) → Lent i m ≢ At n o
+lent_not_at i m n o e = let k : Lent i m ≡ At n o = e in absurd (cc)
+
+-- who has lent what is in it has not got it
+pub away_not_here : (a : Standing) (j : ℕ) → a ≡ Away j → a ≡ Here → ⊥
+away_not_here a j away here = let k : Away j ≡ Here = sym away ∙ here in absurd (cc)
+
+pub away_not_gone : (a : Standing) (j : ℕ) → a ≡ Away j → a ≡ Gone → ⊥
+away_not_gone a j away gone = let k : Away j ≡ Gone = sym away ∙ gone in absurd (cc)
+
+pub gone_not_here : (a : Standing) → a ≡ Gone → a ≡ Here → ⊥
+gone_not_here a gone here = let k : Gone ≡ Here = sym gone ∙ here in absurd (cc)
+
+pub away_same : (i j : ℕ) → Away i ≡ Away j → i ≡ j
+away_same i j e = let k : Away i ≡ Away j = e in cc
 
 pub awaits_same : (m i n j : ℕ) → Awaits m i ≡ Awaits n j → (m ≡ n) × (i ≡ j)
 awaits_same m i n j e = let k : Awaits m i ≡ Awaits n j = e in (cc, cc)
@@ -102,11 +131,13 @@ at_some m n e = let k : At m n ≡ Nobody = e in absurd (cc)
 
 -- ---- what changes
 
--- What one holder had is another's. Nothing else changes, but that more is known, and that variables may have more in them.
+-- What one holder had is another's. Nothing else changes, but that more is known, and that variables may have more in them, but for those
+-- that have lent it.
 pub record Changed (old : Holder) (g h : Typing) : Type 0 where
   pub grows : Grows g h
   pub own : (a : Thing) → g.own a ≢ old → h.own a ≡ g.own a
-  pub here : (object : ℕ) → g.here object ≡ true → At object 0 ≢ old → h.here object ≡ true
+  pub here : (object : ℕ) → g.here object ≡ Here → At object 0 ≢ old → h.here object ≡ Here
+  pub away : (object j : ℕ) → IsHiding g object true → g.here object ≡ Away j → At object 0 ≢ old → Lent j object ≢ old → h.here object ≡ Away j
   pub pending : h.pending ≡ g.pending
   pub depth : h.depth ≡ g.depth
   pub loans : h.loans ≡ g.loans
@@ -116,6 +147,7 @@ stays_changed old g h stays = record {
   grows = stays.grows;
   own = λ a apart. ap (λ f. f a) stays.own;
   here = λ object is apart. ap (λ f. f object) stays.here ∙ is;
+  away = λ object j hides is apart other. ap (λ f. f object) stays.here ∙ is;
   depth = stays.depth;
   pending = stays.pending;
   loans = stays.loans;
@@ -131,31 +163,74 @@ changed_after old g h i changed stays = record {
   };
   own = λ a apart. ap (λ f. f a) stays.own ∙ changed.own a apart;
   here = λ object is apart. ap (λ f. f object) stays.here ∙ changed.here object is apart;
+  away = λ object j hides is apart other. ap (λ f. f object) stays.here ∙ changed.away object j hides is apart other;
   depth = stays.depth ∙ changed.depth;
   pending = stays.pending ∙ changed.pending;
   loans = stays.loans ∙ changed.loans;
 }
 
-pub same_grows : (g : Typing) (own : Thing → Holder) (here : ℕ → Bool) → Grows g (record g { own = own; here = here })
+pub same_grows : (g : Typing) (own : Thing → Holder) (here : ℕ → Standing) → Grows g (record g { own = own; here = here })
 same_grows g own here = record { objects = λ n u is. is; filled = λ n count is. is; fields = λ n ls ts is. is; kept = λ n is. is }
 
 pub giving_changed : (g : Typing) (o : Option Thing) (old new : Holder) → Owns g.own old o → Changed old g (giving g o new)
-giving_changed g o old new has = record { grows = same_grows g (given o new g.own) g.here; own = λ a apart. given_other g.own o old new a has apart; here = λ object is apart. is; pending = refl; depth = refl; loans = refl }
+giving_changed g o old new has = record { grows = same_grows g (given o new g.own) g.here; own = λ a apart. given_other g.own o old new a has apart; here = λ object is apart. is; away = λ object j hides is apart other. is; pending = refl; depth = refl; loans = refl }
 
 -- it goes from a variable, or to one
-pub handing_changed : (g : Typing) (o : Option Thing) (old new : Holder) (object : ℕ) (b : Bool) → Owns g.own old o → (b ≡ false → old ≡ At object 0) → Changed old g (handing g o new object b)
-handing_changed g o old new object b has from = record {
+pub handing_changed : (g : Typing) (o : Option Thing) (old new : Holder) (object : ℕ) (b : Standing) → Owns g.own old o → (b ≡ Here → (j : ℕ) → g.here object ≡ Away j → Lent j object ≡ old) → ((b ≡ Here → ⊥) → old ≡ At object 0)
+    → Changed old g (handing g o new object b)
+handing_changed g o old new object b has back from = record {
   grows = same_grows g (given o new g.own) (marked object b g.here);
   own = λ a apart. given_other g.own o old new a has apart;
   here = here b from;
+  away = away b back from;
   pending = refl;
   depth = refl;
   loans = refl;
 }
   where
-    here : (b : Bool) → (b ≡ false → old ≡ At object 0) → (n : ℕ) → g.here n ≡ true → At n 0 ≢ old → marked object b g.here n ≡ true
-    here true from n is apart = by_test (n == object) (g.here n) true true (λ e. refl) (λ e. is)
-    here false from n is apart = marked_other object false g.here n (λ same. apart (ap (λ i. At i 0) same ∙ sym (from refl))) ∙ is
+    apart_from : (n : ℕ) → old ≡ At object 0 → At n 0 ≢ old → n ≢ object
+    apart_from n is apart same = apart (ap (λ i. At i 0) same ∙ sym is)
+
+    here : (b : Standing) → ((b ≡ Here → ⊥) → old ≡ At object 0) → (n : ℕ) → g.here n ≡ Here → At n 0 ≢ old → marked object b g.here n ≡ Here
+    here Here from n is apart = by_test (n == object) (g.here n) Here Here (λ e. refl) (λ e. is)
+    here Gone from n is apart = marked_other object Gone g.here n (apart_from n (from (λ e. let k : Gone ≡ Here = e in absurd (cc))) apart) ∙ is
+    here (Away j) from n is apart = marked_other object (Away j) g.here n (apart_from n (from (λ e. let k : Away j ≡ Here = e in absurd (cc))) apart) ∙ is
+
+    away : (b : Standing) → (b ≡ Here → (j : ℕ) → g.here object ≡ Away j → Lent j object ≡ old) → ((b ≡ Here → ⊥) → old ≡ At object 0) → (n j : ℕ) → IsHiding g n true → g.here n ≡ Away j → At n 0 ≢ old → Lent j n ≢ old → marked object b g.here n ≡ Away j
+    away Here back from n j hides is apart other = elim (same_or_other n object) [
+      | inl same ↦ absurd (other (ap (λ i. Lent j i) same ∙ back refl j (ap g.here (sym same) ∙ is)))
+      | inr two ↦ marked_other object Here g.here n two ∙ is
+    ]
+    away Gone back from n j hides is apart other = marked_other object Gone g.here n (apart_from n (from (λ e. let k : Gone ≡ Here = e in absurd (cc))) apart) ∙ is
+    away (Away i) back from n j hides is apart other = marked_other object (Away i) g.here n (apart_from n (from (λ e. let k : Away i ≡ Here = e in absurd (cc))) apart) ∙ is
+
+-- a variable has no more what is in it
+pub gone_changed : (g : Typing) (o : Option Thing) (new : Holder) (object : ℕ) → Owns g.own (At object 0) o → Changed (At object 0) g (handing g o new object Gone)
+gone_changed g o new object has = handing_changed g o (At object 0) new object Gone has (λ e. let k : Gone ≡ Here = e in absurd (cc)) (λ other. refl)
+
+-- It has what comes into it, which is nothing to who has lent other things, nor to it, where a pointer may lead to it.
+pub marked_changed : (g : Typing) (object : ℕ) → Changed (At object 0) g (record g { here = marked object Here g.here })
+marked_changed g object = record {
+  grows = same_grows g g.own (marked object Here g.here);
+  own = λ a apart. refl;
+  here = λ n is apart. marked_keeps object g.here n is;
+  away = λ n j hides is apart other. marked_other object Here g.here n (λ same. apart (ap (λ i. At i 0) same)) ∙ is;
+  pending = refl;
+  depth = refl;
+  loans = refl;
+}
+
+pub shown_changed : (g : Typing) (object : ℕ) (y : ObjectType) → slice_get g.objects object ≡ Some y → y.is_hidden ≡ false → Changed Nobody g (record g { here = marked object Here g.here })
+shown_changed g object y there shown = record {
+  grows = same_grows g g.own (marked object Here g.here);
+  own = λ a apart. refl;
+  here = λ n is apart. marked_keeps object g.here n is;
+  away = λ n j hides is apart other. marked_other object Here g.here n (λ same. let type_is : y ≡ hides.0 = some_same y hides.0 (sym there ∙ ap (λ i. slice_get g.objects i) (sym same) ∙ hides.1) in
+      let z : true ≡ false = sym hides.2 ∙ ap (λ (z : ObjectType). z.is_hidden) (sym type_is) ∙ shown in absurd (cc)) ∙ is;
+  pending = refl;
+  depth = refl;
+  loans = refl;
+}
 
 -- what is known of locals stays so, where those that are full have what is in them
 module _ (g h : Typing) (grows : Grows g h) (depth : h.depth ≡ g.depth) where
@@ -181,6 +256,9 @@ module _ (old : Holder) (g h : Typing) (changed : Changed old g h) where
   pub slot_kept : (d n object : ℕ) → IsSlot g d n object → IsSlot h d n object
   slot_kept d n object (x, there, slot) = (x, changed.grows.objects object x there, slot)
 
+  pub hiding_kept : (object : ℕ) → IsHiding g object true → IsHiding h object true
+  hiding_kept object (x, there, hides) = (x, changed.grows.objects object x there, hides)
+
   pub here_kept : (d n object : ℕ) → At object 0 ≢ old → IsHere g d n object → IsHere h d n object
   here_kept d n object apart (is, slot) = (changed.here object is apart, slot_kept d n object slot)
 
@@ -202,18 +280,16 @@ module _ (old : Holder) (g h : Typing) (changed : Changed old g h) where
   alone_kept i (Into peek t) v apart is = is
   alone_kept i Void v apart is = tt
   alone_kept i Null v apart is = tt
-  alone_kept i (Seen t) v apart is = tt
+  alone_kept i (Seen object t) v apart is = absurd is
 
-  lent_kept : (region : ℕ) → is_lent_by g.loans old ≡ false → lent_now g region ≡ true → lent_now h region ≡ true
-  lent_kept region none e =
-      let apart : g.own (KeyOf region) ≢ old = (λ same. (let k : true ≡ false = sym e ∙ ap (λ h. is_lent_by g.loans h) same ∙ none in absurd (cc))) in
-      subst (λ n. is_lent_by n (h.own (KeyOf region)) ≡ true) (sym changed.loans) (subst (λ h. is_lent_by g.loans h ≡ true) (sym (changed.own (KeyOf region) apart)) e)
+  lent_kept : (a : Thing) → is_lent_by g.loans old ≡ false → lent_now g a ≡ true → lent_now h a ≡ true
+  lent_kept a none e =
+      let apart : g.own a ≢ old = (λ same. (let k : true ≡ false = sym e ∙ ap (λ h. is_lent_by g.loans h) same ∙ none in absurd (cc))) in
+      subst (λ n. is_lent_by n (h.own a) ≡ true) (sym changed.loans) (subst (λ h. is_lent_by g.loans h ≡ true) (sym (changed.own a apart)) e)
 
   pub open_kept : (l : Life) → is_lent_by g.loans old ≡ false → IsOpenIn g l → IsOpenIn h l
-  open_kept (Kept region) none is = lent_kept region none is
+  open_kept (Kept a) none is = lent_kept a none is
   open_kept (OfRegion number ns us) none is = λ r e. lent_kept r none (is r e)
-  open_kept (OfObject object) none is = tt
-  open_kept Never none is = tt
   open_kept Owned none is = tt
 
   one_kept : (b : InScope) → is_lent_by g.loans old ≡ false → IsOfVariable g b → IsOfVariable h b
@@ -237,13 +313,14 @@ module _ (old : Holder) (g h : Typing) (changed : Changed old g h) where
 pub record Raises (g h : Typing) : Type 0 where
   pub grows : Grows g h
   pub own : h.own ≡ g.own
-  pub here : (object : ℕ) → g.here object ≡ true → h.here object ≡ true
+  pub here : (object : ℕ) → g.here object ≡ Here → h.here object ≡ Here
+  pub away : (object j : ℕ) → IsHiding g object true → g.here object ≡ Away j → h.here object ≡ Away j
   pub pending : h.pending ≡ g.pending
   pub depth : h.depth ≡ g.depth
   pub loans : h.loans ≡ g.loans
 
 pub raises_changed : (g h : Typing) → Raises g h → Changed Nobody g h
-raises_changed g h raises = record { grows = raises.grows; own = λ a apart. ap (λ f. f a) raises.own; here = λ object is apart. raises.here object is; pending = raises.pending; depth = raises.depth; loans = raises.loans }
+raises_changed g h raises = record { grows = raises.grows; own = λ a apart. ap (λ f. f a) raises.own; here = λ object is apart. raises.here object is; away = λ object j hides is apart other. raises.away object j hides is; pending = raises.pending; depth = raises.depth; loans = raises.loans }
 
 pub changed_raised : (old : Holder) (g h i : Typing) → Changed old g h → Raises h i → Changed old g i
 changed_raised old g h i changed raises = record {
@@ -255,14 +332,11 @@ changed_raised old g h i changed raises = record {
   };
   own = λ a apart. ap (λ f. f a) raises.own ∙ changed.own a apart;
   here = λ object is apart. raises.here object (changed.here object is apart);
+  away = λ object j hides is apart other. raises.away object j (hiding_kept old g h changed object hides) (changed.away object j hides is apart other);
   depth = raises.depth ∙ changed.depth;
   pending = raises.pending ∙ changed.pending;
   loans = raises.loans ∙ changed.loans;
 }
-
--- a variable that has more in it
-pub marked_keeps : (object : ℕ) (here : ℕ → Bool) (n : ℕ) → here n ≡ true → marked object true here n ≡ true
-marked_keeps object here n is = by_test (n == object) (here n) true true (λ e. refl) (λ e. is)
 
 module _ (g h : Typing) (stays : Stays g h) where
   abbrev still : Changed Nobody g h
@@ -280,10 +354,13 @@ module _ (g h : Typing) (stays : Stays g h) where
 -- ---- the world is as it was
 
 -- A thing that somebody has goes to another; what cells then have they had, and it is not that.
-pub hands_typed : (g : Typing) (o : Option Thing) (old new : Holder) (here : ℕ → Bool) (regions : List Region) (objects : List Object) → Owns g.own old o → IsHeld old
-    → ((object i : ℕ) (y : ObjectType) → slice_get g.objects object ≡ Some y → IsKept (record g { own = given o new g.own; here = here }) object i y.is_hidden → IsKept g object i y.is_hidden × (At object i ≢ old)) → IsTyped g regions objects
+pub hands_typed : (g : Typing) (o : Option Thing) (old new : Holder) (here : ℕ → Standing) (regions : List Region) (objects : List Object) → Owns g.own old o → IsHeld old
+    → ((object i : ℕ) (t : ObjectType) (x : Object) → slice_get g.objects object ≡ Some t → slice_get objects object ≡ Some x → IsKept (record g { own = given o new g.own; here = here }) object i t.is_hidden
+    → (IsKept g object i t.is_hidden × (At object i ≢ old)) ⊎ ((u : RunTy) (c : Cell) (v : values.Value) → slice_get t.cells i ≡ Some u → slice_get x.cells i ≡ Some c → c.content ≡ Some v → Claims (given o new g.own) (At object i) u v))
+    → ((object j : ℕ) (t : ObjectType) (x : Object) → slice_get g.objects object ≡ Some t → slice_get objects object ≡ Some x → here object ≡ Away j → t.is_hidden ≡ true
+    → ((g.here object ≡ Away j) × (Lent j object ≢ old)) ⊎ ((i : ℕ) (u : RunTy) (c : Cell) (v : values.Value) → slice_get t.cells i ≡ Some u → slice_get x.cells i ≡ Some c → c.content ≡ Some v → Claims (given o new g.own) (Lent j object) u v)) → IsTyped g regions objects
     → IsTyped (record g { own = given o new g.own; here = here }) regions objects
-hands_typed g o old new here regions objects has held before typed = record {
+hands_typed g o old new here regions objects has held before away typed = record {
   count = typed.count;
   counts = typed.counts;
   each = λ n u there. (let (x, m, at, flag, is) = typed.each n u there in (x, m, at, flag, object_grown g _ (same_grows g (given o new g.own) here) m u x is));
@@ -291,55 +368,144 @@ hands_typed g o old new here regions objects has held before typed = record {
   kept = λ n among. ((typed.kept n among).0, λ now. (typed.kept n among).1 (held_before g.own o old new (KeyOf n) has held now));
   fresh = λ n less. none_before g.own o old new (KeyOf n) has held (typed.fresh n less);
   unique = λ object now. typed.unique object (held_before g.own o old new (PointerTo object) has held now);
-  owned = λ object t x there stands i u c v kept cell at content. (let (is, apart) = before object i t there kept in
-      claims_kept old g (giving g o new) (giving_changed g o old new has) (At object i) u v apart (typed.owned object t x there stands i u c v is cell at content));
+  owned = λ object t x there stands i u c v kept cell at content. elim (before object i t x there stands kept) [
+    | inl was ↦ claims_kept old g (giving g o new) (giving_changed g o old new has) (At object i) u v was.1 (typed.owned object t x there stands i u c v was.0 cell at content)
+    | inr is ↦ is u c v cell at content
+  ];
+  lent = λ object t x there stands i j u c v now hides cell at content. elim (away object j t x there stands now hides) [
+    | inl was ↦ claims_kept old g (giving g o new) (giving_changed g o old new has) (Lent j object) u v was.1 (typed.lent object t x there stands i j u c v was.0 hides cell at content)
+    | inr is ↦ is i u c v cell at content
+  ];
 }
 
-pub given_typed : (g : Typing) (o : Option Thing) (old new : Holder) (regions : List Region) (objects : List Object) → Owns g.own old o → IsHeld old → ((object i : ℕ) → At object i ≢ old) → IsTyped g regions objects → IsTyped (giving g o new) regions objects
-given_typed g o old new regions objects has held apart typed = hands_typed g o old new g.here regions objects has held (λ object i y there kept. (kept, apart object i)) typed
+pub given_typed : (g : Typing) (o : Option Thing) (old new : Holder) (regions : List Region) (objects : List Object) → Owns g.own old o → IsHeld old → ((object i : ℕ) → At object i ≢ old) → ((object j : ℕ) → Lent j object ≢ old) → IsTyped g regions objects → IsTyped (giving g o new) regions objects
+given_typed g o old new regions objects has held apart other typed = hands_typed g o old new g.here regions objects has held (λ object i t x there stands kept. inl (kept, apart object i)) (λ object j t x there stands now hides. inl (now, other object j)) typed
 
 -- it goes from a variable that no pointer leads to
-pub taken_typed : (g : Typing) (o : Option Thing) (object : ℕ) (new : Holder) (y : ObjectType) (regions : List Region) (objects : List Object) → Owns g.own (At object 0) o → slice_get g.objects object ≡ Some y → y.is_hidden ≡ true → IsTyped g regions objects
-    → IsTyped (handing g o new object false) regions objects
-taken_typed g o object new y regions objects has there hidden typed = hands_typed g o (At object 0) new (marked object false g.here) regions objects has tt before typed
+module _ (g : Typing) (o : Option Thing) (object : ℕ) (new : Holder) (y : ObjectType) (regions : List Region) (objects : List Object) (has : Owns g.own (At object 0) o) (there : slice_get g.objects object ≡ Some y) (hidden : y.is_hidden ≡ true) (typed : IsTyped g regions objects) where
+  -- which has it no more
+  taken_kept : (a : Standing) → (a ≡ Here → ⊥) → (n i : ℕ) (u : ObjectType) (x : Object) → slice_get g.objects n ≡ Some u → slice_get objects n ≡ Some x → IsKept (handing g o new object a) n i u.is_hidden
+      → (IsKept g n i u.is_hidden × (At n i ≢ At object 0)) ⊎ ((r : RunTy) (c : Cell) (v : values.Value) → slice_get u.cells i ≡ Some r → slice_get x.cells i ≡ Some c → c.content ≡ Some v → Claims (given o new g.own) (At n i) r v)
+  taken_kept a none n i u x found stands kept = elim (same_or_other n object) [
+    | inl same ↦ (let type_is : y ≡ u = some_same y u (sym there ∙ ap (λ k. slice_get g.objects k) (sym same) ∙ found) in
+        let now = kept.0 (ap (λ (z : ObjectType). z.is_hidden) (sym type_is) ∙ hidden) in
+        absurd (none (sym (same_number n object a (g.here n) same) ∙ now)))
+    | inr apart ↦ inl (((λ is. marked_before object a g.here n Here apart (kept.0 is)), kept.1), λ e. apart (at_same n i object 0 e).0)
+  ]
+
+  pub taken_typed : IsTyped (handing g o new object Gone) regions objects
+  taken_typed = hands_typed g o (At object 0) new (marked object Gone g.here) regions objects has tt (taken_kept Gone (λ e. let k : Gone ≡ Here = e in absurd (cc))) away typed
+    where
+      away : (n j : ℕ) (t : ObjectType) (x : Object) → slice_get g.objects n ≡ Some t → slice_get objects n ≡ Some x → marked object Gone g.here n ≡ Away j → t.is_hidden ≡ true
+          → ((g.here n ≡ Away j) × (Lent j n ≢ At object 0)) ⊎ ((i : ℕ) (u : RunTy) (c : Cell) (v : values.Value) → slice_get t.cells i ≡ Some u → slice_get x.cells i ≡ Some c → c.content ≡ Some v → Claims (given o new g.own) (Lent j n) u v)
+      away n j t x found stands now hides = elim (same_or_other n object) [
+        | inl same ↦ absurd (away_not_gone (marked object Gone g.here n) j now (same_number n object Gone (g.here n) same))
+        | inr apart ↦ inl (marked_before object Gone g.here n (Away j) apart now, lent_not_at j n object 0)
+      ]
+
+  -- or has lent it
+  pub lent_typed : (j : ℕ) → new ≡ Lent j object → ((x : Object) → slice_get objects object ≡ Some x → (i : ℕ) (u : RunTy) (c : Cell) (v : values.Value) → slice_get y.cells i ≡ Some u → slice_get x.cells i ≡ Some c → c.content ≡ Some v → Claims (given o new g.own) (Lent j object) u v)
+      → IsTyped (handing g o new object (Away j)) regions objects
+  lent_typed j new_is claims = hands_typed g o (At object 0) new (marked object (Away j) g.here) regions objects has tt (taken_kept (Away j) (λ e. let k : Away j ≡ Here = e in absurd (cc))) away typed
+    where
+      away : (n i : ℕ) (t : ObjectType) (x : Object) → slice_get g.objects n ≡ Some t → slice_get objects n ≡ Some x → marked object (Away j) g.here n ≡ Away i → t.is_hidden ≡ true
+          → ((g.here n ≡ Away i) × (Lent i n ≢ At object 0)) ⊎ ((m : ℕ) (u : RunTy) (c : Cell) (v : values.Value) → slice_get t.cells m ≡ Some u → slice_get x.cells m ≡ Some c → c.content ≡ Some v → Claims (given o new g.own) (Lent i n) u v)
+      away n i t x found stands now hides = elim (same_or_other n object) [
+        | inl same ↦ (let type_is : y ≡ t = some_same y t (sym there ∙ ap (λ k. slice_get g.objects k) (sym same) ∙ found) in
+            let number : j ≡ i = away_same j i (sym (same_number n object (Away j) (g.here n) same) ∙ now) in
+            inr (λ m u c v cell at content. subst (λ k. Claims (given o new g.own) (Lent k n) u v) number (subst (λ k. Claims (given o new g.own) (Lent j k) u v) (sym same)
+            (claims x (ap (λ k. slice_get objects k) (sym same) ∙ stands) m u c v (ap (λ (z : ObjectType). slice_get z.cells m) type_is ∙ cell) at content))))
+        | inr apart ↦ inl (marked_before object (Away j) g.here n (Away i) apart now, lent_not_at i n object 0)
+      ]
+
+-- a holder keeps what he has where he gets more
+pub given_keeps : (own : Thing → Holder) (o c : Option Thing) (h : Holder) → Owns own h c → Owns (given o h own) h c
+given_keeps own None c h is = is
+given_keeps own (Some a) None h is = tt
+given_keeps own (Some a) (Some b) h is = go (same_thing b a)
   where
-    before : (n i : ℕ) (u : ObjectType) → slice_get g.objects n ≡ Some u → IsKept (handing g o new object false) n i u.is_hidden → IsKept g n i u.is_hidden × (At n i ≢ At object 0)
-    before n i u found kept = elim (same_or_other n object) [
-      | inl same ↦ (let type_is : y ≡ u = some_same y u (sym there ∙ ap (λ k. slice_get g.objects k) (sym same) ∙ found) in
-          let now = kept.0 (ap (λ (z : ObjectType). z.is_hidden) (sym type_is) ∙ hidden) in
-          absurd (let k : true ≡ false = sym now ∙ same_number n object false (g.here n) same in cc))
-      | inr apart ↦ (((λ is. marked_before object false g.here n apart (kept.0 is)), kept.1), λ e. apart (at_same n i object 0 e).0)
+    go : (z : Bool) → (if z then h else own b) ≡ h
+    go true = refl
+    go false = is
+
+-- what a variable had when it lent what is in it, it has still or has lent
+pub also_lent : (own : Thing → Holder) (o also : Option Thing) (old new : Holder) → Owns own old also → Owns (given o new own) old also ⊎ Owns (given o new own) new also
+also_lent own o None old new has = inl tt
+also_lent own None (Some b) old new has = inl has
+also_lent own (Some a) (Some b) old new has = go (same_thing b a)
+  where
+    go : (z : Bool) → ((if z then new else own b) ≡ old) ⊎ ((if z then new else own b) ≡ new)
+    go true = inr refl
+    go false = inl has
+
+-- and lends it too
+pub also_typed : (g : Typing) (o : Option Thing) (object j : ℕ) (y : ObjectType) (regions : List Region) (objects : List Object) → slice_get g.objects object ≡ Some y → y.is_hidden ≡ true → g.here object ≡ Away j
+    → Owns g.own (At object 0) o ⊎ Owns g.own (Lent j object) o → IsTyped g regions objects → IsTyped (giving g o (Lent j object)) regions objects
+also_typed g o object j y regions objects there hidden lent (inl has) typed = hands_typed g o (At object 0) (Lent j object) g.here regions objects has tt before (λ n i t x found stands now hides. inl (now, lent_not_at i n object 0)) typed
+  where
+    before : (n i : ℕ) (t : ObjectType) (x : Object) → slice_get g.objects n ≡ Some t → slice_get objects n ≡ Some x → IsKept (giving g o (Lent j object)) n i t.is_hidden
+        → (IsKept g n i t.is_hidden × (At n i ≢ At object 0)) ⊎ ((u : RunTy) (c : Cell) (v : values.Value) → slice_get t.cells i ≡ Some u → slice_get x.cells i ≡ Some c → c.content ≡ Some v → Claims (given o (Lent j object) g.own) (At n i) u v)
+    before n i t x found stands kept = inl (
+      kept,
+      λ e.
+          (let same = (at_same n i object 0 e).0 in
+          let type_is : y ≡ t = some_same y t (sym there ∙ ap (λ k. slice_get g.objects k) (sym same) ∙ found) in
+          let here : g.here n ≡ Here = kept.0 (ap (λ (z : ObjectType). z.is_hidden) (sym type_is) ∙ hidden) in
+          absurd (let z : Away j ≡ Here = sym lent ∙ ap g.here (sym same) ∙ here in cc)),
+    )
+also_typed g o object j y regions objects there hidden lent (inr has) typed =
+    hands_typed g o (Lent j object) (Lent j object) g.here regions objects has tt (λ n i t x found stands kept. inl (kept, at_not_lent n i j object)) away typed
+  where
+    away : (n i : ℕ) (t : ObjectType) (x : Object) → slice_get g.objects n ≡ Some t → slice_get objects n ≡ Some x → g.here n ≡ Away i → t.is_hidden ≡ true
+        → ((g.here n ≡ Away i) × (Lent i n ≢ Lent j object)) ⊎ ((m : ℕ) (u : RunTy) (c : Cell) (v : values.Value) → slice_get t.cells m ≡ Some u → slice_get x.cells m ≡ Some c → c.content ≡ Some v → Claims (given o (Lent j object) g.own) (Lent i n) u v)
+    away n i t x found stands now hides = elim (same_or_other n object) [
+      | inl same ↦ (let number : i ≡ j = away_same i j (sym now ∙ ap g.here same ∙ lent) in
+          let holder : Lent j object ≡ Lent i n = ap (λ k. Lent k object) (sym number) ∙ ap (λ k. Lent i k) (sym same) in
+          inr (λ m u c v cell at content. (let is = typed.lent n t x found stands m i u c v now hides cell at content in
+          (subst (λ h. Owns (given o h g.own) (Lent i n) (thing_of u v)) (sym holder) (given_keeps g.own o (thing_of u v) (Lent i n) is.0), is.1))))
+      | inr apart ↦ inl (now, λ e. apart (lent_same i n j object e).1)
     ]
 
--- and nothing from any other
-pub untaken_typed : (g : Typing) (object : ℕ) (new : Holder) (regions : List Region) (objects : List Object) → IsTyped g regions objects → IsTyped (handing g None new object false) regions objects
-untaken_typed g object new regions objects typed = hands_typed g None (Lent 0) new (marked object false g.here) regions objects tt tt before typed
-  where
-    before : (n i : ℕ) (u : ObjectType) → slice_get g.objects n ≡ Some u → IsKept (handing g None new object false) n i u.is_hidden → IsKept g n i u.is_hidden × (At n i ≢ Lent 0)
-    before n i u found kept = elim (same_or_other n object) [
-      | inl same ↦ (((λ is. let k : true ≡ false = sym (kept.0 is) ∙ same_number n object false (g.here n) same in absurd (cc)), kept.1), at_not_lent n i 0)
-      | inr apart ↦ (((λ is. marked_before object false g.here n apart (kept.0 is)), kept.1), at_not_lent n i 0)
-    ]
-
--- a variable has what is in it from now on
-pub raised_typed : (g : Typing) (object : ℕ) (t : ObjectType) (regions : List Region) (objects : List Object) → slice_get g.objects object ≡ Some t
-    → ((x : Object) → slice_get objects object ≡ Some x → AreOwned (record g { here = marked object true g.here }) object t x.cells) → IsTyped g regions objects → IsTyped (record g { here = marked object true g.here }) regions objects
-raised_typed g object t regions objects there own typed = record {
-  count = typed.count;
-  counts = typed.counts;
-  each = λ n u at. (let (x, m, stands, flag, is) = typed.each n u at in (x, m, stands, flag, object_grown g _ (same_grows g g.own (marked object true g.here)) m u x is));
-  heap = typed.heap;
-  kept = typed.kept;
-  fresh = typed.fresh;
-  unique = typed.unique;
-  owned = owned;
+-- nothing else changes hands then
+pub also_changed : (old new : Holder) (g h : Typing) (o : Option Thing) → Owns g.own old o → Changed old g h → Changed old g (giving h o new)
+also_changed old new g h o has changed = record {
+  grows = record { objects = changed.grows.objects; filled = changed.grows.filled; fields = changed.grows.fields; kept = changed.grows.kept };
+  own = λ a apart. other o has a apart;
+  here = changed.here;
+  away = changed.away;
+  pending = changed.pending;
+  depth = changed.depth;
+  loans = changed.loans;
 }
   where
-    owned : (n : ℕ) (u : ObjectType) (x : Object) → slice_get g.objects n ≡ Some u → slice_get objects n ≡ Some x → AreOwned (record g { here = marked object true g.here }) n u x.cells
-    owned n u x at stands = elim (same_or_other n object) [
-      | inl same ↦ (let type_is : t ≡ u = some_same t u (sym there ∙ ap (λ i. slice_get g.objects i) (sym same) ∙ at) in
-          subst (λ i. AreOwned (record g { here = marked object true g.here }) i u x.cells) (sym same) (subst (λ z. AreOwned (record g { here = marked object true g.here }) object z x.cells) type_is (own x (ap (λ i. slice_get objects i) (sym same) ∙ stands))))
-      | inr apart ↦ λ i r c v kept. typed.owned n u x at stands i r c v ((λ is. marked_before object true g.here n apart (kept.0 is)), kept.1)
+    twice : (z : Bool) (a b : Holder) → (if z then new else b) ≡ b → a ≡ b → (if z then new else a) ≡ b
+    twice true a b first second = first
+    twice false a b first second = second
+
+    other : (o : Option Thing) → Owns g.own old o → (a : Thing) → g.own a ≢ old → given o new h.own a ≡ g.own a
+    other None has a apart = changed.own a apart
+    other (Some b) has a apart = twice (same_thing a b) (h.own a) (g.own a) (given_other g.own (Some b) old new a has apart) (changed.own a apart)
+
+-- a variable has again what it had lent
+pub returned_typed : (g : Typing) (o : Option Thing) (object j : ℕ) (y : ObjectType) (regions : List Region) (objects : List Object) → Owns g.own (Lent j object) o → slice_get g.objects object ≡ Some y
+    → ((x : Object) → slice_get objects object ≡ Some x → (i : ℕ) (u : RunTy) (c : Cell) (v : values.Value) → slice_get y.cells i ≡ Some u → slice_get x.cells i ≡ Some c → c.content ≡ Some v → Claims (given o (At object 0) g.own) (At object i) u v)
+    → IsTyped g regions objects → IsTyped (handing g o (At object 0) object Here) regions objects
+returned_typed g o object j y regions objects has there claims typed = hands_typed g o (Lent j object) (At object 0) (marked object Here g.here) regions objects has tt before away typed
+  where
+    before : (n i : ℕ) (t : ObjectType) (x : Object) → slice_get g.objects n ≡ Some t → slice_get objects n ≡ Some x → IsKept (handing g o (At object 0) object Here) n i t.is_hidden
+        → (IsKept g n i t.is_hidden × (At n i ≢ Lent j object)) ⊎ ((u : RunTy) (c : Cell) (v : values.Value) → slice_get t.cells i ≡ Some u → slice_get x.cells i ≡ Some c → c.content ≡ Some v → Claims (given o (At object 0) g.own) (At n i) u v)
+    before n i t x found stands kept = elim (same_or_other n object) [
+      | inl same ↦ (let type_is : y ≡ t = some_same y t (sym there ∙ ap (λ k. slice_get g.objects k) (sym same) ∙ found) in
+          inr (λ u c v cell at content. subst (λ k. Claims (given o (At object 0) g.own) (At k i) u v) (sym same)
+          (claims x (ap (λ k. slice_get objects k) (sym same) ∙ stands) i u c v (ap (λ (z : ObjectType). slice_get z.cells i) type_is ∙ cell) at content)))
+      | inr apart ↦ inl (((λ is. marked_before object Here g.here n Here apart (kept.0 is)), kept.1), at_not_lent n i j object)
+    ]
+
+    away : (n i : ℕ) (t : ObjectType) (x : Object) → slice_get g.objects n ≡ Some t → slice_get objects n ≡ Some x → marked object Here g.here n ≡ Away i → t.is_hidden ≡ true
+        → ((g.here n ≡ Away i) × (Lent i n ≢ Lent j object)) ⊎ ((m : ℕ) (u : RunTy) (c : Cell) (v : values.Value) → slice_get t.cells m ≡ Some u → slice_get x.cells m ≡ Some c → c.content ≡ Some v → Claims (given o (At object 0) g.own) (Lent i n) u v)
+    away n i t x found stands now hides = elim (same_or_other n object) [
+      | inl same ↦ absurd (away_not_here (marked object Here g.here n) i now (same_number n object Here (g.here n) same))
+      | inr apart ↦ inl (marked_before object Here g.here n (Away i) apart now, λ e. apart (lent_same i n j object e).1)
     ]
 
 -- somebody has the pointer to a unique object that nobody had
@@ -354,6 +520,8 @@ pointed_typed g object new regions objects none is typed = record {
   unique = λ n held. go n (n == object) refl held;
   owned = λ n t x there stands i u c v kept cell at content. claims_kept Nobody g (giving g (Some (PointerTo object)) new) (giving_changed g (Some (PointerTo object)) Nobody new none) (At n i) u v (at_some n i)
       (typed.owned n t x there stands i u c v kept cell at content);
+  lent = λ n t x there stands i j u c v away hides cell at content. claims_kept Nobody g (giving g (Some (PointerTo object)) new) (giving_changed g (Some (PointerTo object)) Nobody new none) (Lent j n) u v (lent_some j n)
+      (typed.lent n t x there stands i j u c v away hides cell at content);
 }
   where
     go : (n : ℕ) (b : Bool) → (n == object) ≡ b → IsHeld (if b then new else g.own (PointerTo n)) → IsUniqueObject g objects n
@@ -365,7 +533,7 @@ pub freed_typed : (g : Typing) (object i : ℕ) (x : Object) (regions : List Reg
     → IsTyped (giving g (Some (PointerTo object)) Nobody) regions (set objects object (record x { owner = Unique false }))
 freed_typed g object i x regions objects has stands typed =
     let (t, y, there, life, at, live) = typed.unique object (subst (λ h. IsHeld h) (sym has) tt) in
-    let now : IsTyped (giving g (Some (PointerTo object)) Nobody) regions objects = given_typed g (Some (PointerTo object)) (Hand i) Nobody regions objects has tt (λ n m. at_no_hand n m i) typed in
+    let now : IsTyped (giving g (Some (PointerTo object)) Nobody) regions objects = given_typed g (Some (PointerTo object)) (Hand i) Nobody regions objects has tt (λ n m. at_no_hand n m i) (λ n m. lent_no_hand m n i) typed in
     record {
       count = length-set objects object gone ∙ now.count;
       counts = length-set objects object gone ∙ now.counts;
@@ -375,6 +543,7 @@ freed_typed g object i x regions objects has stands typed =
       fresh = now.fresh;
       unique = λ n held. unique n held now;
       owned = λ n u z found is. owned n u z found is now;
+      lent = λ n u z found is. lent n u z found is now;
     }
   where
     gone : Object
@@ -417,15 +586,22 @@ freed_typed g object i x regions objects has stands typed =
       | inr apart ↦ now.owned n u z found (sym (slice_get-set_other objects object n gone apart) ∙ is)
     ]
 
+    lent : (n : ℕ) (u : ObjectType) (z : Object) → slice_get g.objects n ≡ Some u → slice_get (set objects object gone) n ≡ Some z → IsTyped h regions objects → AreLent h n u z.cells
+    lent n u z found is now = elim (same_or_other n object) [
+      | inl same ↦ (let z_is : gone ≡ z = some_same gone z (sym gone_there ∙ ap (λ k. slice_get (set objects object gone) k) (sym same) ∙ is) in
+          subst (λ (k : Object). AreLent h n u k.cells) z_is (now.lent n u x found (ap (λ k. slice_get objects k) same ∙ stands)))
+      | inr apart ↦ now.lent n u z found (sym (slice_get-set_other objects object n gone apart) ∙ is)
+    ]
+
 -- where no swap is under way, a cell has what is in it
 pub not_awaited : (g : Typing) (object i : ℕ) → g.pending ≡ Settled → g.pending ≢ Awaits object i
 not_awaited g object i settled e = let k : Settled ≡ Awaits object i = sym settled ∙ e in absurd (cc)
 
-pub kept_now : (g : Typing) (object i : ℕ) (hidden : Bool) → g.here object ≡ true → g.pending ≡ Settled → IsKept g object i hidden
+pub kept_now : (g : Typing) (object i : ℕ) (hidden : Bool) → g.here object ≡ Here → g.pending ≡ Settled → IsKept g object i hidden
 kept_now g object i hidden here settled = ((λ is. here), not_awaited g object i settled)
 
 -- a variable that has what is in it has something
-pub here_claims : (g : Typing) (regions : List Region) (objects : List Object) (object : ℕ) (t : RunTy) (l : Life) (hidden : Bool) (s : Slot) → IsTyped g regions objects → g.here object ≡ true → g.pending ≡ Settled → slice_get g.objects object ≡ Some (variable_type t l hidden s) → IsFull g object
+pub here_claims : (g : Typing) (regions : List Region) (objects : List Object) (object : ℕ) (t : RunTy) (l : Life) (hidden : Bool) (s : Slot) → IsTyped g regions objects → g.here object ≡ Here → g.pending ≡ Settled → slice_get g.objects object ≡ Some (variable_type t l hidden s) → IsFull g object
     → (v : values.Value) × Claims g.own (At object 0) t v
 here_claims g regions objects object t l hidden s typed here settled there (m, flag, enough) =
     let (x, k, stands, filled, is) = typed.each object (variable_type t l hidden s) there in
@@ -439,7 +615,7 @@ alone_comes g i (Value t) v is = is
 alone_comes g i (Into peek t) v is = absurd is
 alone_comes g i Void v is = tt
 alone_comes g i Null v is = tt
-alone_comes g i (Seen t) v is = tt
+alone_comes g i (Seen object t) v is = absurd is
 
 -- ---- a call or a loan more or less
 
@@ -456,12 +632,13 @@ moment_typed g d j regions objects typed = record {
   fresh = typed.fresh;
   unique = typed.unique;
   owned = typed.owned;
+  lent = typed.lent;
 }
 
 pub moment_globals : (p : Source) (g : Typing) (d j : ℕ) → KnowsProgram g p → KnowsProgram (record g { depth = d; loans = j }) p
 moment_globals p g d j globals = globals_grown g (record g { depth = d; loans = j }) (moment_grows g d j) p (λ n ls. refl) globals.keys globals
 
-pub hands_globals : (p : Source) (g : Typing) (own : Thing → Holder) (here : ℕ → Bool) → KnowsProgram g p → KnowsProgram (record g { own = own; here = here }) p
+pub hands_globals : (p : Source) (g : Typing) (own : Thing → Holder) (here : ℕ → Standing) → KnowsProgram g p → KnowsProgram (record g { own = own; here = here }) p
 hands_globals p g own here globals = globals_grown g (record g { own = own; here = here }) (same_grows g own here) p (λ n ls. refl) globals.keys globals
 
 -- what is lent stays so where more is
@@ -469,13 +646,11 @@ lent_more : (n : ℕ) (h : Holder) → is_lent_by n h ≡ true → is_lent_by (s
 lent_more n Nobody e = e
 lent_more n (Hand i) e = e
 lent_more n (At i j) e = e
-lent_more n (Lent j) e = let less : j < n = ltb-true j n e in lt-ltb j (suc n) (let past : j < suc n = omega (arith, less) in past)
+lent_more n (Lent j o) e = let less : j < n = ltb-true j n e in lt-ltb j (suc n) (let past : j < suc n = omega (arith, less) in past)
 
 open_more : (g : Typing) (l : Life) → IsOpenIn g l → IsOpenIn (record g { loans = suc g.loans }) l
-open_more g (Kept region) is = lent_more g.loans (g.own (KeyOf region)) is
-open_more g (OfRegion number ns us) is = λ r e. lent_more g.loans (g.own (KeyOf r)) (is r e)
-open_more g (OfObject object) is = tt
-open_more g Never is = tt
+open_more g (Kept a) is = lent_more g.loans (g.own a) is
+open_more g (OfRegion number ns us) is = λ a e. lent_more g.loans (g.own a) (is a e)
 open_more g Owned is = tt
 
 -- which swap is under way is nothing to what is open
@@ -485,8 +660,6 @@ pending_grows g q = record { objects = λ n u is. is; filled = λ n count is. is
 open_pending : (g : Typing) (q : Pending) (l : Life) → IsOpenIn g l → IsOpenIn (record g { pending = q }) l
 open_pending g q (Kept region) is = is
 open_pending g q (OfRegion number ns us) is = is
-open_pending g q (OfObject object) is = tt
-open_pending g q Never is = tt
 open_pending g q Owned is = tt
 
 variable_pending : (g : Typing) (q : Pending) (b : InScope) → IsOfVariable g b → IsOfVariable (record g { pending = q }) b
@@ -498,6 +671,22 @@ variable_pending g q b is = tt
 pub variables_pending : (g : Typing) (q : Pending) (bs : List InScope) → AreVariables g bs → AreVariables (record g { pending = q }) bs
 variables_pending g q [] are = tt
 variables_pending g q (b ∷ bs) (is, are) = (variable_pending g q b is, variables_pending g q bs are)
+
+-- nor is what variables have in them
+open_marked : (g : Typing) (here : ℕ → Standing) (l : Life) → IsOpenIn g l → IsOpenIn (record g { here = here }) l
+open_marked g here (Kept region) is = is
+open_marked g here (OfRegion number ns us) is = is
+open_marked g here Owned is = tt
+
+variable_marked : (g : Typing) (here : ℕ → Standing) (b : InScope) → IsOfVariable g b → IsOfVariable (record g { here = here }) b
+variable_marked g here (Variable b) (is, opens) = (is, open_marked g here b.life opens)
+variable_marked g here (Names number l live) (is, opens) = (life_grown g (record g { here = here }) (same_grows g g.own here) l is, λ e. open_marked g here l (opens e))
+variable_marked g here (Instance frees these live) is = λ n. (life_grown g (record g { here = here }) (same_grows g g.own here) (these n) (is n).0, λ e. open_marked g here (these n) ((is n).1 e))
+variable_marked g here b is = tt
+
+pub variables_marked : (g : Typing) (here : ℕ → Standing) (bs : List InScope) → AreVariables g bs → AreVariables (record g { here = here }) bs
+variables_marked g here [] are = tt
+variables_marked g here (b ∷ bs) (is, are) = (variable_marked g here b is, variables_marked g here bs are)
 
 variable_more : (g : Typing) (b : InScope) → IsOfVariable g b → IsOfVariable (record g { loans = suc g.loans }) b
 variable_more g (Variable b) (is, opens) = (is, open_more g b.life opens)
@@ -511,8 +700,8 @@ variables_more g [] are = tt
 variables_more g (b ∷ bs) (is, are) = (variable_more g b is, variables_more g bs are)
 
 -- what the last loan has lent
-pub lent_last : (n : ℕ) → is_lent_by (suc n) (Lent n) ≡ true
-lent_last n = lt-ltb n (suc n) (let less : n < suc n = omega arith in less)
+pub lent_last : (n o : ℕ) → is_lent_by (suc n) (Lent n o) ≡ true
+lent_last n o = lt-ltb n (suc n) (let less : n < suc n = omega arith in less)
 
 one_set_lent : (g : Typing) (j : ℕ) (f : flow.State) (b : InScope) → HoldsIts g f b → HoldsIts (record g { loans = j }) f b
 one_set_lent g j f (Variable b) is = is
@@ -533,7 +722,7 @@ pub closed_by_key : (g : Typing) (regions : List Region) (objects : List Object)
     → IsTyped (giving g (Some (KeyOf number)) Nobody) (set regions number r) objects
 closed_by_key g regions objects number i r among has typed =
     let h = giving g (Some (KeyOf number)) Nobody in
-    let now : IsTyped h regions objects = given_typed g (Some (KeyOf number)) (Hand i) Nobody regions objects has tt (λ n m. at_no_hand n m i) typed in
+    let now : IsTyped h regions objects = given_typed g (Some (KeyOf number)) (Hand i) Nobody regions objects has tt (λ n m. at_no_hand n m i) (λ n m. lent_no_hand m n i) typed in
     let apart : heap_number ≢ number = (λ e. (let many : 1 < number = (typed.kept number among).0 in let k : heap_number ≡ number = e in absurd (omega (arith, many, k)))) in
     typed_beside h regions (set regions number r) objects now (ap is_open (slice_get-set_other regions number heap_number r apart) ∙ typed.heap) (λ n among held. kept n among now held)
     (let same : length (set regions number r) ≡ length regions = length-set regions number r in let few : length regions ≤ length (set regions number r) = omega (arith, same) in few)
@@ -559,7 +748,7 @@ kept_grows g number holder = record {
 pub kept_typed : (g : Typing) (regions : List Region) (objects : List Object) (holder : Holder) → 1 < length regions → IsTyped g regions objects → IsTyped (with_kept g (length regions) holder) (regions ++ new_region Dynamic ∷ []) objects
 kept_typed g regions objects holder many typed =
     let more : IsTyped g (regions ++ new_region Dynamic ∷ []) objects = opened_typed g regions (new_region Dynamic ∷ []) objects typed in
-    record { count = typed.count; counts = typed.counts; each = each; heap = more.heap; kept = λ n among. kept n (length regions) among refl more; fresh = fresh; unique = typed.unique; owned = owned }
+    record { count = typed.count; counts = typed.counts; each = each; heap = more.heap; kept = λ n among. kept n (length regions) among refl more; fresh = fresh; unique = typed.unique; owned = owned; lent = lent }
   where
     h : Typing
     h = with_kept g (length regions) holder
@@ -575,6 +764,10 @@ kept_typed g regions objects holder many typed =
     owned : (n : ℕ) (t : ObjectType) (x : Object) → slice_get g.objects n ≡ Some t → slice_get objects n ≡ Some x → AreOwned h n t x.cells
     owned n t x there stands i u c v is cell at content =
         claims_kept Nobody g (giving g (Some (KeyOf (length regions))) holder) (giving_changed g (Some (KeyOf (length regions))) Nobody holder none) (At n i) u v (at_some n i) (typed.owned n t x there stands i u c v is cell at content)
+
+    lent : (n : ℕ) (t : ObjectType) (x : Object) → slice_get g.objects n ≡ Some t → slice_get objects n ≡ Some x → AreLent h n t x.cells
+    lent n t x there stands i j u c v away hides cell at content =
+        claims_kept Nobody g (giving g (Some (KeyOf (length regions))) holder) (giving_changed g (Some (KeyOf (length regions))) Nobody holder none) (Lent j n) u v (lent_some j n) (typed.lent n t x there stands i j u c v away hides cell at content)
 
     kept : (n k : ℕ) → IsAmong n (k ∷ g.kept) → k ≡ length regions → IsTyped g (regions ++ new_region Dynamic ∷ []) objects → (1 < n) × (IsHeld (h.own (KeyOf n)) → IsDynamic (slice_get (regions ++ new_region Dynamic ∷ []) n))
     kept n k (newest ms) same more = (

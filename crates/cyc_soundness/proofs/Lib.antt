@@ -17,6 +17,7 @@ mod Places
 mod Evaluation
 mod Loans
 mod Touched
+mod Locking
 mod Supply
 mod Execution
 mod Calls
@@ -24,9 +25,7 @@ mod Unwinding
 -- what `cyc_system` cites
 pub mod Whole
 -- what comes of texts
-mod FormedLemmas
--- what is computed of a program that gives objects back
-pub mod FreesLemmas
+pub mod FormedLemmas
 -- texts, and programs that the rules accept and refuse
 mod Examples
 mod LaterRegions

@@ -1,5 +1,5 @@
 -- WHAT IS LENT to the end of a block: dynamic regions that their keys open, and what a unique pointer leads to, by an alias.
-use Rattle.std.proofs.Common.{◌≡◌, inl, inr, set, ℕ, suc, ◌≤◌, ◌<◌, Bool, true, false, List, [], ◌∷◌, length, Option, Some, None, slice_get, refl, sym, ap, subst, ◌∙◌, arith}
+use Rattle.std.proofs.Common.{◌≡◌, inl, inr, set, ℕ, suc, ◌+◌, ◌≤◌, ◌<◌, Bool, true, false, List, [], ◌∷◌, length, Option, Some, None, slice_get, refl, sym, ap, subst, ◌∙◌, arith, zero}
 use Rattle.std.specs.Prelude.{if◌then◌else◌}
 use Rattle.std.proofs.lemmas.Bool.{eq-eqb}
 use Rattle.cyc_syntax.specs.declared.tree.PointerKind.{PointerKind}
@@ -8,7 +8,7 @@ use Rattle.cyc_types.specs.declared.region.Region.{Region as Region'}
 use Rattle.cyc_types.specs.declared.region.Region.TheVariants as regions
 use Rattle.cyc_types.specs.declared.scope.ScopeKind.TheVariants as scopes
 use Rattle.cyc_types.specs.declared.typed.Kind.TheVariants as kinds
-use Rattle.cyc_types.specs.Outlives.{live_regions, RegionContext}
+use Rattle.cyc_types.specs.Outlives.{live_regions}
 use Rattle.cyc_types.specs.Types.{Ty}
 use Rattle.cyc_types.specs.Types as types
 use Rattle.cyc_types.specs.TypedTrees.{Items}
@@ -17,28 +17,28 @@ use Rattle.cyc_types.specs.typing.Tests.{is_unique}
 use Rattle.cyc_types.specs.typing.WellTyped.{LocalInScope, Context, HasLocal, IsLive, with_local, with_region, with_opened, with_key_opened}
 use Rattle.cyc_types.specs.flow.States as flow
 use Rattle.cyc_types.specs.flow.States.{Locked, Full, with_fullness}
-use Rattle.cyc_meaning.specs.Values.{Operand}
+use Rattle.cyc_meaning.specs.Values.{Operand, Cell}
 use Rattle.cyc_meaning.specs.Values as values
 use Rattle.cyc_meaning.specs.State as state
-use Rattle.cyc_meaning.specs.State.{World, Found, Closed, found_region, region_at, opened_as, Environment, Entry, EndLoan, Focus, Proceeding, Naming, closed, State, Running}
+use Rattle.cyc_meaning.specs.State.{World, Found, Closed, found_region, region_at, opened_as, Environment, Entry, EndLoan, Focus, Proceeding, Naming, closed, State, Running, Object}
 use Rattle.cyc_meaning.specs.Parts.{wrong}
 use Rattle.cyc_meaning.specs.Nesting.{ends_of, IsNested}
 use Rattle.cyc_meaning.specs.Regions.{is_dynamic, opened_by, opens_with, opens_dynamic, closes_dynamic, closes_with, aliased, frees_owned, frees_object, frees}
 use Rattle.cyc_meaning.specs.Objects.{freed}
-use Rattle.cyc_soundness.specs.Lives.{Life, OfRegion, OfObject, Never, Kept, heap_life, Value, at, Reading, AsHeap, ByScope, AllIn, IsKnown, owned_life}
+use Rattle.cyc_soundness.specs.Lives.{Life, OfRegion, Kept, heap_life, Value, at, Reading, AsHeap, ByScope, AllIn, IsKnown, owned_life}
 use Rattle.cyc_soundness.specs.Lives as lives
-use Rattle.cyc_soundness.specs.Worlds.{OfLocal, Thing, KeyOf, PointerTo, Nobody, Hand, At, Lent, thing_of, Owns, Claims, IsSlot, IsHere, giving, given, marked, handing, variable_type, IsHeld, is_lent_by, IsOpenIn, Stays, Grows, IsFull, IsPlain, Typing, IsKnownLife, IsNumber, IsKeyOf, HasType, IsResult, IsTyped, IsDynamic, IsKnownOwner, Settled, Holder}
-use Rattle.cyc_soundness.specs.Classes.{IsSpared, HasLoans, IsDeclarable, Source, HasAliases}
-use Rattle.cyc_soundness.specs.Frames.{IsAmong, first, later, Bound, InScope, Variable, Names, life_named, lives_in, read, IsBound, AreVariables, IsLasting, LiveIn, Within, older, IsFullIn, Holds, Implies, Exits, lending, AreKnownLocals, AreKnown, IsContext, KnowsProgram, frees_in, Stand, local_type}
-use Rattle.cyc_soundness.specs.Stacks.{IsByType, operands_in, Continues, Go, IsStack, IsWell}
+use Rattle.cyc_soundness.specs.Worlds.{OfLocal, Thing, KeyOf, PointerTo, Nobody, Hand, At, Lent, thing_of, Owns, Claims, IsSlot, IsHere, giving, given, marked, handing, variable_type, IsHeld, is_lent_by, IsOpenIn, Stays, Grows, IsFull, Typing, IsKnownLife, IsNumber, IsKeyOf, HasType, IsResult, IsTyped, IsDynamic, IsKnownOwner, Settled, Holder, lent_now, IsTarget, ObjectType, Outlasts, alike, life_at, Away, Here}
+use Rattle.cyc_soundness.specs.Classes.{IsSpared, HasLoans, IsDeclarable, Source}
+use Rattle.cyc_soundness.specs.Frames.{IsAmong, first, later, Bound, InScope, Variable, Names, life_named, lives_in, read, IsBound, AreVariables, IsLasting, LiveIn, Within, older, IsFullIn, Holds, Implies, Exits, lending, AreKnownLocals, AreKnown, IsContext, KnowsProgram, frees_in, local_type}
+use Rattle.cyc_soundness.specs.Stacks.{operands_in, Continues, Go, IsStack, IsWell, IsCommonLife}
+use Rattle.cyc_soundness.proofs.Numbers.{some_same}
 use Rattle.cyc_soundness.proofs.TypeLemmas.{all_in, read_alike}
 use Rattle.cyc_soundness.proofs.FlowLemmas.{full_set, reached_with}
 use Rattle.cyc_soundness.proofs.RegionLemmas.{contains_more, name_known, same_name, known_other, known_more, other_life, context_key, context_alias, context_again, region_owner}
-use Rattle.cyc_soundness.proofs.WorldLemmas.{globals_grown, result_grown}
-use Rattle.cyc_soundness.proofs.Hands.{Changed, at_no_hand, at_some, given_now, giving_changed, handing_changed, changed_after, variables_kept, holds_kept, taken_typed, here_claims, freed_typed, hands_globals, with_kept, kept_grows, kept_typed, variables_more, moment_typed, moment_globals, holds_lent, lent_last, closed_by_key, untaken_typed}
-use Rattle.cyc_soundness.proofs.Sharing.{life_common, by_type_read}
-use Rattle.cyc_soundness.proofs.StackLemmas.{emptied_other, stack_changed, above_globals, full_here, within_full_at, within_variables, among_bound, among_variable, among_own, among_set, set_stored, statement_relied, settled}
-use Rattle.cyc_soundness.proofs.Cells.{pointer_plain, plain_claims, by_type_claims, running, plain_nothing, both_plain}
+use Rattle.cyc_soundness.proofs.WorldLemmas.{globals_grown, result_grown, typed_cell}
+use Rattle.cyc_soundness.proofs.Hands.{Changed, at_no_hand, at_some, given_now, giving_changed, handing_changed, changed_after, variables_kept, holds_kept, freed_typed, hands_globals, with_kept, kept_grows, kept_typed, variables_more, moment_typed, moment_globals, holds_lent, lent_last, closed_by_key, lent_typed, marked_now, kept_now, also_changed, also_typed, also_lent}
+use Rattle.cyc_soundness.proofs.StackLemmas.{emptied_other, stack_changed, above_globals, full_here, within_full_at, within_variables, among_bound, among_variable, among_own, among_set, set_stored, statement_relied, settled, lent_held}
+use Rattle.cyc_soundness.proofs.Cells.{pointer_plain, plain_claims, running}
 
 -- ---- lists
 
@@ -72,36 +72,118 @@ alias_known (ByScope lends frees) n (types.Handle r) unique known = absurd (let 
 alias_known (ByScope lends frees) n (types.Key r) unique known = absurd (let z : false ≡ true = unique in cc)
 alias_known (ByScope lends frees) n (types.Struct s rs) unique known = absurd (let z : false ≡ true = unique in cc)
 
--- where there are aliases, no object is given back
-pub shared_loans : (m : Reading) → HasAliases m → HasLoans m
-shared_loans AsHeap shares = shares
-shared_loans (ByScope lends frees) shares = shares.0
+-- what a unique pointer is
+unique_is : (u : Ty) → is_unique u ≡ true → (k : PointerKind) × (t : Ty) × (u ≡ types.Pointer k t regions.Unique)
+unique_is (types.Pointer k t regions.Unique) unique = (k, t, refl)
+unique_is (types.Pointer k t regions.Heap) unique = absurd (let z : false ≡ true = unique in cc)
+unique_is (types.Pointer k t (regions.Variable m)) unique = absurd (let z : false ≡ true = unique in cc)
+unique_is types.Int unique = absurd (let z : false ≡ true = unique in cc)
+unique_is (types.Handle r) unique = absurd (let z : false ≡ true = unique in cc)
+unique_is (types.Key r) unique = absurd (let z : false ≡ true = unique in cc)
+unique_is (types.Struct s rs) unique = absurd (let z : false ≡ true = unique in cc)
 
-unfreed : (m : Reading) (c : RegionContext) (bs : List InScope) → HasAliases m → Stand m c bs → frees_in bs ≡ false
-unfreed AsHeap c bs shares stand = absurd shares
-unfreed (ByScope lends frees) c bs shares (same, stand) = same ∙ shares.1
+-- how long there is what is shared of a unique pointer: while it is lent, or for ever where nothing is given back
+abbrev shared_life : Life → values.Value → Life
+shared_life lives.Owned (values.Thin object offset) = Kept (PointerTo object)
+shared_life lives.Owned (values.Fat object start count index) = Kept (PointerTo object)
+shared_life l v = heap_life
 
--- and unique pointers are as others
-unique_plain : (g : Typing) (bs : List InScope) (u : Ty) → AreVariables g bs → frees_in bs ≡ false → is_unique u ≡ true → IsPlain (read bs u)
-unique_plain g bs (types.Pointer k t r) variables none unique = pointer_plain k (read bs t) (lives_in bs r) (life_common g bs variables r none)
-unique_plain g bs types.Int variables none unique = absurd (let z : false ≡ true = unique in cc)
-unique_plain g bs (types.Handle r) variables none unique = absurd (let z : false ≡ true = unique in cc)
-unique_plain g bs (types.Key r) variables none unique = absurd (let z : false ≡ true = unique in cc)
-unique_plain g bs (types.Struct s rs) variables none unique = absurd (let z : false ≡ true = unique in cc)
-
--- an alias has the type of what it shares, as a run reads it
-alias_read : (bs : List InScope) (n : ℕ) (u : Ty) → frees_in bs ≡ false → is_unique u ≡ true → AllIn (IsKnown n) u → read (Names n heap_life true ∷ bs) (with_region_of (regions.Variable n) u) ≡ read bs u
-alias_read bs n (types.Pointer k t regions.Unique) none unique (known, one) =
-    let inner : List InScope = Names n heap_life true ∷ bs in
+-- an alias has the type of what it shares, but leads to what is there so long
+alias_read : (bs : List InScope) (n : ℕ) (l : Life) (k : PointerKind) (t : Ty) → AllIn (IsKnown n) t → read (Names n l true ∷ bs) (types.Pointer k t (regions.Variable n)) ≡ lives.Pointer k (read bs t) l
+alias_read bs n l k t known =
+    let inner : List InScope = Names n l true ∷ bs in
     let same : read inner t ≡ read bs t = sym (read_alike (lives_in bs) (lives_in inner) t
-    (all_in (IsKnown n) (λ r. lives_in bs r ≡ lives_in inner r) (λ r is. other_life n heap_life true bs r (known_other n r is)) t known)) in
-    ap (λ z. lives.Pointer k z (life_named inner n)) same ∙ ap (λ l. lives.Pointer k (read bs t) l) (same_name n heap_life (life_named bs n) ∙ sym (ap owned_life none))
-alias_read bs n (types.Pointer k t regions.Heap) none unique known = absurd (let z : false ≡ true = unique in cc)
-alias_read bs n (types.Pointer k t (regions.Variable m)) none unique known = absurd (let z : false ≡ true = unique in cc)
-alias_read bs n types.Int none unique known = absurd (let z : false ≡ true = unique in cc)
-alias_read bs n (types.Handle r) none unique known = absurd (let z : false ≡ true = unique in cc)
-alias_read bs n (types.Key r) none unique known = absurd (let z : false ≡ true = unique in cc)
-alias_read bs n (types.Struct s rs) none unique known = absurd (let z : false ≡ true = unique in cc)
+    (all_in (IsKnown n) (λ r. lives_in bs r ≡ lives_in inner r) (λ r is. other_life n l true bs r (known_other n r is)) t known)) in
+    ap (λ z. lives.Pointer k z (life_named inner n)) same ∙ ap (λ m. lives.Pointer k (read bs t) m) (same_name n l (life_named bs n))
+
+-- it is lent now, if it is anything
+abbrev IsLentNow : Typing → Option Thing → Type 0
+IsLentNow g None = Unit {0}
+IsLentNow g (Some a) = lent_now g a ≡ true
+
+abbrev IsNoPointer : values.Value → Type 0
+IsNoPointer (values.Int n) = Unit {0}
+IsNoPointer (values.Handle n) = Unit {0}
+IsNoPointer (values.Key n) = Unit {0}
+IsNoPointer v = ⊥
+
+lent_by_now : (g : Typing) (object j : ℕ) (o : Option Thing) → g.loans ≡ suc j → Owns g.own (Lent j object) o → IsLentNow g o
+lent_by_now g object j None loans is = tt
+lent_by_now g object j (Some a) loans is = subst (λ h. is_lent_by g.loans h ≡ true) (sym is) (subst (λ n. is_lent_by n (Lent j object) ≡ true) (sym loans) (lent_last j object))
+
+-- a pointer that is lent may be used so long
+module _ (g : Typing) (regions : List state.Region) (objects : List state.Object) (typed : IsTyped g regions objects) where
+  shared_target : (t : lives.RunTy) (object offset : ℕ) → IsTarget g t lives.Owned object offset → lent_now g (PointerTo object) ≡ true → IsTarget g t (Kept (PointerTo object)) object offset
+  shared_target t object offset (x, there, shown, lasts, part) lent =
+      let (y, z, at, life, stands, owner) = typed.unique object (lent_held g.loans (g.own (PointerTo object)) lent) in
+      let owned : x.life ≡ lives.Owned = ap (λ (z : ObjectType). z.life) (some_same x y (sym there ∙ at)) ∙ life in
+      (x, there, shown, subst (λ m. Outlasts (life_at object m) (Kept (PointerTo object))) (sym owned) (alike (Kept (PointerTo object))), part)
+
+  shared_null : (k : PointerKind) (t : lives.RunTy) → HasType g (lives.Pointer k t lives.Owned) values.Null → HasType g (lives.Pointer k t heap_life) values.Null
+  shared_null marks.Nullable t is = tt
+  shared_null marks.NonNull t is = absurd is
+  shared_null marks.Fat t is = tt
+
+  shared_thin : (k : PointerKind) (t : lives.RunTy) (object offset : ℕ) → HasType g (lives.Pointer k t lives.Owned) (values.Thin object offset) → lent_now g (PointerTo object) ≡ true
+      → HasType g (lives.Pointer k t (Kept (PointerTo object))) (values.Thin object offset)
+  shared_thin marks.Nullable t object offset is lent = shared_target t object offset is lent
+  shared_thin marks.NonNull t object offset is lent = shared_target t object offset is lent
+  shared_thin marks.Fat t object offset is lent = absurd is
+
+  shared_fat : (k : PointerKind) (t : lives.RunTy) (object start count index : ℕ) → HasType g (lives.Pointer k t lives.Owned) (values.Fat object start count index) → lent_now g (PointerTo object) ≡ true
+      → HasType g (lives.Pointer k t (Kept (PointerTo object))) (values.Fat object start count index)
+  shared_fat marks.Nullable t object start count index is lent = absurd is
+  shared_fat marks.NonNull t object start count index is lent = absurd is
+  shared_fat marks.Fat t object start count index is lent = λ i less. shared_target t object (start + i) (is i less) lent
+
+  shared_other : {A : Type 0} (k : PointerKind) (t : lives.RunTy) (l : Life) (v : values.Value) → IsNoPointer v → HasType g (lives.Pointer k t l) v → A
+  shared_other marks.Nullable t l (values.Int n) other is = absurd is
+  shared_other marks.NonNull t l (values.Int n) other is = absurd is
+  shared_other marks.Fat t l (values.Int n) other is = absurd is
+  shared_other marks.Nullable t l (values.Handle n) other is = absurd is
+  shared_other marks.NonNull t l (values.Handle n) other is = absurd is
+  shared_other marks.Fat t l (values.Handle n) other is = absurd is
+  shared_other marks.Nullable t l (values.Key n) other is = absurd is
+  shared_other marks.NonNull t l (values.Key n) other is = absurd is
+  shared_other marks.Fat t l (values.Key n) other is = absurd is
+  shared_other k t l v other is = absurd other
+
+  shared_typed : (frees : Bool) (k : PointerKind) (t : lives.RunTy) (v : values.Value) → HasType g (lives.Pointer k t (owned_life frees)) v → IsLentNow g (thing_of (lives.Pointer k t (owned_life frees)) v)
+      → HasType g (lives.Pointer k t (shared_life (owned_life frees) v)) v
+  shared_typed false k t v is lent = is
+  shared_typed true k t values.Null is lent = shared_null k t is
+  shared_typed true k t (values.Thin object offset) is lent = shared_thin k t object offset is lent
+  shared_typed true k t (values.Fat object start count index) is lent = shared_fat k t object start count index is lent
+  shared_typed true k t (values.Int n) is lent = shared_other k t lives.Owned (values.Int n) tt is
+  shared_typed true k t (values.Handle n) is lent = shared_other k t lives.Owned (values.Handle n) tt is
+  shared_typed true k t (values.Key n) is lent = shared_other k t lives.Owned (values.Key n) tt is
+
+-- such a life
+module _ (frees : Bool) (v : values.Value) where
+  -- what is so of the heap and of whatever is lent
+  shared_by : (P : Life → Type 0) → P heap_life → ((object : ℕ) → P (Kept (PointerTo object))) → P (shared_life (owned_life frees) v)
+  shared_by P heap lent = go frees v
+    where
+      go : (frees : Bool) (v : values.Value) → P (shared_life (owned_life frees) v)
+      go false v = heap
+      go true values.Null = heap
+      go true (values.Thin object offset) = lent object
+      go true (values.Fat object start count index) = lent object
+      go true (values.Int n) = heap
+      go true (values.Handle n) = heap
+      go true (values.Key n) = heap
+
+heap_open : (g : Typing) → IsOpenIn g heap_life
+heap_open g a e = absurd (let z : false ≡ true = e in cc)
+
+shared_open : (g : Typing) (frees : Bool) (k : PointerKind) (t : lives.RunTy) (v : values.Value) → IsLentNow g (thing_of (lives.Pointer k t (owned_life frees)) v) → IsOpenIn g (shared_life (owned_life frees) v)
+shared_open g false k t v lent = heap_open g
+shared_open g true k t values.Null lent = heap_open g
+shared_open g true k t (values.Thin object offset) lent = lent
+shared_open g true k t (values.Fat object start count index) lent = lent
+shared_open g true k t (values.Int n) lent = heap_open g
+shared_open g true k t (values.Handle n) lent = heap_open g
+shared_open g true k t (values.Key n) lent = heap_open g
 
 dynamic_found : (o : Option state.Region) → IsDynamic o → (r : state.Region) × (found_region o ≡ Found r) × (is_dynamic r.sort ≡ true)
 dynamic_found None is = absurd is
@@ -126,67 +208,89 @@ context_lending p x bs c n stands = record {
 
 module _ (p : Source) (g : Typing) (x : Exits) (bs : List InScope) (e : Environment) (w : World) (typed : IsTyped g w.regions w.objects) (globals : KnowsProgram g p) (bound : IsBound e.locals e.counters bs) (variables : AreVariables g bs) where
   -- where a local has lent what it holds
-  abbrev lent_thing : Bound → Option Thing
-  lent_thing b = thing_of b.of_type values.Null
+  abbrev lent_content : Bound → values.Value → Typing
+  lent_content b v = handing g (thing_of b.of_type v) (Lent g.loans b.object) b.object (Away g.loans)
 
-  abbrev lent_out : Bound → Typing
-  lent_out b = handing g (lent_thing b) (Lent g.loans) b.object false
+  -- and what was read of it, which is the same
+  abbrev lent_out : Bound → values.Value → Option Thing → Typing
+  lent_out b v also = giving (lent_content b v) also (Lent g.loans b.object)
 
-  abbrev lending_typing : Bound → Typing
-  lending_typing b = record (lent_out b) { loans = suc g.loans }
+  abbrev lending_typing : Bound → values.Value → Option Thing → Typing
+  lending_typing b v also = record (lent_out b v also) { loans = suc g.loans }
 
-  lending_grows : (b : Bound) → Grows g (lending_typing b)
-  lending_grows b = record { objects = λ n u is. is; filled = λ n count is. is; fields = λ n ls ts is. is; kept = λ n is. is }
-
-  -- one that no pointer leads to gives away what it has, and any other has nothing
-  taken_lent : (b : Bound) (new : Holder) → IsAmong (Variable b) bs → IsByType b.of_type → Owns g.own (At b.object 0) (lent_thing b) → IsTyped (handing g (lent_thing b) new b.object false) w.regions w.objects
-  taken_lent b new among by has = go b.is_hidden refl
-    where
-      go : (hidden : Bool) → b.is_hidden ≡ hidden → IsTyped (handing g (lent_thing b) new b.object false) w.regions w.objects
-      go true hides = taken_typed g (lent_thing b) b.object new (local_type g.depth b) w.regions w.objects has (among_variable g among variables) hides typed
-      go false shows =
-          let (y, m, stands, flag, is) = typed.each b.object (local_type g.depth b) (among_variable g among variables) in
-          let none : lent_thing b ≡ None = plain_nothing b.of_type values.Null (both_plain b.of_type (is.keyless shows).0 by) in
-          subst (λ o. IsTyped (handing g o new b.object false) w.regions w.objects) (sym none) (untaken_typed g b.object new w.regions w.objects typed)
+  lending_grows : (b : Bound) (v : values.Value) (also : Option Thing) → Grows g (lending_typing b v also)
+  lending_grows b v also = record { objects = λ n u is. is; filled = λ n count is. is; fields = λ n ls ts is. is; kept = λ n is. is }
 
   -- what is known then
-  record IsLent (b : Bound) (lent : ℕ) (f h : flow.State) (cs : List InScope) (k : List Entry) : Type 0 where
-    objects : IsTyped (lending_typing b) w.regions w.objects
-    knows : KnowsProgram (lending_typing b) p
-    scope : AreVariables (lending_typing b) bs
-    holds : Holds (lending_typing b) (with_fullness Locked f lent) bs
-    stack : IsStack p (lending_typing b) (lending x lent) cs (Go h) (EndLoan lent ∷ k)
+  record IsLent (also : Option Thing) (b : Bound) (lent : ℕ) (f h : flow.State) (cs : List InScope) (k : List Entry) : Type 0 where
+    value : values.Value
+    claims : Claims g.own (At b.object 0) b.of_type value
+    objects : IsTyped (lending_typing b value also) w.regions w.objects
+    knows : KnowsProgram (lending_typing b value also) p
+    scope : AreVariables (lending_typing b value also) bs
+    holds : Holds (lending_typing b value also) (with_fullness Locked f lent) bs
+    stack : IsStack p (lending_typing b value also) (lending x lent) cs (Go h) (EndLoan lent ∷ k)
 
-  -- it has it before
-  lender_has : (b : Bound) (f : flow.State) → g.pending ≡ Settled → IsAmong (Variable b) bs → IsByType b.of_type → IsFullIn f b.number → Holds g f bs → (v : values.Value) → Claims g.own (At b.object 0) b.of_type v
-  lender_has b f still among by full holds v =
-      let some : IsFull g b.object = among_set g f among holds.1 (full_set (flow.fullness f b.number) full) in
+  -- what is in it
+  record Content (b : Bound) : Type 0 where
+    value : values.Value
+    claims : Claims g.own (At b.object 0) b.of_type value
+    only_it : (own : Thing → Holder) (h : Holder) → Claims own h b.of_type value → (x : Object) → slice_get w.objects b.object ≡ Some x → (i : ℕ) (u : lives.RunTy) (c : Cell) (v : values.Value) → slice_get (b.of_type ∷ []) i ≡ Some u → slice_get x.cells i ≡ Some c → c.content ≡ Some v → Claims own h u v
+
+  lender_has : (b : Bound) (f : flow.State) → g.pending ≡ Settled → IsAmong (Variable b) bs → IsFullIn f b.number → Holds g f bs → Content b
+  lender_has b f still among full holds =
+      let (m, flag, enough) = among_set g f among holds.1 (full_set (flow.fullness f b.number) full) in
       let here : IsHere g g.depth b.number b.object = among_own g f among holds.1 full in
-      let (z, is) = here_claims g w.regions w.objects b.object b.of_type b.life b.is_hidden (OfLocal g.depth b.number) typed here.0 still (among_variable g among variables) some in
-      by_type_claims g.own (At b.object 0) b.of_type z v by is
+      let there = among_variable g among variables in
+      let (x, i, stands, filled, is) = typed.each b.object (local_type g.depth b) there in
+      let c = typed_cell g (b.of_type ∷ []) x.cells i 0 b.of_type is.cells refl in
+      let same : m ≡ i = some_same m i (sym flag ∙ filled) in
+      let (z, content, has) = c.content (let less : 0 < i = omega (arith, same, enough) in less) in
+      record {
+        value = z;
+        claims = typed.owned b.object (local_type g.depth b) x there stands 0 b.of_type c.cell z (kept_now g b.object 0 b.is_hidden here.0 still) refl c.at content;
+        only_it = λ own h claims y found n u d v type_is at full. one own h z c.cell claims x y n u d v stands c.at content found type_is at full;
+      }
+    where
+      one : (own : Thing → Holder) (h : Holder) (z : values.Value) (c : Cell) → Claims own h b.of_type z → (x y : Object) (n : ℕ) (u : lives.RunTy) (d : Cell) (v : values.Value) → slice_get w.objects b.object ≡ Some x → slice_get x.cells 0 ≡ Some c → c.content ≡ Some z
+          → slice_get w.objects b.object ≡ Some y → slice_get (b.of_type ∷ []) n ≡ Some u → slice_get y.cells n ≡ Some d → d.content ≡ Some v → Claims own h u v
+      one own h z c claims x y zero u d v stands at content found type_is there full =
+          let same : x ≡ y = some_same x y (sym stands ∙ found) in
+          let cell_is : c ≡ d = some_same c d (sym at ∙ ap (λ (o : Object). slice_get o.cells 0) same ∙ there) in
+          let value_is : z ≡ v = some_same z v (sym content ∙ ap (λ (o : Cell). o.content) cell_is ∙ full) in
+          subst (λ t. Claims own h t v) (some_same b.of_type u type_is) (subst (λ e. Claims own h b.of_type e) value_is claims)
+      one own h z c claims x y (suc n) u d v stands at content found type_is there full = absurd (let e : None ≡ Some u = type_is in cc)
 
-  lends : (b : Bound) (lent : ℕ) (f h i : flow.State) (cs : List InScope) (k : List Entry) → Within cs bs → IsAmong (Variable b) bs → IsByType b.of_type → b.number ≡ lent → IsFullIn f lent → IsSpared x.relied lent → Holds g f bs → Implies (with_fullness Full h lent) i
-      → IsStack p g x cs (Go i) k → IsLent b lent f h cs k
-  lends b lent f h i cs k within among by number full spared holds again stack =
+  lends : (also : Option Thing) (b : Bound) (lent : ℕ) (f h i : flow.State) (cs : List InScope) (k : List Entry) → Within cs bs → IsAmong (Variable b) bs → b.is_hidden ≡ true → b.number ≡ lent → IsFullIn f lent → IsSpared x.relied lent → Holds g f bs → Implies (with_fullness Full h lent) i
+      → Owns g.own (At b.object 0) also → IsStack p g x cs (Go i) k → IsLent also b lent f h cs k
+  lends also b lent f h i cs k within among hides number full spared holds again others stack =
       let old = At b.object 0 in
-      let new = Lent g.loans in
-      let o = lent_out b in
-      let j = lending_typing b in
-      let f1 = with_fullness Locked f lent in
+      let new = Lent g.loans b.object in
       let full_here' : IsFullIn f b.number = subst (λ n. IsFullIn f n) (sym number) full in
-      let has : Owns g.own old (lent_thing b) = (lender_has b f (settled p g x cs (Go i) k stack) among by full_here' holds values.Null).0 in
+      let has = lender_has b f (settled p g x cs (Go i) k stack) among full_here' holds in
+      let thing = thing_of b.of_type has.value in
+      let content = lent_content b has.value in
+      let o = lent_out b has.value also in
+      let j = lending_typing b has.value also in
+      let f1 = with_fullness Locked f lent in
       let there : e.locals lent ≡ Some b.object = ap e.locals (sym number) ∙ among_bound e among bound in
       let some : IsFull g b.object = among_set g f among holds.1 (full_set (flow.fullness f b.number) full_here') in
-      let type_is : slice_get g.objects b.object ≡ Some (variable_type b.of_type b.life b.is_hidden (OfLocal g.depth lent)) = subst (λ n. slice_get g.objects b.object ≡ Some (variable_type b.of_type b.life b.is_hidden (OfLocal g.depth n))) number (among_variable g among variables) in
-      let slot : IsSlot g g.depth lent b.object = (variable_type b.of_type b.life b.is_hidden (OfLocal g.depth lent), type_is, refl) in
-      let changed : Changed old g o = handing_changed g (lent_thing b) old new b.object false has (λ same. refl) in
+      let type_is : slice_get g.objects b.object ≡ Some (variable_type b.of_type b.life true (OfLocal g.depth lent)) =
+      subst (λ z. slice_get g.objects b.object ≡ Some (variable_type b.of_type b.life z (OfLocal g.depth lent))) hides (subst (λ n. slice_get g.objects b.object ≡ Some (variable_type b.of_type b.life b.is_hidden (OfLocal g.depth n))) number (among_variable g among variables)) in
+      let slot : IsSlot g g.depth lent b.object = (variable_type b.of_type b.life true (OfLocal g.depth lent), type_is, refl) in
+      let changed : Changed old g o = also_changed old new g content also others (handing_changed g thing old new b.object (Away g.loans) has.claims.0 (λ e. let z : Away g.loans ≡ Here = e in absurd (cc)) (λ other. refl)) in
       let locked : Holds g f1 bs = (reached_with Locked f lent holds.0, set_stored g e Locked f lent b.object bs bound there some holds.0 (λ s. let z : false ≡ true = s in absurd (cc)) holds.1) in
       let now : Holds o f1 bs = holds_kept old g o changed f1 bs (λ m other s its. emptied_other g Locked f lent m b.object other refl holds.0 s slot its.1) locked in
       let scope : AreVariables o bs = variables_kept old g o changed bs refl variables in
       let scope_now : AreVariables j bs = variables_more o bs scope in
+      let own = given also new (given thing new g.own) in
+      let away : content.here b.object ≡ Away g.loans = marked_now b.object (Away g.loans) g.here in
       record {
-        objects = moment_typed o g.depth (suc g.loans) w.regions w.objects (taken_lent b new among by has);
-        knows = moment_globals p o g.depth (suc g.loans) (hands_globals p g (given (lent_thing b) new g.own) (marked b.object false g.here) globals);
+        value = has.value;
+        claims = has.claims;
+        objects = moment_typed o g.depth (suc g.loans) w.regions w.objects (also_typed content also b.object g.loans (variable_type b.of_type b.life true (OfLocal g.depth lent)) w.regions w.objects type_is refl away (also_lent g.own thing also old new others) (lent_typed g thing b.object new (variable_type b.of_type b.life true (OfLocal g.depth lent)) w.regions w.objects has.claims.0 type_is refl typed g.loans refl
+            (λ x stands n u c v. has.only_it (given thing new g.own) new (given_now g.own thing new, has.claims.1) x stands n u c v)));
+        knows = moment_globals p o g.depth (suc g.loans) (hands_globals p g own (marked b.object (Away g.loans) g.here) globals);
         scope = scope_now;
         holds = holds_lent o (suc g.loans) f1 bs now;
         stack = (
@@ -197,7 +301,7 @@ module _ (p : Source) (g : Typing) (x : Exits) (bs : List InScope) (e : Environm
           b.object,
           refl,
           refl,
-          (b.life, b.is_hidden, type_is, by, given_now g.own (lent_thing b) new),
+          (b.life, type_is, marked_now b.object (Away g.loans) g.here),
           again,
           within_full_at j lent b.object cs bs within (full_here j e lent b.object bs bound there some),
           within_variables o cs bs within scope,
@@ -207,27 +311,26 @@ module _ (p : Source) (g : Typing) (x : Exits) (bs : List InScope) (e : Environm
 
   -- the key of a region comes, which is opened
   pub opens_on : (number lent : ℕ) (js : Items) (v : values.Value) (k : List Entry) (cs : List InScope) (c : Context) (b : Bound) (r : ℕ) (f h i : flow.State) → LiveIn k bs → Holds g f bs → HasLoans p.reading → Within cs bs
-      → IsContext p x bs c → IsAmong (Variable b) bs → b.number ≡ lent → b.of_type ≡ lives.Key (life_named bs r) → IsSpared x.relied lent → IsFullIn f lent → r < c.next_region → IsLive c (regions.Variable c.region) → number ≡ c.next_local
+      → IsContext p x bs c → IsAmong (Variable b) bs → b.number ≡ lent → b.of_type ≡ lives.Key (life_named bs r) → b.is_hidden ≡ true → IsSpared x.relied lent → IsFullIn f lent → r < c.next_region → IsLive c (regions.Variable c.region) → number ≡ c.next_local
       → Continues p.reading (lending x lent) (with_local false (types.Handle (regions.Variable r)) (with_key_opened r c)) js (with_fullness Full (with_fullness Locked f lent) number) h → Implies (with_fullness Full h lent) i
       → HasType g (lives.Key (life_named bs r)) v → IsStack p g x cs (Go i) k → IsWell p (opens_with number lent js v k e w)
-  opens_on number lent js (values.Key region) k cs c b r f h i live holds loans within stands among number_of of_type spared full less alive number_is next again is stack = by_life (life_named bs r) refl is
+  opens_on number lent js (values.Key region) k cs c b r f h i live holds loans within stands among number_of of_type hides spared full less alive number_is next again is stack = by_life (life_named bs r) refl is
     where
       inner : List InScope
       inner = Names r (life_named bs r) true ∷ bs
 
       by_life : (l : Life) → life_named bs r ≡ l → IsKeyOf l region → IsWell p (opens_with number lent js (values.Key region) k e w)
-      by_life (Kept n) is_kept same =
-          let key : b.of_type ≡ lives.Key (Kept n) = of_type ∙ ap (λ l. lives.Key l) is_kept in
+      by_life (Kept (KeyOf n)) is_kept same =
+          let key : b.of_type ≡ lives.Key (Kept (KeyOf n)) = of_type ∙ ap (λ l. lives.Key l) is_kept in
           let known : IsAmong n g.kept = subst (λ l. IsKnownLife g l) is_kept (name_known g bs r variables) in
-          let by : IsByType b.of_type = subst (λ t. IsByType t) (sym key) tt in
-          let has : g.own (KeyOf n) ≡ At b.object 0 = (subst (λ t. Claims g.own (At b.object 0) t values.Null) key (lender_has b f (settled p g x cs (Go i) k stack) among by (subst (λ m. IsFullIn f m) (sym number_of) full) holds values.Null)).0 in
+          let z = lends None b lent f h i cs k within among hides number_of full spared holds again tt stack in
+          let has : g.own (KeyOf n) ≡ At b.object 0 = (subst (λ t. Claims g.own (At b.object 0) t z.value) key z.claims).0 in
           let held : IsHeld (g.own (KeyOf n)) = subst (λ o. IsHeld o) (sym has) tt in
           let (s, found, dynamic) = dynamic_found (slice_get w.regions region) (subst (λ i. IsDynamic (slice_get w.regions i)) same ((typed.kept n known).1 held)) in
-          let z = lends b lent f h i cs k within among by number_of full spared holds again stack in
-          let j = lending_typing b in
-          let now : j.own (KeyOf n) ≡ Lent g.loans = subst (λ t. Owns j.own (Lent g.loans) (thing_of t values.Null)) key (given_now g.own (lent_thing b) (Lent g.loans)) in
-          let opens : IsOpenIn j (life_named bs r) = subst (λ l. IsOpenIn j l) (sym is_kept) (subst (λ o. is_lent_by (suc g.loans) o ≡ true) (sym now) (lent_last g.loans)) in
-          let named : life_named inner r ≡ Kept n = same_name r (life_named bs r) (life_named bs r) ∙ is_kept in
+          let j = lending_typing b z.value None in
+          let now : j.own (KeyOf n) ≡ Lent g.loans b.object = subst (λ t. Owns j.own (Lent g.loans b.object) (thing_of t z.value)) key (given_now g.own (thing_of b.of_type z.value) (Lent g.loans b.object)) in
+          let opens : IsOpenIn j (life_named bs r) = subst (λ l. IsOpenIn j l) (sym is_kept) (subst (λ o. is_lent_by (suc g.loans) o ≡ true) (sym now) (lent_last g.loans b.object)) in
+          let named : life_named inner r ≡ Kept (KeyOf n) = same_name r (life_named bs r) (life_named bs r) ∙ is_kept in
           let here = context_lending p x (Names r (life_named bs r) true ∷ bs) (with_key_opened r c) lent (context_again p x bs c stands loans alive r less) in
           subst (λ a. IsWell p (opened_by a region number lent js k e w)) (sym found)
           (subst (λ (y : Bool). IsWell p (if y then Running (Naming number (record { kind = kinds.Handle; value = values.Handle region }) js) (EndLoan lent ∷ k) e w else wrong w)) (sym dynamic)
@@ -250,44 +353,51 @@ module _ (p : Source) (g : Typing) (x : Exits) (bs : List InScope) (e : Environm
             next,
             z.stack,
           )))
+      by_life (Kept (PointerTo o)) is_kept same = absurd same
       by_life (OfRegion n ns us) is_kept same = absurd same
-      by_life (OfObject o) is_kept same = absurd same
-      by_life Never is_kept same = absurd same
       by_life lives.Owned is_kept same = absurd same
-  opens_on number lent js v k cs c b r f h i live holds loans within stands among number_of of_type spared full less alive number_is next again is stack = absurd is
+  opens_on number lent js v k cs c b r f h i live holds loans within stands among number_of of_type hides spared full less alive number_is next again is stack = absurd is
 
   -- a unique pointer comes, which an alias shares
-  pub aliases_on : (number lent : ℕ) (js : Items) (v : Operand) (k : List Entry) (cs : List InScope) (c : Context) (b : Bound) (u t : Ty) (f h i : flow.State) → LiveIn k bs → Holds g f bs → HasAliases p.reading → Within cs bs
-      → IsContext p x bs c → IsAmong (Variable b) bs → b.number ≡ lent → b.of_type ≡ read bs u → IsSpared x.relied lent → IsFullIn f lent → is_unique u ≡ true → AllIn (IsKnown c.next_region) u → t ≡ with_region_of (regions.Variable c.next_region) u
+  pub aliases_on : (number lent : ℕ) (js : Items) (v : Operand) (k : List Entry) (cs : List InScope) (c : Context) (b : Bound) (u t : Ty) (f h i : flow.State) → LiveIn k bs → Holds g f bs → HasLoans p.reading → Within cs bs
+      → IsContext p x bs c → IsAmong (Variable b) bs → b.number ≡ lent → b.of_type ≡ read bs u → b.is_hidden ≡ true → IsSpared x.relied lent → IsFullIn f lent → is_unique u ≡ true → AllIn (IsKnown c.next_region) u → t ≡ with_region_of (regions.Variable c.next_region) u
       → IsLive c (regions.Variable c.region) → number ≡ c.next_local
       → Continues p.reading (lending x lent) (with_local true t (with_opened scopes.Alias c)) js (with_fullness Full (with_fullness Locked f lent) number) h → Implies (with_fullness Full h lent) i
-      → IsResult g (Value (read bs u)) v → IsStack p g x cs (Go i) k → IsWell p (aliased number lent js v k e w)
-  aliases_on number lent js v k cs c b u t f h i live holds shares within stands among number_of type_is spared full unique known of_type alive number_is next again is stack =
-      let loans : HasLoans p.reading = shared_loans p.reading shares in
-      let named : List InScope = Names c.next_region heap_life true ∷ bs in
-      let none = unfreed p.reading c.regions bs shares stands.regions in
-      let by : IsByType b.of_type = subst (λ z. IsByType z) (sym type_is) (by_type_read g bs variables u none) in
-      let z = lends b lent f h i cs k within among by number_of full spared holds again stack in
-      let j = lending_typing b in
-      let here = context_lending p x named (with_opened scopes.Alias c) lent (context_alias p x bs c stands loans alive heap_life) in
+      → Owns g.own (At b.object 0) (thing_of (read bs u) v.value) → IsResult g (Value (read bs u)) v → IsStack p g x cs (Go i) k → IsWell p (aliased number lent js v k e w)
+  aliases_on number lent js v k cs c b u t f h i live holds loans within stands among number_of type_is hides spared full unique known of_type alive number_is next again looks is stack =
+      let also = thing_of (read bs u) v.value in
+      let z = lends also b lent f h i cs k within among hides number_of full spared holds again looks stack in
+      let j = lending_typing b z.value also in
+      let (m, s, u_is) = unique_is u unique in
+      let l : Life = shared_life (owned_life (frees_in bs)) v.value in
+      let named : List InScope = Names c.next_region l true ∷ bs in
+      let here = context_lending p x named (with_opened scopes.Alias c) lent (context_alias p x bs c stands loans alive l) in
       let declared : IsDeclarable p.reading (suc c.next_region) t = subst (λ y. IsDeclarable p.reading (suc c.next_region) y) (sym of_type) (alias_known p.reading c.next_region u unique known) in
-      let same : read named t ≡ read bs u = ap (read named) of_type ∙ alias_read bs c.next_region u none unique known in
-      let is_now : IsResult j (Value (read bs u)) v = result_grown g j (lending_grows b) (Value (read bs u)) v is in
-      running p j (lending x lent) named e w z.objects z.knows (tt, bound) ((tt, λ e. λ r lent. let y : false ≡ true = lent in absurd (cc)), z.scope) (Naming number v js) (EndLoan lent ∷ k)
-      (((λ is. inl refl), live.0), live.1) (
+      let target : AllIn (IsKnown c.next_region) s = (subst (λ y. AllIn (IsKnown c.next_region) y) u_is known).0 in
+      let type_now : t ≡ types.Pointer m s (regions.Variable c.next_region) = of_type ∙ ap (with_region_of (regions.Variable c.next_region)) u_is in
+      let same : read named t ≡ lives.Pointer m (read bs s) l = ap (read named) type_now ∙ alias_read bs c.next_region l m s target in
+      let lent_is : IsLentNow j (thing_of (lives.Pointer m (read bs s) (owned_life (frees_in bs))) v.value) =
+      subst (λ y. IsLentNow j (thing_of (read bs y) v.value)) u_is (lent_by_now j b.object g.loans also refl (given_now (given (thing_of b.of_type z.value) (Lent g.loans b.object) g.own) also (Lent g.loans b.object))) in
+      let is_now : IsResult j (Value (lives.Pointer m (read bs s) (owned_life (frees_in bs)))) v = subst (λ y. IsResult j (Value (read bs y)) v) u_is (result_grown g j (lending_grows b z.value also) (Value (read bs u)) v is) in
+      let result : IsResult j (Value (lives.Pointer m (read bs s) l)) v = (is_now.0, shared_typed j w.regions w.objects z.objects (frees_in bs) m (read bs s) v.value is_now.1 lent_is) in
+      let common : IsCommonLife l = shared_by (frees_in bs) v.value (λ l. IsCommonLife l) tt (λ object. tt) in
+      running p j (lending x lent) named e w z.objects z.knows (tt, bound)
+      ((shared_by (frees_in bs) v.value (λ l. IsKnownLife j l) tt (λ object. tt), λ e. shared_open j (frees_in bs) m (read bs s) v.value lent_is), z.scope) (Naming number v js) (EndLoan lent ∷ k)
+      (((λ is. shared_by (frees_in bs) v.value (λ l. IsLasting (ends_of k) l) (inl refl) (λ object. tt)), live.0), live.1) (
         with_opened scopes.Alias c,
         true,
         t,
         cs,
         with_fullness Locked f lent,
         h,
-        older (Names c.next_region heap_life true) cs bs tt within,
+        older (Names c.next_region l true) cs bs tt within,
         here,
         (z.holds.0, (tt, z.holds.1)),
         (declared, contains_more (regions.Variable c.next_region) (regions.Variable c.region) (live_regions c.regions.live c.regions.opened) alive),
         number_is,
-        subst (λ y. IsResult j (Value y) v) (sym same) is_now,
-        subst (λ y. Claims j.own (Hand (operands_in (EndLoan lent ∷ k))) y v.value) (sym same) (plain_claims j.own (Hand (operands_in (EndLoan lent ∷ k))) (read bs u) v.value (unique_plain g bs u variables none unique)),
+        subst (λ y. IsResult j (Value y) v) (sym same) result,
+        subst (λ y. Claims j.own (Hand (operands_in (EndLoan lent ∷ k))) y v.value) (sym same)
+            (plain_claims j.own (Hand (operands_in (EndLoan lent ∷ k))) (lives.Pointer m (read bs s) l) v.value (pointer_plain m (read bs s) l common)),
         next,
         z.stack,
       )
@@ -298,7 +408,7 @@ module _ (p : Source) (g : Typing) (x : Exits) (bs : List InScope) (e : Environm
       → IsStack p g x cs (Go h) k → IsWell p (opens_dynamic number js k e w)
   keys_on number r js k cs c f h nests live holds loans within stands region alive number_is next stack =
       let n = length w.regions in
-      let l : Life = Kept n in
+      let l : Life = Kept (KeyOf n) in
       let hand = Hand (operands_in k) in
       let key : lives.RunTy = lives.Key l in
       let o = giving g (Some (KeyOf n)) hand in
@@ -337,7 +447,7 @@ module _ (p : Source) (g : Typing) (x : Exits) (bs : List InScope) (e : Environm
   closes_on (values.Key region) k r f live holds is has stack = by_life (lives_in bs r) refl is has
     where
       by_life : (l : Life) → lives_in bs r ≡ l → IsKeyOf l region → Claims g.own (Hand (operands_in k)) (lives.Key l) (values.Key region) → IsWell p (closes_with (values.Key region) k e w)
-      by_life (Kept n) is_kept same claims =
+      by_life (Kept (KeyOf n)) is_kept same claims =
           let o : Option Thing = Some (KeyOf n) in
           let hand = Hand (operands_in k) in
           let h = giving g o Nobody in
@@ -351,9 +461,8 @@ module _ (p : Source) (g : Typing) (x : Exits) (bs : List InScope) (e : Environm
           (subst (λ m. IsTyped h (set w.regions m (record s { is_open = false })) w.objects) same (closed_by_key g w.regions w.objects n (operands_in k) (record s { is_open = false }) known claims.0 typed))
           (hands_globals p g (given o Nobody g.own) g.here globals) bound (variables_kept hand g h changed bs refl variables) Proceeding k live
           (f, holds_kept hand g h changed f bs (λ m object s here. at_no_hand object 0 (operands_in k)) holds, stack_changed p hand g h x bs (Go f) k changed (let le : operands_in k ≤ operands_in k = omega arith in le) stack)))
+      by_life (Kept (PointerTo o)) is_kept same claims = absurd same
       by_life (OfRegion n ns us) is_kept same claims = absurd same
-      by_life (OfObject o) is_kept same claims = absurd same
-      by_life Never is_kept same claims = absurd same
       by_life lives.Owned is_kept same claims = absurd same
   closes_on v k r f live holds is has stack = absurd is
 

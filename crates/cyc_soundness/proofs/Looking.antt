@@ -4,14 +4,16 @@ use Rattle.std.specs.Prelude.{get_or, nat_eq}
 use Rattle.std.specs.List.{list_any}
 use Rattle.std.proofs.lemmas.Bool.{eq-eqb}
 use Rattle.cyc_types.specs.TypedTrees.{Local, Global, Expression, Number, NullPointer, HeapRegion, Counter, Copy, Move, Peek, Load, AddressOf, AddressOfCell, NumberOfElements, FreeUnique, FreeKey, Call, Unary, Binary, Assign, Store, New, Dereference, Target, Member, Element, Placement, OnHeap, AsUnique, ByHandle, Initial, Plain, Fields, Array, Converted, Convert, Arguments, NoArguments, MoreArguments, Operations, NoOperations, ThenCompute, ThenTest, ThenPointer, ThenPointerPeek, Lvalue, Side, VariableSide, CellSide, peeked}
+use Rattle.cyc_types.specs.Types.{ValueType, Void, Null, Value}
 use Rattle.cyc_types.specs.Rules.{Derives}
 use Rattle.cyc_types.specs.flow.States as flow
-use Rattle.cyc_types.specs.flow.States.{Fullness, Vacant, Full, Unreached, Reached, is_reached, meet, with_fullness}
+use Rattle.cyc_types.specs.flow.States.{Fullness, Vacant, Full, Unreached, Reached, is_reached, meet, with_fullness, is_locked, fullness}
 use Rattle.cyc_types.specs.flow.Expressions.{is_free, stored, and_peeked, peek_of, peek_behind, rule, rule_place, rule_placement, rule_initial, rule_converted, rule_arguments, rule_operations}
 use Rattle.cyc_types.specs.flow.Statements.{rule_side}
 use Rattle.cyc_soundness.specs.Lives.{Reading}
 use Rattle.cyc_soundness.specs.Worlds.{IsAmong, first, later}
-use Rattle.cyc_soundness.specs.Classes.{is_full, Relied, only, and_looked, InExpression, InPlace, InPlacement, InInitial, InConverted, InArguments, InOperations, InSide}
+use Rattle.cyc_soundness.specs.Classes.{is_full, Relied, only, and_looked, InExpression, InPlace, InPlacement, InInitial, InConverted, InArguments, InOperations, InSide, SparesAssigned}
+use Rattle.cyc_soundness.proofs.Numbers.{both_true}
 use Rattle.cyc_soundness.proofs.FlowLemmas.{before_last, at_last, meet_first, reached_with}
 
 -- ---- a local that is free is another one
@@ -25,7 +27,7 @@ free_other n m w (first as') e = λ same. (let k : not (eqb n m) ≡ true = (or_
     let z : eqb n m ≡ true = eq-eqb n m same in let y : false ≡ true = sym (ap (λ b. not b) z) ∙ k in absurd (cc))
 free_other n m w (later b as' is) e = free_other n m as' is (or_false (nat_eq b m) (list_any (λ k. nat_eq k m) as') e).1
 
-only_other : (n m : ℕ) → n ≢ m → is_full (get_or (only n) m Vacant) ≡ false
+pub only_other : (n m : ℕ) → n ≢ m → is_full (get_or (only n) m Vacant) ≡ false
 only_other zero zero apart = absurd (apart refl)
 only_other zero (suc m) apart = refl
 only_other (suc n) zero apart = refl
@@ -52,6 +54,12 @@ module _ (m : Reading) (q : Relied) (n : ℕ) where
   stored_reached w (Local p k) f h reached (demands, same) = still_reached (with_fullness Full f k) h same (reached_with Full f k reached)
   stored_reached w (Global k) f h reached (unit, same) = still_reached f h same reached
 
+  stored_spared : (w : List ℕ) (l : Lvalue) (t : ValueType) (f h : flow.State) → IsAmong n w → is_reached f ≡ true → Derives (stored w l f) h → SparesAssigned q l t → SparesAssigned looking l t
+  stored_spared w (Local p k) Void f h among reached (demands, same) kept = (free_spared n k w f among reached (both_true (not (is_locked (fullness f k))) (is_free w k f) demands.0).1, kept)
+  stored_spared w (Local p k) Null f h among reached flows kept = tt
+  stored_spared w (Local p k) (Value t) f h among reached flows kept = tt
+  stored_spared w (Global k) t f h among reached flows kept = tt
+
   mutual
     looks_expression : (a : Expression) (w : List ℕ) (f h : flow.State) → IsAmong n w → is_reached f ≡ true → Derives (rule w a f) h → InExpression m q a → InExpression m looking a × (is_reached h ≡ true)
     looks_expression (Number k) w f h among reached (unit, same) kept = (kept, still_reached f h same reached)
@@ -75,8 +83,8 @@ module _ (m : Reading) (q : Relied) (n : ℕ) where
     looks_expression (Binary a os t) w f h among reached (g, d, ds) (one, kept) =
         let (is, still) = looks_expression a w f g among reached d one in
         let (are, end) = looks_operations os w g h among still ds kept in ((is, are), end)
-    looks_expression (Assign l c t) w f h among reached (g, d, own) kept =
-        let (is, still) = looks_converted c w f g among reached d kept in (is, stored_reached w l g h still own)
+    looks_expression (Assign l c t) w f h among reached (g, d, own) (one, kept) =
+        let (is, still) = looks_converted c w f g among reached d kept in ((stored_spared w l t g h among still own one, is), stored_reached w l g h still own)
     looks_expression (Store d c t) w f h among reached (g, dp, dc) (one, kept) =
         let (is, still) = looks_place d w f g among reached dp one in
         let (are, end) = looks_converted c (and_peeked (peek_behind d) w) g h (among_peeked n (peek_behind d) w among) still dc kept in ((is, are), end)

@@ -29,8 +29,8 @@ use Rattle.cyc_meaning.specs.Operators.{array_size}
 use Rattle.cyc_meaning.specs.Allocation.{writes_from, blanks_of, filled, makes_of, makes_plain, makes_fields, most_words, blanks, begun, makes_array, step_beginning, step_repeating, fills_element, makes}
 use Rattle.cyc_meaning.specs.Nesting.{ends_of, AreOpen}
 use Rattle.cyc_meaning.proofs.ListLemmas.{slice_get-end, slice_get-set_other}
-use Rattle.cyc_soundness.specs.Lives.{Reading, AsHeap, ByScope, at, Life, OfRegion, OfObject, Never, Kept, RunTy, Int, Pointer, Handle, Key, Struct, Value, looked, kind_at, Owned, owned_life, Lives}
-use Rattle.cyc_soundness.specs.Worlds.{NoLocal, Thing, KeyOf, PointerTo, Holder, Nobody, Hand, At, Lent, pointer_at, Owns, Claims, given, giving, AreOwned, IsUniqueObject, IsOpenObject, IsNewOwner, IsAmong, IsHeld, IsKeyless, AreKeyless, IsDynamic, ObjectType, Typing, Outlasts, alike, IsFilled, IsPart, IsTarget, HasType, IsResult, AreOperands, AreCells, IsOwner, IsObject, IsTyped, IsOpenLife, Grows, IsKnownOwner}
+use Rattle.cyc_soundness.specs.Lives.{Reading, AsHeap, ByScope, at, Life, OfRegion, Kept, RunTy, Int, Pointer, Handle, Key, Struct, Value, looked, kind_at, Owned, owned_life, Lives}
+use Rattle.cyc_soundness.specs.Worlds.{NoLocal, Thing, KeyOf, PointerTo, Holder, Nobody, Hand, At, Lent, pointer_at, Owns, Claims, given, giving, AreOwned, IsUniqueObject, IsOpenObject, IsNewOwner, IsAmong, IsHeld, IsKeyless, AreKeyless, IsDynamic, ObjectType, Typing, Outlasts, IsFilled, IsPart, IsTarget, HasType, IsResult, AreOperands, AreCells, IsOwner, IsObject, IsTyped, IsOpenLife, Grows, IsKnownOwner, life_at}
 use Rattle.cyc_soundness.specs.Frames.{first, later, InScope, Level, HasMeaning, IsBound, AreVariables, LiveIn, Holds, Implies, Exits, IsContext, KnowsProgram, lives_in, read, IsThere, frees_in, life_named, lives_among}
 use Rattle.cyc_soundness.specs.Classes.{HasLoans, InInitial, InArguments, Source, frees_of}
 use Rattle.cyc_soundness.specs.Stacks.{Val, turned, AreClaimed, operands_in, AreFields, Repeats, AreNext, IsWhole, IsMaking, IsArray, IsStack, IsFocus, IsWell, relied_at, AreGiven, AreNextGiven}
@@ -38,8 +38,9 @@ use Rattle.cyc_soundness.specs.Stacks as stacks
 use Rattle.cyc_soundness.proofs.Numbers.{same_or_other, less_or_same, slice_get-set_same, some_same}
 use Rattle.cyc_soundness.proofs.FlowLemmas.{at_least_implies, holds_implied}
 use Rattle.cyc_soundness.proofs.TypeLemmas.{target_typed, is_kind_same, kind_read}
+use Rattle.cyc_soundness.proofs.ValueLemmas.{lasts_itself}
 use Rattle.cyc_soundness.proofs.WorldLemmas.{beyond, owner_grown, operands_grown, globals_grown, with_object, object_grows, object_stays, object_typed, typed_beside, open_region}
-use Rattle.cyc_soundness.proofs.Hands.{Changed, hand_same, at_no_hand, given_now, at_some, changed_after, giving_changed, owns_kept, claims_kept, variables_kept, holds_kept, given_typed, hands_globals, pointed_typed}
+use Rattle.cyc_soundness.proofs.Hands.{Changed, hand_same, at_no_hand, given_now, at_some, changed_after, giving_changed, owns_kept, claims_kept, variables_kept, holds_kept, given_typed, hands_globals, pointed_typed, lent_no_hand}
 use Rattle.cyc_soundness.proofs.Sharing.{at_start, keeps_by, plain_keyless}
 use Rattle.cyc_soundness.proofs.StackLemmas.{keeps_fields, stack_changed, kept_open, lasting_open}
 use Rattle.cyc_soundness.proofs.RegionLemmas.{region_owner, there_open, agrees_of, there_lasting, mapped_count, fields_mean}
@@ -153,10 +154,9 @@ whole_part g object y (Struct n ls) is full = (refl, is, full)
 
 -- without dynamic regions there are no keys
 unkept : (g : Typing) (l : Life) → ((n : ℕ) → IsAmong n g.kept → ⊥) → IsKnownOwner g l → IsKeyless (Key l)
-unkept g (Kept region) none known = none region known
+unkept g (Kept (KeyOf region)) none known = none region known
+unkept g (Kept (PointerTo object)) none known = tt
 unkept g (OfRegion number ns us) none known = tt
-unkept g (OfObject object) none known = tt
-unkept g Never none known = tt
 unkept g Owned none known = tt
 
 unkept_type : (g : Typing) (n : Lives) (t : Ty) → ((m : ℕ) → IsAmong m g.kept → ⊥) → ((r : Region') → IsKnownOwner g (n r)) → IsKeyless (at n t)
@@ -199,8 +199,6 @@ new_owned g n y cs empty i u c v kept found at content = absurd (let k : None �
 -- an object that is being made is there: the pointer to it is in hand
 pub made_open : (g : Typing) (regions : List Region) (object i : ℕ) (l : Life) → IsOpenLife regions l → Owns g.own (Hand i) (pointer_at l object) → IsOpenObject g regions object l
 made_open g regions object i (OfRegion number ns us) opens has = opens
-made_open g regions object i (OfObject o) opens has = absurd opens
-made_open g regions object i Never opens has = absurd opens
 made_open g regions object i (Kept region) opens has = opens
 made_open g regions object i Owned opens has = subst (λ h. IsHeld h) (sym has) tt
 
@@ -220,12 +218,10 @@ unheld_new g regions objects typed = go (g.own (PointerTo (length objects))) ref
     go Nobody same = same
     go (Hand i) same = absurd (gone (typed.unique (length objects) (subst (λ h. IsHeld h) (sym same) tt)))
     go (At object offset) same = absurd (gone (typed.unique (length objects) (subst (λ h. IsHeld h) (sym same) tt)))
-    go (Lent j) same = absurd (gone (typed.unique (length objects) (subst (λ h. IsHeld h) (sym same) tt)))
+    go (Lent j object) same = absurd (gone (typed.unique (length objects) (subst (λ h. IsHeld h) (sym same) tt)))
 
 unheld_at : (g : Typing) (l : Life) (object : ℕ) → g.own (PointerTo object) ≡ Nobody → Owns g.own Nobody (pointer_at l object)
 unheld_at g (OfRegion number ns us) object none = tt
-unheld_at g (OfObject o) object none = tt
-unheld_at g Never object none = tt
 unheld_at g (Kept region) object none = tt
 unheld_at g Owned object none = none
 
@@ -233,8 +229,6 @@ unheld_at g Owned object none = none
 claimed_new : (g : Typing) (l : Life) (object : ℕ) (new : Holder) (t : ObjectType) (x : Object) (regions : List Region) (objects : List Object) → IsNewOwner l x.owner → t.life ≡ l → g.own (PointerTo object) ≡ Nobody → slice_get g.objects object ≡ Some t
     → slice_get objects object ≡ Some x → IsTyped g regions objects → IsTyped (giving g (pointer_at l object) new) regions objects
 claimed_new g (OfRegion number ns us) object new t x regions objects owned life none there stands typed = typed
-claimed_new g (OfObject o) object new t x regions objects owned life none there stands typed = typed
-claimed_new g Never object new t x regions objects owned life none there stands typed = typed
 claimed_new g (Kept region) object new t x regions objects owned life none there stands typed = typed
 claimed_new g Owned object new t x regions objects owned life none there stands typed =
     pointed_typed g object new regions objects none (t, x, there, life, stands, live x.owner refl owned) typed
@@ -356,11 +350,10 @@ module _ (p : Source) (g : Typing) (x : Exits) (bs : List InScope) (e : Environm
   created_there : (owner : Owner) (cells : List Cell) (l : Life) → IsNewOwner l owner → IsOpenLife w.regions l
       → (new : World) × (created w owner cells ≡ Found new) × (new.objects ≡ w.objects ++ record { owner = owner; cells = cells } ∷ []) × AreStill new.regions
   created_there (InRegion n) cells (OfRegion region ns us) owned opens' = made_there n cells (subst (λ i. is_open (slice_get w.regions i) ≡ true) owned opens')
-  created_there (InRegion n) cells (Kept region) owned opens' = made_there n cells (subst (λ i. is_open (slice_get w.regions i) ≡ true) owned opens')
+  created_there (InRegion n) cells (Kept (PointerTo object)) owned opens' = absurd owned
+  created_there (InRegion n) cells (Kept (KeyOf region)) owned opens' = made_there n cells (subst (λ i. is_open (slice_get w.regions i) ≡ true) owned opens')
   created_there (Unique true) cells l owned opens = (made_unique w cells, refl, refl, (typed.heap, (λ n among. (typed.kept n among).1), (let few : length w.regions ≤ length w.regions = omega arith in few)))
   created_there (Unique false) cells l owned opens = absurd owned
-  created_there (InRegion n) cells (OfObject o) owned opens = absurd opens
-  created_there (InRegion n) cells Never owned opens = absurd opens
   created_there (InRegion n) cells Owned owned opens = absurd owned
 
   -- the typing of the world with one more, to which the pointer is in hand
@@ -382,7 +375,7 @@ module _ (p : Source) (g : Typing) (x : Exits) (bs : List InScope) (e : Environm
       let grows = object_grows g t 0 in
       let made : Object = record { owner = owner; cells = cells } in
       let is : IsObject one 0 t made = record { owner = new_is_owner l owner owned; known = owner_grown g one grows l known; keyless = λ shown. keyless; cells = blanks_are one } in
-      let first' : IsTyped one w.regions (w.objects ++ made ∷ []) = object_typed g w.regions w.objects t 0 made g.here typed is (λ object apart here. here) (new_owned one n t cells empty) in
+      let first' : IsTyped one w.regions (w.objects ++ made ∷ []) = object_typed g w.regions w.objects t 0 made g.here typed is (λ object s apart here. here) (new_owned one n t cells empty) (λ j away hides. let z : false ≡ true = hides in absurd (cc)) in
       let there = subst (λ n. slice_get h.objects n ≡ Some t) (sym typed.count) (slice_get-end g.objects t) in
       let flag = subst (λ n. slice_get h.filled n ≡ Some 0) (sym typed.counts) (slice_get-end g.filled 0) in
       let second : IsTyped h w.regions (w.objects ++ made ∷ []) = claimed_new one l n (Hand i) t made w.regions (w.objects ++ made ∷ []) owned refl none there (slice_get-end w.objects made) first' in
@@ -392,8 +385,6 @@ module _ (p : Source) (g : Typing) (x : Exits) (bs : List InScope) (e : Environm
     where
       kept_before : (l : Life) (n : ℕ) (new : Holder) (m : ℕ) → IsHeld (given (pointer_at l n) new g.own (KeyOf m)) → IsHeld (g.own (KeyOf m))
       kept_before (OfRegion number ns us) n new m held = held
-      kept_before (OfObject o) n new m held = held
-      kept_before Never n new m held = held
       kept_before (Kept region) n new m held = held
       kept_before Owned n new m held = held
 
@@ -475,7 +466,7 @@ module _ (p : Source) (g : Typing) (x : Exits) (bs : List InScope) (e : Environm
       let same : i ≡ 0 + i = omega arith in
       let some : IsFilled g object (suc i) = filled_up g object (suc i) count (let le : suc i ≤ count = omega (arith, less) in le) all in
       subst (λ n. IsTarget g t l object n) same
-      (y, there, shown, subst (λ m. Outlasts m l) (sym life) (alike l), part_at g w typed object y t i there (cells i less) some)
+      (y, there, shown, subst (λ m. Outlasts (life_at object m) l) (sym life) (lasts_itself object l), part_at g w typed object y t i there (cells i less) some)
 
   pub repeat_on : (object count index level : ℕ) (kind : Kind) (element : Expression) (k : List Entry) (c : Context) (t : Ty) (r : Region') (f : flow.State) → AreOpen w.regions (ends_of k) → LiveIn k bs → IsContext p x bs c
       → Holds g f bs → IsThere bs r → Repeats p.reading (relied_at x.relied k) c level kind element t f → IsArray g (read bs t) (lives_in bs r) object count index → Owns g.own (Hand (operands_in k)) (pointer_at (lives_in bs r) object)
@@ -536,7 +527,7 @@ module _ (p : Source) (g : Typing) (x : Exits) (bs : List InScope) (e : Environm
       subst (λ (b : Bool). IsWell p (if b then stored (cell_at w object index) object index v focus k e w else wrong w))
       (sym (is_kind_same v.kind kind (is.0 ∙ kind_read (lives_in bs) t ∙ sym repeats.kind_is)))
       (stores_on p g x bs e w typed globals bound variables v focus k object index m i (read bs t) y
-      live there (cells index less) opens flag enough is comes
+      live there (cells index less) opens flag enough shown is comes
       (λ changed now. (
         c,
         t,
@@ -565,12 +556,12 @@ module _ (p : Source) (g : Typing) (x : Exits) (bs : List InScope) (e : Environm
       let h = giving g o hand in
       let changed : Changed top g h = giving_changed g o top hand has in
       let all : IsFilled g object (length y.cells) = filled_up g object (length y.cells) offset (none_next g offset y.cells rest) full in
-      running p h x bs e w (given_typed g o top hand w.regions w.objects has tt (λ n i. at_no_hand n i (place + 0)) typed) (hands_globals p g (given o hand g.own) g.here globals) bound (variables_kept top g h changed bs refl variables)
+      running p h x bs e w (given_typed g o top hand w.regions w.objects has tt (λ n i. at_no_hand n i (place + 0)) (λ n i. lent_no_hand i n (place + 0)) typed) (hands_globals p g (given o hand g.own) g.here globals) bound (variables_kept top g h changed bs refl variables)
       (Given (record { kind = kinds.NonNull; value = values.Thin object 0 })) k live (
         Value (Pointer marks.NonNull t l),
         f,
         holds_kept top g h changed f bs (λ n other s here. at_no_hand other 0 (place + 0)) holds,
-        (refl, (y, there, shown, subst (λ m. Outlasts m l) (sym life) (alike l), whole_part h object y t (whole_grown g h changed.grows y t whole) all)),
+        (refl, (y, there, shown, subst (λ m. Outlasts (life_at object m) l) (sym life) (lasts_itself object l), whole_part h object y t (whole_grown g h changed.grows y t whole) all)),
         (given_now g.own o hand, at_start l),
         stack_changed p top g h x bs (Val (Value (Pointer marks.NonNull t l)) f) k changed (let le : operands_in k ≤ place + 0 = omega (arith, least) in le) stack,
       )
@@ -584,7 +575,7 @@ module _ (p : Source) (g : Typing) (x : Exits) (bs : List InScope) (e : Environm
       let o = pointer_at l object in
       let same : place + suc (length vs) ≡ suc place + length vs = omega arith in
       stores_on p g x bs e w typed globals bound variables v focus k object offset m place u y live there at
-      (subst (λ m. IsOpenObject g w.regions object m) (sym life) (made_open g w.regions object (place + suc (length vs)) l (open_life r k all_open live alive) has)) flag enough is claims
+      (subst (λ m. IsOpenObject g w.regions object m) (sym life) (made_open g w.regions object (place + suc (length vs)) l (open_life r k all_open live alive) has)) flag enough shown is claims
       (λ changed now. (
         t,
         r,

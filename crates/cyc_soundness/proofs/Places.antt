@@ -131,7 +131,7 @@ looked_result g None r v is = is
 looked_result g (Some n) (Value t) v is = is
 looked_result g (Some n) lives.Void v is = is
 looked_result g (Some n) lives.Null v is = is
-looked_result g (Some n) (lives.Seen t) v is = is
+looked_result g (Some n) (lives.Seen object t) v is = is
 looked_result g (Some n) (lives.Into peek t) v is = is
 
 pub looked_part : (g : Typing) (i : ℕ) (peek : Option ℕ) (t : RunTy) (v : values.Value) → ClaimsBy g i (looked peek (Value t)) v → ClaimsPart g i peek (thing_of t v)

@@ -14,8 +14,8 @@ use Rattle.cyc_types.specs.Types.{Ty, ValueType, result_type, substituted_ty}
 use Rattle.cyc_types.specs.Types as types
 use Rattle.cyc_types.specs.typing.Scopes.{with_scope}
 use Rattle.cyc_types.specs.typing.WellTyped.{LocalInScope, Context, IsLive, AreLive, AreOutliving, IsCell, body_context, parameters_in_scope, IsNamed, AreNamed as AreNamedRegions, IsNamedIn, AreNamedIn, IsNamedResult, AreConstraints, IsWellTypedFunction, in_block, with_local, with_region, with_opened, with_key_opened, AreNotUnique}
-use Rattle.cyc_soundness.specs.Lives.{Life, OfRegion, OfObject, Never, Kept, Lives, at, value_at, heap_life, lives_of, as_heap, Reading, AsHeap, ByScope, AllOf, AllIn, AllInValue, IsKnown, IsOther, owned_life, Owned}
-use Rattle.cyc_soundness.specs.Worlds.{Typing, IsKnownLife, IsOpenIn, lent_now, Outlasts, heap as for_ever, stays, encloses, whole, behind, AgreesWith, IsNumber, IsKnownOwner}
+use Rattle.cyc_soundness.specs.Lives.{Life, OfRegion, Kept, Lives, at, value_at, heap_life, lives_of, as_heap, Reading, AsHeap, ByScope, AllOf, AllIn, AllInValue, IsKnown, IsOther, owned_life, Owned}
+use Rattle.cyc_soundness.specs.Worlds.{Thing, KeyOf, PointerTo, Typing, IsKnownLife, IsOpenIn, lent_now, Outlasts, heap as for_ever, stays, encloses, whole, behind, AgreesWith, IsNumber, IsKnownOwner}
 use Rattle.cyc_soundness.specs.Classes.{HasLoans, IsDeclarable, Source, frees_of}
 use Rattle.cyc_soundness.specs.Frames.{later, InScope, Variable, Level, Names, Instance, Home, life_named, is_live_named, lives_in, read, read_value, home_of, AreVariables, lives_among, IsThereBy, IsThere, IsHomed, IsScope, IsLasting, IsLiveIn, AreLiveIn, Exits, AreNamed, StandBy, Stand, IsHome, AreKnownLocals, AreKnown, IsContext, frees_in}
 use Rattle.cyc_soundness.specs.Stacks.{IsNew, regions_at_call, IsInstance}
@@ -39,10 +39,8 @@ contains_none y (n, less, same) = absurd (omega (arith, less))
 pub lasting_more : (n : ℕ) (ns : List ℕ) (l : Life) → IsLasting ns l → IsLasting (n ∷ ns) l
 lasting_more n ns (OfRegion m ms us) (inl heap) = inl heap
 lasting_more n ns (OfRegion m ms us) (inr end) = inr (behind n ns end)
-lasting_more n ns (OfObject o) is = is
-lasting_more n ns Never is = is
 lasting_more n ns Owned is = absurd is
-lasting_more n ns (Kept region) is = is
+lasting_more n ns (Kept a) is = is
 
 one_more : (n : ℕ) (ns : List ℕ) (b : InScope) → IsLiveIn ns b → IsLiveIn (n ∷ ns) b
 one_more n ns (Variable b) is = lasting_more n ns b.life is
@@ -109,9 +107,8 @@ region_known g bs (regions.Variable n) plain are = name_known g bs n are
 
 pub owner_known : (g : Typing) (l : Life) → IsKnownLife g l → IsKnownOwner g l
 owner_known g (OfRegion number ns us) is = tt
-owner_known g (OfObject object) is = tt
-owner_known g Never is = tt
-owner_known g (Kept region) is = is
+owner_known g (Kept (KeyOf region)) is = is
+owner_known g (Kept (PointerTo object)) is = tt
 owner_known g Owned is = tt
 
 owned_known : (g : Typing) (frees : Bool) → IsKnownOwner g (owned_life frees)
@@ -133,10 +130,8 @@ there_lasting ns bs (regions.Variable n) are plain there = named_lasting ns bs n
 pub lasts_around : (g : Typing) (ns : List ℕ) (n : ℕ) (l : Life) → IsLasting ns l → IsOpenIn g l → Outlasts l (OfRegion n ns (lent_now g))
 lasts_around g ns n (OfRegion m ms us) (inl heap) opens = subst (λ l. Outlasts l (OfRegion n ns (lent_now g))) (sym heap) (for_ever (OfRegion n ns (lent_now g)))
 lasts_around g ns n (OfRegion m ms us) (inr end) opens = encloses m n ms ns us (lent_now g) end opens
-lasts_around g ns n (OfObject o) is opens = absurd is
-lasts_around g ns n Never is opens = absurd is
 lasts_around g ns n Owned is opens = absurd is
-lasts_around g ns n (Kept region) is opens = stays region n ns (lent_now g) opens
+lasts_around g ns n (Kept a) is opens = stays a n ns (lent_now g) opens
 
 -- ---- names
 
@@ -311,11 +306,11 @@ IsOtherBy AsHeap n r = Unit {0}
 IsOtherBy (ByScope lends frees) n r = IsOther n r
 
 -- the life of a region that is opened
-abbrev pub opened_life : Reading → (region : ℕ) → (around : List ℕ) → (lent : ℕ → Bool) → Life
+abbrev pub opened_life : Reading → (region : ℕ) → (around : List ℕ) → (lent : Thing → Bool) → Life
 opened_life AsHeap region ns us = heap_life
 opened_life (ByScope lends frees) region ns us = OfRegion region ns us
 
-opened_same : (m : Reading) (number region : ℕ) (ns : List ℕ) (us : ℕ → Bool) (c : RegionContext) (bs : List InScope) → Stand m c bs → (r : Region) → IsOtherBy m number r
+opened_same : (m : Reading) (number region : ℕ) (ns : List ℕ) (us : Thing → Bool) (c : RegionContext) (bs : List InScope) → Stand m c bs → (r : Region) → IsOtherBy m number r
     → lives_in bs r ≡ lives_in (Names number (opened_life m region ns us) true ∷ bs) r
 opened_same AsHeap number region ns us c bs stand r other =
     let before = heap_lives (frees_in bs) (λ n. life_named bs n) (λ n. is_live_named bs n) stand r in
@@ -427,7 +422,7 @@ known_pairs : (m : Reading) (n : ℕ) (c : RegionContext) (vs : List LocalInScop
 known_pairs AsHeap n c vs result known a b has = (tt, tt)
 known_pairs (ByScope lends frees) n c vs result known a b has = (known_other n a (known.pairs a b has).0, known_other n b (known.pairs a b has).1)
 
-pub opened_lasting : (m : Reading) (region : ℕ) (ns : List ℕ) (us : ℕ → Bool) → IsLasting (region ∷ ns) (opened_life m region ns us)
+pub opened_lasting : (m : Reading) (region : ℕ) (ns : List ℕ) (us : Thing → Bool) → IsLasting (region ∷ ns) (opened_life m region ns us)
 opened_lasting AsHeap region ns us = inl refl
 opened_lasting (ByScope lends frees) region ns us = inr whole
 
@@ -435,12 +430,12 @@ pub opened_known : (g : Typing) (m : Reading) (region : ℕ) (ns : List ℕ) →
 opened_known g AsHeap region ns = (tt, λ e r is. absurd (let z : false ≡ true = is in cc))
 opened_known g (ByScope lends frees) region ns = (tt, λ e r is. is)
 
-pub new_home : (m : Reading) (number region : ℕ) (ns : List ℕ) (us : ℕ → Bool) (bs : List InScope) → IsHome m number (Home region ∷ Names number (opened_life m region ns us) true ∷ bs)
+pub new_home : (m : Reading) (number region : ℕ) (ns : List ℕ) (us : Thing → Bool) (bs : List InScope) → IsHome m number (Home region ∷ Names number (opened_life m region ns us) true ∷ bs)
 new_home AsHeap number region ns us bs = tt
 new_home (ByScope lends frees) number region ns us bs =
     (subst (λ l. IsNumber l region) (sym (same_name number (OfRegion region ns us) (life_named bs number))) refl, same_name number true (is_live_named bs number))
 
-same_home : (m : Reading) (number region : ℕ) (ns : List ℕ) (us : ℕ → Bool) (c : Context) (bs : List InScope) → (AreKnown m c.next_region c.regions c.locals c.result) → number ≡ c.next_region → IsLive c (regions.Variable c.region)
+same_home : (m : Reading) (number region : ℕ) (ns : List ℕ) (us : Thing → Bool) (c : Context) (bs : List InScope) → (AreKnown m c.next_region c.regions c.locals c.result) → number ≡ c.next_region → IsLive c (regions.Variable c.region)
     → IsHome m c.region bs → IsHome m c.region (Names number (opened_life m region ns us) true ∷ bs)
 same_home AsHeap number region ns us c bs known same live is = tt
 same_home (ByScope lends frees) number region ns us c bs known same live (at_home, there) =
@@ -609,7 +604,7 @@ module _ (p : Source) (x : Exits) (bs : List InScope) (c : Context) (stands : Is
 -- ---- a function begins
 
 -- before its own region is open
-pub other_same : (m : Reading) (region : ℕ) (ns : List ℕ) (us : ℕ → Bool) (c : RegionContext) (bs : List InScope) → Stand m c bs → (r : Region) → IsOtherBy m 0 r → lives_in bs r ≡ lives_in (Names 0 (opened_life m region ns us) true ∷ bs) r
+pub other_same : (m : Reading) (region : ℕ) (ns : List ℕ) (us : Thing → Bool) (c : RegionContext) (bs : List InScope) → Stand m c bs → (r : Region) → IsOtherBy m 0 r → lives_in bs r ≡ lives_in (Names 0 (opened_life m region ns us) true ∷ bs) r
 other_same m region ns us c bs stand r other = opened_same m 0 region ns us c bs stand r other
 
 named_other : (m : Reading) (k : ℕ) (r : Region) → IsNamed k r → IsOtherBy m 0 r

@@ -7,7 +7,7 @@ use Rattle.cyc_types.specs.Outlives.{RegionContext, OutlivesIn, itself, given, t
 use Rattle.cyc_types.specs.Types.{Ty, substituted_ty}
 use Rattle.cyc_types.specs.Types as types
 use Rattle.cyc_types.specs.typing.Tests.{is_key, is_moved, is_unique}
-use Rattle.cyc_soundness.specs.Lives.{Life, OfRegion, OfObject, Never, Owned, Kept, heap_life, owned_life, RunTy, Pointer, Reading, AsHeap, ByScope, Lives, at}
+use Rattle.cyc_soundness.specs.Lives.{Life, OfRegion, Owned, Kept, heap_life, owned_life, RunTy, Pointer, Reading, AsHeap, ByScope, Lives, at}
 use Rattle.cyc_soundness.specs.Worlds.{Typing, IsKnownLife, IsKeyless, IsPlain, AtStart}
 use Rattle.cyc_soundness.specs.Classes.{HasFrees}
 use Rattle.cyc_soundness.specs.Frames.{InScope, AreVariables, lives_in, life_named, frees_in, read, Stand}
@@ -18,8 +18,6 @@ use Rattle.cyc_soundness.proofs.RegionLemmas.{name_known, heap_lives}
 
 pub known_common : (g : Typing) (l : Life) → IsKnownLife g l → IsCommonLife l
 known_common g (OfRegion number ns us) known = tt
-known_common g (OfObject object) known = tt
-known_common g Never known = tt
 known_common g (Kept region) known = tt
 known_common g Owned known = absurd known
 
@@ -33,8 +31,6 @@ heap_common false none = tt
 -- a unique pointer leads to the start
 pub at_start : (l : Life) → AtStart l 0 0
 at_start (OfRegion number ns us) = tt
-at_start (OfObject object) = tt
-at_start Never = tt
 at_start (Kept region) = tt
 at_start Owned = (refl, refl)
 
@@ -72,8 +68,6 @@ module _ (g : Typing) (bs : List InScope) (variables : AreVariables g bs) where
 
   common_plain : (k : PointerKind) (t : RunTy) (l : Life) → IsCommonLife l → IsPlain (Pointer k t l)
   common_plain k t (OfRegion number ns us) common = tt
-  common_plain k t (OfObject object) common = tt
-  common_plain k t Never common = tt
   common_plain k t (Kept region) common = tt
   common_plain k t Owned common = absurd common
 

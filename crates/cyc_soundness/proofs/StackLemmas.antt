@@ -17,22 +17,22 @@ use Rattle.cyc_types.specs.flow.States as flow
 use Rattle.cyc_types.specs.flow.States.{Vacant, Unreached, Reached, Full, fullness, is_reached, with_fullness}
 use Rattle.cyc_meaning.specs.Values.{Operand}
 use Rattle.cyc_meaning.specs.Values as values
-use Rattle.cyc_meaning.specs.State.{Object, Owner, Pass, MakeFields, Region, Access, Found, Closed, Missing, found_region, is_open, heap_number, globals_number, World, FillElement, AwaitingPlace, SwapRight, Write, Environment, with_local, Awaiting, ApplyPointer, StoreCell, Advance, Entry, Needs, NeedsPlace, Discard, Rest, Join, Loop, CloseRegion, CloseLexical, EndLoan, Handler, Caller, Main}
+use Rattle.cyc_meaning.specs.State.{Object, Owner, Pass, MakeFields, Region, Access, Found, Closed, Missing, found_region, is_open, heap_number, globals_number, World, FillElement, AwaitingPlace, SwapRight, Environment, with_local, Awaiting, ApplyPointer, StoreCell, Advance, Entry, Needs, NeedsPlace, Discard, Rest, Join, Loop, CloseRegion, CloseLexical, EndLoan, Handler, Caller, Main}
 use Rattle.cyc_meaning.specs.Nesting.{ends_of, IsFound, AreOpen, IsHome, IsNested}
 use Rattle.cyc_meaning.specs.Nesting as nesting
-use Rattle.cyc_soundness.specs.Lives.{Life, OfRegion, OfObject, Never, Owned, Kept, heap_life, RunTy, RunValue, Void, Null, Value, Seen, Into, looked, Lives, at, value_at, Reading}
+use Rattle.cyc_soundness.specs.Lives.{Life, OfRegion, Owned, Kept, heap_life, RunTy, RunValue, Void, Null, Value, Seen, Into, looked, Lives, at, value_at, Reading}
 use Rattle.cyc_soundness.specs.Lives as lives
-use Rattle.cyc_soundness.specs.Worlds.{OfLocal, Settled, Thing, KeyOf, ClaimsPart, IsHeld, Holder, Nobody, Hand, At, Lent, pointer_at, thing_of, Claims, ClaimsBy, IsHad, IsSlot, IsHere, is_lent_by, Stays, IsOpenIn, AreOperands, ObjectType, Typing, IsTyped, IsFull, variable_type, IsEndOf, whole, behind, Outlasts, alike, heap as for_ever, globals as with_globals, stays, encloses, IsOpenLife, Grows, IsKnownOwner, IsHiding}
-use Rattle.cyc_soundness.specs.Frames.{IsAmong, first, later, Bound, InScope, Variable, Level, Home, lives_in, read, IsThere, home_of, IsHomed, IsScope, AreBelow, IsBound, AreVariables, IsLasting, AreLiveIn, home_in, LiveIn, IsInner, Within, itself, older, IsSet, AreSet, IsFullIn, Holds, IsFullAt, AreFullAt, Exits, relying, frees_in, life_named, read_value, local_type}
+use Rattle.cyc_soundness.specs.Worlds.{OfLocal, Settled, Thing, KeyOf, ClaimsPart, IsHeld, Holder, Nobody, Hand, At, Lent, pointer_at, thing_of, Claims, ClaimsBy, IsSlot, IsHere, is_lent_by, Stays, IsOpenIn, AreOperands, ObjectType, Typing, IsTyped, IsFull, variable_type, IsEndOf, whole, behind, Outlasts, alike, heap as for_ever, globals as with_globals, stays, encloses, borrows, PointerTo, IsOpenLife, Grows, IsKnownOwner, IsHiding, Away}
+use Rattle.cyc_soundness.specs.Frames.{IsAmong, first, later, Bound, InScope, Variable, Level, Home, lives_in, read, IsThere, home_of, IsHomed, IsScope, AreBelow, IsBound, AreVariables, IsLasting, AreLiveIn, home_in, LiveIn, IsInner, Within, itself, older, IsSet, AreSet, IsFullIn, Holds, IsFullAt, AreFullAt, Exits, relying, frees_in, life_named, read_value, local_type, lending}
 use Rattle.cyc_soundness.specs.Classes.{is_full, Relied, only, and_looked, IsSparedBy, IsSpared, InOperations, Source}
-use Rattle.cyc_soundness.specs.Stacks.{IsAccepted, Part, Whole, PartOf, part, part_of_place, relied_by, relied_at, WaitsPlace, Want, Nothing, Val, PlaceOf, Go, held, Waits, place_operand, count_held, count_place, IsThrough, IsArray, IsArrayOf, AreClaimed, IsHeldPart, operands_in, Keeps, IsSpot, of_local, of_global, of_cell, IsLeftSpot, left_variable, left_cell, KeepsPlace, AreSwapped, IsStack}
+use Rattle.cyc_soundness.specs.Stacks.{IsAccepted, Part, Whole, PartOf, part, part_of_place, relied_by, relied_at, WaitsPlace, Want, Nothing, Val, PlaceOf, Go, held, Waits, place_operand, count_held, count_place, IsThrough, IsArray, IsArrayOf, AreClaimed, IsHeldPart, operands_in, Keeps, IsSpot, of_local, of_global, of_cell, IsLeftSpot, left_variable, left_cell, KeepsPlace, AreSwapped, IsStack, IsCommonLife, IsLentOut}
 use Rattle.cyc_soundness.specs.Stacks as stacks
 use Rattle.cyc_soundness.proofs.Numbers.{same_or_other, some_same}
 use Rattle.cyc_soundness.proofs.FlowLemmas.{other_set, other_full, full_put, reached_with}
 use Rattle.cyc_soundness.proofs.ValueLemmas.{ends_through}
 use Rattle.cyc_soundness.proofs.RegionLemmas.{lasting_more, there_lasting, there_open}
-use Rattle.cyc_soundness.proofs.WorldLemmas.{dynamic_open, type_grown, result_grown, operands_grown}
-use Rattle.cyc_soundness.proofs.Hands.{Changed, hand_same, at_same, at_no_hand, at_not_lent, at_some, stays_changed, owns_kept, claims_kept, part_kept, here_kept, variables_kept, holds_kept, holds_here, slot_kept}
+use Rattle.cyc_soundness.proofs.WorldLemmas.{dynamic_open, type_grown, operands_grown}
+use Rattle.cyc_soundness.proofs.Hands.{Changed, hand_same, at_same, at_no_hand, at_not_lent, at_some, stays_changed, owns_kept, claims_kept, part_kept, here_kept, variables_kept, holds_kept, holds_here, slot_kept, lent_same, lent_some, lent_no_hand, lent_not_at}
 
 -- the functions of a program, each of which the rules accept
 abbrev pub AreAccepted : Source → Type 0
@@ -70,7 +70,7 @@ IsAboveBy empties x g k Nobody = Unit {0}
 IsAboveBy empties x g k (Hand i) = operands_in k ≤ i
 IsAboveBy empties x g k (At object (suc i)) = Unit {0}
 IsAboveBy empties x g k (At object zero) = IsLoose empties x g k object ⊎ ((empties ≡ false) × IsHiding g object false)
-IsAboveBy empties x g k (Lent j) = g.loans ≤ j
+IsAboveBy empties x g k (Lent j object) = g.loans ≤ j
 
 abbrev pub IsAbove : Exits → Typing → List Entry → Holder → Type 0
 IsAbove x g k (At object zero) = IsLoose true x g k object
@@ -81,10 +81,7 @@ above_by x g k Nobody above = tt
 above_by x g k (Hand i) above = above
 above_by x g k (At object (suc i)) above = tt
 above_by x g k (At object zero) above = inl above
-above_by x g k (Lent j) above = above
-
-lent_same : (i j : ℕ) → Lent i ≡ Lent j → i ≡ j
-lent_same i j e = let k : Lent i ≡ Lent j = e in cc
+above_by x g k (Lent j object) above = above
 
 local_same : (c d m n : ℕ) → OfLocal c m ≡ OfLocal d n → (c ≡ d) × (m ≡ n)
 local_same c d m n e = let k : OfLocal c m ≡ OfLocal d n = e in (cc, cc)
@@ -99,13 +96,13 @@ hand_other : (empties : Bool) (x : Exits) (g : Typing) (k : List Entry) (i : ℕ
 hand_other empties x g k i Nobody above less = λ e. (let z : Hand i ≡ Nobody = e in absurd (cc))
 hand_other empties x g k i (Hand j) above less = λ e. (let same : i ≡ j = hand_same i j e in absurd (omega (arith, above, less, same)))
 hand_other empties x g k i (At object offset) above less = λ e. (let z : Hand i ≡ At object offset = e in absurd (cc))
-hand_other empties x g k i (Lent j) above less = λ e. (let z : Hand i ≡ Lent j = e in absurd (cc))
+hand_other empties x g k i (Lent j object) above less = λ e. (let z : Hand i ≡ Lent j object = e in absurd (cc))
 
-lent_other : (empties : Bool) (x : Exits) (g : Typing) (k : List Entry) (i : ℕ) (old : Holder) → IsAboveBy empties x g k old → i < g.loans → Lent i ≢ old
-lent_other empties x g k i Nobody above less = λ e. (let z : Lent i ≡ Nobody = e in absurd (cc))
-lent_other empties x g k i (Hand j) above less = λ e. (let z : Lent i ≡ Hand j = e in absurd (cc))
-lent_other empties x g k i (At object offset) above less = λ e. (let z : Lent i ≡ At object offset = e in absurd (cc))
-lent_other empties x g k i (Lent j) above less = λ e. (let same : i ≡ j = lent_same i j e in absurd (omega (arith, above, less, same)))
+lent_other : (empties : Bool) (x : Exits) (g : Typing) (k : List Entry) (i object : ℕ) (old : Holder) → IsAboveBy empties x g k old → i < g.loans → Lent i object ≢ old
+lent_other empties x g k i object Nobody above less = lent_some i object
+lent_other empties x g k i object (Hand j) above less = lent_no_hand i object j
+lent_other empties x g k i object (At other offset) above less = lent_not_at i object other offset
+lent_other empties x g k i object (Lent j other) above less = λ e. (let same : i ≡ j = (lent_same i object j other e).0 in absurd (omega (arith, above, less, same)))
 
 -- nor a local on which something relies
 slot_other : (g : Typing) (n object other : ℕ) → IsSlot g g.depth n object → (d m : ℕ) → IsSlot g d m other → (d ≡ g.depth → m ≡ n → ⊥) → At object 0 ≢ At other 0
@@ -121,7 +118,7 @@ loose_other empties x g k n object other (d, m, its, inr deeper) slot relied = s
 variable_other : (x : Exits) (g : Typing) (k : List Entry) (n object : ℕ) (old : Holder) → IsAboveBy true x g k old → IsSlot g g.depth n object → (IsSpared (relied_at x.relied k) n → ⊥) → At object 0 ≢ old
 variable_other x g k n object Nobody above slot relied = at_some object 0
 variable_other x g k n object (Hand i) above slot relied = at_no_hand object 0 i
-variable_other x g k n object (Lent j) above slot relied = at_not_lent object 0 j
+variable_other x g k n object (Lent j other) above slot relied = at_not_lent object 0 j other
 variable_other x g k n object (At other (suc i)) above slot relied = λ e. (let z : 0 ≡ suc i = (at_same object 0 other (suc i) e).1 in absurd (omega (arith, z)))
 variable_other x g k n object (At other zero) (inl loose) slot relied = loose_other true x g k n object other loose slot relied
 variable_other x g k n object (At other zero) (inr (filling, shown)) slot relied = let z : true ≡ false = filling in absurd (cc)
@@ -135,7 +132,7 @@ hiding_other g object other (y, there, hidden) (z, stands, shown) e =
 looked_other : (empties : Bool) (x : Exits) (g : Typing) (k : List Entry) (n object : ℕ) (old : Holder) → IsAboveBy empties x g k old → IsSlot g g.depth n object → IsHiding g object true → (IsSpared (relied_at (relied_if empties x.relied) k) n → ⊥) → At object 0 ≢ old
 looked_other empties x g k n object Nobody above slot hidden relied = at_some object 0
 looked_other empties x g k n object (Hand i) above slot hidden relied = at_no_hand object 0 i
-looked_other empties x g k n object (Lent j) above slot hidden relied = at_not_lent object 0 j
+looked_other empties x g k n object (Lent j other) above slot hidden relied = at_not_lent object 0 j other
 looked_other empties x g k n object (At other (suc i)) above slot hidden relied = λ e. (let z : 0 ≡ suc i = (at_same object 0 other (suc i) e).1 in absurd (omega (arith, z)))
 looked_other empties x g k n object (At other zero) (inl loose) slot hidden relied = loose_other empties x g k n object other loose slot relied
 looked_other empties x g k n object (At other zero) (inr (filling, shown)) slot hidden relied = hiding_other g object other hidden shown
@@ -145,7 +142,7 @@ pub none_lent : (empties : Bool) (x : Exits) (g : Typing) (k : List Entry) (old 
 none_lent empties x g k Nobody above = refl
 none_lent empties x g k (Hand i) above = refl
 none_lent empties x g k (At object offset) above = refl
-none_lent empties x g k (Lent j) above = not_below j g.loans above
+none_lent empties x g k (Lent j object) above = not_below j g.loans above
   where
     not_below : (j n : ℕ) → n ≤ j → nat_lt j n ≡ false
     not_below j n less = false_from_ne_true (nat_lt j n) (λ e. (let below : j < n = ltb-true j n e in absurd (omega (arith, below, less))))
@@ -195,7 +192,7 @@ above_to empties x y g b k (At object (suc i)) fewer less above = tt
 above_to empties x y g b k (At object zero) fewer less (inl (d, n, slot, inl (same, spared))) = inl (d, n, slot, inl (same, less n spared))
 above_to empties x y g b k (At object zero) fewer less (inl (d, n, slot, inr deeper)) = inl (d, n, slot, inr deeper)
 above_to empties x y g b k (At object zero) fewer less (inr shown) = inr shown
-above_to empties x y g b k (Lent j) fewer less above = above
+above_to empties x y g b k (Lent j object) fewer less above = above
 
 -- where a statement ends, no expression is under way
 pub statement_relied : (p : Source) (g : Typing) (x : Exits) (bs : List InScope) (f : flow.State) (k : List Entry) (q : Relied) → IsStack p g x bs (Go f) k → relied_at q k ≡ q
@@ -244,7 +241,7 @@ waits_whole (stacks.denies seen v f tested) peek e = part_whole None peek e
 waits_whole (stacks.chains seen c v t f h stands computes chained) peek e = part_whole None peek e
 waits_whole (stacks.applies f) peek e = part_whole None peek e
 waits_whole (stacks.decides seen v f h tested i) peek e = part_whole None peek e
-waits_whole (stacks.stores_local b t f among same) peek e = part_whole None peek e
+waits_whole (stacks.stores_local b t f among same spared) peek e = part_whole None peek e
 waits_whole (stacks.stores_global number t f there same) peek e = part_whole None peek e
 waits_whole (stacks.points {peek = o} also c t v w f stands op) peek e = part_whole o peek e
 waits_whole (stacks.null_points {peek = o} also c v w f op) peek e = part_whole o peek e
@@ -268,8 +265,8 @@ waits_whole (stacks.returns t u f h result gives) peek e = (h, refl)
 waits_whole (stacks.frees_object k t f) peek e = part_whole None peek e
 waits_whole (stacks.closes_by_key r f) peek e = part_whole None peek e
 waits_whole (stacks.throws f h) peek e = (h, refl)
-waits_whole (stacks.opens_by cs c b r f h i loans within stands among number of_type set spared full less alive next continues again) peek e = (i, refl)
-waits_whole (stacks.aliases cs c b u t f h i loans within stands among number same set spared full unique known of_type alive next continues again) peek e = (i, refl)
+waits_whole (stacks.opens_by cs c b r f h i loans within stands among number of_type hides set spared full less alive next continues again) peek e = (i, refl)
+waits_whole (stacks.aliases cs c b u t f h i loans within stands among number same hides set spared full unique known of_type alive next continues again) peek e = (i, refl)
 
 place_whole : {p : Source} {x : Exits} {q : Relied} {bs : List InScope} {a : AwaitingPlace} {o : Option ℕ} {t : RunTy} {l : Life} {f : flow.State} {next : Want} → WaitsPlace p x q bs a o t l f next → (peek : Option ℕ) → part_of_place a ≡ Whole peek → (h : flow.State) × (next ≡ Go h)
 place_whole (stacks.loads_from seen t r f alive by_type plain kind) peek e = part_whole None peek e
@@ -286,7 +283,7 @@ above_behind empties x g k j Nobody same above = tt
 above_behind empties x g k j (Hand i) same above = above
 above_behind empties x g k j (At object (suc i)) same above = tt
 above_behind empties x g k j (At object zero) same above = above
-above_behind empties x g k j (Lent i) same above = let few : j ≤ i = omega (arith, above, same) in few
+above_behind empties x g k j (Lent i object) same above = let few : j ≤ i = omega (arith, above, same) in few
 
 above_outside : (empties : Bool) (x y : Exits) (g : Typing) (e : Environment) (k : List Entry) (d : ℕ) (old : Holder) → g.depth ≡ suc d → IsAboveBy empties x g (Caller e ∷ k) old → IsAboveBy empties y (record g { depth = d }) k old
 above_outside empties x y g caller k d Nobody same above = tt
@@ -295,7 +292,7 @@ above_outside empties x y g caller k d (At object (suc i)) same above = tt
 above_outside empties x y g caller k d (At object zero) same (inl (e, n, slot, inl (here, spared))) = inl (e, n, slot, inr (let less : d < e = omega (arith, here, same) in less))
 above_outside empties x y g caller k d (At object zero) same (inl (e, n, slot, inr deeper)) = inl (e, n, slot, inr (let less : d < e = omega (arith, deeper, same) in less))
 above_outside empties x y g caller k d (At object zero) same (inr shown) = inr shown
-above_outside empties x y g caller k d (Lent j) same above = above
+above_outside empties x y g caller k d (Lent j object) same above = above
 
 not_full : (f : flow.State) (n : ℕ) → is_reached f ≡ true → IsSparedBy f n → is_full (fullness f n) ≡ false
 not_full Unreached n reached one = absurd (let k : false ≡ true = reached in cc)
@@ -306,10 +303,20 @@ relied_other : (x y : Exits) (g : Typing) (cs : Clauses) (k : List Entry) (f : f
 relied_other x y g cs k f old m object same reached above full slot = variable_other x g (Handler cs ∷ k) m object old above slot
     (λ spared. (let one : IsSparedBy f m = (subst (λ (z : Exits). IsSpared z.relied m) same spared).0 in let z : true ≡ false = sym full ∙ not_full f m reached one in absurd (cc)))
 
+only_full : (n : ℕ) → get_or (only n) n Vacant ≡ Full
+only_full zero = refl
+only_full (suc n) = only_full n
+
+-- nor a variable that has lent what is in it
+lender_other : (x y : Exits) (g : Typing) (k : List Entry) (lent : ℕ) (old : Holder) (object : ℕ) → x ≡ lending y lent → IsAboveBy true x g (EndLoan lent ∷ k) old → IsSlot g g.depth lent object → At object 0 ≢ old
+lender_other x y g k lent old object same above slot = variable_other x g (EndLoan lent ∷ k) lent object old above slot
+    (λ spared. (let one : is_full (get_or (only lent) lent Vacant) ≡ false = (subst (λ (z : Exits). IsSpared z.relied lent) same spared).0 in
+    let z : true ≡ false = sym (ap is_full (only_full lent)) ∙ one in absurd (cc)))
+
 outer_other : (x : Exits) (g : Typing) (caller : Environment) (k : List Entry) (d : ℕ) (old : Holder) (m object : ℕ) → g.depth ≡ suc d → IsAboveBy true x g (Caller caller ∷ k) old → IsSlot g d m object → At object 0 ≢ old
 outer_other x g caller k d Nobody m object same above slot = at_some object 0
 outer_other x g caller k d (Hand i) m object same above slot = at_no_hand object 0 i
-outer_other x g caller k d (Lent j) m object same above slot = at_not_lent object 0 j
+outer_other x g caller k d (Lent j other) m object same above slot = at_not_lent object 0 j other
 outer_other x g caller k d (At other (suc i)) m object same above slot = λ e. (let z : 0 ≡ suc i = (at_same object 0 other (suc i) e).1 in absurd (omega (arith, z)))
 outer_other x g caller k d (At other zero) m object same (inl (e, n, its, inl (here, spared))) slot = λ q.
     (let (depth, number) = slot_same g d e m n other (subst (λ i. IsSlot g d m i) (at_same object 0 other 0 q).0 slot) its in absurd (omega (arith, depth, here, same)))
@@ -336,10 +343,6 @@ held_peek a = None
 abbrev place_peek : AwaitingPlace → Option ℕ
 place_peek (SwapRight kind peek is_cell left) = peek
 place_peek a = None
-
-only_full : (n : ℕ) → get_or (only n) n Vacant ≡ Full
-only_full zero = refl
-only_full (suc n) = only_full n
 
 looked_unspared : (peek : Option ℕ) (q : Relied) (n : ℕ) → peek ≡ Some n → IsSpared (and_looked peek q) n → ⊥
 looked_unspared None q n e spared = let k : None ≡ Some n = e in absurd (cc)
@@ -407,6 +410,7 @@ changed_behind old g h j changed = record {
   grows = record { objects = changed.grows.objects; filled = changed.grows.filled; fields = changed.grows.fields; kept = changed.grows.kept };
   own = changed.own;
   here = changed.here;
+  away = changed.away;
   pending = changed.pending;
   depth = changed.depth;
   loans = refl;
@@ -417,14 +421,15 @@ changed_outside old g h d changed = record {
   grows = record { objects = changed.grows.objects; filled = changed.grows.filled; fields = changed.grows.fields; kept = changed.grows.kept };
   own = changed.own;
   here = changed.here;
+  away = changed.away;
   pending = changed.pending;
   depth = refl;
   loans = changed.loans;
 }
 
--- what variables have, they have still
+-- what variables have or have lent, they have or have lent still
 abbrev pub AreStill : Typing → Typing → Type 0
-AreStill g h = (object : ℕ) → g.here object ≡ true → h.here object ≡ true
+AreStill g h = (object : ℕ) → h.here object ≡ g.here object
 
 clauses_spared : (empties : Bool) (f : flow.State) (q : Relied) (n : ℕ) → IsSpared (relied_if empties (f ∷ q)) n → IsSpared (relied_if empties q) n
 clauses_spared false f q n spared = tt
@@ -432,8 +437,22 @@ clauses_spared true f q n spared = spared.1
 
 -- what is known of locals stays so, where they are emptied of nothing, or where these are others
 holds_by : (empties : Bool) (old : Holder) (g h : Typing) (f : flow.State) (bs : List InScope) → (empties ≡ false → AreStill g h) → Changed old g h → (empties ≡ true → (n object : ℕ) → IsFullIn f n → IsHere g g.depth n object → At object 0 ≢ old) → Holds g f bs → Holds h f bs
-holds_by false old g h f bs still changed other holds = holds_here g h changed.grows changed.depth f bs (λ n object full here. (still refl object here.0, slot_kept old g h changed g.depth n object here.1)) holds
+holds_by false old g h f bs still changed other holds = holds_here g h changed.grows changed.depth f bs (λ n object full here. (still refl object ∙ here.0, slot_kept old g h changed g.depth n object here.1)) holds
 holds_by true old g h f bs still changed other holds = holds_kept old g h changed f bs (other refl) holds
+
+-- a variable has lent still what is in it
+lent_still : (empties : Bool) (old : Holder) (g h : Typing) (x y : Exits) (k : List Entry) (lent j : ℕ) (t : RunTy) (object : ℕ) → (empties ≡ false → AreStill g h) → Changed old g h → x ≡ lending y lent → IsAboveBy empties x g (EndLoan lent ∷ k) old → j < g.loans
+    → IsLentOut g lent j t object → IsLentOut h lent j t object
+lent_still empties old g h x y k lent j t object still changed same above less (l, there, away) = (
+  l,
+  subst (λ d. slice_get h.objects object ≡ Some (variable_type t l true (OfLocal d lent))) (sym changed.depth) (changed.grows.objects object (variable_type t l true (OfLocal g.depth lent)) there),
+  go empties still above,
+)
+  where
+    go : (empties : Bool) → (empties ≡ false → AreStill g h) → IsAboveBy empties x g (EndLoan lent ∷ k) old → h.here object ≡ Away j
+    go false still above = still refl object ∙ away
+    go true still above = changed.away object j (variable_type t l true (OfLocal g.depth lent), there, refl) away
+        (lender_other x y g k lent old object same above (variable_type t l true (OfLocal g.depth lent), there, refl)) (lent_other true x g (EndLoan lent ∷ k) j object old above less)
 
 -- A stack stays typed while a thing changes hands that nothing on it claims.
 pub stack_by : (empties : Bool) (p : Source) (old : Holder) (g h : Typing) (x : Exits) (bs : List InScope) (w : Want) (k : List Entry) → (empties ≡ false → AreStill g h) → Changed old g h → IsAboveBy empties x g k old → IsStack p g x bs w k → IsStack p h x bs w k
@@ -466,8 +485,8 @@ stack_by empties p old g h x bs (Go f) (CloseRegion region home ∷ k) still cha
     (cs, number, l, alive, end, same, i, live, stack_by empties p old g h x cs (Go end) k still changed (above_to empties x x g (CloseRegion region home) k old (fewer k) (λ n spared. statement_spared p g x cs end k (relied_if empties x.relied) n rest spared) above) rest)
 stack_by empties p old g h x bs (Go f) (CloseLexical region ∷ k) still changed above (end, i, live, rest) =
     (end, i, live, stack_by empties p old g h x bs (Go end) k still changed (above_to empties x x g (CloseLexical region) k old (fewer k) (λ n spared. statement_spared p g x bs end k (relied_if empties x.relied) n rest spared) above) rest)
-stack_by empties p old g h x bs (Go f) (EndLoan lent ∷ k) still changed above (y, end, j, t, object, same, loans, (l, hidden, there, by_type, owns), i, full, variables, rest) =
-    let inner = above_to empties x y g (EndLoan lent) k old (fewer k) (λ n spared. statement_spared p (record g { loans = j }) y bs end k (relied_if empties y.relied) n rest (subst (λ (z : Exits). IsSpared (relied_if empties z.relied) n) same spared)) above in
+stack_by empties p old g h x bs (Go f) (EndLoan lent ∷ k) still changed above (y, end, j, t, object, same, loans, lent_out, i, full, variables, rest) =
+    let inner = above_to empties x y g (EndLoan lent) k old (fewer k) (λ n spared. statement_spared p (record g { loans = j }) y bs end k (relied_if empties y.relied) n rest (clauses_spared empties (Reached (only lent)) y.relied n (subst (λ (z : Exits). IsSpared (relied_if empties z.relied) n) same spared))) above in
     let behind' = above_behind empties y g k j old loans inner in
     let less : j < g.loans = omega (arith, loans) in
     let changed' = changed_behind old g h j changed in (
@@ -478,13 +497,7 @@ stack_by empties p old g h x bs (Go f) (EndLoan lent ∷ k) still changed above 
       object,
       same,
       changed.loans ∙ loans,
-      (
-        l,
-        hidden,
-        subst (λ d. slice_get h.objects object ≡ Some (variable_type t l hidden (OfLocal d lent))) (sym changed.depth) (changed.grows.objects object (variable_type t l hidden (OfLocal g.depth lent)) there),
-        by_type,
-        owns_kept old g h changed (Lent j) (thing_of t values.Null) (lent_other empties x g (EndLoan lent ∷ k) j old above less) owns,
-      ),
+      lent_still empties old g h x y k lent j t object still changed same above less lent_out,
       i,
       full_at_grown p g h changed.grows lent object bs full,
       variables_kept old (record g { loans = j }) (record h { loans = j }) changed' bs (none_lent empties y (record g { loans = j }) k old behind') variables,
@@ -579,8 +592,8 @@ pointer_left (null_is_not k t r) e = let z : types.Null ≡ types.Void = e in ab
 value_void : {t : RunTy} → Value t ≡ Void → ⊥
 value_void {t} e = let k : Value t ≡ Void = e in absurd (cc)
 
-seen_void : {t : RunTy} → Seen t ≡ Void → ⊥
-seen_void {t} e = let k : Seen t ≡ Void = e in absurd (cc)
+seen_void : {object : ℕ} {t : RunTy} → Seen object t ≡ Void → ⊥
+seen_void {object} {t} e = let k : Seen object t ≡ Void = e in absurd (cc)
 
 null_void : Null ≡ Void → ⊥
 null_void e = cc
@@ -612,7 +625,7 @@ looked_void None r e = e
 looked_void (Some n) Void e = refl
 looked_void (Some n) Null e = absurd (let k : Null ≡ Void = e in cc)
 looked_void (Some n) (Value t) e = absurd (let k : Into (Some n) t ≡ Void = e in cc)
-looked_void (Some n) (Seen t) e = absurd (let k : Seen t ≡ Void = e in cc)
+looked_void (Some n) (Seen object t) e = absurd (let k : Seen object t ≡ Void = e in cc)
 looked_void (Some n) (Into peek t) e = absurd (let k : Into peek t ≡ Void = e in cc)
 
 through_void : (peek : Option ℕ) (t : RunTy) (r : RunValue) → IsThrough peek t r → r ≡ Void → ⊥
@@ -627,7 +640,7 @@ void_waits {bs = bs} (stacks.denies seen v f tested) e = void_tested (lives_in b
 void_waits {p} {q = q} {bs = bs} (stacks.chains {os} seen c v t f h stands computes chained) e = void_chain p.reading q c os t (subst (λ z. IsChain c z os t) (void_read (lives_in bs) v (looked_void seen (read_value bs v) e)) computes.typed) computes.kept
 void_waits (stacks.applies f) e = value_void e
 void_waits {bs = bs} (stacks.decides seen v f h tested i) e = void_tested (lives_in bs) v (looked_void seen (read_value bs v) e) tested
-void_waits (stacks.stores_local b t f among same) e = value_void e
+void_waits (stacks.stores_local b t f among same spared) e = value_void e
 void_waits (stacks.stores_global number t f there same) e = value_void e
 void_waits {bs = bs} (stacks.points also c t v w f stands op) e = pointer_right (lives_in bs) op (looked_void also (read_value bs v) e)
 void_waits {bs = bs} (stacks.null_points also c v w f op) e = pointer_right (lives_in bs) op (looked_void also (read_value bs v) e)
@@ -651,8 +664,8 @@ void_waits (stacks.returns t u f h result gives) e = value_void e
 void_waits (stacks.frees_object k t f) e = value_void e
 void_waits (stacks.closes_by_key r f) e = value_void e
 void_waits (stacks.throws f h) e = value_void e
-void_waits (stacks.opens_by cs c b r f h i loans within stands among number of_type set spared full less alive next continues again) e = seen_void e
-void_waits (stacks.aliases cs c b u t f h i loans within stands among number same set spared full unique known of_type alive next continues again) e = seen_void e
+void_waits (stacks.opens_by cs c b r f h i loans within stands among number of_type hides set spared full less alive next continues again) e = seen_void e
+void_waits (stacks.aliases cs c b u t f h i loans within stands among number same hides set spared full unique known of_type alive next continues again) e = seen_void e
 
 pub void_goes : (p : Source) (g : Typing) (x : Exits) (bs : List InScope) (f : flow.State) (r : RunValue) (k : List Entry) → r ≡ Void → IsStack p g x bs (Val r f) k → IsStack p g x bs (Go f) k
 void_goes p g x bs f r (Needs a ∷ k) e (ts, cs, next, waits, are, rest) = absurd (void_waits waits e)
@@ -907,20 +920,20 @@ end_among m ms ns (behind n os end) = later n os (end_among m ms os end)
 
 -- a dynamic region is open
 abbrev pub IsKeptOpen : List Region → Life → Type 0
-IsKeptOpen regions (Kept number) = is_open (slice_get regions number) ≡ true
+IsKeptOpen regions (Kept (KeyOf number)) = is_open (slice_get regions number) ≡ true
 IsKeptOpen regions l = Unit {0}
 
+-- what is lent somebody has
+pub lent_held : (count : ℕ) (h : Holder) → is_lent_by count h ≡ true → IsHeld h
+lent_held count Nobody e = absurd (let k : false ≡ true = e in cc)
+lent_held count (Hand i) e = tt
+lent_held count (At m i) e = tt
+lent_held count (Lent j object) e = tt
+
 pub kept_open : (g : Typing) (regions : List Region) (objects : List Object) (l : Life) → IsTyped g regions objects → IsKnownOwner g l → IsOpenIn g l → IsKeptOpen regions l
-kept_open g regions objects (Kept number) typed known opens = dynamic_open (slice_get regions number) ((typed.kept number known).1 (lent_held g.loans (g.own (KeyOf number)) opens))
-  where
-    lent_held : (count : ℕ) (h : Holder) → is_lent_by count h ≡ true → IsHeld h
-    lent_held count Nobody e = absurd (let k : false ≡ true = e in cc)
-    lent_held count (Hand i) e = tt
-    lent_held count (At m i) e = tt
-    lent_held count (Lent j) e = tt
+kept_open g regions objects (Kept (KeyOf number)) typed known opens = dynamic_open (slice_get regions number) ((typed.kept number known).1 (lent_held g.loans (g.own (KeyOf number)) opens))
+kept_open g regions objects (Kept (PointerTo object)) typed known opens = tt
 kept_open g regions objects (OfRegion number ns us) typed known opens = tt
-kept_open g regions objects (OfObject object) typed known opens = tt
-kept_open g regions objects Never typed known opens = tt
 kept_open g regions objects Owned typed known opens = tt
 
 -- what has this life has not ended
@@ -930,9 +943,7 @@ IsPresent g ns l = IsLasting ns l × IsOpenIn g l
 
 lasting_present : (g : Typing) (ns : List ℕ) (l : Life) → IsLasting ns l → IsOpenIn g l → IsPresent g ns l
 lasting_present g ns (OfRegion number around lent) lasts opens = (lasts, opens)
-lasting_present g ns (OfObject object) lasts opens = absurd lasts
-lasting_present g ns Never lasts opens = absurd lasts
-lasting_present g ns (Kept region) lasts opens = (lasts, opens)
+lasting_present g ns (Kept a) lasts opens = (lasts, opens)
 lasting_present g ns Owned lasts opens = tt
 
 pub there_present : (g : Typing) (ns : List ℕ) (bs : List InScope) (r : Region') → AreLiveIn ns bs → AreVariables g bs → IsThere bs r → IsPresent g ns (lives_in bs r)
@@ -951,12 +962,11 @@ object_known g regions objects number t typed there = let (x, m, at, flag, is) =
 pub lasting_open : (regions : List Region) (ns : List ℕ) (l : Life) → AreOpen regions ns → is_open (slice_get regions heap_number) ≡ true → IsKeptOpen regions l → IsLasting ns l → IsOpenLife regions l
 lasting_open regions ns (OfRegion m ms us) opens heap kept (inl is_heap) = subst (λ l. IsOpenLife regions l) (sym is_heap) heap
 lasting_open regions ns (OfRegion m ms us) opens heap kept (inr end) = open_of regions (end_among m ms ns end) opens
-lasting_open regions ns (OfObject o) opens heap kept is = is
-lasting_open regions ns Never opens heap kept is = is
 lasting_open regions ns Owned opens heap kept is = absurd is
-lasting_open regions ns (Kept number) opens heap kept is = kept
+lasting_open regions ns (Kept (KeyOf number)) opens heap kept is = kept
+lasting_open regions ns (Kept (PointerTo object)) opens heap kept is = tt
 
-around_heap : (n : ℕ) (ns : List ℕ) (us : ℕ → Bool) → OfRegion n ns us ≡ heap_life → ns ≡ []
+around_heap : (n : ℕ) (ns : List ℕ) (us : Thing → Bool) → OfRegion n ns us ≡ heap_life → ns ≡ []
 around_heap n ns us e = ap around_of e
   where
     around_of : Life → List ℕ
@@ -964,12 +974,13 @@ around_heap n ns us e = ap around_of e
     around_of l = []
 
 -- what outlasts what is open is open
-pub open_outlasting : (g : Typing) (l m : Life) → Outlasts l m → IsOpenIn g m → IsOpenIn g l
-open_outlasting g l m (alike _) opens = opens
-open_outlasting g l m (for_ever _) opens = λ r e. absurd (let k : false ≡ true = e in cc)
-open_outlasting g l m (with_globals _) opens = λ r e. absurd (let k : false ≡ true = e in cc)
-open_outlasting g l m (stays r n ns us has) opens = opens r has
-open_outlasting g l m (encloses a b as' bs us vs end more) opens = λ r e. opens r (more r e)
+pub open_outlasting : (g : Typing) (l m : Life) → Outlasts l m → IsCommonLife m → IsOpenIn g m → IsOpenIn g l
+open_outlasting g l m (alike _) common opens = opens
+open_outlasting g l m (for_ever _) common opens = λ r e. absurd (let k : false ≡ true = e in cc)
+open_outlasting g l m (with_globals _) common opens = λ r e. absurd (let k : false ≡ true = e in cc)
+open_outlasting g l m (stays a n ns us has) common opens = opens a has
+open_outlasting g l m (borrows object) common opens = absurd common
+open_outlasting g l m (encloses a b as' bs us vs end more) common opens = λ r e. opens r (more r e)
 
 -- what lasts as long as what has not ended is there
 pub outlasting_open : (regions : List Region) (ns : List ℕ) (l m : Life) → AreOpen regions ns → is_open (slice_get regions heap_number) ≡ true → is_open (slice_get regions globals_number) ≡ true → IsKeptOpen regions l → Outlasts l m
@@ -977,7 +988,9 @@ pub outlasting_open : (regions : List Region) (ns : List ℕ) (l m : Life) → A
 outlasting_open regions ns l m opens heap globals kept (alike _) is = lasting_open regions ns l opens heap kept is
 outlasting_open regions ns l m opens heap globals kept (for_ever _) is = heap
 outlasting_open regions ns l m opens heap globals kept (with_globals _) is = globals
-outlasting_open regions ns l m opens heap globals kept (stays r n os us has) is = kept
+outlasting_open regions ns l m opens heap globals kept (stays (KeyOf r) n os us has) is = kept
+outlasting_open regions ns l m opens heap globals kept (stays (PointerTo object) n os us has) is = tt
+outlasting_open regions ns l m opens heap globals kept (borrows object) is = tt
 outlasting_open regions ns l m opens heap globals kept (encloses a b as' bs us vs end more) (inl heap_is) = elim (subst (λ z. IsEndOf (a ∷ as') z) (around_heap b bs vs heap_is) end) [ ]
 outlasting_open regions ns l m opens heap globals kept (encloses a b as' bs us vs end more) (inr later') = open_of regions (end_among a as' ns (ends_through (a ∷ as') bs b ns end later')) opens
 
@@ -994,7 +1007,7 @@ waits_within {bs = bs} (stacks.denies seen v f tested) = itself bs
 waits_within {bs = bs} (stacks.chains seen c v t f h stands computes chained) = itself bs
 waits_within {bs = bs} (stacks.applies f) = itself bs
 waits_within {bs = bs} (stacks.decides seen v f h tested i) = itself bs
-waits_within {bs = bs} (stacks.stores_local b t f among same) = itself bs
+waits_within {bs = bs} (stacks.stores_local b t f among same spared) = itself bs
 waits_within {bs = bs} (stacks.stores_global number t f there same) = itself bs
 waits_within {bs = bs} (stacks.points also c t v w f stands op) = itself bs
 waits_within {bs = bs} (stacks.null_points also c v w f op) = itself bs
@@ -1018,5 +1031,5 @@ waits_within {bs = bs} (stacks.returns t u f h result gives) = itself bs
 waits_within {bs = bs} (stacks.frees_object k t f) = itself bs
 waits_within {bs = bs} (stacks.closes_by_key r f) = itself bs
 waits_within {bs = bs} (stacks.throws f h) = itself bs
-waits_within (stacks.opens_by cs c b r f h i loans within stands among number of_type set spared full less alive next continues again) = within
-waits_within (stacks.aliases cs c b u t f h i loans within stands among number same set spared full unique known of_type alive next continues again) = within
+waits_within (stacks.opens_by cs c b r f h i loans within stands among number of_type hides set spared full less alive next continues again) = within
+waits_within (stacks.aliases cs c b u t f h i loans within stands among number same hides set spared full unique known of_type alive next continues again) = within

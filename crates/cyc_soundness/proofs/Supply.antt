@@ -29,9 +29,9 @@ use Rattle.cyc_meaning.specs.Nesting as nesting
 use Rattle.cyc_meaning.specs.Step.{chosen, looped, supplied}
 use Rattle.cyc_meaning.proofs.ListLemmas.{slice_get-end}
 use Rattle.cyc_meaning.proofs.NestingLemmas.{home_found}
-use Rattle.cyc_soundness.specs.Lives.{Life, OfRegion, OfObject, Never, Kept, Reading, Lives, at, AsHeap, ByScope, RunTy, RunValue, Value, kind_at}
+use Rattle.cyc_soundness.specs.Lives.{Life, OfRegion, Kept, Reading, Lives, at, AsHeap, ByScope, RunTy, RunValue, Value, kind_at}
 use Rattle.cyc_soundness.specs.Lives as lives
-use Rattle.cyc_soundness.specs.Worlds.{OfLocal, Thing, Holder, Hand, At, pointer_at, thing_of, Owns, Claims, ClaimsBy, ClaimsAlone, IsHere, giving, marked, AreOwned, IsOpenIn, ObjectType, IsKnownLife, IsNumber, IsOwner, Typing, IsFilled, variable_type, HasType, IsResult, AreCells, IsObject, IsTyped, Grows, Slot}
+use Rattle.cyc_soundness.specs.Worlds.{OfLocal, Thing, Holder, Hand, At, pointer_at, thing_of, Owns, Claims, ClaimsBy, ClaimsAlone, IsHere, giving, marked, AreOwned, IsOpenIn, ObjectType, IsKnownLife, IsNumber, IsOwner, Typing, IsFilled, variable_type, HasType, IsResult, AreCells, IsObject, IsTyped, Grows, Slot, KeyOf, PointerTo, Here}
 use Rattle.cyc_soundness.specs.Worlds.{given as given_to}
 use Rattle.cyc_soundness.specs.Frames.{later, Bound, InScope, Variable, Level, life_named, lives_in, read, read_value, IsThere, IsHomed, AreBelow, IsBound, AreVariables, IsLasting, home_in, LiveIn, Within, itself, older, Holds, Implies, LoopExit, Exits, IsHome, IsContext, KnowsProgram}
 use Rattle.cyc_soundness.specs.Stacks.{Executes, Continues, IsLoop, Repeats, IsArray, IsNew, Want, Val, Go, operands_in, Comes, Keeps, inside, Waits, IsReturn, IsStack, IsFocus, IsWell, relied_at}
@@ -39,8 +39,8 @@ use Rattle.cyc_soundness.specs.Stacks as stacks
 use Rattle.cyc_soundness.proofs.Numbers.{some_same}
 use Rattle.cyc_soundness.proofs.TypeLemmas.{is_kind_same, kind_read}
 use Rattle.cyc_soundness.proofs.FlowLemmas.{holds_implied, reached_with, full_put, vacant_now}
-use Rattle.cyc_soundness.proofs.WorldLemmas.{type_grown, with_variable, variable_grows, object_typed, globals_grown, owner_grown}
-use Rattle.cyc_soundness.proofs.Hands.{Changed, Raises, at_no_hand, given_now, marked_now, marked_before, marked_keeps, giving_changed, changed_raised, open_kept, variables_kept, holds_kept, given_typed}
+use Rattle.cyc_soundness.proofs.WorldLemmas.{type_grown, with_variable, variable_grows, object_typed, globals_grown, owner_grown, beyond}
+use Rattle.cyc_soundness.proofs.Hands.{Changed, Raises, at_no_hand, given_now, marked_now, marked_before, marked_keeps, giving_changed, changed_raised, open_kept, variables_kept, holds_kept, given_typed, lent_no_hand, away_not_here, marked_other}
 use Rattle.cyc_soundness.proofs.Sharing.{plain_read}
 use Rattle.cyc_soundness.proofs.StackLemmas.{stack_changed, there_present, fields_kept, passed_kept, comes_alone, claimed_next, below_more, local_new, bound_more, set_more, home_is, home_lasting, found_is, within_bound, within_variables, within_live, within_holds}
 use Rattle.cyc_soundness.proofs.RegionLemmas.{region_known, there_open, there_lasting, known_local, owner_known}
@@ -92,10 +92,9 @@ new_life (ByScope lends frees) bs region home k live (number, there) at_home = r
 
 pub owner_is : (l : Life) (region : ℕ) → IsNumber l region → IsOwner l (InRegion region)
 owner_is (OfRegion number ns us) region is = is
-owner_is (OfObject object) region is = absurd is
-owner_is Never region is = absurd is
 owner_is lives.Owned region is = absurd is
-owner_is (Kept number) region is = is
+owner_is (Kept (KeyOf number)) region is = is
+owner_is (Kept (PointerTo object)) region is = absurd is
 
 -- ---- a local is declared
 
@@ -131,7 +130,7 @@ one_owned g object t l hidden s c has (suc i) u d v kept found at content = absu
 
 -- the typing of the world with it, where it has what is put into it
 abbrev new_typing : Typing → List InScope → (number : ℕ) → Ty → Life → (filled object : ℕ) → Option Thing → Typing
-new_typing g bs number t l n object o = with_variable (giving g o (At object 0)) (new_type g.depth number bs t l) n (marked object true g.here)
+new_typing g bs number t l n object o = with_variable (giving g o (At object 0)) (new_type g.depth number bs t l) n (marked object Here g.here)
 
 module _ (p : Source) (g : Typing) (x : Exits) (bs : List InScope) (e : Environment) (w : World) (typed : IsTyped g w.regions w.objects) (globals : KnowsProgram g p) (bound : IsBound e.locals e.counters bs) (variables : AreVariables g bs) where
   abbrev pub made_typing : (number : ℕ) → Ty → Life → (filled : ℕ) → Option values.Value → Typing
@@ -150,9 +149,9 @@ module _ (p : Source) (g : Typing) (x : Exits) (bs : List InScope) (e : Environm
       let y = new_type g.depth number bs t l in
       let h = made_typing number t l n content in
       let has : Owns g.own (Hand i) o = content_owns g.own (Hand i) (read bs t) content claims in
-      let raises : Raises one h = record { grows = variable_grows one y n (marked m true g.here); own = refl; here = λ object is. marked_keeps m g.here object is; pending = refl; depth = refl; loans = refl } in
+      let raises : Raises one h = record { grows = variable_grows one y n (marked m Here g.here); own = refl; here = λ object is. marked_keeps m g.here object is; away = λ object j hides is. marked_other m Here g.here object (λ same. beyond g.objects object hides.0 hides.1 (same ∙ typed.count)) ∙ is; pending = refl; depth = refl; loans = refl } in
       let changed : Changed (Hand i) g h = changed_raised (Hand i) g one h (giving_changed g o (Hand i) (At m 0) has) raises in
-      let first' : IsTyped one w.regions w.objects = given_typed g o (Hand i) (At m 0) w.regions w.objects has tt (λ object j. at_no_hand object j i) typed in
+      let first' : IsTyped one w.regions w.objects = given_typed g o (Hand i) (At m 0) w.regions w.objects has tt (λ object j. at_no_hand object j i) (λ object j. lent_no_hand j object i) typed in
       let is : IsObject h n y (variable e.home kind content) =
       record { owner = owner_is l e.home numbered; known = owner_grown g h changed.grows l (owner_known g l known); keyless = λ plain. (plain_unkept (read bs t) (plain_read g bs variables t plain), tt); cells = cells changed.grows } in
       let (r, found) = found_is (region_at w e.home) (home_found w.regions e.home stack nests.2 nests.0) in
@@ -160,11 +159,11 @@ module _ (p : Source) (g : Typing) (x : Exits) (bs : List InScope) (e : Environm
       let flag = subst (λ i. slice_get h.filled i ≡ Some n) (sym typed.counts) (slice_get-end g.filled n) in
       subst (λ a. IsWell p (declared a focus number kind content stack e w)) (sym found)
       (running p h x (Variable (new_local w bs number t l) ∷ bs) (state.with_local e number m) (made w (variable e.home kind content))
-      (object_typed one w.regions w.objects y n (variable e.home kind content) (marked m true g.here) first' is (λ object apart now. marked_before m true g.here object apart now)
-      (one_owned h m (read bs t) l (is_moved t) (OfLocal g.depth number) (record { kind = kind; content = content }) (λ v same. content_given g.own (Hand i) (At m 0) (read bs t) content v claims same))) (globals_grown g h changed.grows p (λ n ls. refl) globals.keys globals)
+      (object_typed one w.regions w.objects y n (variable e.home kind content) (marked m Here g.here) first' is (λ object s apart now. marked_before m Here g.here object s apart now)
+      (one_owned h m (read bs t) l (is_moved t) (OfLocal g.depth number) (record { kind = kind; content = content }) (λ v same. content_given g.own (Hand i) (At m 0) (read bs t) content v claims same)) (λ j away. absurd (away_not_here (marked m Here g.here m) j away (marked_now m Here g.here)))) (globals_grown g h changed.grows p (λ n ls. refl) globals.keys globals)
       (local_new e number m, bound_more e number m bs below bound) ((there, open_kept (Hand i) g h changed l refl opens), variables_kept (Hand i) g h changed bs refl variables)
       focus stack ((lasting, live.0), live.1)
-      (goes changed (n, flag, (let most : n ≤ n = omega arith in most)) (marked_now m true g.here, (y, there, refl))))
+      (goes changed (n, flag, (let most : n ≤ n = omega arith in most)) (marked_now m Here g.here, (y, there, refl))))
 
 module _ (p : Source) (g : Typing) (x : Exits) (bs : List InScope) (e : Environment) (w : World) (typed : IsTyped g w.regions w.objects) (globals : KnowsProgram g p) (bound : IsBound e.locals e.counters bs) (variables : AreVariables g bs) where
   on : (focus : Focus) (k : List Entry) → LiveIn k bs → IsFocus p g x bs focus k → IsWell p (Running focus k e w)
@@ -298,8 +297,8 @@ module _ (p : Source) (g : Typing) (x : Exits) (bs : List InScope) (e : Environm
   given v k nests live holds is comes (stacks.applies {o} {left} f) ((left_is, unit), claims) stack =
       gives p g x bs e w typed globals bound variables k kinds.Int lives.Int f (binary_result o left.value v.value) live holds tt refl (combined g o left.value v.value left_is.1 is.1) stack
   given v k nests live holds is comes (stacks.decides seen s f h tested i) are stack = decided_on p g x bs e w typed globals bound variables seen v k s f h live holds tested i is stack
-  given v k nests live holds is comes (stacks.stores_local b t f among same) are stack =
-      writes_local p g x bs e w typed globals bound variables v k b t f nests.0 live among same holds is (comes_alone g k (Value (read bs t)) v.value comes) stack
+  given v k nests live holds is comes (stacks.stores_local b t f among same spared) are stack =
+      writes_local p g x bs e w typed globals bound variables v k b t f nests.0 live among same spared holds is (comes_alone g k (Value (read bs t)) v.value comes) stack
   given v k nests live holds is comes (stacks.stores_global number t f there means) are stack =
       writes_global p g x bs e w typed globals bound variables v k number t f nests.0 live there means holds is (comes_alone g k (Value (read bs t)) v.value comes) stack
   given v k nests live holds is comes (stacks.points {peek} {o} {left} also c t s u f stands op) ((left_is, unit), part) stack =
@@ -345,7 +344,7 @@ module _ (p : Source) (g : Typing) (x : Exits) (bs : List InScope) (e : Environm
   given v k nests live holds is comes (stacks.frees_object m t f) are stack = frees_on p g x bs e w typed globals bound variables m t v.value k f live holds is.1 (comes_alone g k (Value (lives.Pointer m t lives.Owned)) v.value comes) stack
   given v k nests live holds is comes (stacks.closes_by_key r f) are stack = closes_on p g x bs e w typed globals bound variables v.value k r f live holds is.1 (comes_alone g k (Value (lives.Key (lives_in bs r))) v.value comes) stack
   given v k nests live holds is comes (stacks.throws {tag} f h) are stack = thrown_on tag v.value k h live is.1 stack
-  given v k nests live holds is comes (stacks.opens_by {number} {lent} {js} cs c b r f h i loans within stands among number_of of_type set spared full less alive number_is continues again) are stack =
-      opens_on p g x bs e w typed globals bound variables number lent js v.value k cs c b r f h i live holds loans within stands among number_of of_type spared full less alive number_is continues again is.1 stack
-  given v k nests live holds is comes (stacks.aliases {number} {lent} {js} cs c b u t f h i loans within stands among number_of type_is set spared full unique known of_type alive number_is continues again) are stack =
-      aliases_on p g x bs e w typed globals bound variables number lent js v k cs c b u t f h i live holds loans within stands among number_of type_is spared full unique known of_type alive number_is continues again is stack
+  given v k nests live holds is comes (stacks.opens_by {number} {lent} {js} cs c b r f h i loans within stands among number_of of_type hides set spared full less alive number_is continues again) are stack =
+      opens_on p g x bs e w typed globals bound variables number lent js v.value k cs c b r f h i live holds loans within stands among number_of of_type hides spared full less alive number_is continues again is.1 stack
+  given v k nests live holds is comes (stacks.aliases {number} {lent} {js} cs c b u t f h i loans within stands among number_of type_is hides set spared full unique known of_type alive number_is continues again) are stack =
+      aliases_on p g x bs e w typed globals bound variables number lent js v k cs c b u t f h i live holds loans within stands among number_of type_is hides spared full unique known of_type alive number_is continues again comes is stack

@@ -14,15 +14,15 @@ use Rattle.cyc_types.specs.flow.Expressions.{peek_behind}
 use Rattle.cyc_types.specs.flow.Statements.{rule_side, side_demanded, peeked_side}
 use Rattle.cyc_meaning.specs.Values.{Operand}
 use Rattle.cyc_meaning.specs.Values as values
-use Rattle.cyc_meaning.specs.State.{World, cell_at, Environment, SwapLeft, SwapRight, Write, Entry, NeedsPlace, Locating, Proceeding, Writing, Swapping, Focus, Running, written}
+use Rattle.cyc_meaning.specs.State.{World, Environment, SwapLeft, SwapRight, Write, Entry, NeedsPlace, Locating, Proceeding, Writing, Swapping, Focus, Running, written}
 use Rattle.cyc_meaning.specs.Parts.{wrong, stored_at, step_writing, stored}
 use Rattle.cyc_meaning.specs.Swaps.{both_places, finds_right_object, finds_right, finds_left_object, swaps, swap_read, swap_content, swap_loaded, swap_loaded_at, step_swapping}
 use Rattle.cyc_meaning.specs.Nesting.{ends_of, AreOpen}
 use Rattle.cyc_soundness.proofs.Looking.{peeked_so}
 use Rattle.cyc_soundness.specs.Lives.{Life, RunTy, as_heap, kind_at, Value}
 use Rattle.cyc_soundness.specs.Lives as lives
-use Rattle.cyc_soundness.specs.Worlds.{At, IsKept, thing_of, IsHad, Claims, IsOpenObject, ObjectType, Typing, global_type, IsFilled, HasType, IsTyped, Awaits, Pending, Settled, Thing, Holder, Nobody, Hand, IsHeld, Owns, Stays, Grows, IsHere, given, giving, IsResult}
-use Rattle.cyc_soundness.specs.Frames.{InScope, local_type, IsBound, AreVariables, LiveIn, IsSet, Holds, Exits, IsContext, KnowsProgram, lives_in, read, IsFullIn}
+use Rattle.cyc_soundness.specs.Worlds.{At, IsKept, thing_of, IsHad, Claims, IsOpenObject, ObjectType, Typing, global_type, IsFilled, HasType, IsTyped, Awaits, Pending, Settled, Thing, Holder, Nobody, Hand, IsHeld, Owns, Stays, Grows, IsHere, given, giving, IsResult, Away, Lent}
+use Rattle.cyc_soundness.specs.Frames.{InScope, local_type, IsBound, AreVariables, LiveIn, Holds, Exits, IsContext, KnowsProgram, lives_in, read, IsFullIn}
 use Rattle.cyc_soundness.specs.Classes.{InSide, Source, and_looked, frees_of, IsSpared}
 use Rattle.cyc_soundness.specs.Stacks.{IsByType, relied_at, operands_in, Finds, Go, IsSpot, of_local, of_global, of_cell, IsLeftSpot, left_variable, left_cell, IsRead, AreSwapped, IsStack, IsWell, ClaimsAt, IsWrite, IsAwaited, IsFocus}
 use Rattle.cyc_soundness.specs.Stacks as stacks
@@ -30,10 +30,10 @@ use Rattle.cyc_soundness.proofs.Numbers.{some_same}
 use Rattle.cyc_soundness.proofs.TypeLemmas.{is_kind_same, kind_meant, place_type}
 use Rattle.cyc_soundness.proofs.FlowLemmas.{full_set, used_full}
 use Rattle.cyc_soundness.proofs.WorldLemmas.{cell_there, type_grown, result_grown, risen, with_filled, written_grows, cell_written, globals_grown}
-use Rattle.cyc_soundness.proofs.Hands.{holds_grown, Changed, given_now, given_too, given_apart, given_other, held_before, none_before, giving_changed, at_no_hand, at_same, not_awaited, kept_now, holds_here, variables_kept, variables_pending, variables_grown, pending_grows, awaits_same}
+use Rattle.cyc_soundness.proofs.Hands.{Changed, given_now, given_too, given_apart, given_other, held_before, none_before, giving_changed, at_no_hand, at_same, not_awaited, kept_now, holds_here, variables_kept, variables_pending, variables_grown, pending_grows, awaits_same, away_not_here, lent_no_hand, lent_not_at}
 use Rattle.cyc_soundness.proofs.StackLemmas.{stack_grown, bound_of, place_local, among_bound, among_variable, among_live, among_set, open_of, globals_among, lasting_open, kept_open, object_known, among_open, IsPresent, there_present, stack_by, IsAboveBy, statement_relied, settled, among_own}
 use Rattle.cyc_soundness.proofs.RegionLemmas.{there_of, cell_live, global_means}
-use Rattle.cyc_soundness.proofs.Cells.{part_had, running, life_of, lasting_common, open_object, by_type_claims, shared_claims, value_part, content_of, writes, held_still}
+use Rattle.cyc_soundness.proofs.Cells.{part_had, running, life_of, lasting_common, open_object, value_part, held_still}
 
 pub kept_both : (ds es : List Demand) → AllKept (ds ++ es) → AllKept ds × AllKept es
 kept_both [] es are = (tt, are)
@@ -46,6 +46,11 @@ IsFree g object y = ((n : ℕ) × IsHere g g.depth n object) ⊎ (y.is_hidden �
 free_kept : (g : Typing) (object offset : ℕ) (y : ObjectType) → g.pending ≡ Settled → IsFree g object y → IsKept g object offset y.is_hidden
 free_kept g object offset y settled (inl (n, here)) = kept_now g object offset y.is_hidden here.0 settled
 free_kept g object offset y settled (inr shown) = ((λ is. let k : true ≡ false = sym is ∙ shown in absurd (cc)), not_awaited g object offset settled)
+
+-- which it has not lent
+free_not_away : (g : Typing) (object : ℕ) (y : ObjectType) → IsFree g object y → y.is_hidden ≡ true → (j : ℕ) → g.here object ≡ Away j → ⊥
+free_not_away g object y (inl (n, here)) hides j away = away_not_here (g.here object) j away here.0
+free_not_away g object y (inr shown) hides j away = let k : true ≡ false = sym hides ∙ shown in absurd (cc)
 
 -- nothing that waits claims a thing by it
 free_above : (x : Exits) (g : Typing) (k : List Entry) (object offset : ℕ) (y : ObjectType) → relied_at [] k ≡ [] → slice_get g.objects object ≡ Some y → IsFree g object y → IsAboveBy false x g k (At object offset)
@@ -235,8 +240,8 @@ module _ (p : Source) (g : Typing) (x : Exits) (bs : List InScope) (e : Environm
       → ((a : Thing) → IsHeld (own a) → IsHeld (g.own a)) → ((a : Thing) → g.own a ≡ Nobody → own a ≡ Nobody)
       → ((object i : ℕ) → (object ≡ s.number → i ≢ s.offset) → pending ≢ Awaits object i → (a : Thing) → g.own a ≡ At object i → own a ≡ At object i)
       → ((object i : ℕ) → (object ≡ s.number → i ≢ s.offset) → g.pending ≢ Awaits object i) → (pending ≢ Awaits s.number s.offset → Claims own (At s.number s.offset) t v.value)
-      → AreVariables (record g { own = own; pending = pending }) bs → ((h : Typing) → IsNext own pending h → IsFocus p h x bs focus k) → IsWell p (stored_at place v focus k e w)
-  writes_next v focus k t place s own pending live is held none stays before claims known goes =
+      → ((object j : ℕ) (a : Thing) → g.own a ≡ Lent j object → own a ≡ Lent j object) → AreVariables (record g { own = own; pending = pending }) bs → ((h : Typing) → IsNext own pending h → IsFocus p h x bs focus k) → IsWell p (stored_at place v focus k e w)
+  writes_next v focus k t place s own pending live is held none stays before claims lasts known goes =
       let c = cell_there g w s.number s.offset t s.of_type typed s.there s.cell s.opens in
       let (m, flag, enough) = s.full in
       let count : m ≡ c.filled = some_same m c.filled (sym flag ∙ c.flag) in
@@ -250,7 +255,8 @@ module _ (p : Source) (g : Typing) (x : Exits) (bs : List InScope) (e : Environm
       (subst (λ (b : Bool). IsWell p (if b then Running focus k e (written w s.number s.offset (record { object = c.object; cell = c.of.cell }) v.value) else wrong w)) (sym (is_kind_same c.of.cell.kind v.kind (c.of.kind ∙ sym is.0)))
       (running p h x bs e (written w s.number s.offset (record { object = c.object; cell = c.of.cell }) v.value)
       (cell_written g w s.number s.offset s.of_type t v.value typed s.there s.cell c few is.1 own g.here pending held none (λ object i hidden apart kept a has. stays object i apart kept.1 a has)
-      (λ object i hidden apart kept. (kept.0, before object i (λ same. absurd (apart same)))) (λ i u found apart kept. (kept.0, before s.number i (λ same. apart))) (λ kept. claims kept.1))
+      (λ object i hidden apart kept. (kept.0, before object i (λ same. absurd (apart same)))) (λ i u found apart kept. (kept.0, before s.number i (λ same. apart))) (λ kept. claims kept.1)
+      (λ hides j away. free_not_away g s.number s.of_type s.free hides j away) (λ object j apart now. now) lasts)
       (globals_grown g h grows p (λ n ls. refl) globals.keys globals) bound (variables_grown (record g { own = own; pending = pending }) h later bs known) focus k live
       (goes h (record { grows = grows; own_is = refl; here = refl; pending_is = refl; depth = refl; loans = refl })))))
 
@@ -288,13 +294,13 @@ module _ (p : Source) (g : Typing) (x : Exits) (bs : List InScope) (e : Environm
       (λ a now. held_before g.own o hand right a claims.0 tt now) (λ a none. none_before g.own o hand right a claims.0 tt none)
       (λ object i apart kept a has. given_other g.own o hand right a claims.0 (λ e. at_no_hand object i (operands_in k) (sym has ∙ e)) ∙ has)
       (λ object i apart e. (let same = awaits_same s.number s.offset object i (sym old ∙ e) in apart (sym same.0) (sym same.1)))
-      (λ kept. (given_now g.own o right, claims.1)) (variables_kept hand still (giving still o right) changed bs refl (variables_pending g Settled bs variables))
+      (λ kept. (given_now g.own o right, claims.1)) (λ object j a has. given_other g.own o hand right a claims.0 (λ e. lent_no_hand j object (operands_in k) (sym has ∙ e)) ∙ has) (variables_kept hand still (giving still o right) changed bs refl (variables_pending g Settled bs variables))
       (λ h next. (
         f,
         holds_next h (given o right g.own) Settled next f holds,
         next.pending_is,
         stack_next h (given o right g.own) Settled next f k
-            (stack_by false p hand still (giving still o right) x bs (Go f) k (λ e object now. now) changed (let le : operands_in k ≤ operands_in k = omega arith in le) stack),
+            (stack_by false p hand still (giving still o right) x bs (Go f) k (λ e object. refl) changed (let le : operands_in k ≤ operands_in k = omega arith in le) stack),
       ))
 
   -- the left place gets what the right one has, and what it had is in hand
@@ -332,6 +338,9 @@ module _ (p : Source) (g : Typing) (x : Exits) (bs : List InScope) (e : Environm
             (λ e. (let same = at_same r.number r.offset l.number l.offset e in kept (ap (λ n. Awaits n r.offset) same.0 ∙ ap (λ n. Awaits l.number n) same.1))) (given_now g.own o left),
         rights.1,
       ))
+      (λ object j a has.
+      (let first : both a ≡ Lent j object = given_other g.own o right left a rights.0 (λ e. lent_not_at j object r.number r.offset (sym has ∙ e)) ∙ has in
+      given_other both q left hand a both_left (λ e. lent_not_at j object l.number l.offset (sym first ∙ e)) ∙ first))
       (variables_kept left (giving waits o left) (giving (giving waits o left) q hand) (giving_changed (giving waits o left) q left hand both_left) bs refl
       (variables_kept right waits (giving waits o left) (giving_changed waits o right left rights.0) bs refl (variables_pending g await bs variables)))
       (λ h next. (
@@ -344,9 +353,9 @@ module _ (p : Source) (g : Typing) (x : Exits) (bs : List InScope) (e : Environm
           (subst (λ z. Owns z hand q) (sym next.own_is) (given_now both q hand), lefts.1),
         ),
         stack_next h own await next f k
-            (stack_by false p left (giving still o left) (giving (giving still o left) q hand) x bs (Go f) k (λ e object now. now) (giving_changed (giving still o left) q left hand both_left)
+            (stack_by false p left (giving still o left) (giving (giving still o left) q hand) x bs (Go f) k (λ e object. refl) (giving_changed (giving still o left) q left hand both_left)
             (free_above x (giving still o left) k l.number l.offset l.of_type none l.there l.free)
-            (stack_by false p right still (giving still o left) x bs (Go f) k (λ e object now. now) (giving_changed still o right left rights.0) (free_above x still k r.number r.offset r.of_type none r.there r.free) stack)),
+            (stack_by false p right still (giving still o left) x bs (Go f) k (λ e object. refl) (giving_changed still o right left rights.0) (free_above x still k r.number r.offset r.of_type none r.there r.free) stack)),
       ))
 
   pub swapped_on : (ws : List Write) (k : List Entry) (f : flow.State) → AreOpen w.regions (ends_of k) → LiveIn k bs → Holds g f bs → AreSwapped p g (operands_in k) bs f ws → IsStack p (record g { pending = Settled }) x bs (Go f) k

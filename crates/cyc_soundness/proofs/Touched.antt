@@ -9,7 +9,7 @@ use Rattle.cyc_types.specs.flow.States.{Fullness, Vacant, Locked, Full, Unreache
 use Rattle.cyc_types.specs.flow.Touched.{and_local, and_assigned, touched, touched_place, touched_placement, touched_initial, touched_converted, touched_arguments, touched_operations, touched_side, touched_value, touched_thrown, touched_declaration, touched_statement, touched_items, touched_item, touched_clauses}
 use Rattle.cyc_soundness.specs.Lives.{Reading}
 use Rattle.cyc_soundness.specs.Worlds.{IsAmong, first, later}
-use Rattle.cyc_soundness.specs.Classes.{is_full, Relied, IsSparedBy, InExpression, InPlace, InPlacement, InInitial, InConverted, InArguments, InOperations, InValue, InThrown, InSide, InStatement, InItems, InClauses}
+use Rattle.cyc_soundness.specs.Classes.{is_full, Relied, IsSparedBy, InExpression, InPlace, InPlacement, InInitial, InConverted, InArguments, InOperations, InValue, InThrown, InSide, InStatement, InItems, InClauses, SparesAssigned, Asked, may_end}
 use Rattle.cyc_soundness.proofs.FlowLemmas.{before_last, at_last}
 
 -- ---- what was touched before is so behind
@@ -127,6 +127,24 @@ module _ (n : ℕ) where
     clauses_too (Default r js) ns is = items_too js ns is
     clauses_too (Case e m r js cs) ns is = clauses_too cs (touched_items js ns) (items_too js ns is)
 
+-- ---- what is asked where code may be run
+
+pub asked : {A : Type 0} (run : Bool) → A → Asked run A
+asked false is = tt
+asked true is = is
+
+pub asked_of : {A : Type 0} (run : Bool) → run ≡ true → Asked run A → A
+asked_of false e is = absurd (let k : false ≡ true = e in cc)
+asked_of true e is = is
+
+pub asked_nothing : (A : Type 0) (run : Bool) → run ≡ false → Asked run A
+asked_nothing A false e = tt
+asked_nothing A true e = absurd (let k : true ≡ false = e in cc)
+
+asked_too : {A B : Type 0} (run : Bool) → (A → B) → Asked run A → Asked run B
+asked_too false to is = tt
+asked_too true to is = to is
+
 -- ---- what the clauses of a `try` begin with
 
 -- each of these may be left empty by what is known
@@ -134,6 +152,12 @@ abbrev AreSpared : flow.State → List ℕ → Type 0
 AreSpared f ns = (n : ℕ) → IsAmong n ns → IsSparedBy f n
 
 module _ (m : Reading) (q : Relied) (f : flow.State) where
+  relied_assigned : (l : Lvalue) (t : ValueType) (ns : List ℕ) → AreSpared f (and_assigned l t ns) → SparesAssigned q l t → SparesAssigned (f ∷ q) l t
+  relied_assigned (Local p n) Void ns spared kept = (spared n (at_last n n ns refl), kept)
+  relied_assigned (Local p n) Null ns spared kept = tt
+  relied_assigned (Local p n) (Value t) ns spared kept = tt
+  relied_assigned (Global n) t ns spared kept = tt
+
   mutual
     relied_expression : (a : Expression) (ns : List ℕ) → AreSpared f (touched a ns) → InExpression m q a → InExpression m (f ∷ q) a
     relied_expression (Number n) ns spared kept = kept
@@ -154,7 +178,8 @@ module _ (m : Reading) (q : Relied) (f : flow.State) where
     relied_expression (Unary o a) ns spared kept = relied_expression a ns spared kept
     relied_expression (Binary a os t) ns spared (one, kept) =
         (relied_expression a ns (λ n is. spared n (operations_too n os (touched a ns) is)) one, relied_operations os (touched a ns) spared kept)
-    relied_expression (Assign l c t) ns spared kept = relied_converted c ns (λ n is. spared n (assigned_too n l t (touched_converted c ns) is)) kept
+    relied_expression (Assign l c t) ns spared (one, kept) =
+        (relied_assigned l t (touched_converted c ns) spared one, relied_converted c ns (λ n is. spared n (assigned_too n l t (touched_converted c ns) is)) kept)
     relied_expression (Store d c t) ns spared (one, kept) =
         (relied_place d ns (λ n is. spared n (converted_too n c (touched_place d ns) is)) one, relied_converted c (touched_place d ns) spared kept)
     relied_expression (New w i t) ns spared (one, kept) =
@@ -230,7 +255,7 @@ module _ (m : Reading) (q : Relied) (f : flow.State) where
     relied_items : (k : ℕ) (js : Items) (ns : List ℕ) → AreSpared f (touched_items js ns) → InItems m q k js → InItems m (f ∷ q) k js
     relied_items k NoItems ns spared kept = kept
     relied_items k (MoreItems (Execute s) js) ns spared (one, kept) =
-        (relied_statement k s ns (λ n is. spared n (items_too n js (touched_statement s ns) is)) one, relied_items (k + declared_regions s) js (touched_statement s ns) spared kept)
+        (relied_statement k s ns (λ n is. spared n (items_too n js (touched_statement s ns) is)) one, asked_too (may_end s) (λ is. relied_items (k + declared_regions s) js (touched_statement s ns) spared is) kept)
     relied_items k (MoreItems (Declare l t v) js) ns spared (named, one, kept) =
         (named, relied_declared l v ns (λ n is. spared n (items_too n js (touched_declaration l v ns) is)) one, relied_items k js (touched_declaration l v ns) spared kept)
     relied_items k (MoreItems (DeclareRegion r l) js) ns spared (scopes, kept) = (scopes, relied_items (suc k) js ns spared kept)

@@ -1,5 +1,5 @@
 -- THE CONTROL STACK is left entry by entry: normally, by `break`, `continue` and `return`, and by an exception.
-use Rattle.std.proofs.Common.{◌≡◌, ◌≤◌, ℕ, zero, suc, arith, Bool, true, false, List, [], ◌∷◌, Option, Some, None, refl, sym, ap, subst, ◌∙◌}
+use Rattle.std.proofs.Common.{◌≡◌, ◌≤◌, ℕ, zero, suc, arith, Bool, true, false, List, [], ◌∷◌, Option, Some, None, refl, sym, ap, subst, ◌∙◌, slice_get}
 use Rattle.cyc_types.specs.Types.{Ty, ValueType, result_type}
 use Rattle.cyc_types.specs.Types as types
 use Rattle.cyc_types.specs.TypedTrees.{Expression, Statement}
@@ -7,23 +7,23 @@ use Rattle.cyc_types.specs.flow.States as flow
 use Rattle.cyc_types.specs.flow.States.{Full, is_reached, with_fullness, with_each}
 use Rattle.cyc_meaning.specs.Values.{Operand, Cell}
 use Rattle.cyc_meaning.specs.Values as values
-use Rattle.cyc_meaning.specs.State.{World, closed, region_at, Environment, Test, Entry, Needs, NeedsPlace, Discard, Rest, Join, Loop, CloseRegion, CloseLexical, EndLoan, Handler, Caller, Main, Focus, Evaluating, Given, Proceeding, Breaking, Continuing, Returning, Throwing, Catching, Running}
+use Rattle.cyc_meaning.specs.State.{World, closed, region_at, Environment, Test, Entry, Needs, NeedsPlace, Discard, Rest, Join, Loop, CloseRegion, CloseLexical, EndLoan, Handler, Caller, Main, Focus, Evaluating, Given, Proceeding, Breaking, Continuing, Returning, Throwing, Catching, Running, Object}
 use Rattle.cyc_meaning.specs.Parts.{closing}
 use Rattle.cyc_meaning.specs.Regions.{closing_lexical}
 use Rattle.cyc_meaning.specs.Nesting.{IsNested}
 use Rattle.cyc_meaning.specs.Step.{step_proceeding, step_breaking, step_continuing, returned, main_returned, step_returning, step_throwing}
 use Rattle.cyc_soundness.specs.Lives.{Life, RunTy, RunValue, Value}
 use Rattle.cyc_soundness.specs.Lives as lives
-use Rattle.cyc_soundness.specs.Worlds.{OfLocal, Hand, At, Lent, thing_of, IsStart, Claims, giving, given, marked, handing, AreOwned, variable_type, Typing, HasType, IsTyped, Slot}
+use Rattle.cyc_soundness.specs.Worlds.{OfLocal, Hand, At, Lent, thing_of, Claims, given, marked, handing, variable_type, Typing, HasType, IsTyped, Here, Thing, Holder, Owns, IsHere}
 use Rattle.cyc_soundness.specs.Frames.{InScope, Names, Home, IsBound, AreVariables, AreFullAt, LiveIn, Holds, Implies, LoopExit, Exits, HasResult, is_loop, KnowsProgram}
 use Rattle.cyc_soundness.specs.Stacks.{IsByType, IsLentOut, IsLoop, Want, Nothing, Val, PlaceOf, Go, operands_in, IsBlocked, IsReturn, IsStack, IsFocus, IsWell}
 use Rattle.cyc_soundness.specs.Stacks as stacks
 use Rattle.cyc_soundness.proofs.Numbers.{some_same}
 use Rattle.cyc_soundness.proofs.FlowLemmas.{holds_implied, full_added}
 use Rattle.cyc_soundness.proofs.StackLemmas.{void_goes, given_back, stack_changed, none_lent, full_at_grown, not_heap, lexical_not_heap, within_bound, within_variables, within_live, within_holds, found_is, waits_within}
-use Rattle.cyc_soundness.proofs.WorldLemmas.{closed_typed, result_grown}
-use Rattle.cyc_soundness.proofs.Hands.{Changed, at_not_lent, given_now, marked_now, handing_changed, alone_kept, alone_comes, variables_kept, given_typed, raised_typed, hands_globals, moment_grows, moment_typed, moment_globals, holds_lent}
-use Rattle.cyc_soundness.proofs.Cells.{by_type_claims, running}
+use Rattle.cyc_soundness.proofs.WorldLemmas.{closed_typed, result_grown, typed_cell}
+use Rattle.cyc_soundness.proofs.Hands.{Changed, at_not_lent, given_now, marked_now, handing_changed, alone_kept, alone_comes, variables_kept, hands_globals, moment_grows, moment_typed, moment_globals, holds_lent, returned_typed, away_same}
+use Rattle.cyc_soundness.proofs.Cells.{running}
 use Rattle.cyc_soundness.proofs.Execution.{continue_with}
 use Rattle.cyc_soundness.specs.Classes.{Source}
 
@@ -64,61 +64,86 @@ module _ (p : Source) (g : Typing) (e : Environment) (w : World) (typed : IsType
     -- ---- a loan ends
 
     -- what was lent is its local's again
-    abbrev ended_typing : (j : ℕ) → RunTy → (object : ℕ) → Typing
-    ended_typing j t object = handing (record g { loans = j }) (thing_of t values.Null) (At object 0) object true
+    abbrev ended_typing : (j : ℕ) → Option Thing → (object : ℕ) → Typing
+    ended_typing j o object = handing (record g { loans = j }) o (At object 0) object Here
 
-    record HasEnded (j : ℕ) (t : RunTy) (object : ℕ) (y : Exits) (h : flow.State) (k : List Entry) : Type 0 where
-      objects : IsTyped (ended_typing j t object) w.regions w.objects
-      knows : KnowsProgram (ended_typing j t object) p
-      scope : AreVariables (ended_typing j t object) bs
-      stack : IsStack p (ended_typing j t object) y bs (Go h) k
+    record HasEnded (lent j object : ℕ) (y : Exits) (h : flow.State) (k : List Entry) : Type 0 where
+      what : Option Thing
+      changed : Changed (Lent j object) (record g { loans = j }) (ended_typing j what object)
+      here : IsHere (ended_typing j what object) g.depth lent object
+      objects : IsTyped (ended_typing j what object) w.regions w.objects
+      knows : KnowsProgram (ended_typing j what object) p
+      scope : AreVariables (ended_typing j what object) bs
+      stack : IsStack p (ended_typing j what object) y bs (Go h) k
 
-    null_start : (t : RunTy) → IsStart t values.Null
-    null_start lives.Int = tt
-    null_start (lives.Pointer k t l) = tt
-    null_start (lives.Handle l) = tt
-    null_start (lives.Key l) = tt
-    null_start (lives.Struct n ls) = tt
+    -- what is in the variable, if anything is, is what was lent
+    lent_content : (lent j : ℕ) (t : RunTy) (object : ℕ) → IsLentOut g lent j t object
+        → (o : Option Thing) × Owns g.own (Lent j object) o × ((own : Thing → Holder) → Owns own (At object 0) o → (x : Object) → slice_get w.objects object ≡ Some x → (c : Cell) (v : values.Value) → slice_get x.cells 0 ≡ Some c → c.content ≡ Some v → Claims own (At object 0) t v)
+    lent_content lent j t object (l, there, away) =
+        let (x, m, stands, filled, is) = typed.each object (variable_type t l true (OfLocal g.depth lent)) there in
+        let c = typed_cell g (t ∷ []) x.cells m 0 t is.cells refl in
+        go x stands c.cell c.at c.cell.content refl
+      where
+        go : (x : Object) → slice_get w.objects object ≡ Some x → (c : Cell) → slice_get x.cells 0 ≡ Some c → (content : Option values.Value) → c.content ≡ content
+            → (o : Option Thing) × Owns g.own (Lent j object) o × ((own : Thing → Holder) → Owns own (At object 0) o → (x : Object) → slice_get w.objects object ≡ Some x → (c : Cell) (v : values.Value) → slice_get x.cells 0 ≡ Some c → c.content ≡ Some v → Claims own (At object 0) t v)
+        go x stands c at None content = (
+          None,
+          tt,
+          λ own owns y found d v there full.
+              (let same : x ≡ y = some_same x y (sym stands ∙ found) in
+              let one : c ≡ d = some_same c d (sym at ∙ ap (λ (z : Object). slice_get z.cells 0) same ∙ there) in
+              let k : None ≡ Some v = sym content ∙ ap (λ (z : Cell). z.content) one ∙ full in absurd (cc)),
+        )
+        go x stands c at (Some u) content =
+            let claims : Claims g.own (Lent j object) t u = typed.lent object (variable_type t l true (OfLocal g.depth lent)) x there stands 0 j t c u away refl refl at content in (
+              thing_of t u,
+              claims.0,
+              λ own owns y found d v there full.
+                  (let same : x ≡ y = some_same x y (sym stands ∙ found) in
+                  let one : c ≡ d = some_same c d (sym at ∙ ap (λ (z : Object). slice_get z.cells 0) same ∙ there) in
+                  let value_is : u ≡ v = some_same u v (sym content ∙ ap (λ (z : Cell). z.content) one ∙ full) in
+                  subst (λ z. Claims own (At object 0) t z) value_is (owns, claims.1)),
+            )
 
-    ended_changed : (lent j : ℕ) (t : RunTy) (object : ℕ) → IsLentOut g lent j t object → Changed (Lent j) (record g { loans = j }) (ended_typing j t object)
-    ended_changed lent j t object (l, hidden, there, by, owns) = handing_changed (record g { loans = j }) (thing_of t values.Null) (Lent j) (At object 0) object true owns (λ same. let z : true ≡ false = same in absurd (cc))
-
-    ends : (lent j : ℕ) (t : RunTy) (object : ℕ) (y : Exits) (h : flow.State) (k : List Entry) → IsLentOut g lent j t object → AreVariables (record g { loans = j }) bs → IsStack p (record g { loans = j }) y bs (Go h) k → HasEnded j t object y h k
-    ends lent j t object y h k (l, hidden, there, by, owns) scope stack =
+    ends : (lent j : ℕ) (t : RunTy) (object : ℕ) (y : Exits) (h : flow.State) (k : List Entry) → IsLentOut g lent j t object → AreVariables (record g { loans = j }) bs → IsStack p (record g { loans = j }) y bs (Go h) k → HasEnded lent j object y h k
+    ends lent j t object y h k (l, there, away) scope stack =
         let m = record g { loans = j } in
-        let o = thing_of t values.Null in
+        let (o, owns, claims) = lent_content lent j t object (l, there, away) in
         let its = At object 0 in
-        let z = ended_typing j t object in
+        let old = Lent j object in
+        let z = ended_typing j o object in
         let le : j ≤ j = omega arith in
-        let changed = ended_changed lent j t object (l, hidden, there, by, owns) in
-        let given_back' = giving m o its in
-        let first' : IsTyped given_back' w.regions w.objects = given_typed m o (Lent j) its w.regions w.objects owns tt (λ n i. at_not_lent n i j) (moment_typed g g.depth j w.regions w.objects typed) in
+        let changed : Changed old m z = handing_changed m o old its object Here owns (λ e i is. ap (λ n. Lent n object) (away_same i j (sym is ∙ away))) (λ other. absurd (other refl)) in
         record {
-          objects = raised_typed given_back' object (variable_type t l hidden (OfLocal g.depth lent)) w.regions w.objects there (λ x stands. variable_owned (ended_typing j t object) object t l hidden (OfLocal g.depth lent) x.cells by (given_now g.own o its, null_start t)) first';
-          knows = hands_globals p m (given o its g.own) (marked object true g.here) (moment_globals p g g.depth j globals);
-          scope = variables_kept (Lent j) m z changed bs (none_lent true y m k (Lent j) le) scope;
-          stack = stack_changed p (Lent j) m z y bs (Go h) k changed le stack;
+          what = o;
+          changed = changed;
+          here = (marked_now object Here g.here, (variable_type t l true (OfLocal g.depth lent), there, refl));
+          objects = returned_typed m o object j (variable_type t l true (OfLocal g.depth lent)) w.regions w.objects owns there (λ x stands i u c v. variable_claims z.own t x (claims z.own (given_now g.own o its) x stands) i u c v) (moment_typed g g.depth j w.regions w.objects typed);
+          knows = hands_globals p m (given o its g.own) (marked object Here g.here) (moment_globals p g g.depth j globals);
+          scope = variables_kept old m z changed bs (none_lent true y m k old le) scope;
+          stack = stack_changed p old m z y bs (Go h) k changed le stack;
         }
       where
-        variable_owned : (h : Typing) (object : ℕ) (t : RunTy) (l : Life) (hidden : Bool) (s : Slot) (cs : List Cell) → IsByType t → Claims h.own (At object 0) t values.Null → AreOwned h object (variable_type t l hidden s) cs
-        variable_owned h object t l hidden s cs by is zero u c v kept found at content = subst (λ e. Claims h.own (At object 0) e v) (some_same t u found) (by_type_claims h.own (At object 0) t values.Null v by is)
-        variable_owned h object t l hidden s cs by is (suc i) u c v kept found at content = absurd (let e : None ≡ Some u = found in cc)
+        variable_claims : (own : Thing → Holder) (t : RunTy) (x : Object) → ((c : Cell) (v : values.Value) → slice_get x.cells 0 ≡ Some c → c.content ≡ Some v → Claims own (At object 0) t v)
+            → (i : ℕ) (u : RunTy) (c : Cell) (v : values.Value) → slice_get (t ∷ []) i ≡ Some u → slice_get x.cells i ≡ Some c → c.content ≡ Some v → Claims own (At object i) u v
+        variable_claims own t x claims zero u c v found at content = subst (λ e. Claims own (At object 0) e v) (some_same t u found) (claims c v at content)
+        variable_claims own t x claims (suc i) u c v found at content = absurd (let e : None ≡ Some u = found in cc)
 
     -- and it is full
-    ended_holds : (f : flow.State) (lent j : ℕ) (t : RunTy) (object : ℕ) → IsLentOut g lent j t object → AreFullAt g lent object bs → Holds g f bs → Holds (ended_typing j t object) (with_fullness Full f lent) bs
-    ended_holds f lent j t object (l, hidden, there, by, owns) full holds =
+    ended_holds : (f : flow.State) (lent j object : ℕ) (y : Exits) (h : flow.State) (k : List Entry) (z : HasEnded lent j object y h k) → AreFullAt g lent object bs → Holds g f bs → Holds (ended_typing j z.what object) (with_fullness Full f lent) bs
+    ended_holds f lent j object y h k z full holds =
         let m = record g { loans = j } in
-        given_back (Lent j) m (ended_typing j t object) (ended_changed lent j t object (l, hidden, there, by, owns)) lent object (λ i. at_not_lent i 0 j) (marked_now object true g.here, (variable_type t l hidden (OfLocal g.depth lent), there, refl)) f bs
+        given_back (Lent j object) m (ended_typing j z.what object) z.changed lent object (λ i. at_not_lent i 0 j object) z.here f bs
         (full_at_grown p g m (moment_grows g g.depth j) lent object bs full) (holds_lent g j f bs holds)
 
     -- a value that is returned is still who has it
-    return_other : (i lent j : ℕ) (t : RunTy) (object : ℕ) (o : Option Ty) (r : RunValue) (v : Option Operand) → IsLentOut g lent j t object → IsReturn g i o r v → IsReturn (ended_typing j t object) i o r v
-    return_other i lent j t object None r None claims is = tt
-    return_other i lent j t object None r (Some v) claims is = absurd is
-    return_other i lent j t object (Some u) r None claims is = absurd is
-    return_other i lent j t object (Some u) r (Some v) claims (is, has) = (
-      result_grown g (ended_typing j t object) (record { objects = λ n u is. is; filled = λ n count is. is; fields = λ n ls ts is. is; kept = λ n is. is }) r v is,
-      alone_kept (Lent j) (record g { loans = j }) (ended_typing j t object) (ended_changed lent j t object claims) i r v.value (λ e. let z : Hand i ≡ Lent j = e in absurd (cc)) has,
+    return_other : (i j object : ℕ) (what : Option Thing) (o : Option Ty) (r : RunValue) (v : Option Operand) → Changed (Lent j object) (record g { loans = j }) (ended_typing j what object) → IsReturn g i o r v → IsReturn (ended_typing j what object) i o r v
+    return_other i j object what None r None changed is = tt
+    return_other i j object what None r (Some v) changed is = absurd is
+    return_other i j object what (Some u) r None changed is = absurd is
+    return_other i j object what (Some u) r (Some v) changed (is, has) = (
+      result_grown g (ended_typing j what object) (record { objects = λ n u is. is; filled = λ n count is. is; fields = λ n ls ts is. is; kept = λ n is. is }) r v is,
+      alone_kept (Lent j object) (record g { loans = j }) (ended_typing j what object) changed i r v.value (λ e. let z : Hand i ≡ Lent j object = e in absurd (cc)) has,
     )
 
     -- ---- to the end of a call
@@ -126,7 +151,7 @@ module _ (p : Source) (g : Typing) (e : Environment) (w : World) (typed : IsType
     pub proceed : (k : List Entry) (f : flow.State) → IsNested k e w → LiveIn k bs → Holds g f bs → IsStack p g x bs (Go f) k → IsWell p (step_proceeding k e w)
     proceed (Discard ∷ k) f nests live holds stack = on Proceeding k live (f, holds, stack)
     proceed (Rest js ∷ k) f nests live holds (cs, c, h, within, stands, rest, stack) =
-        continue_with p g x bs e w typed globals bound variables js k cs c f h rest.before rest.behind rest.ending nests live within stands holds rest.typed rest.flows rest.breaks rest.kept rest.ends stack
+        continue_with p g x bs e w typed globals bound variables js k cs c f h rest.before rest.behind rest.ending nests live within stands holds rest.typed rest.flows rest.breaks (rest.kept holds.0) rest.ends stack
     proceed (Join ∷ k) f nests live holds (h, i, stack) = on Proceeding k live (h, holds_implied g f h bs i holds, stack)
     proceed (Loop condition body ∷ k) f nests live holds (y, l, v, u, h, same, loop, i, stack) = tests_again condition body k y l v u h live loop (holds_implied g f l.head bs i holds) stack
     proceed (CloseRegion region home ∷ k) f nests live holds (cs, number, l, alive, h, same, i, outer, stack) =
@@ -134,8 +159,8 @@ module _ (p : Source) (g : Typing) (e : Environment) (w : World) (typed : IsType
     proceed (CloseLexical region ∷ k) f nests live holds (h, i, outer, stack) = closes_lexical Proceeding region k nests outer (h, holds_implied g f h bs i holds, stack)
     proceed (EndLoan lent ∷ k) f nests live holds (y, h, j, t, object, same, loans, claims, i, full, scope, stack) =
         let z = ends lent j t object y h k claims scope stack in
-        running p (ended_typing j t object) y bs e w z.objects z.knows bound z.scope Proceeding k live
-        (h, holds_implied (ended_typing j t object) (with_fullness Full f lent) h bs i (ended_holds f lent j t object claims full holds), z.stack)
+        running p (ended_typing j z.what object) y bs e w z.objects z.knows bound z.scope Proceeding k live
+        (h, holds_implied (ended_typing j z.what object) (with_fullness Full f lent) h bs i (ended_holds f lent j object y h k z full holds), z.stack)
     proceed (Handler cs ∷ k) f nests live holds (y, c, start, h, same, stands, known, catches, i, stack) =
         running p g y bs e w typed globals bound variables Proceeding k live (h, holds_implied g f h bs i holds, stack)
     proceed (Caller outer ∷ k) f nests live holds (y, cs, h, d, depth, loop, blocked, gives, bound', variables', live', holds', stack) = go x.result refl
@@ -166,8 +191,8 @@ module _ (p : Source) (g : Typing) (e : Environment) (w : World) (typed : IsType
     breaks (EndLoan lent ∷ k) l f h nests live same holds left (y, i, j, t, object, lent_is, loans, claims, implies, full, scope, stack) =
         let z = ends lent j t object y i k claims scope stack in
         let locks : with_each Full x.locks f ≡ with_each Full y.locks (with_fullness Full f lent) = ap (λ (z : Exits). with_each Full z.locks f) lent_is ∙ full_added lent y.locks f in
-        running p (ended_typing j t object) y bs e w z.objects z.knows bound z.scope Breaking k live
-        (l, with_fullness Full f lent, i, sym (ap (λ (z : Exits). z.loop) lent_is) ∙ same, ended_holds f lent j t object claims full holds, subst (λ z. Implies z l.breaks) locks left, z.stack)
+        running p (ended_typing j z.what object) y bs e w z.objects z.knows bound z.scope Breaking k live
+        (l, with_fullness Full f lent, i, sym (ap (λ (z : Exits). z.loop) lent_is) ∙ same, ended_holds f lent j object y i k z full holds, subst (λ z. Implies z l.breaks) locks left, z.stack)
     breaks (Handler cs ∷ k) l f h nests live same holds left (y, c, start, i, relies, stands, known, catches, implies, stack) =
         running p g y bs e w typed globals bound variables Breaking k live
         (l, f, i, sym (ap (λ (z : Exits). z.loop) relies) ∙ same, holds, subst (λ ns. Implies (with_each Full ns f) l.breaks) (ap (λ (z : Exits). z.locks) relies) left, stack)
@@ -192,8 +217,8 @@ module _ (p : Source) (g : Typing) (e : Environment) (w : World) (typed : IsType
     continues (EndLoan lent ∷ k) l f h nests live same holds left (y, i, j, t, object, lent_is, loans, claims, implies, full, scope, stack) =
         let z = ends lent j t object y i k claims scope stack in
         let locks : with_each Full x.locks f ≡ with_each Full y.locks (with_fullness Full f lent) = ap (λ (z : Exits). with_each Full z.locks f) lent_is ∙ full_added lent y.locks f in
-        running p (ended_typing j t object) y bs e w z.objects z.knows bound z.scope Continuing k live
-        (l, with_fullness Full f lent, i, sym (ap (λ (z : Exits). z.loop) lent_is) ∙ same, ended_holds f lent j t object claims full holds, subst (λ z. Implies z l.head) locks left, z.stack)
+        running p (ended_typing j z.what object) y bs e w z.objects z.knows bound z.scope Continuing k live
+        (l, with_fullness Full f lent, i, sym (ap (λ (z : Exits). z.loop) lent_is) ∙ same, ended_holds f lent j object y i k z full holds, subst (λ z. Implies z l.head) locks left, z.stack)
     continues (Handler cs ∷ k) l f h nests live same holds left (y, c, start, i, relies, stands, known, catches, implies, stack) =
         running p g y bs e w typed globals bound variables Continuing k live
         (l, f, i, sym (ap (λ (z : Exits). z.loop) relies) ∙ same, holds, subst (λ ns. Implies (with_each Full ns f) l.head) (ap (λ (z : Exits). z.locks) relies) left, stack)
@@ -222,8 +247,8 @@ module _ (p : Source) (g : Typing) (e : Environment) (w : World) (typed : IsType
     returns_on (CloseLexical region ∷ k) v f nests live is (h, i, outer, stack) = closes_lexical (Returning v) region k nests outer (h, is, stack)
     returns_on (EndLoan lent ∷ k) v f nests live is (y, h, j, t, object, lent_is, loans, claims, i, full, scope, stack) =
         let z = ends lent j t object y h k claims scope stack in
-        running p (ended_typing j t object) y bs e w z.objects z.knows bound z.scope (Returning v) k live
-        (h, return_other (operands_in k) lent j t object y.result y.gives v claims (subst (λ (z : Exits). IsReturn g (operands_in k) z.result z.gives v) lent_is is), z.stack)
+        running p (ended_typing j z.what object) y bs e w z.objects z.knows bound z.scope (Returning v) k live
+        (h, return_other (operands_in k) j object z.what y.result y.gives v z.changed (subst (λ (z : Exits). IsReturn g (operands_in k) z.result z.gives v) lent_is is), z.stack)
     returns_on (Handler cs ∷ k) v f nests live is (y, c, start, h, relies, stands, known, catches, i, stack) =
         running p g y bs e w typed globals bound variables (Returning v) k live (h, subst (λ (z : Exits). IsReturn g (operands_in k) z.result z.gives v) relies is, stack)
     returns_on (Caller outer ∷ k) v f nests live is (y, cs, h, d, depth, loop, blocked, gives, bound', variables', live', holds', stack) = go x.result v refl is
@@ -258,7 +283,7 @@ module _ (p : Source) (g : Typing) (e : Environment) (w : World) (typed : IsType
     throws_on (CloseLexical region ∷ k) tag value (Go f) nests live (h, i, outer, stack) = closes_lexical (Throwing tag value) region k nests outer (Go h, stack)
     throws_on (EndLoan lent ∷ k) tag value (Go f) nests live (y, h, j, t, object, lent_is, loans, claims, i, full, scope, stack) =
         let z = ends lent j t object y h k claims scope stack in
-        running p (ended_typing j t object) y bs e w z.objects z.knows bound z.scope (Throwing tag value) k live (Go h, z.stack)
+        running p (ended_typing j z.what object) y bs e w z.objects z.knows bound z.scope (Throwing tag value) k live (Go h, z.stack)
     throws_on (Handler cs ∷ k) tag value (Go f) nests live (y, c, start, h, relies, stands, known, catches, i, stack) =
         running p g y bs e w typed globals bound variables (Catching tag value cs) k live (c, start, f, h, stands, known, catches, stack)
     throws_on (Caller outer ∷ k) tag value (Go f) nests live (y, cs, h, d, depth, loop, blocked, gives, bound', variables', live', holds', stack) =

@@ -18,8 +18,8 @@ use Rattle.cyc_meaning.specs.Values.{Operand}
 use Rattle.cyc_meaning.specs.Values as values
 use Rattle.cyc_meaning.specs.Operators.{Gives, Raises, is_zero, binary_result, has_no_result, unary_result, binary_word, division_by_zero, array_bounds}
 use Rattle.cyc_meaning.specs.Conversion.{conversion, thinned}
-use Rattle.cyc_soundness.specs.Lives.{Life, RunTy, Int, Pointer, Handle, Key, Lives, at, value_at}
-use Rattle.cyc_soundness.specs.Worlds.{Typing, Outlasts, alike, heap as for_ever, globals as with_globals, stays, encloses, IsEndOf, whole, behind, AgreesWith, IsTarget, HasType, IsResult, Fits}
+use Rattle.cyc_soundness.specs.Lives.{Life, OfRegion, Owned, Kept, RunTy, Int, Pointer, Handle, Key, Lives, at, value_at}
+use Rattle.cyc_soundness.specs.Worlds.{Typing, Outlasts, alike, heap as for_ever, globals as with_globals, stays, encloses, borrows, life_at, IsEndOf, whole, behind, AgreesWith, IsTarget, HasType, IsResult, Fits}
 use Rattle.cyc_soundness.proofs.TypeLemmas.{kind_read}
 
 -- ---- what lasts as long
@@ -36,10 +36,17 @@ outlasts_through a b c (stays r n ns us has) (alike _) = stays r n ns us has
 outlasts_through a b c (stays r n ns us has) (for_ever _) = absurd (let k : false ≡ true = has in cc)
 outlasts_through a b c (stays r n ns us has) (with_globals _) = absurd (let k : false ≡ true = has in cc)
 outlasts_through a b c (stays r n ns us has) (encloses _ m _ ms _ vs end more) = stays r m ms vs (more r has)
+outlasts_through a b c (borrows object) (alike _) = borrows object
 outlasts_through a b c (encloses l m ls ms us vs end more) (alike _) = encloses l m ls ms us vs end more
 outlasts_through a b c (encloses l m ls ms us vs end more) (for_ever _) = elim end [ ]
 outlasts_through a b c (encloses l m ls ms us vs end more) (with_globals _) = elim end [ ]
 outlasts_through a b c (encloses l m ls ms us vs end more) (encloses _ n _ ns _ ws next too) = encloses l n ls ns us ws (ends_through (l ∷ ls) ms m ns end next) (λ r is. too r (more r is))
+
+-- what has this life is there so long for a pointer
+pub lasts_itself : (object : ℕ) (l : Life) → Outlasts (life_at object l) l
+lasts_itself object (OfRegion number ns us) = alike (OfRegion number ns us)
+lasts_itself object Owned = borrows object
+lasts_itself object (Kept a) = alike (Kept a)
 
 -- Where what is given agrees, so does all that follows from it.
 pub given_agree : (c : RegionContext) (n : Lives) → ((a b : Region) → IsGiven c a b → Outlasts (n a) (n b)) → AgreesWith c n
@@ -145,7 +152,7 @@ module _ (g : Typing) where
 
   -- what a pointer leads to outlasts what its life outlasts
   shortened : (t : RunTy) (l m : Life) (object offset : ℕ) → Outlasts l m → IsTarget g t l object offset → IsTarget g t m object offset
-  shortened t l m object offset outlasts (x, there, shown, lasts, part) = (x, there, shown, outlasts_through x.life l m lasts outlasts, part)
+  shortened t l m object offset outlasts (x, there, shown, lasts, part) = (x, there, shown, outlasts_through (life_at object x.life) l m lasts outlasts, part)
 
   pointer_shortened : (k : PointerKind) (t : RunTy) (l m : Life) (v : values.Value) → Outlasts l m → HasType g (Pointer k t l) v → HasType g (Pointer k t m) v
   pointer_shortened marks.Nullable t l m values.Null outlasts is = tt

@@ -30,9 +30,9 @@ use Rattle.cyc_meaning.proofs.Nested.{nests_step, nests_start}
 use Rattle.cyc_soundness.proofs.RegionLemmas.{contains_none}
 use Rattle.cyc_soundness.specs.Lives.{Life, RunTy, RunValue, at, heap_life, lives_of, as_heap, Reading, AsHeap, ByScope}
 use Rattle.cyc_soundness.specs.Lives as lives
-use Rattle.cyc_soundness.specs.Worlds.{Nobody, thing_of, ClaimsPart, IsKeyless, ObjectType, Typing, Outlasts, heap as for_ever, global_type, HasType, IsResult, AreOperands, IsObject, IsTyped, Thing, Holder, At, Claims, AreOwned, Settled}
+use Rattle.cyc_soundness.specs.Worlds.{Nobody, thing_of, ClaimsPart, IsKeyless, ObjectType, Typing, Outlasts, heap as for_ever, global_type, HasType, IsResult, AreOperands, IsObject, IsTyped, Thing, Holder, At, Claims, AreOwned, Settled, Gone, Away}
 use Rattle.cyc_soundness.specs.Frames.{InScope, Instance, read, read_value, IsThereBy, IsBound, AreVariables, LiveIn, Holds, Exits, StandBy, lives_among, KnowsProgram}
-use Rattle.cyc_soundness.specs.Classes.{IsDeclarable, InFunctions, InGlobals, InFields, InStructs, IsOfTheHeap, IsOfScopes, FreesNoObject, FreesLocals, HasLoans, Source, IsInClass, frees_of}
+use Rattle.cyc_soundness.specs.Classes.{IsDeclarable, InFunctions, InGlobals, InFields, InStructs, IsOfTheHeap, IsOfScopes, FreesNoObject, FreesObjects, HasLoans, Source, IsInClass, frees_of}
 use Rattle.cyc_soundness.specs.Stacks.{IsAccepted, operands_in, Comes, AreGiven, Val, PlaceOf, regions_at_call, IsStack, IsFocus, IsWell}
 use Rattle.cyc_soundness.specs.Sound.{IsSound}
 use Rattle.cyc_soundness.proofs.Numbers.{some_same}
@@ -141,7 +141,7 @@ found_cells frees ls None = None
 found_cells frees ls (Some s) = cells_of frees ls s
 
 abbrev globals_typed : (frees : Bool) → List StructType → List GlobalVariable → Typing
-globals_typed frees ss vs = record { objects = map (global_of frees) vs; filled = ones vs; fields = λ n ls. found_cells frees ls (slice_get ss n); kept = []; own = λ a. Nobody; here = λ n. false; pending = Settled; depth = 0; loans = 0 }
+globals_typed frees ss vs = record { objects = map (global_of frees) vs; filled = ones vs; fields = λ n ls. found_cells frees ls (slice_get ss n); kept = []; own = λ a. Nobody; here = λ n. Gone; pending = Settled; depth = 0; loans = 0 }
 
 null_typed : (frees : Bool) (g : Typing) (k : PointerKind) (t : Ty) (r : Region) → is_non_null (types.Pointer k t r) ≡ false → HasType g (at (as_heap frees) (types.Pointer k t r)) values.Null
 null_typed frees g marks.Nullable t r is = tt
@@ -293,6 +293,7 @@ well_start p input accepted well (in_functions, in_globals, in_structs) =
       fresh = λ n less. refl;
       unique = λ n held. absurd held;
       owned = λ n t x there stands. globals_owned g (frees_of p.reading) p.program.globals well.globals n t x there stands n;
+      lent = λ n t x there stands i j u c v away. let k : Gone ≡ Away j = away in absurd (cc);
     } in
     let knows : KnowsProgram g p = record {
       globals = λ n t there. (let (object, flag, closed) = all_globals p.reading p.program.globals in_globals n t there in (object, (1, flag, (let one : 1 ≤ 1 = omega arith in one)), closed));
@@ -326,8 +327,8 @@ sound_by p well allowed kept input count =
     let accepted : AreAccepted p = accepted_among p p.program.functions well.functions allowed kept.0 in
     well_alive p (run p.program input count) (well_steps p count (start p.program input) accepted (nests_start p.program input) (well_start p input accepted well kept))
 
--- programs that give back unique objects to which locals have the pointers
-pub freeing_sound : (p : Program) → IsWellTypedProgram p → IsAllowedProgram p → FreesLocals p → IsSound p
+-- programs that give back unique objects
+pub freeing_sound : (p : Program) → IsWellTypedProgram p → IsAllowedProgram p → FreesObjects p → IsSound p
 freeing_sound p well allowed kept = sound_by (record { program = p; reading = ByScope true true }) well allowed kept
 
 -- programs that give no object back

@@ -8,8 +8,8 @@ use Rattle.cyc_meaning.specs.Values as values
 use Rattle.cyc_meaning.specs.State.{Region, Owner, InRegion, Unique, Object, World, Found, Closed, found_region, located, heap_number, is_open, is_live, cell_in, cell_at, written}
 use Rattle.cyc_meaning.specs.Nesting.{IsScoped, IsFound}
 use Rattle.cyc_meaning.proofs.ListLemmas.{slice_get-append, slice_get-end, slice_get-set_other}
-use Rattle.cyc_soundness.specs.Lives.{Life, OfRegion, OfObject, Never, Owned, Kept, RunTy, Int, Pointer, Handle, Key, Struct, RunValue, Void, Null, Value, Seen, Into, kind_at, at}
-use Rattle.cyc_soundness.specs.Worlds.{Pending, IsKept, IsAmong, KeyOf, PointerTo, At, ObjectType, Typing, IsHeld, Claims, AreOwned, IsUniqueObject, IsOpenObject, Stays, IsKnownLife, IsKnownOwner, IsDynamic, IsFilled, IsPart, IsTarget, HasType, IsResult, AreOperands, IsContent, AreCells, IsOwner, IsObject, IsTyped, Grows, Thing, Holder, Nobody, Owns, thing_of}
+use Rattle.cyc_soundness.specs.Lives.{Life, OfRegion, Owned, Kept, RunTy, Int, Pointer, Handle, Key, Struct, RunValue, Void, Null, Value, Seen, Into, kind_at, at}
+use Rattle.cyc_soundness.specs.Worlds.{Pending, IsKept, IsAmong, KeyOf, PointerTo, At, ObjectType, Typing, IsHeld, Claims, AreOwned, IsUniqueObject, IsOpenObject, Stays, IsKnownLife, IsKnownOwner, IsDynamic, IsFilled, IsPart, IsTarget, HasType, IsResult, AreOperands, IsContent, AreCells, IsOwner, IsObject, IsTyped, Grows, Thing, Holder, Nobody, Owns, thing_of, Standing, Here, Away, Lent, AreLent}
 use Rattle.cyc_soundness.specs.Frames.{lives_among, KnowsProgram}
 use Rattle.cyc_soundness.specs.Classes.{frees_of, HasLoans, Source}
 use Rattle.cyc_soundness.proofs.Numbers.{same_or_other, slice_get-set_same, appended, some_same}
@@ -42,7 +42,7 @@ module _ (g h : Typing) (grows : Grows g h) where
   result_grown Void v is = tt
   result_grown Null v is = is
   result_grown (Value t) v (kind, is) = (kind, type_grown t v.value is)
-  result_grown (Seen t) v (kind, is) = (kind, type_grown t v.value is)
+  result_grown (Seen object t) v (kind, is) = (kind, type_grown t v.value is)
   result_grown (Into peek t) v (kind, is) = (kind, type_grown t v.value is)
 
   pub operands_grown : (ts : List RunTy) (vs : List Operand) → AreOperands g ts vs → AreOperands h ts vs
@@ -63,17 +63,15 @@ module _ (g h : Typing) (grows : Grows g h) where
   cells_grown (t ∷ ts) (c ∷ cs) (suc n) ((kind, is), are) = ((kind, content_grown true t c.content is), cells_grown ts cs n are)
 
   pub life_grown : (l : Life) → IsKnownLife g l → IsKnownLife h l
-  life_grown (Kept region) is = grows.kept region is
+  life_grown (Kept (KeyOf region)) is = grows.kept region is
+  life_grown (Kept (PointerTo object)) is = tt
   life_grown (OfRegion region ns us) is = tt
-  life_grown (OfObject object) is = tt
-  life_grown Never is = tt
   life_grown Owned is = absurd is
 
   pub owner_grown : (l : Life) → IsKnownOwner g l → IsKnownOwner h l
-  owner_grown (Kept region) is = grows.kept region is
+  owner_grown (Kept (KeyOf region)) is = grows.kept region is
+  owner_grown (Kept (PointerTo object)) is = tt
   owner_grown (OfRegion region ns us) is = tt
-  owner_grown (OfObject object) is = tt
-  owner_grown Never is = tt
   owner_grown Owned is = tt
 
   pub object_grown : (n : ℕ) (t : ObjectType) (x : Object) → IsObject g n t x → IsObject h n t x
@@ -106,7 +104,7 @@ object_grows g t n = record {
 pub object_stays : (g : Typing) (t : ObjectType) (n : ℕ) → Stays g (with_object g t n)
 object_stays g t n = record { grows = object_grows g t n; own = refl; here = refl; pending = refl; depth = refl; loans = refl }
 
-pub variable_grows : (g : Typing) (t : ObjectType) (n : ℕ) (here : ℕ → Bool) → Grows g (record (with_object g t n) { here = here })
+pub variable_grows : (g : Typing) (t : ObjectType) (n : ℕ) (here : ℕ → Standing) → Grows g (record (with_object g t n) { here = here })
 variable_grows g t n here = record {
   objects = λ number u there. slice_get-append g.objects (t ∷ []) number u there;
   filled = λ number count. λ (m, is, enough). (m, slice_get-append g.filled (n ∷ []) number m is, enough);
@@ -121,7 +119,7 @@ longer xs ys x y same =
     a ∙ ap (λ n. n + 1) same ∙ sym b
 
 -- What has what is in it had it before, or is the new one.
-abbrev pub with_variable : Typing → ObjectType → (filled : ℕ) → (here : ℕ → Bool) → Typing
+abbrev pub with_variable : Typing → ObjectType → (filled : ℕ) → (here : ℕ → Standing) → Typing
 with_variable g t n here = record (with_object g t n) { here = here }
 
 pub beyond : {A : Type 0} (xs : List A) (n : ℕ) (x : A) → slice_get xs n ≡ Some x → n ≡ length xs → ⊥
@@ -129,9 +127,10 @@ beyond [] n x found same = absurd (let e : None ≡ Some x = found in cc)
 beyond (y ∷ xs) zero x found same = absurd (omega (arith, same))
 beyond (y ∷ xs) (suc n) x found same = beyond xs n x found (let e : n ≡ length xs = omega (arith, same) in e)
 
-pub object_typed : (g : Typing) (regions : List Region) (objects : List Object) (t : ObjectType) (n : ℕ) (x : Object) (here : ℕ → Bool) → IsTyped g regions objects → IsObject (with_variable g t n here) n t x
-    → ((object : ℕ) → object ≢ length objects → here object ≡ true → g.here object ≡ true) → AreOwned (with_variable g t n here) (length objects) t x.cells → IsTyped (with_variable g t n here) regions (objects ++ x ∷ [])
-object_typed g regions objects t n x here typed is before own = record {
+pub object_typed : (g : Typing) (regions : List Region) (objects : List Object) (t : ObjectType) (n : ℕ) (x : Object) (here : ℕ → Standing) → IsTyped g regions objects → IsObject (with_variable g t n here) n t x
+    → ((object : ℕ) (s : Standing) → object ≢ length objects → here object ≡ s → g.here object ≡ s) → AreOwned (with_variable g t n here) (length objects) t x.cells
+    → ((j : ℕ) → here (length objects) ≡ Away j → t.is_hidden ≡ true → ⊥) → IsTyped (with_variable g t n here) regions (objects ++ x ∷ [])
+object_typed g regions objects t n x here typed is before own none = record {
   count = longer objects g.objects x t typed.count;
   counts = longer objects g.filled x n typed.counts;
   each = each;
@@ -140,6 +139,7 @@ object_typed g regions objects t n x here typed is before own = record {
   fresh = typed.fresh;
   unique = λ object held. (let (u, y, there, owned, stands, live) = typed.unique object held in (u, y, slice_get-append g.objects (t ∷ []) object u there, owned, slice_get-append objects (x ∷ []) object y stands, live));
   owned = owned;
+  lent = lent;
 }
   where
     each : (number : ℕ) (u : ObjectType) → slice_get (g.objects ++ t ∷ []) number ≡ Some u
@@ -164,11 +164,20 @@ object_typed g regions objects t n x here typed is before own = record {
     owned object u y there stands = elim (appended g.objects t object u there) [
       | inl old ↦ (let (z, m, at, flag, was) = typed.each object u old in
           let apart : object ≢ length objects = (λ e. beyond objects object z at e) in
-          λ i r c v kept. typed.owned object u y old (at ∙ ap (λ z. Some z) (same_object object y z stands at)) i r c v ((λ hidden. before object apart (kept.0 hidden)), kept.1))
+          λ i r c v kept. typed.owned object u y old (at ∙ ap (λ z. Some z) (same_object object y z stands at)) i r c v ((λ hidden. before object Here apart (kept.0 hidden)), kept.1))
       | inr new ↦ (let here_is : object ≡ length objects = new.0 ∙ sym typed.count in
           let found : Some x ≡ Some y = sym (slice_get-end objects x) ∙ ap (λ i. slice_get (objects ++ x ∷ []) i) (sym here_is) ∙ stands in
           let same : x ≡ y = some_same x y found in
           subst (λ i. AreOwned (with_variable g t n here) i u y.cells) (sym here_is) (subst (λ (z : Object). AreOwned (with_variable g t n here) (length objects) u z.cells) same (subst (λ z. AreOwned (with_variable g t n here) (length objects) z x.cells) new.1 own)))
+    ]
+
+    lent : (object : ℕ) (u : ObjectType) (y : Object) → slice_get (g.objects ++ t ∷ []) object ≡ Some u → slice_get (objects ++ x ∷ []) object ≡ Some y → AreLent (with_variable g t n here) object u y.cells
+    lent object u y there stands = elim (appended g.objects t object u there) [
+      | inl old ↦ (let (z, m, at, flag, was) = typed.each object u old in
+          let apart : object ≢ length objects = (λ e. beyond objects object z at e) in
+          λ i j r c v away. typed.lent object u y old (at ∙ ap (λ z. Some z) (same_object object y z stands at)) i j r c v (before object (Away j) apart away))
+      | inr new ↦ (let here_is : object ≡ length objects = new.0 ∙ sym typed.count in
+          λ i j r c v away hides. absurd (none j (ap here (sym here_is) ∙ away) (ap (λ (z : ObjectType). z.is_hidden) new.1 ∙ hides)))
     ]
 
 -- ---- regions
@@ -185,6 +194,7 @@ typed_beside g regions others objects typed heap kept more = record {
   fresh = λ n less. typed.fresh n (let few : length regions ≤ n = omega (arith, less, more) in few);
   unique = typed.unique;
   owned = typed.owned;
+  lent = typed.lent;
 }
 
 -- a dynamic region is the same in a list where it is found too
@@ -263,15 +273,15 @@ live_object g w number x y typed there stands owner opens = go x.life refl y.own
     go : (l : Life) → x.life ≡ l → (o : Owner) → y.owner ≡ o → IsOwner l o → IsOpenObject g w.regions number l → is_live w o ≡ true
     go (OfRegion region ns us) e (InRegion m) f same opens = subst (λ n. is_open (slice_get w.regions n) ≡ true) same opens
     go (OfRegion region ns us) e (Unique live) f (heap, same) opens = same
-    go (Kept region) e (InRegion m) f same opens = subst (λ n. is_open (slice_get w.regions n) ≡ true) same opens
-    go (Kept region) e (Unique live) f is opens = absurd is
+    go (Kept (KeyOf region)) e (InRegion m) f same opens = subst (λ n. is_open (slice_get w.regions n) ≡ true) same opens
+    go (Kept (KeyOf region)) e (Unique live) f is opens = absurd is
+    go (Kept (PointerTo object)) e (InRegion m) f is opens = absurd is
+    go (Kept (PointerTo object)) e (Unique live) f is opens = absurd is
     go Owned e o f is held =
         let (t, z, at, owned, found, live) = typed.unique number held in
         let same : z ≡ y = some_same z y (sym found ∙ stands) in
         let owner_is : o ≡ Unique true = sym f ∙ ap (λ (z : Object). z.owner) (sym same) ∙ live in
         ap (λ z. is_live w z) owner_is
-    go (OfObject object) e o f is opens = absurd opens
-    go Never e o f is opens = absurd opens
 
 -- what stands at a number, and its cell of this type
 pub record HasCell (g : Typing) (w : World) (number offset : ℕ) (x : ObjectType) (t : RunTy) : Type 0 where
@@ -364,7 +374,7 @@ module _ (g : Typing) (w : World) (number offset : ℕ) (x : ObjectType) (t : Ru
   abbrev pub with_value : Object
   with_value = record c.object { cells = set c.object.cells offset (filled_with c.of.cell v) }
 
-  module _ (own : Thing → Holder) (here : ℕ → Bool) (pending : Pending) where
+  module _ (own : Thing → Holder) (here : ℕ → Standing) (pending : Pending) where
     abbrev pub now_typed : Typing
     now_typed = record (with_filled g number (risen offset c.filled)) { own = own; here = here; pending = pending }
 
@@ -385,8 +395,9 @@ module _ (g : Typing) (w : World) (number offset : ℕ) (x : ObjectType) (t : Ru
     pub cell_written : ((a : Thing) → IsHeld (own a) → IsHeld (g.own a)) → ((a : Thing) → g.own a ≡ Nobody → own a ≡ Nobody)
         → ((object i : ℕ) (hidden : Bool) → (object ≡ number → i ≢ offset) → IsKept now_typed object i hidden → (a : Thing) → g.own a ≡ At object i → own a ≡ At object i) → ((object i : ℕ) (hidden : Bool) → object ≢ number → IsKept now_typed object i hidden → IsKept g object i hidden)
         → ((i : ℕ) (u : RunTy) → slice_get x.cells i ≡ Some u → i ≢ offset → IsKept now_typed number i x.is_hidden → IsKept g number i x.is_hidden) → (IsKept now_typed number offset x.is_hidden → Claims own (At number offset) t v)
+        → (x.is_hidden ≡ true → (j : ℕ) → here number ≡ Away j → ⊥) → ((object j : ℕ) → object ≢ number → here object ≡ Away j → g.here object ≡ Away j) → ((object j : ℕ) (a : Thing) → g.own a ≡ Lent j object → own a ≡ Lent j object)
         → IsTyped now_typed w.regions (written w number offset (record { object = c.object; cell = c.of.cell }) v).objects
-    cell_written held none stays before beside claims = record {
+    cell_written held none stays before beside claims free away lasts = record {
       count = length-set w.objects number with_value ∙ typed.count;
       counts = length-set w.objects number with_value ∙ typed.counts ∙ sym (length-set g.filled number (risen offset c.filled));
       each = each;
@@ -395,6 +406,7 @@ module _ (g : Typing) (w : World) (number offset : ℕ) (x : ObjectType) (t : Ru
       fresh = λ n less. none (KeyOf n) (typed.fresh n less);
       unique = λ object now. unique object (held (PointerTo object) now);
       owned = owned;
+      lent = lent;
     }
       where
         still : (h : Holder) (o : Option Thing) → ((a : Thing) → g.own a ≡ h → own a ≡ h) → Owns g.own h o → Owns own h o
@@ -456,4 +468,13 @@ module _ (g : Typing) (w : World) (number offset : ℕ) (x : ObjectType) (t : Ru
               subst (λ n. AreOwned now_typed n u y.cells) (sym same) (subst (λ (z : Object). AreOwned now_typed number u z.cells) is (subst (λ z. AreOwned now_typed number z with_value.cells) type_is its_own)))
           | inr apart ↦ λ i r d z kept found stored content. (let (owns, start) = typed.owned object u y there (sym (slice_get-set_other w.objects number object with_value apart) ∙ stands) i r d z (before object i u.is_hidden apart kept) found stored content in
               (still (At object i) (thing_of r z) (stays object i u.is_hidden (λ same. absurd (apart same)) kept) owns, start))
+        ]
+
+        -- what is written is not lent
+        lent : (object : ℕ) (u : ObjectType) (y : Object) → slice_get g.objects object ≡ Some u → slice_get (set w.objects number with_value) object ≡ Some y → AreLent now_typed object u y.cells
+        lent object u y there stands = elim (same_or_other object number) [
+          | inl same ↦ λ i j r d z now hides. (let type_is : x ≡ u = some_same x u (sym at ∙ ap (λ n. slice_get g.objects n) (sym same) ∙ there) in
+              absurd (free (ap (λ (y : ObjectType). y.is_hidden) type_is ∙ hides) j (ap here (sym same) ∙ now)))
+          | inr apart ↦ λ i j r d z now hides found stored content. (let (owns, start) = typed.lent object u y there (sym (slice_get-set_other w.objects number object with_value apart) ∙ stands) i j r d z (away object j apart now) hides found stored content in
+              (still (Lent j object) (thing_of r z) (lasts object j) owns, start))
         ]

@@ -1,8 +1,8 @@
 -- CLASSES OF PROGRAMS that a theorem speaks of. Each is a predicate on typed trees, empty for the nodes that are not in it yet.
-use Rattle.std.specs.Prelude.{◌≡◌, ℕ, zero, suc, ◌+◌, Bool, true, false, List, [], ◌∷◌, Option, Some, None, get_or}
-use Rattle.cyc_types.specs.Types.{Ty}
+use Rattle.std.specs.Prelude.{◌≡◌, ℕ, zero, suc, ◌+◌, Bool, true, false, List, [], ◌∷◌, Option, Some, None, get_or, ◌&&◌, ◌||◌}
+use Rattle.cyc_types.specs.Types.{Ty, ValueType, Void}
 use Rattle.cyc_types.specs.Declarations.{declared_regions, item_regions}
-use Rattle.cyc_types.specs.TypedTrees.{Local, Global, Expression, Number, NullPointer, HeapRegion, Counter, Copy, Move, Peek, Load, AddressOf, AddressOfCell, NumberOfElements, FreeUnique, FreeKey, Call, Unary, Binary, Assign, Store, New, Dereference, Target, Member, Element, Placement, OnHeap, AsUnique, ByHandle, Initial, Plain, Fields, Array, Converted, Convert, Arguments, NoArguments, MoreArguments, Operations, NoOperations, ThenCompute, ThenTest, ThenPointer, ThenPointerPeek, Side, VariableSide, CellSide, Statement, Block, Empty, Evaluate, Swap, If, While, Return, Break, Continue, Throw, Try, Items, NoItems, MoreItems, Execute, Declare, DeclareRegion, OpenRegion, DeclareAlias, DeclareKey, Clauses, NoClauses, Default, Case, StructType, GlobalVariable, Function, Program}
+use Rattle.cyc_types.specs.TypedTrees.{Local, Global, Expression, Number, NullPointer, HeapRegion, Counter, Copy, Move, Peek, Load, AddressOf, AddressOfCell, NumberOfElements, FreeUnique, FreeKey, Call, Unary, Binary, Assign, Store, New, Dereference, Target, Member, Element, Placement, OnHeap, AsUnique, ByHandle, Initial, Plain, Fields, Array, Converted, Convert, Arguments, NoArguments, MoreArguments, Operations, NoOperations, ThenCompute, ThenTest, ThenPointer, ThenPointerPeek, Side, VariableSide, CellSide, Statement, Block, Empty, Evaluate, Swap, If, While, Return, Break, Continue, Throw, Try, Items, NoItems, MoreItems, Execute, Declare, DeclareRegion, OpenRegion, DeclareAlias, DeclareKey, Clauses, NoClauses, Default, Case, StructType, GlobalVariable, Function, Program, Lvalue}
 use Rattle.cyc_types.specs.typing.Tests.{is_key}
 use Rattle.cyc_types.specs.flow.States as flow
 use Rattle.cyc_types.specs.flow.States.{Fullness, Vacant, Locked, Full, Unreached, Reached}
@@ -17,11 +17,6 @@ HasScopes (ByScope lends frees) = Unit {0}
 abbrev pub HasLoans : Reading → Type 0
 HasLoans AsHeap = ⊥
 HasLoans (ByScope lends frees) = lends ≡ true
-
--- a form that shares what a unique pointer leads to: not yet where objects are given back
-abbrev pub HasAliases : Reading → Type 0
-HasAliases AsHeap = ⊥
-HasAliases (ByScope lends frees) = (lends ≡ true) × (frees ≡ false)
 
 -- a form that gives a unique object back
 abbrev pub HasFrees : Reading → Type 0
@@ -66,10 +61,54 @@ abbrev pub and_looked : Option ℕ → Relied → Relied
 and_looked None q = q
 and_looked (Some n) q = Reached (only n) ∷ q
 
+-- nor does one that is assigned what only one may have
+abbrev pub SparesAssigned : Relied → Lvalue → ValueType → Type 0
+SparesAssigned q (Local p n) Void = IsSpared q n
+SparesAssigned q l t = Unit {0}
+
+-- ---- code that is never run
+
+-- control may come to what is behind
+abbrev mutual
+  pub may_end : Statement → Bool
+  may_end (Block r js) = items_may_end js
+  may_end Empty = true
+  may_end (Evaluate a) = true
+  may_end (Swap x y) = true
+  may_end (If a s t) = may_end s || may_end t
+  may_end (While p a s) = true
+  may_end (Return v) = false
+  may_end Break = false
+  may_end Continue = false
+  may_end (Throw e v) = false
+  may_end (Try s cs) = may_end s || clauses_may_end cs
+
+  pub items_may_end : Items → Bool
+  items_may_end NoItems = true
+  items_may_end (MoreItems (Execute s) js) = may_end s && items_may_end js
+  items_may_end (MoreItems (Declare l t v) js) = items_may_end js
+  items_may_end (MoreItems (DeclareRegion r l) js) = items_may_end js
+  items_may_end (MoreItems (OpenRegion r l p k) js) = items_may_end js
+  items_may_end (MoreItems (DeclareAlias r l t p s) js) = items_may_end js
+  items_may_end (MoreItems (DeclareKey r l) js) = items_may_end js
+
+  pub clauses_may_end : Clauses → Bool
+  clauses_may_end NoClauses = false
+  clauses_may_end (Default r js) = items_may_end js
+  clauses_may_end (Case e v r js cs) = items_may_end js || clauses_may_end cs
+
+-- this is asked where code may be run
+abbrev pub Asked : (run : Bool) → Type 0 → Type 0
+Asked false A = Unit {0}
+Asked true A = A
+
+-- ---- classes
+
 -- Programs of a class. All types are there, objects in the heap, unique ones and those of regions, places behind pointers, swaps,
 -- functions with regions, conversions between all marks, loops and exceptions. Only where things are lent do they have dynamic regions,
--- keys and aliases, and only where objects are given back `ufree`: then there are no aliases. Read as the heap, they have no lexical regions, and take the address of no local. What is consumed
--- or lent is nothing that the clauses around rely on: at the start of a function there are none, and of the body of a `try` that is shown.
+-- keys and aliases, and only where objects are given back `ufree`. Read as the heap, they have no lexical regions, and take the address of no local. What is consumed
+-- or lent, or assigned what only one may have, is nothing that the clauses around rely on: at the start of a function there are none, and of
+-- the body of a `try` that is shown. Of code that is never run nothing is asked.
 abbrev mutual
   pub InExpression : Reading → Relied → Expression → Type 0
   InExpression m q (Number n) = Unit {0}
@@ -89,7 +128,7 @@ abbrev mutual
   InExpression m q (Call f as' t) = InArguments m q as'
   InExpression m q (Unary o a) = InExpression m q a
   InExpression m q (Binary a os t) = InExpression m q a × InOperations m q os
-  InExpression m q (Assign l c t) = InConverted m q c
+  InExpression m q (Assign l c t) = SparesAssigned q l t × InConverted m q c
   InExpression m q (Store d c t) = InPlace m q d × InConverted m q c
   InExpression m q (New w i t) = InPlacement m q w × InInitial m q i
 
@@ -151,11 +190,11 @@ abbrev mutual
 
   pub InItems : Reading → Relied → ℕ → Items → Type 0
   InItems m q n NoItems = Unit {0}
-  InItems m q n (MoreItems (Execute s) js) = InStatement m q n s × InItems m q (n + declared_regions s) js
+  InItems m q n (MoreItems (Execute s) js) = InStatement m q n s × Asked (may_end s) (InItems m q (n + declared_regions s) js)
   InItems m q n (MoreItems (Declare l t v) js) = IsDeclarable m n t × InValue m q v × InItems m q n js
   InItems m q n (MoreItems (DeclareRegion r l) js) = HasScopes m × InItems m q (suc n) js
   InItems m q n (MoreItems (OpenRegion r l p k) js) = HasLoans m × IsSpared q k × InItems m q n js
-  InItems m q n (MoreItems (DeclareAlias r l t p s) js) = HasAliases m × IsSpared q s × InItems m q (suc n) js
+  InItems m q n (MoreItems (DeclareAlias r l t p s) js) = HasLoans m × IsSpared q s × InItems m q (suc n) js
   InItems m q n (MoreItems (DeclareKey r l) js) = HasLoans m × InItems m q (suc n) js
 
   pub InClauses : Reading → Relied → ℕ → Clauses → Type 0
@@ -199,9 +238,9 @@ IsOfScopes p = InFunctions (ByScope false false) p.functions × InGlobals (BySco
 abbrev pub FreesNoObject : Program → Type 0
 FreesNoObject p = InFunctions (ByScope true false) p.functions × InGlobals (ByScope true false) p.globals × InStructs (ByScope true false) p.structs
 
--- programs that give back unique objects, and have no aliases
-abbrev pub FreesLocals : Program → Type 0
-FreesLocals p = InFunctions (ByScope true true) p.functions × InGlobals (ByScope true true) p.globals × InStructs (ByScope true true) p.structs
+-- programs that give back unique objects
+abbrev pub FreesObjects : Program → Type 0
+FreesObjects p = InFunctions (ByScope true true) p.functions × InGlobals (ByScope true true) p.globals × InStructs (ByScope true true) p.structs
 
 -- a program, and how its regions are read
 pub record Source : Type 0 where

@@ -9,14 +9,14 @@ use Rattle.cyc_types.specs.Outlives.{RegionContext, live_regions, IsGiven}
 use Rattle.cyc_types.specs.typing.Tests.{is_moved, is_key}
 use Rattle.cyc_types.specs.typing.WellTyped.{LocalInScope, Context, signature_of, AreConstraints}
 use Rattle.cyc_types.specs.flow.States as flow
-use Rattle.cyc_types.specs.flow.States.{fullness, is_vacant, is_reached}
+use Rattle.cyc_types.specs.flow.States.{fullness, is_vacant, is_reached, Reached}
 use Rattle.cyc_types.specs.flow.Statements.{Loop, Around}
 use Rattle.cyc_meaning.specs.State.{globals_number, Entry, CloseRegion, Caller}
 use Rattle.cyc_meaning.specs.Nesting.{ends_of}
 use Rattle.cyc_soundness.specs.Lives.{Life, OfRegion, Kept, RunTy, RunValue, Void, Lives, at, value_at, heap_life, lives_of, as_heap, Reading, AsHeap, ByScope, AllIn, AllInValue, IsKnown}
 pub use Rattle.cyc_soundness.specs.Worlds.{IsAmong, first, later}
 use Rattle.cyc_soundness.specs.Worlds.{OfLocal, ObjectType, Typing, IsHere, IsOpenIn, IsKnownLife, IsFull, variable_type, global_type, IsEndOf, Outlasts, IsNumber}
-use Rattle.cyc_soundness.specs.Classes.{is_full, Relied, frees_of, HasLoans, IsDeclarable, Source}
+use Rattle.cyc_soundness.specs.Classes.{is_full, Relied, frees_of, HasLoans, IsDeclarable, Source, only}
 
 -- a local in scope, with its object and how long this is there
 pub record Bound : Type 0 where
@@ -148,7 +148,7 @@ AreVariables g (b ∷ bs) = IsOfVariable g b × AreVariables g bs
 -- there to the end of one of these regions, of those that will end, or for ever
 abbrev pub IsLasting : List ℕ → Life → Type 0
 IsLasting regions (OfRegion number around lent) = (OfRegion number around lent ≡ heap_life) ⊎ IsEndOf (number ∷ around) regions
-IsLasting regions (Kept number) = Unit {0}
+IsLasting regions (Kept a) = Unit {0}
 IsLasting regions l = ⊥
 
 -- what is live has not ended
@@ -227,7 +227,7 @@ pub record Exits : Type 0 where
   pub gives : RunValue
   -- the locals that the items around have lent since the loop's body began
   pub locks : List ℕ
-  -- what the clauses around rely on, the innermost first
+  -- what the clauses around rely on, and the ends of loans, the innermost first
   pub relied : Relied
 
 -- where there is no result, nothing is given
@@ -242,9 +242,9 @@ loop_of (Some l) = Some (record { place = l.place; head = l.head })
 abbrev pub around : Exits → Around
 around x = record { loop = loop_of x.loop; locks = x.locks }
 
--- where one more is lent
+-- where one more is lent, which stays as it is
 abbrev pub lending : Exits → ℕ → Exits
-lending x n = record x { locks = x.locks ++ n ∷ [] }
+lending x n = record x { locks = x.locks ++ n ∷ []; relied = Reached (only n) ∷ x.relied }
 
 -- in the body of a `try` whose clauses begin with this known
 abbrev pub relying : Exits → flow.State → Exits

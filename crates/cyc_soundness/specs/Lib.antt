@@ -5,6 +5,4 @@ pub mod Frames
 pub mod Stacks
 -- which programs a theorem speaks of
 pub mod Classes
-pub mod Frees
-pub mod FreesLocals
 pub mod Sound

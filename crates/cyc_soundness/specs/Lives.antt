@@ -12,16 +12,19 @@ use Rattle.cyc_types.specs.Types as types
 pub use Rattle.cyc_types.specs.typing.Formed.{AllOf, AllIn, IsKnown}
 use Rattle.cyc_meaning.specs.Values.{kind_of_mark}
 
--- How long something is there: to the end of a region, or until it is given back; nothing is there that is null for good. With a region
--- that a scope ends come those that were open around that scope, the innermost first, and the dynamic regions that were lent then: they
--- last as long. A dynamic region is kept: no scope ends it.
+-- what only one may have: the key of a dynamic region, or the pointer to a unique object
+pub data Thing : Type 0 where
+  KeyOf : (region : ℕ) → Thing
+  PointerTo : (object : ℕ) → Thing
+
+-- How long something is there: to the end of a region, or until it is given back. With a region that a scope ends come those that were open
+-- around that scope, the innermost first, and what was lent then: this lasts as long.
 pub data Life : Type 0 where
-  OfRegion : (region : ℕ) → (around : List ℕ) → (lent : ℕ → Bool) → Life
-  OfObject : (object : ℕ) → Life
-  Never : Life
+  OfRegion : (region : ℕ) → (around : List ℕ) → (lent : Thing → Bool) → Life
   -- until whoever has its unique pointer gives it back
   Owned : Life
-  Kept : (region : ℕ) → Life
+  -- no scope ends it: a dynamic region, or a unique object while it is lent
+  Kept : Thing → Life
 
 pub data RunTy : Type 0 where
   Int : RunTy
@@ -36,8 +39,8 @@ pub data RunValue : Type 0 where
   Void : RunValue
   Null : RunValue
   Value : RunTy → RunValue
-  -- of this type, and looked at only
-  Seen : RunTy → RunValue
+  -- of this type, and looked at only: the variable of this object has it
+  Seen : (object : ℕ) → RunTy → RunValue
   -- a pointer into what is looked at in this local, or else is in hand
   Into : (peek : Option ℕ) → RunTy → RunValue
 
@@ -75,7 +78,7 @@ kind_at (Struct n ls) = kinds.Int
 
 -- the heap is there for ever
 abbrev pub heap_life : Life
-heap_life = OfRegion 0 [] (λ number. false)
+heap_life = OfRegion 0 [] (λ a. false)
 
 -- where no object is given back, a unique one is there for ever too
 abbrev pub owned_life : (frees : Bool) → Life

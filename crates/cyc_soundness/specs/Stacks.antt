@@ -35,8 +35,8 @@ use Rattle.cyc_meaning.specs.Allocation.{writes_from}
 use Rattle.cyc_meaning.specs.Parts.{target_of, target_of_value}
 use Rattle.cyc_soundness.specs.Lives.{Life, Owned, RunTy, RunValue, Value, Seen, Into, looked, at, value_at, heap_life, lives_of, as_heap, Reading, AllIn, IsKnown}
 use Rattle.cyc_soundness.specs.Lives as lives
-use Rattle.cyc_soundness.specs.Worlds.{OfLocal, Settled, Awaits, At, IsPlain, Thing, Holder, Hand, Lent, pointer_at, thing_of, Owns, Claims, ClaimsPart, ClaimsBy, ClaimsAlone, IsHad, IsHere, ObjectType, Typing, AgreesWith, variable_type, IsFilled, IsFull, HasType, IsResult, AreOperands, IsNewOwner, IsKeyless, AreKeyless, IsTyped}
-use Rattle.cyc_soundness.specs.Classes.{Relied, frees_of, and_looked, IsSpared, HasLoans, HasAliases, InExpression, InPlace, InSide, InInitial, InArguments, InOperations, InStatement, InItems, InClauses, IsDeclarable, Source}
+use Rattle.cyc_soundness.specs.Worlds.{OfLocal, Settled, Awaits, At, IsPlain, Thing, Holder, Hand, pointer_at, thing_of, Owns, Claims, ClaimsPart, ClaimsBy, ClaimsAlone, IsHad, IsHere, ObjectType, Typing, AgreesWith, variable_type, IsFilled, IsFull, HasType, IsResult, AreOperands, IsNewOwner, IsKeyless, AreKeyless, IsTyped, Away}
+use Rattle.cyc_soundness.specs.Classes.{Relied, frees_of, and_looked, IsSpared, HasLoans, InExpression, InPlace, InSide, InInitial, InArguments, InOperations, InStatement, InItems, InClauses, IsDeclarable, Source}
 use Rattle.cyc_soundness.specs.Frames.{IsAmong, Bound, InScope, Variable, Level, Names, Instance, Home, frees_in, life_named, lives_in, read, read_value, IsThere, IsScope, AreBelow, IsBound, AreVariables, LiveIn, Within, IsSet, IsFullIn, Holds, Implies, LoopExit, Exits, HasResult, around, lending, relying, AreFullAt, AreBreaks, is_loop, Stand, IsHome, IsContext, lives_among, KnowsProgram}
 
 -- ---- trees, with what is known before and behind them
@@ -108,7 +108,7 @@ pub record Continues (m : Reading) (x : Exits) (c : Context) (js : Items) (f h :
   pub typed : WellTypedItems c js
   pub flows : Derives (rule_items (around x) js (record { now = f; breaks = before })) (record { now = ending; breaks = behind })
   pub breaks : AreBreaks x.loop behind
-  pub kept : InItems m x.relied c.next_region js
+  pub kept : is_reached f ≡ true → InItems m x.relied c.next_region js
   pub ends : Implies (with_each Full (locks_of js) ending) h
 
 -- clauses that begin with this known
@@ -298,7 +298,7 @@ pub data Waits (p : Source) (x : Exits) (q : Relied) (bs : List InScope) : Await
       → Waits p x q bs (Chain os) [] (looked peek (read_value bs v)) f bs (Val (Value (read bs t)) h)
   applies : {o : Operator} {left : Operand} (f : flow.State) → Waits p x q bs (Apply o left) (lives.Int ∷ []) (Value lives.Int) f bs (Val (Value lives.Int) f)
   decides : (peek : Option ℕ) (v : ValueType) (f h : flow.State) → is_tested v ≡ true → Implies f h → Waits p x q bs Decide [] (looked peek (read_value bs v)) f bs (Val (Value lives.Int) h)
-  stores_local : (b : Bound) (t : Ty) (f : flow.State) → IsAmong (Variable b) bs → b.of_type ≡ read bs t
+  stores_local : (b : Bound) (t : Ty) (f : flow.State) → IsAmong (Variable b) bs → b.of_type ≡ read bs t → (b.is_hidden ≡ true → IsSpared q b.number)
       → Waits p x q bs (Store (values.Thin b.object 0)) [] (Value (read bs t)) f bs (Val (read_value bs (assigned_type t)) (with_fullness Full f b.number))
   stores_global : (number : ℕ) (t : Ty) (f : flow.State) → slice_get (map (λ (v : GlobalVariable). v.of_type) p.program.globals) number ≡ Some t → read bs t ≡ at (as_heap (frees_of p.reading)) t
       → Waits p x q bs (Store (values.Thin number 0)) [] (Value (read bs t)) f bs (Val (read_value bs (assigned_type t)) f)
@@ -345,14 +345,14 @@ pub data Waits (p : Source) (x : Exits) (q : Relied) (bs : List InScope) : Await
   frees_object : (k : PointerKind) (t : RunTy) (f : flow.State) → Waits p x q bs FreeObject [] (Value (lives.Pointer k t Owned)) f bs (Go f)
   closes_by_key : (r : Region) (f : flow.State) → Waits p x q bs CloseByKey [] (Value (lives.Key (lives_in bs r))) f bs (Go f)
   throws : {tag : ℕ} (f h : flow.State) → Waits p x q bs (ThrowWith tag) [] (Value lives.Int) f bs (Go h)
-  opens_by : {number lent : ℕ} {js : Items} (cs : List InScope) (c : Context) (b : Bound) (r : ℕ) (f h i : flow.State) → HasLoans p.reading → Within cs bs → IsContext p x bs c → IsAmong (Variable b) bs → b.number ≡ lent → b.of_type ≡ lives.Key (life_named bs r) → IsSet f lent
+  opens_by : {number lent : ℕ} {js : Items} (cs : List InScope) (c : Context) (b : Bound) (r : ℕ) (f h i : flow.State) → HasLoans p.reading → Within cs bs → IsContext p x bs c → IsAmong (Variable b) bs → b.number ≡ lent → b.of_type ≡ lives.Key (life_named bs r) → b.is_hidden ≡ true → IsSet f lent
       → IsSpared x.relied lent → IsFullIn f lent → r < c.next_region → IsLive c (regions.Variable c.region) → number ≡ c.next_local
       → Continues p.reading (lending x lent) (with_local false (types.Handle (regions.Variable r)) (with_key_opened r c)) js (with_fullness Full (with_fullness Locked f lent) number) h
-      → Implies (with_fullness Full h lent) i → Waits p x q bs (OpenBy number lent js) [] (Seen (lives.Key (life_named bs r))) f cs (Go i)
-  aliases : {number lent : ℕ} {js : Items} (cs : List InScope) (c : Context) (b : Bound) (u t : Ty) (f h i : flow.State) → HasAliases p.reading → Within cs bs → IsContext p x bs c → IsAmong (Variable b) bs → b.number ≡ lent → b.of_type ≡ read bs u → IsSet f lent
+      → Implies (with_fullness Full h lent) i → Waits p x q bs (OpenBy number lent js) [] (Seen b.object (lives.Key (life_named bs r))) f cs (Go i)
+  aliases : {number lent : ℕ} {js : Items} (cs : List InScope) (c : Context) (b : Bound) (u t : Ty) (f h i : flow.State) → HasLoans p.reading → Within cs bs → IsContext p x bs c → IsAmong (Variable b) bs → b.number ≡ lent → b.of_type ≡ read bs u → b.is_hidden ≡ true → IsSet f lent
       → IsSpared x.relied lent → IsFullIn f lent → is_unique u ≡ true → AllIn (IsKnown c.next_region) u → t ≡ with_region_of (regions.Variable c.next_region) u → IsLive c (regions.Variable c.region) → number ≡ c.next_local
       → Continues p.reading (lending x lent) (with_local true t (with_opened scopes.Alias c)) js (with_fullness Full (with_fullness Locked f lent) number) h
-      → Implies (with_fullness Full h lent) i → Waits p x q bs (AliasOf number lent js) [] (Seen (read bs u)) f cs (Go i)
+      → Implies (with_fullness Full h lent) i → Waits p x q bs (AliasOf number lent js) [] (Seen b.object (read bs u)) f cs (Go i)
 
 -- what waits for a place, of this type and there so long, and what goes on then
 pub data WaitsPlace (p : Source) (x : Exits) (q : Relied) (bs : List InScope) : AwaitingPlace → Option ℕ → RunTy → Life → flow.State → Want → Type 0 where
@@ -471,10 +471,9 @@ abbrev pub IsBlocked : Option Ty → flow.State → Type 0
 IsBlocked None f = Unit {0}
 IsBlocked (Some t) f = is_reached f ≡ false
 
--- what is in this variable of a local is lent by the last loan
+-- what is in this variable of a local, to which no pointer leads, is lent by the last loan
 abbrev pub IsLentOut : Typing → (lent loan : ℕ) → RunTy → (object : ℕ) → Type 0
-IsLentOut g lent j t object =
-    (l : Life) × (hidden : Bool) × (slice_get g.objects object ≡ Some (variable_type t l hidden (OfLocal g.depth lent))) × IsByType t × Owns g.own (Lent j) (thing_of t values.Null)
+IsLentOut g lent j t object = (l : Life) × (slice_get g.objects object ≡ Some (variable_type t l true (OfLocal g.depth lent))) × (g.here object ≡ Away j)
 
 abbrev pub IsStack : Source → Typing → Exits → List InScope → Want → List Entry → Type 0
 IsStack p g x bs Nothing [] = g.pending ≡ Settled

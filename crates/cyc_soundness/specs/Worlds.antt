@@ -9,7 +9,8 @@ use Rattle.cyc_meaning.specs.Values.{Operand, Cell}
 use Rattle.cyc_meaning.specs.Values as values
 use Rattle.cyc_meaning.specs.Operators.{Result, Gives, Raises, Misfits}
 use Rattle.cyc_meaning.specs.State.{Dynamic, Region, Owner, InRegion, Unique, Object, heap_number, globals_number, is_open}
-use Rattle.cyc_soundness.specs.Lives.{Life, OfRegion, OfObject, Owned, Kept, heap_life, RunTy, Int, Pointer, Handle, Key, Struct, RunValue, Void, Null, Value, Seen, Into, Lives, kind_at}
+pub use Rattle.cyc_soundness.specs.Lives.{Thing, KeyOf, PointerTo}
+use Rattle.cyc_soundness.specs.Lives.{Life, OfRegion, Owned, Kept, heap_life, RunTy, Int, Pointer, Handle, Key, Struct, RunValue, Void, Null, Value, Seen, Into, Lives, kind_at}
 
 pub data IsAmong {A : Type 0} (a : A) : List A → Type 0 where
   first : (as' : List A) → IsAmong a (a ∷ as')
@@ -27,11 +28,6 @@ pub record ObjectType : Type 0 where
   pub is_hidden : Bool
   pub slot : Slot
 
--- what only one may have: the key of a dynamic region, or the pointer to a unique object
-pub data Thing : Type 0 where
-  KeyOf : (region : ℕ) → Thing
-  PointerTo : (object : ℕ) → Thing
-
 -- who has it
 pub data Holder : Type 0 where
   -- nobody who may use it
@@ -40,8 +36,15 @@ pub data Holder : Type 0 where
   Hand : ℕ → Holder
   -- this cell of an object
   At : (object offset : ℕ) → Holder
-  -- it is lent, behind so many other loans
-  Lent : ℕ → Holder
+  -- this variable has lent it, behind so many other loans
+  Lent : (before object : ℕ) → Holder
+
+-- whether a variable has what is in it
+pub data Standing : Type 0 where
+  Gone : Standing
+  Here : Standing
+  -- it is lent to the end of a block, behind so many other loans
+  Away : (before : ℕ) → Standing
 
 -- whether a swap is between its two writes, and which cell it has still to write
 pub data Pending : Type 0 where
@@ -57,23 +60,23 @@ pub record Typing : Type 0 where
   pub fields : ℕ → List Life → Option (List RunTy)
   -- the dynamic regions
   pub kept : List ℕ
-  -- AT THIS MOMENT: who has each thing, which variables have what is in them, how many calls are around the running one, and how many
+  -- AT THIS MOMENT: who has each thing, which variables have what is in them, or have lent it, how many calls are around the running one, and how many
   -- loans there are
   pub own : Thing → Holder
-  pub here : (object : ℕ) → Bool
+  pub here : (object : ℕ) → Standing
   pub pending : Pending
   pub depth : ℕ
   pub loans : ℕ
 
 -- what a region variable may stand for: a dynamic region is one of this world
 abbrev pub IsKnownLife : Typing → Life → Type 0
-IsKnownLife g (Kept region) = IsAmong region g.kept
+IsKnownLife g (Kept (KeyOf region)) = IsAmong region g.kept
 IsKnownLife g Owned = ⊥
 IsKnownLife g l = Unit {0}
 
 -- and what an object may have
 abbrev pub IsKnownOwner : Typing → Life → Type 0
-IsKnownOwner g (Kept region) = IsAmong region g.kept
+IsKnownOwner g (Kept (KeyOf region)) = IsAmong region g.kept
 IsKnownOwner g l = Unit {0}
 
 -- at least so many cells of an object hold something
@@ -89,7 +92,7 @@ abbrev pub variable_type : RunTy → Life → (is_hidden : Bool) → Slot → Ob
 variable_type t life hidden slot = record { cells = t ∷ []; life = life; is_hidden = hidden; slot = slot }
 
 abbrev pub global_life : Life
-global_life = OfRegion globals_number [] (λ number. false)
+global_life = OfRegion globals_number [] (λ a. false)
 
 abbrev pub global_type : RunTy → ObjectType
 global_type t = variable_type t global_life false NoLocal
@@ -100,13 +103,14 @@ pub data IsEndOf (ms : List ℕ) : List ℕ → Type 0 where
   behind : (n : ℕ) (ns : List ℕ) → IsEndOf ms ns → IsEndOf ms (n ∷ ns)
 
 -- What is there as long as the first is there as long as the second: the heap and the globals are for ever, and a region that was open
--- around a scope is open to its end, as is what was lent then.
+-- around a scope is open to its end, as is what was lent then. A unique pointer may lead to any unique object.
 pub data Outlasts : Life → Life → Type 0 where
   alike : (l : Life) → Outlasts l l
   heap : (l : Life) → Outlasts heap_life l
   globals : (l : Life) → Outlasts global_life l
-  stays : (region n : ℕ) (ns : List ℕ) (lent : ℕ → Bool) → lent region ≡ true → Outlasts (Kept region) (OfRegion n ns lent)
-  encloses : (m n : ℕ) (ms ns : List ℕ) (us vs : ℕ → Bool) → IsEndOf (m ∷ ms) ns → ((r : ℕ) → us r ≡ true → vs r ≡ true) → Outlasts (OfRegion m ms us) (OfRegion n ns vs)
+  stays : (a : Thing) (n : ℕ) (ns : List ℕ) (lent : Thing → Bool) → lent a ≡ true → Outlasts (Kept a) (OfRegion n ns lent)
+  borrows : (object : ℕ) → Outlasts (Kept (PointerTo object)) Owned
+  encloses : (m n : ℕ) (ms ns : List ℕ) (us vs : Thing → Bool) → IsEndOf (m ∷ ms) ns → ((a : Thing) → us a ≡ true → vs a ≡ true) → Outlasts (OfRegion m ms us) (OfRegion n ns vs)
 
 -- regions stand for lives of which those last as long that are known here to outlive the others
 abbrev pub AgreesWith : RegionContext → Lives → Type 0
@@ -119,20 +123,25 @@ abbrev pub IsPart : Typing → (object : ℕ) → ObjectType → RunTy → (offs
 IsPart g object x (Struct n ls) offset = (offset ≡ 0) × (g.fields n ls ≡ Some x.cells) × IsFilled g object (length x.cells)
 IsPart g object x t offset = (slice_get x.cells offset ≡ Some t) × IsFilled g object (suc offset)
 
+-- how long this object of this life is there for a pointer
+abbrev pub life_at : (object : ℕ) → Life → Life
+life_at object Owned = Kept (PointerTo object)
+life_at object l = l
+
 -- a pointer of this type may lead to this cell
 abbrev pub IsTarget : Typing → RunTy → Life → (object offset : ℕ) → Type 0
 IsTarget g t l object offset =
-    (x : ObjectType) × (slice_get g.objects object ≡ Some x) × (x.is_hidden ≡ false) × Outlasts x.life l × IsPart g object x t offset
+    (x : ObjectType) × (slice_get g.objects object ≡ Some x) × (x.is_hidden ≡ false) × Outlasts (life_at object x.life) l × IsPart g object x t offset
 
 -- the region of this number has this life
 abbrev pub IsNumber : Life → (region : ℕ) → Type 0
 IsNumber (OfRegion number around lent) region = number ≡ region
-IsNumber (Kept number) region = number ≡ region
+IsNumber (Kept (KeyOf number)) region = number ≡ region
 IsNumber l region = ⊥
 
 -- and the key of a dynamic region has this number
 abbrev pub IsKeyOf : Life → (region : ℕ) → Type 0
-IsKeyOf (Kept number) region = number ≡ region
+IsKeyOf (Kept (KeyOf number)) region = number ≡ region
 IsKeyOf l region = ⊥
 
 -- a value of this type
@@ -152,7 +161,7 @@ abbrev pub IsResult : Typing → RunValue → Operand → Type 0
 IsResult g Void v = Unit {0}
 IsResult g Null v = (v.kind ≡ kinds.Nullable) × (v.value ≡ values.Null)
 IsResult g (Value t) v = (v.kind ≡ kind_at t) × HasType g t v.value
-IsResult g (Seen t) v = (v.kind ≡ kind_at t) × HasType g t v.value
+IsResult g (Seen object t) v = (v.kind ≡ kind_at t) × HasType g t v.value
 IsResult g (Into peek t) v = (v.kind ≡ kind_at t) × HasType g t v.value
 
 -- what was computed: a value of this type, or an exception
@@ -190,9 +199,8 @@ AreCells g (t ∷ ts) (c ∷ cs) (suc n) = IsCell g true t c × AreCells g ts cs
 abbrev pub IsOwner : Life → Owner → Type 0
 IsOwner (OfRegion region around lent) (InRegion number) = region ≡ number
 IsOwner (OfRegion region around lent) (Unique live) = (region ≡ heap_number) × (live ≡ true)
-IsOwner (OfObject object) (Unique live) = Unit {0}
 IsOwner Owned (Unique live) = Unit {0}
-IsOwner (Kept region) (InRegion number) = region ≡ number
+IsOwner (Kept (KeyOf region)) (InRegion number) = region ≡ number
 IsOwner l o = ⊥
 
 -- and is so where an object is made
@@ -203,7 +211,7 @@ IsNewOwner l (InRegion number) = IsOwner l (InRegion number)
 
 -- no cell that a pointer may lead to has a key
 abbrev pub IsKeyless : RunTy → Type 0
-IsKeyless (Key (Kept region)) = ⊥
+IsKeyless (Key (Kept (KeyOf region))) = ⊥
 IsKeyless t = Unit {0}
 
 abbrev pub AreKeyless : List RunTy → Type 0
@@ -212,7 +220,7 @@ AreKeyless (t ∷ ts) = IsKeyless t × AreKeyless ts
 
 -- and no value of this type is what only one may have
 abbrev pub IsPlain : RunTy → Type 0
-IsPlain (Key (Kept region)) = ⊥
+IsPlain (Key (Kept (KeyOf region))) = ⊥
 IsPlain (Pointer k t Owned) = ⊥
 IsPlain t = Unit {0}
 
@@ -229,7 +237,7 @@ IsHeld Nobody = ⊥
 IsHeld h = Unit {0}
 
 abbrev pub key_at : Life → Option Thing
-key_at (Kept region) = Some (KeyOf region)
+key_at (Kept (KeyOf region)) = Some (KeyOf region)
 key_at l = None
 
 abbrev pub pointer_at : Life → (object : ℕ) → Option Thing
@@ -275,11 +283,11 @@ given (Some a) h own = λ b. if same_thing b a then h else own b
 abbrev pub giving : Typing → Option Thing → Holder → Typing
 giving g o h = record g { own = given o h g.own }
 
--- a variable has what is in it, or does not, from now on
-abbrev pub marked : (object : ℕ) → Bool → (ℕ → Bool) → ℕ → Bool
+-- a variable stands so to what is in it from now on
+abbrev pub marked : (object : ℕ) → Standing → (ℕ → Standing) → ℕ → Standing
 marked object b here = λ n. if n == object then b else here n
 
-abbrev pub handing : Typing → Option Thing → Holder → (object : ℕ) → Bool → Typing
+abbrev pub handing : Typing → Option Thing → Holder → (object : ℕ) → Standing → Typing
 handing g o h object b = record g { own = given o h g.own; here = marked object b g.here }
 
 -- the object is the variable of this local, in a call with so many others around
@@ -288,7 +296,7 @@ IsSlot g d n object = (x : ObjectType) × (slice_get g.objects object ≡ Some x
 
 -- and has what is in it
 abbrev pub IsHere : Typing → (depth number object : ℕ) → Type 0
-IsHere g d n object = (g.here object ≡ true) × IsSlot g d n object
+IsHere g d n object = (g.here object ≡ Here) × IsSlot g d n object
 
 -- whether a pointer may lead to an object
 abbrev pub IsHiding : Typing → (object : ℕ) → (is_hidden : Bool) → Type 0
@@ -311,21 +319,27 @@ IsHad g (Some a) = IsHeld (g.own a)
 
 abbrev pub ClaimsBy : Typing → (hand : ℕ) → RunValue → values.Value → Type 0
 ClaimsBy g i (Value t) v = Claims g.own (Hand i) t v
+ClaimsBy g i (Seen object t) v = Owns g.own (At object 0) (thing_of t v)
 ClaimsBy g i (Into peek t) v = ClaimsPart g i peek (thing_of t v)
 ClaimsBy g i r v = Unit {0}
 
 -- also where a call is left
 abbrev pub ClaimsAlone : (own : Thing → Holder) → (hand : ℕ) → RunValue → values.Value → Type 0
 ClaimsAlone own i (Value t) v = Claims own (Hand i) t v
+ClaimsAlone own i (Seen object t) v = ⊥
 ClaimsAlone own i (Into peek t) v = ⊥
 ClaimsAlone own i r v = Unit {0}
 
 -- what is in this cell of an object is its own: a hidden one has what is in it or not
 abbrev pub IsKept : Typing → (object offset : ℕ) → (is_hidden : Bool) → Type 0
-IsKept g object offset hidden = (hidden ≡ true → g.here object ≡ true) × (g.pending ≢ Awaits object offset)
+IsKept g object offset hidden = (hidden ≡ true → g.here object ≡ Here) × (g.pending ≢ Awaits object offset)
 
 abbrev pub AreOwned : Typing → (object : ℕ) → ObjectType → List Cell → Type 0
 AreOwned g object y cs = (i : ℕ) (t : RunTy) (c : Cell) (v : values.Value) → IsKept g object i y.is_hidden → slice_get y.cells i ≡ Some t → slice_get cs i ≡ Some c → c.content ≡ Some v → Claims g.own (At object i) t v
+
+-- and what a hidden one has lent is still in it
+abbrev pub AreLent : Typing → (object : ℕ) → ObjectType → List Cell → Type 0
+AreLent g object y cs = (i j : ℕ) (t : RunTy) (c : Cell) (v : values.Value) → g.here object ≡ Away j → y.is_hidden ≡ true → slice_get y.cells i ≡ Some t → slice_get cs i ≡ Some c → c.content ≡ Some v → Claims g.own (Lent j object) t v
 
 -- a dynamic region that is open
 abbrev pub IsDynamic : Option Region → Type 0
@@ -348,31 +362,31 @@ pub record IsTyped (g : Typing) (regions : List Region) (objects : List Object) 
   pub fresh : (number : ℕ) → length regions ≤ number → g.own (KeyOf number) ≡ Nobody
   pub unique : (object : ℕ) → IsHeld (g.own (PointerTo object)) → IsUniqueObject g objects object
   pub owned : (object : ℕ) (t : ObjectType) (x : Object) → slice_get g.objects object ≡ Some t → slice_get objects object ≡ Some x → AreOwned g object t x.cells
+  pub lent : (object : ℕ) (t : ObjectType) (x : Object) → slice_get g.objects object ≡ Some t → slice_get objects object ≡ Some x → AreLent g object t x.cells
 
 -- where what has this life is made, by which regions are open
 abbrev pub IsOpenLife : List Region → Life → Type 0
 IsOpenLife regions (OfRegion number around lent) = is_open (slice_get regions number) ≡ true
-IsOpenLife regions (Kept number) = is_open (slice_get regions number) ≡ true
-IsOpenLife regions Owned = Unit {0}
-IsOpenLife regions l = ⊥
+IsOpenLife regions (Kept (KeyOf number)) = is_open (slice_get regions number) ≡ true
+IsOpenLife regions l = Unit {0}
 
 -- what has this life is there
 abbrev pub IsOpenObject : Typing → List Region → (object : ℕ) → Life → Type 0
 IsOpenObject g regions object Owned = IsHeld (g.own (PointerTo object))
 IsOpenObject g regions object l = IsOpenLife regions l
 
--- whether a key is lent by one of so many loans, the first ones
+-- whether a thing is lent by one of so many loans, the first ones
 abbrev pub is_lent_by : ℕ → Holder → Bool
-is_lent_by count (Lent before) = nat_lt before count
+is_lent_by count (Lent before object) = nat_lt before count
 is_lent_by count h = false
 
-abbrev pub lent_now : Typing → ℕ → Bool
-lent_now g region = is_lent_by g.loans (g.own (KeyOf region))
+abbrev pub lent_now : Typing → Thing → Bool
+lent_now g a = is_lent_by g.loans (g.own a)
 
--- what has this life and is dynamic, or lasts as long, is open
+-- what is lent as long as this life is so now
 abbrev pub IsOpenIn : Typing → Life → Type 0
-IsOpenIn g (Kept region) = lent_now g region ≡ true
-IsOpenIn g (OfRegion number around lent) = (region : ℕ) → lent region ≡ true → lent_now g region ≡ true
+IsOpenIn g (Kept a) = lent_now g a ≡ true
+IsOpenIn g (OfRegion number around lent) = (a : Thing) → lent a ≡ true → lent_now g a ≡ true
 IsOpenIn g l = Unit {0}
 
 -- ---- growth

@@ -1,7 +1,7 @@
 //! Laws of the definitions in `specs/`. Each function does nothing: its contract is the law, and so it is proved with
 //! the crate.
 
-ghost use Rattle.std.specs.Prelude.{◌≡◌, ℕ, true, List};
+ghost use Rattle.std.specs.Prelude.{ℕ, List};
 ghost use Rattle.cyc_syntax.specs.Trees.{Declaration};
 ghost use Rattle.cyc_types.specs.Types.{Ty, ValueType};
 ghost use Rattle.cyc_types.specs.TypedTrees.{Program};
@@ -16,9 +16,7 @@ ghost use Rattle.cyc_soundness.specs.Lives.{RunTy, Lives, at, value_at};
 ghost use Rattle.cyc_soundness.specs.Worlds.{Typing, AgreesWith, HasType, IsResult, Fits, Grows, Stays};
 ghost use Rattle.cyc_soundness.specs.Frames.{InScope, Exits};
 ghost use Rattle.cyc_soundness.specs.Stacks.{Want, IsStack};
-ghost use Rattle.cyc_soundness.specs.Classes.{IsOfTheHeap, IsOfScopes, FreesNoObject, FreesLocals, Source};
-ghost use Rattle.cyc_soundness.specs.Frees.{frees_no_object};
-ghost use Rattle.cyc_soundness.specs.FreesLocals.{frees_locals};
+ghost use Rattle.cyc_soundness.specs.Classes.{IsOfTheHeap, IsOfScopes, FreesNoObject, FreesObjects, Source};
 ghost use Rattle.cyc_soundness.specs.Sound.{IsSound};
 
 /// What is known of a world only grows, and what was typed stays so: a value keeps its type for good, and a control stack
@@ -56,17 +54,15 @@ pub fn programs_that_free_no_object_are_sound()
     ensures { (p : Program) → IsWellTypedProgram p → IsAllowedProgram p → FreesNoObject p → IsSound p }
 {}
 
-/// No run of a program is ever dead or wrong that gives back unique objects, where the typing rules and the flow rules accept
-/// it, if it has no aliases. What is given back is what a local, an argument or a result has, and is reached by nobody
-/// then, as no other has the pointer to it; what a cell of an object has only a swap takes out of it. Which programs these
-/// are is computed.
-pub fn programs_that_free_what_locals_have_are_sound()
-    ensures class { (p : Program) → IsWellTypedProgram p → IsAllowedProgram p → FreesLocals p → IsSound p }
-    ensures computed { (p : Program) → IsWellTypedProgram p → IsAllowedProgram p → frees_locals p ≡ true → IsSound p }
+/// No run of a program that gives back unique objects is ever dead or wrong, where the typing rules and the flow rules accept
+/// it. What is given back is reached by nobody then: no other has the pointer to it, and an alias leads to it only while
+/// the pointer is lent.
+pub fn programs_that_free_objects_are_sound()
+    ensures { (p : Program) → IsWellTypedProgram p → IsAllowedProgram p → FreesObjects p → IsSound p }
 {}
 
-/// No run of a program that the typing rules derive from a tree and the flow rules accept is ever dead or wrong, where no expression
-/// gives an object back: nothing else is asked of it.
-pub fn typed_programs_that_free_no_object_are_sound()
-    ensures { (texts : List (List ℕ)) (tree : List Declaration) (p : Program) → IsTypedProgram texts tree p → IsAllowedProgram p → frees_no_object p ≡ true → IsSound p }
+/// No run of a program that the typing rules derive from a tree and the flow rules accept is ever dead or wrong: nothing
+/// else is asked of it.
+pub fn typed_programs_are_sound()
+    ensures { (texts : List (List ℕ)) (tree : List Declaration) (p : Program) → IsTypedProgram texts tree p → IsAllowedProgram p → IsSound p }
 {}

@@ -1,4 +1,4 @@
--- What the limits of a text say of its program: how heavy it may be, and what it has beyond what the typing rules ask.
+-- What is known of the program of a text: how heavy it may be, what it has beyond what the typing rules ask, and that it is sound.
 use Rattle.std.proofs.Common.{ℕ, ◌≤◌, List, length, arith}
 use Rattle.std.proofs.lemmas.List.{length-map}
 use Rattle.cyc_syntax.specs.TokenRule.{max_tokens}
@@ -10,6 +10,8 @@ use Rattle.cyc_types.specs.Texts.{IsOfTextProgram}
 use Rattle.cyc_types.specs.Weight.{program_weight}
 use Rattle.cyc_types.proofs.typing.TextLemmas.{program_of_text}
 use Rattle.cyc_types.proofs.typing.WeightLemmas.{program_lighter}
+use Rattle.cyc_soundness.specs.Sound.{IsSound}
+use Rattle.cyc_soundness.proofs.FormedLemmas.{typed_sound}
 use Rattle.cyc_system.specs.Front.{names_in, IsAcceptedText}
 
 -- as many symbols as tokens
@@ -26,3 +28,7 @@ accepted_light text p a =
 -- its structs have few fields, the numbers of its exceptions are words, and arithmetic on pointers stands alone
 pub accepted_of_text : (text : List ℕ) (p : Program) → IsAcceptedText text p → IsOfTextProgram p
 accepted_of_text text p a = program_of_text (names_in a.tokens) (symbols_of a.tokens) a.tree p a.has_tree.has a.has_tree.within (symbols_few text p a) a.typed
+
+-- no run of it is ever dead or wrong
+pub accepted_sound : (text : List ℕ) (p : Program) → IsAcceptedText text p → IsSound p
+accepted_sound text p a = typed_sound (names_in a.tokens) a.tree p a.typed a.allowed

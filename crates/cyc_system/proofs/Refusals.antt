@@ -44,24 +44,24 @@ module _ {X : Type 0} (Image : Program → X → Type 0) (p : Program) where
       fits : IsSmallEnough p
       fits = record { functions = few; frames = small_above p lowered is small }
 
-      image_accepted : (result : Result X Fault) → IfOk result (λ x. (q : Program) → IsLowered q lowered → Image q x) → IfOk result (λ x. (q : Program) × IsSmall p q × Image q x)
-      image_accepted (Ok x) image = (p, (refl, fits), image p is)
+      image_accepted : (result : Result X Fault) → IfOk result (Image p) → IfOk result (λ x. (q : Program) × IsSmall p q × Image q x)
+      image_accepted (Ok x) image = (p, (refl, fits), image)
       image_accepted (Err f) image = tt
 
       memory_refused : (result : Result X Fault) → IfErr result (λ f. f ≡ memory_fault) → IfErr result (λ f. (f ≡ memory_fault) ⊎ IsTooLarge p f)
       memory_refused (Ok x) h = tt
       memory_refused (Err f) memory = inl memory
 
-      image_accepts : (result : Result X Fault) → IfOk result (λ x. (q : Program) → IsLowered q lowered → Image q x) → IfErr result (λ f. f ≡ memory_fault)
+      image_accepts : (result : Result X Fault) → IfOk result (Image p) → IfErr result (λ f. f ≡ memory_fault)
           → (q : Program) → IsSmall p q → MatchResult result (Image q) (λ f. f ≡ memory_fault)
-      image_accepts (Ok x) image h q (same, enough) = subst (λ (r : Program). Image r x) (sym same) (image p is)
+      image_accepts (Ok x) image h q (same, enough) = subst (λ (r : Program). Image r x) (sym same) image
       image_accepts (Err f) image memory q (same, enough) = memory
 
       never_large : (fault : Fault) → IsTooLarge p fault → ⊥
       never_large fault (inl many) = none fault many
       never_large fault (inr (enough, frame)) = none_large fault (large_below p lowered is fault frame)
 
-      pub image_answers : (result : Result X Fault) → IfOk result (λ x. (q : Program) → IsLowered q lowered → Image q x) → IfErr result (λ f. f ≡ memory_fault)
+      pub image_answers : (result : Result X Fault) → IfOk result (Image p) → IfErr result (λ f. f ≡ memory_fault)
           → Decides (IsSmall p) Image (IsTooLarge p) (IsTooLarge p) result
       image_answers result image memory = record {
         accepted = image_accepted result image;

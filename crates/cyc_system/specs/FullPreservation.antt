@@ -25,7 +25,6 @@ use Rattle.cyc_meaning.specs.Run.{start, limited_run}
 use Rattle.cyc_meaning.specs.FrameCount.{words_of_all}
 use Rattle.cyc_words.specs.Simulation.{Preserves}
 use Rattle.cyc_meaning.specs.SourceMachine.{source_machine}
-use Rattle.cyc_soundness.specs.Sound.{IsSound}
 use Rattle.cyc_lower.specs.Lowering.{scopes_of, scopes_words}
 use Rattle.cyc_machine.specs.WorldMachine.{world_machine}
 use Rattle.cyc_system.specs.ProgramImage.{HasForm}
@@ -65,10 +64,6 @@ pub record IsImageOf (p : Program) (file : List ℕ) : Type 0 where
   pub form : HasForm (data_words p) image
   pub loads : IsLoadable image
   pub does : DoesTheSame p image
-
--- A file is one, where no run of the program is ever dead or wrong.
-abbrev pub IsImageOfSound : Program → List ℕ → Type 0
-IsImageOfSound p file = IsSound p → IsImageOf p file
 
 -- ---- the same in the words of the two runs
 

@@ -8,8 +8,10 @@ ghost use Rattle.cyc_types.specs.TypedTrees.{Program};
 ghost use Rattle.cyc_types.specs.TypedTreeView.{view_program};
 ghost use Rattle.cyc_types.specs.typing.WellTyped.{IsWellTypedProgram};
 ghost use Rattle.cyc_types.specs.Weight.{program_weight};
+ghost use Rattle.cyc_soundness.specs.Sound.{IsSound};
 ghost use Rattle.cyc_lower.specs.Lowered.{CanBeLowered, IsLowered};
-ghost use Rattle.cyc_system.specs.FullPreservation.{IsImageOfSound};
+ghost use Rattle.cyc_system.specs.Front.{IsAcceptedText};
+ghost use Rattle.cyc_system.specs.FullPreservation.{IsImageOf};
 ghost use Rattle.cyc_system.specs.Compiled.{IsTooLarge, IsSmall, IsCompiledText, IsRefusedAtLast, HasFaultAtLast};
 
 use crate::front::accept;
@@ -22,9 +24,9 @@ use cyc_select::select;
 use cyc_words::Fault;
 use std::alloc::Global;
 
-/// Compiles a plain program whose functions have frames. The bytes are an image of each sound program that was lowered to the plain one.
+/// Compiles a plain program whose functions have frames. The bytes are an image of each program that was lowered to the plain one, if no run of it is dead or wrong.
 fn compile_plain(alloc: Global, framed: &Framed) -> Result<Vec<u8>, Fault>
-    ensures image { IfOk result (λ file. (p : Program) → IsLowered p framed.now.program → IsImageOfSound p file.items) }
+    ensures image { IfOk result (λ file. (p : Program) → IsSound p → IsLowered p framed.now.program → IsImageOf p file.items) }
     ensures refused { IfErr result (λ f. f ≡ memory_fault) }
 {
     let code = select(alloc, framed)?;
@@ -38,7 +40,8 @@ fn build(alloc: Global, program: &Flowed) -> Result<Vec<u8>, Fault>
     requires well_typed { IsWellTypedProgram (view_program program.now.tree) }
     requires small { program_weight (view_program program.now.tree) ≤ max_tokens }
     requires can_be { CanBeLowered (view_program program.now.tree) }
-    ensures { Decides (IsSmall (view_program program.now.tree)) (λ p file. IsImageOfSound p file.items)
+    requires sound { IsSound (view_program program.now.tree) }
+    ensures { Decides (IsSmall (view_program program.now.tree)) (λ p file. IsImageOf p file.items)
         (IsTooLarge (view_program program.now.tree)) (IsTooLarge (view_program program.now.tree)) result }
 {
     let plain = lower(alloc, program)?;
@@ -53,10 +56,12 @@ fn build(alloc: Global, program: &Flowed) -> Result<Vec<u8>, Fault>
 /// frame may need more than 256 words. Any growth may be refused for want of memory.
 pub fn compile(alloc: Global, text: &[u8]) -> Result<Vec<u8>, Fault>
     // What is answered is an image that the machine can load, and that does what the program of the text means: it
-    // prints and ends as the program does within its limits, and does nothing else. That is said of programs no run of which is
-    // dead or wrong, as of all that free no object (`laws::programs_that_free_no_object_are_sound`). What is refused is so by the
-    // front end, or its program is too large.
-    ensures decides { Decides (IsCompiledText text.now) (λ p file. IsImageOfSound p file.items) (IsRefusedAtLast text.now) (HasFaultAtLast text.now) result }
+    // prints and ends as the program does within its limits, and does nothing else. What is refused is so by the front end, or its
+    // program is too large.
+    ensures decides { Decides (IsCompiledText text.now) (λ p file. IsImageOf p file.items) (IsRefusedAtLast text.now) (HasFaultAtLast text.now) result }
+    // No step of any run of the program is dead or wrong, whatever its input, and without limits: none reaches a cell of a closed
+    // region or a freed object.
+    ensures sound { IfOk result (λ _. (p : Program) → IsAcceptedText text.now p → IsSound p) }
 {
     let program = accept(alloc, text)?;
     build(alloc, &program)

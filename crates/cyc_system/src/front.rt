@@ -1,7 +1,8 @@
 //! The front end of the compiler: from the bytes of a text to its typed tree, or to its fault.
-ghost use Rattle.std.specs.Prelude.{◌≡◌};
+ghost use Rattle.std.specs.Prelude.{◌≡◌, IfOk};
 ghost use Rattle.cyc_words.specs.Decision.{Decides};
 ghost use Rattle.cyc_types.specs.TypedTreeView.{view_program};
+ghost use Rattle.cyc_soundness.specs.Sound.{IsSound};
 ghost use Rattle.cyc_system.specs.Front.{IsAcceptedText, IsRefusedText, HasFault};
 
 use cyc_check::check;
@@ -26,6 +27,8 @@ pub struct Phases {
 pub fn run_phases(alloc: Global, text: &[u8]) -> Result<Phases, Fault>
     // What is accepted is answered with its typed program. What is refused is so for what its code says at its place.
     ensures decides { Decides (IsAcceptedText text.now) (λ p v. view_program v.program.tree ≡ p) (IsRefusedText text.now) (HasFault text.now) result }
+    // No step of any run of a program that is accepted is dead or wrong, whatever its input, and without limits.
+    ensures sound { IfOk result (λ v. IsSound (view_program v.program.tree)) }
 {
     let tokens = lex(alloc, text)?;
     let tree = parse(alloc, &tokens, text)?;
@@ -44,6 +47,8 @@ pub fn run_phases(alloc: Global, text: &[u8]) -> Result<Phases, Fault>
 pub fn accept(alloc: Global, text: &[u8]) -> Result<Flowed, Fault>
     // What is accepted is answered as its typed program. What is refused is so for what its code says at its place.
     ensures decides { Decides (IsAcceptedText text.now) (λ p v. view_program v.tree ≡ p) (IsRefusedText text.now) (HasFault text.now) result }
+    // No step of any run of a program that is accepted is dead or wrong, whatever its input, and without limits.
+    ensures sound { IfOk result (λ v. IsSound (view_program v.tree)) }
 {
     let phases = run_phases(alloc, text)?;
     Ok(phases.program)

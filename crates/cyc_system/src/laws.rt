@@ -1,7 +1,7 @@
 //! Laws of the definitions in `specs/`. Each function does nothing: its contract is the law, and so it is proved with the
 //! crate.
 
-ghost use Rattle.std.specs.Prelude.{◌≡◌, ◌<◌, Bool, true, List, ℕ, Some, Ok, Result};
+ghost use Rattle.std.specs.Prelude.{◌≡◌, ◌<◌, Bool, List, ℕ, Some, Ok, Result};
 ghost use Rattle.std.specs.List.{AllByRecursion};
 ghost use Rattle.cyc_elf.specs.Image.{ImageContents};
 ghost use Rattle.cyc_elf.specs.Reading.{reading};
@@ -11,13 +11,11 @@ ghost use Rattle.cyc_machine.specs.Bounds.{Bounds, AreAllowed};
 ghost use Rattle.cyc_words.specs.declared.fault.Fault.{Fault};
 ghost use Rattle.cyc_types.specs.TypedTrees.{Program};
 ghost use Rattle.cyc_types.specs.Texts.{IsOfTextProgram};
-ghost use Rattle.cyc_soundness.specs.Frees.{frees_no_object};
-ghost use Rattle.cyc_soundness.specs.FreesLocals.{frees_locals};
 ghost use Rattle.cyc_soundness.specs.Sound.{IsSound};
 ghost use Rattle.cyc_system.specs.Front.{IsAcceptedText, IsRefusedText};
 ghost use Rattle.cyc_system.specs.Compiled.{IsCompiledText};
 ghost use Rattle.cyc_system.specs.FullPreservation.{DoesTheSame, AreAlike, IsLoadable, IsImageOf, text_words};
-ghost use Rattle.cyc_system.specs.Engine.{Devices, AnswersAnew};
+ghost use Rattle.cyc_system.specs.Engine.{Devices, Answers, AnswersAnew};
 ghost use Rattle.cyc_system.specs.CompiledRuns.{RunsAs};
 ghost use Rattle.cyc_system.specs.declared.report.Report.{Report};
 ghost use Rattle.cyc_system.specs.declared.report.RunFault.{RunFault};
@@ -41,20 +39,11 @@ pub fn accepted_programs_are_of_texts()
     ensures { (text : List ℕ) (p : Program) → IsAcceptedText text p → IsOfTextProgram p }
 {}
 
-/// No run of the program of an accepted text is ever dead or wrong, if no expression of it gives an object back by `ufree`: so what
-/// `compile` answers for it is its image. Nothing else is asked.
-pub fn programs_that_free_no_object_are_sound()
-    ensures { (text : List ℕ) (p : Program) → IsAcceptedText text p → frees_no_object p ≡ true → IsSound p }
+/// No dead access: no run of the program of an accepted text is dead or wrong after any number of steps, whatever its input.
+pub fn accepted_programs_are_sound()
+    ensures { (text : List ℕ) (p : Program) → IsAcceptedText text p → IsSound p }
 {
-    cyc_soundness::laws::typed_programs_that_free_no_object_are_sound();
-}
-
-/// Nor is one that gives objects back, if it has no aliases (`frees_locals`, which is computed).
-pub fn programs_that_free_what_locals_have_are_sound()
-    ensures { (text : List ℕ) (p : Program) → IsAcceptedText text p → frees_locals p ≡ true → IsSound p }
-{
-    cyc_types::laws::typed_trees_are_well_typed();
-    cyc_soundness::laws::programs_that_free_what_locals_have_are_sound();
+    cyc_soundness::laws::typed_programs_are_sound();
 }
 
 /// What `compile` answers is read as an image, and the machine never answers that it has no place for it.
@@ -70,12 +59,16 @@ pub fn images_run_alike()
         → AllByRecursion (λ b. b < 256) input → AreAlike p image limits store input }
 {}
 
-/// `compile` and then `run`: what is written and answered for a text that was compiled is as the limited run of the text's program
-/// says, for all limits, over each new store, for each input that the reader tells, and each budget. With T words of text, a budget of
-/// (n + 1) * T lets the run come as far as the program comes in n steps.
+/// `compile` and then `run`, or `run_with` over any store that is new: what is written and answered for a text that was compiled is as
+/// the limited run of the text's program says, for all limits, for each input that the reader tells, and each budget. With T words of
+/// text, a budget of (n + 1) * T lets the run come as far as the program comes in n steps.
 pub fn compiled_programs_run()
-    ensures { (text : List ℕ) (p : Program) (file : List ℕ) → IsCompiledText text p → (is : IsImageOf p file)
+    ensures anew { (text : List ℕ) (p : Program) (file : List ℕ) → IsCompiledText text p → (is : IsImageOf p file)
         → (limits : Bounds) (input : List ℕ) → AreAllowed limits.pages limits.calls → AllByRecursion (λ b. b < 256) input
         → (grows : Bool) (budget : ℕ) (old new : Devices) (result : Result Report RunFault) → old.remaining ≡ Some input
         → AnswersAnew grows (reading file) limits budget old new result → RunsAs p limits input (text_words is.image) budget old new result }
+    ensures over_a_store { (text : List ℕ) (p : Program) (file : List ℕ) → IsCompiledText text p → (is : IsImageOf p file)
+        → (limits : Bounds) (input : List ℕ) → AreAllowed limits.pages limits.calls → AllByRecursion (λ b. b < 256) input
+        → (grows : Bool) (store : StoreState) → IsNew limits.pages store → (budget : ℕ) (old new : Devices) (result : Result Report RunFault) → old.remaining ≡ Some input
+        → Answers grows store (reading file) limits budget old new result → RunsAs p limits input (text_words is.image) budget old new result }
 {}

@@ -1,29 +1,37 @@
-use Rattle.std.proofs.Common.{◌≤◌, length, sym, subst, ◌∙◌}
+use Rattle.std.proofs.Common.{◌≤◌, length, Result, Ok, Err, sym, subst, ◌∙◌}
+use Rattle.std.specs.Prelude.{IfOk}
 use Rattle.std.proofs.lemmas.Result.{err_from_is_err_and}
 use Rattle.cyc_types.specs.TypedTrees.{Program}
 use Rattle.cyc_types.specs.TypedTreeView.{view_program}
 use Rattle.cyc_plain.specs.Program.{Program as PlainProgram}
 use Rattle.cyc_lower.specs.declared.limits.TheConstants.{MOST_FUNCTIONS}
+use Rattle.cyc_soundness.specs.Sound.{IsSound}
 use Rattle.cyc_lower.specs.Lowered.{IsLowered}
 use Rattle.cyc_frame.specs.Layout as frames
 use Rattle.cyc_frame.specs.Layout.{HasSmallFrames}
-use Rattle.cyc_system.specs.FullPreservation.{IsImageOfSound}
+use Rattle.cyc_system.specs.FullPreservation.{IsImageOf}
 use Rattle.cyc_system.proofs.Refusals.{lowering_refuses, layout_refuses, image_answers}
 use Rattle.cyc_system.proofs.compiler.build.Goals as goal
 
 pub returns-in_err-plain : goal.returns-in_err-plain
 returns-in_err-plain c =
     let e = err_from_is_err_and c.from_residual.result c.from_residual.ensures.1 in
-    rw (e.1, e.2) (lowering_refuses (λ p file. IsImageOfSound p file.items) (view_program c.args.program.now.tree) _ c.in_err-plain.field-0.0 c.in_err-plain.ensures)
+    rw (e.1, e.2) (lowering_refuses (λ p file. IsImageOf p file.items) (view_program c.args.program.now.tree) _ c.in_err-plain.field-0.0 c.in_err-plain.ensures)
 
 pub returns-in_err-framed : goal.returns-in_err-framed
 returns-in_err-framed c =
     let p = view_program c.args.program.now.tree in
     let (a, (same, few), is) = c.in_ok-plain.ensures.accepted in
     let e = err_from_is_err_and c.from_residual-in_err-framed.result c.from_residual-in_err-framed.ensures.1 in
-    rw (e.1, e.2) (layout_refuses (λ q file. IsImageOfSound q file.items) p c.in_ok-plain.plain
+    rw (e.1, e.2) (layout_refuses (λ q file. IsImageOf q file.items) p c.in_ok-plain.plain
     (subst (λ (q : Program). IsLowered q c.in_ok-plain.plain) same is) (subst (λ (q : Program). length q.functions ≤ MOST_FUNCTIONS) same few)
     c.in_ok-plain.ensures.refuses _ c.in_err-framed.field-0.0 c.in_err-framed.ensures)
+
+-- the image of the program that was lowered to the plain one
+image_there : {X F : Type 0} (Image : Program → X → Type 0) (p : Program) (lowered : PlainProgram) (result : Result X F) → IsSound p → IsLowered p lowered
+    → IfOk result (λ x. (q : Program) → IsSound q → IsLowered q lowered → Image q x) → IfOk result (Image p)
+image_there Image p lowered (Ok x) sound is image = image p sound is
+image_there Image p lowered (Err f) sound is image = tt
 
 pub returns : goal.returns
 returns c =
@@ -31,7 +39,8 @@ returns c =
     let (a, (one, few), is) = c.in_ok-plain.ensures.accepted in
     let (l, (same, small), (of, are)) = c.in_ok-framed.ensures.accepted in
     let there = sym (of ∙ same) in
-    image_answers (λ q file. IsImageOfSound q file.items) p c.in_ok-framed.framed.program
-    (subst (IsLowered p) there (subst (λ (q : Program). IsLowered q c.in_ok-plain.plain) one is)) (subst (λ (q : Program). length q.functions ≤ MOST_FUNCTIONS) one few)
+    let lowered = subst (IsLowered p) there (subst (λ (q : Program). IsLowered q c.in_ok-plain.plain) one is) in
+    image_answers (λ q file. IsImageOf q file.items) p c.in_ok-framed.framed.program lowered (subst (λ (q : Program). length q.functions ≤ MOST_FUNCTIONS) one few)
     c.in_ok-plain.ensures.refuses (subst HasSmallFrames (sym of) small) (λ f large. c.in_ok-framed.ensures.refuses f (subst (λ (r : PlainProgram). frames.IsTooLarge r f) (of ∙ same) large))
-    c.compile_plain.result c.compile_plain.ensures.image c.compile_plain.ensures.refused
+    c.compile_plain.result
+    (image_there (λ q file. IsImageOf q file.items) p c.in_ok-framed.framed.program c.compile_plain.result c.requires.sound lowered c.compile_plain.ensures.image) c.compile_plain.ensures.refused

@@ -4,7 +4,7 @@ use Rattle.cyc_system.proofs.Chains.{text_has_words, image_made}
 use Rattle.cyc_system.proofs.compiler.compile_plain.Goals as goal
 
 pub returns-clause-image : goal.returns-clause-image
-returns-clause-image c = λ p is sound.
+returns-clause-image c = λ p sound is.
     let code = c.in_ok-code.code in
     image_made p c.args.framed.now.program code (addresses_of code) c.in_ok-words.words.items c.deref.result.now c.globals.result.now c.in_ok-file.file.items
     c.deref.ensures.value c.globals.ensures.value sound is c.in_ok-code.ensures.selected c.in_ok-code.ensures.globals c.in_ok-words.ensures.means c.in_ok-words.ensures.runs

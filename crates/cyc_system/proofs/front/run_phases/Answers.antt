@@ -6,6 +6,8 @@ use Rattle.cyc_parse.specs.Acceptance as parser
 use Rattle.cyc_parse.specs.Acceptance.{declarations_of}
 use Rattle.cyc_types.specs.TypedTreeView.{view_program}
 use Rattle.cyc_types.specs.typing.Programs.{IsTypedProgram, IsRefusedProgram}
+use Rattle.cyc_system.specs.Front.{IsAcceptedText, IsRefusedText, HasFault}
+use Rattle.cyc_system.proofs.Amounts.{accepted_sound}
 use Rattle.cyc_system.proofs.Fronts.{passed, stopped, lexed, checked, lexer_answers, parser_answers, checker_answers, flow_answers, HasProgram, HasPhases, refused_alike, accepted_alike}
 use Rattle.cyc_system.proofs.front.run_phases.Goals as goal
 
@@ -15,7 +17,7 @@ returns-in_err-tokens c =
     let f = c.in_err-tokens.field-0.0 in
     let d = c.in_err-tokens.ensures.decides in
     let p = err_from_is_err_and c.from_residual.result c.from_residual.ensures.1 in
-    record { decides = rw (p.1, p.2) (refused_alike HasProgram HasPhases text f (lexer_answers text f d.refused (stopped _ _ _ _ f d))) }
+    record { decides = rw (p.1, p.2) (refused_alike HasProgram HasPhases text f (lexer_answers text f d.refused (stopped _ _ _ _ f d))); sound = rw p.1 tt }
 
 pub returns-in_err-tree : goal.returns-in_err-tree
 returns-in_err-tree c =
@@ -26,7 +28,7 @@ returns-in_err-tree c =
     let f = c.in_err-tree.field-0.0 in
     let d = c.in_err-tree.ensures.decides in
     let p = err_from_is_err_and c.from_residual-in_err-tree.result c.from_residual-in_err-tree.ensures.1 in
-    record { decides = rw (p.1, p.2) (refused_alike HasProgram HasPhases text f (parser_answers text tokens f l d.refused (stopped _ _ _ _ f d))) }
+    record { decides = rw (p.1, p.2) (refused_alike HasProgram HasPhases text f (parser_answers text tokens f l d.refused (stopped _ _ _ _ f d))); sound = rw p.1 tt }
 
 pub returns-in_err-typed : goal.returns-in_err-typed
 returns-in_err-typed c =
@@ -38,7 +40,7 @@ returns-in_err-typed c =
     let f = c.in_err-typed.field-0.0 in
     let d = c.in_err-typed.ensures.decides in
     let p = err_from_is_err_and c.from_residual-in_err-typed.result c.from_residual-in_err-typed.ensures.1 in
-    record { decides = rw (p.1, p.2) (refused_alike HasProgram HasPhases text f (checker_answers text tokens (declarations_of c.in_ok-tree.tree) c.in_ok-tree.tree.names f l r c.in_ok-tree.ensures.names d.refused (stopped _ _ _ _ f d))) }
+    record { decides = rw (p.1, p.2) (refused_alike HasProgram HasPhases text f (checker_answers text tokens (declarations_of c.in_ok-tree.tree) c.in_ok-tree.tree.names f l r c.in_ok-tree.ensures.names d.refused (stopped _ _ _ _ f d))); sound = rw p.1 tt }
 
 pub returns-in_err-program : goal.returns-in_err-program
 returns-in_err-program c =
@@ -53,7 +55,7 @@ returns-in_err-program c =
     (passed view_program (IsTypedProgram texts tree) (IsRefusedProgram texts tree) (IsRefusedProgram texts tree) c.in_ok-typed.typed c.in_ok-typed.ensures.decides) in
     let f = c.in_err-program.field-0.0 in
     let p = err_from_is_err_and c.from_residual-in_err-program.result c.from_residual-in_err-program.ensures.1 in
-    record { decides = rw (p.1, p.2) (refused_alike HasProgram HasPhases text f (flow_answers text tokens tree c.in_ok-typed.typed (Err f) l r k c.in_err-program.ensures.decides)) }
+    record { decides = rw (p.1, p.2) (refused_alike HasProgram HasPhases text f (flow_answers text tokens tree c.in_ok-typed.typed (Err f) l r k c.in_err-program.ensures.decides)); sound = rw p.1 tt }
 
 pub returns : goal.returns
 returns c =
@@ -68,4 +70,7 @@ returns c =
     (passed view_program (IsTypedProgram texts tree) (IsRefusedProgram texts tree) (IsRefusedProgram texts tree) c.in_ok-typed.typed c.in_ok-typed.ensures.decides) in
     let program = c.in_ok-program.program in
     let d = flow_answers text tokens tree c.in_ok-typed.typed (Ok program) l r k c.in_ok-program.ensures.decides in
-    record { decides = accepted_alike HasProgram HasPhases text program _ (λ p same. same) d }
+    record {
+      decides = accepted_alike HasProgram HasPhases text program _ (λ p same. same) d;
+      sound = accepted_sound text (view_program program.tree) (passed (λ v. view_program v.tree) (IsAcceptedText text) (IsRefusedText text) (HasFault text) program d).is;
+    }
