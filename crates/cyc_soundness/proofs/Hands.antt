@@ -68,6 +68,27 @@ given_apart own now None q h k new has its apart is = tt
 given_apart own now (Some a) None h k new has its apart is = is
 given_apart own now (Some a) (Some b) h k new has its apart is = by_test (same_thing a b) (now a) new k (λ e. absurd (apart (sym has ∙ ap own (the_same a b e) ∙ its))) (λ e. is)
 
+-- what has been given away is the same thing, or another
+pub also_given : (own : Thing → Holder) (o q : Option Thing) (old new : Holder) → Owns own old q → Owns (given o new own) old q ⊎ Owns (given o new own) new q
+also_given own o None old new its = inl tt
+also_given own None (Some b) old new its = inl its
+also_given own (Some a) (Some b) old new its = go (same_thing b a)
+  where
+    go : (z : Bool) → ((if z then new else own b) ≡ old) ⊎ ((if z then new else own b) ≡ new)
+    go true = inr refl
+    go false = inl its
+
+-- and then others have what they had before both
+pub given_beside : (own now : Thing → Holder) (q : Option Thing) (old new : Holder) (a : Thing) → Owns own old q → own a ≢ old → given q new now a ≡ now a
+given_beside own now None old new a has apart = refl
+given_beside own now (Some b) old new a has apart = by_test (same_thing a b) (now a) new (now a) (λ e. absurd (apart (ap own (the_same a b e) ∙ has))) (λ e. refl)
+
+-- who gets what he has changes nothing
+pub given_again : (own : Thing → Holder) (q o : Option Thing) (h k : Holder) → Owns own h q → Owns own k o → Owns (given q h own) k o
+given_again own q None h k has is = tt
+given_again own None (Some a) h k has is = is
+given_again own (Some b) (Some a) h k has is = by_test (same_thing a b) (own a) h k (λ e. sym has ∙ ap own (sym (the_same a b e)) ∙ is) (λ e. is)
+
 -- what nobody has nobody had
 pub none_before : (own : Thing → Holder) (o : Option Thing) (old new : Holder) (a : Thing) → Owns own old o → IsHeld old → own a ≡ Nobody → given o new own a ≡ Nobody
 none_before own None old new a has held none = none
@@ -419,6 +440,23 @@ module _ (g : Typing) (o : Option Thing) (object : ℕ) (new : Holder) (y : Obje
             (claims x (ap (λ k. slice_get objects k) (sym same) ∙ stands) m u c v (ap (λ (z : ObjectType). slice_get z.cells m) type_is ∙ cell) at content))))
         | inr apart ↦ inl (marked_before object (Away j) g.here n (Away i) apart now, lent_not_at i n object 0)
       ]
+
+-- one that has lent what is in it had another thing too, or has lent it
+pub also_typed : (g : Typing) (q : Option Thing) (object j : ℕ) (y : ObjectType) (regions : List Region) (objects : List Object) → slice_get g.objects object ≡ Some y → y.is_hidden ≡ true → g.here object ≡ Away j
+    → Owns g.own (At object 0) q ⊎ Owns g.own (Lent j object) q → IsTyped g regions objects → IsTyped (giving g q (Lent j object)) regions objects
+also_typed g q object j y regions objects there hidden away (inl has) typed =
+    hands_typed g q (At object 0) (Lent j object) g.here regions objects has tt before (λ n i t x found stands now hides. inl (now, lent_not_at i n object 0)) typed
+  where
+    before : (n i : ℕ) (t : ObjectType) (x : Object) → slice_get g.objects n ≡ Some t → slice_get objects n ≡ Some x → IsKept (giving g q (Lent j object)) n i t.is_hidden
+        → (IsKept g n i t.is_hidden × (At n i ≢ At object 0)) ⊎ ((u : RunTy) (c : Cell) (v : values.Value) → slice_get t.cells i ≡ Some u → slice_get x.cells i ≡ Some c → c.content ≡ Some v → Claims (given q (Lent j object) g.own) (At n i) u v)
+    before n i t x found stands kept = elim (same_or_other n object) [
+      | inl same ↦ (let type_is : y ≡ t = some_same y t (sym there ∙ ap (λ k. slice_get g.objects k) (sym same) ∙ found) in
+          absurd (away_not_here (g.here object) j away (ap g.here (sym same) ∙ kept.0 (ap (λ (z : ObjectType). z.is_hidden) (sym type_is) ∙ hidden))))
+      | inr apart ↦ inl (kept, λ e. apart (at_same n i object 0 e).0)
+    ]
+also_typed g q object j y regions objects there hidden away (inr has) typed =
+    hands_typed g q (Lent j object) (Lent j object) g.here regions objects has tt (λ n i t x found stands kept. inl (kept, at_not_lent n i j object))
+    (λ n i t x found stands now hides. inr (λ m u c v cell at content. (let (owns, start) = typed.lent n t x found stands m i u c v now hides cell at content in (given_again g.own q (thing_of u v) (Lent j object) (Lent i n) has owns, start)))) typed
 
 -- a variable has again what it had lent
 pub returned_typed : (g : Typing) (o : Option Thing) (object j : ℕ) (y : ObjectType) (regions : List Region) (objects : List Object) → Owns g.own (Lent j object) o → slice_get g.objects object ≡ Some y

@@ -36,7 +36,7 @@ use Rattle.cyc_soundness.proofs.TypeLemmas.{all_in, read_alike}
 use Rattle.cyc_soundness.proofs.FlowLemmas.{full_set, reached_with}
 use Rattle.cyc_soundness.proofs.RegionLemmas.{contains_more, name_known, same_name, known_other, known_more, other_life, context_key, context_alias, context_again, region_owner}
 use Rattle.cyc_soundness.proofs.WorldLemmas.{globals_grown, result_grown, typed_cell}
-use Rattle.cyc_soundness.proofs.Hands.{Changed, at_no_hand, at_some, given_now, giving_changed, handing_changed, changed_after, variables_kept, holds_kept, freed_typed, hands_globals, with_kept, kept_grows, kept_typed, variables_more, moment_typed, moment_globals, holds_lent, lent_last, closed_by_key, lent_typed, marked_now, kept_now}
+use Rattle.cyc_soundness.proofs.Hands.{Changed, at_no_hand, at_some, given_now, giving_changed, handing_changed, changed_after, variables_kept, holds_kept, freed_typed, hands_globals, with_kept, kept_grows, kept_typed, variables_more, moment_typed, moment_globals, holds_lent, lent_last, closed_by_key, lent_typed, marked_now, kept_now, also_typed, also_given, given_beside, given_too, same_grows}
 use Rattle.cyc_soundness.proofs.Sharing.{life_common}
 use Rattle.cyc_soundness.proofs.StackLemmas.{emptied_other, stack_changed, above_globals, full_here, within_full_at, within_variables, among_bound, among_variable, among_own, among_set, set_stored, statement_relied, settled}
 use Rattle.cyc_soundness.proofs.Cells.{pointer_plain, plain_claims, running}
@@ -126,25 +126,30 @@ context_lending p x bs c n stands = record {
 }
 
 module _ (p : Source) (g : Typing) (x : Exits) (bs : List InScope) (e : Environment) (w : World) (typed : IsTyped g w.regions w.objects) (globals : KnowsProgram g p) (bound : IsBound e.locals e.counters bs) (variables : AreVariables g bs) where
-  -- where a local has lent what it holds
-  abbrev lent_out : Bound → values.Value → Typing
-  lent_out b v = handing g (thing_of b.of_type v) (Lent g.loans b.object) b.object (Away g.loans)
+  -- where a local has lent what it holds, and this, which was read there
+  abbrev content_out : Bound → values.Value → Typing
+  content_out b v = handing g (thing_of b.of_type v) (Lent g.loans b.object) b.object (Away g.loans)
 
-  abbrev lending_typing : Bound → values.Value → Typing
-  lending_typing b v = record (lent_out b v) { loans = suc g.loans }
+  abbrev lent_out : Bound → values.Value → Option Thing → Typing
+  lent_out b v also = giving (content_out b v) also (Lent g.loans b.object)
 
-  lending_grows : (b : Bound) (v : values.Value) → Grows g (lending_typing b v)
-  lending_grows b v = record { objects = λ n u is. is; filled = λ n count is. is; fields = λ n ls ts is. is; kept = λ n is. is }
+  abbrev lending_typing : Bound → values.Value → Option Thing → Typing
+  lending_typing b v also = record (lent_out b v also) { loans = suc g.loans }
+
+  lending_grows : (b : Bound) (v : values.Value) (also : Option Thing) → Grows g (lending_typing b v also)
+  lending_grows b v also = record { objects = λ n u is. is; filled = λ n count is. is; fields = λ n ls ts is. is; kept = λ n is. is }
 
   -- what is known then
-  record IsLent (b : Bound) (lent : ℕ) (f h : flow.State) (cs : List InScope) (k : List Entry) : Type 0 where
+  record IsLent (b : Bound) (also : Option Thing) (lent : ℕ) (f h : flow.State) (cs : List InScope) (k : List Entry) : Type 0 where
     value : values.Value
     claims : Claims g.own (At b.object 0) b.of_type value
-    objects : IsTyped (lending_typing b value) w.regions w.objects
-    knows : KnowsProgram (lending_typing b value) p
-    scope : AreVariables (lending_typing b value) bs
-    holds : Holds (lending_typing b value) (with_fullness Locked f lent) bs
-    stack : IsStack p (lending_typing b value) (lending x lent) cs (Go h) (EndLoan lent ∷ k)
+    content_lent : Owns (given also (Lent g.loans b.object) (given (thing_of b.of_type value) (Lent g.loans b.object) g.own)) (Lent g.loans b.object) (thing_of b.of_type value)
+    also_lent : Owns (given also (Lent g.loans b.object) (given (thing_of b.of_type value) (Lent g.loans b.object) g.own)) (Lent g.loans b.object) also
+    objects : IsTyped (lending_typing b value also) w.regions w.objects
+    knows : KnowsProgram (lending_typing b value also) p
+    scope : AreVariables (lending_typing b value also) bs
+    holds : Holds (lending_typing b value also) (with_fullness Locked f lent) bs
+    stack : IsStack p (lending_typing b value also) (lending x lent) cs (Go h) (EndLoan lent ∷ k)
 
   -- what is in it
   record Content (b : Bound) : Type 0 where
@@ -176,34 +181,47 @@ module _ (p : Source) (g : Typing) (x : Exits) (bs : List InScope) (e : Environm
           subst (λ t. Claims own h t v) (some_same b.of_type u type_is) (subst (λ e. Claims own h b.of_type e) value_is claims)
       one own h z c claims x y (suc n) u d v stands at content found type_is there full = absurd (let e : None ≡ Some u = type_is in cc)
 
-  lends : (b : Bound) (lent : ℕ) (f h i : flow.State) (cs : List InScope) (k : List Entry) → Within cs bs → IsAmong (Variable b) bs → b.is_hidden ≡ true → b.number ≡ lent → IsFullIn f lent → IsSpared x.relied lent → Holds g f bs → Implies (with_fullness Full h lent) i
-      → IsStack p g x cs (Go i) k → IsLent b lent f h cs k
-  lends b lent f h i cs k within among hides number full spared holds again stack =
+  lends : (b : Bound) (also : Option Thing) (lent : ℕ) (f h i : flow.State) (cs : List InScope) (k : List Entry) → Within cs bs → IsAmong (Variable b) bs → b.is_hidden ≡ true → b.number ≡ lent → IsFullIn f lent → IsSpared x.relied lent → Owns g.own (At b.object 0) also → Holds g f bs → Implies (with_fullness Full h lent) i
+      → IsStack p g x cs (Go i) k → IsLent b also lent f h cs k
+  lends b also lent f h i cs k within among hides number full spared its holds again stack =
       let old = At b.object 0 in
       let new = Lent g.loans b.object in
       let full_here' : IsFullIn f b.number = subst (λ n. IsFullIn f n) (sym number) full in
       let has = lender_has b f (settled p g x cs (Go i) k stack) among full_here' holds in
       let thing = thing_of b.of_type has.value in
-      let o = lent_out b has.value in
-      let j = lending_typing b has.value in
+      let first' = content_out b has.value in
+      let o = lent_out b has.value also in
+      let j = lending_typing b has.value also in
       let f1 = with_fullness Locked f lent in
       let there : e.locals lent ≡ Some b.object = ap e.locals (sym number) ∙ among_bound e among bound in
       let some : IsFull g b.object = among_set g f among holds.1 (full_set (flow.fullness f b.number) full_here') in
       let type_is : slice_get g.objects b.object ≡ Some (variable_type b.of_type b.life true (OfLocal g.depth lent)) =
       subst (λ z. slice_get g.objects b.object ≡ Some (variable_type b.of_type b.life z (OfLocal g.depth lent))) hides (subst (λ n. slice_get g.objects b.object ≡ Some (variable_type b.of_type b.life b.is_hidden (OfLocal g.depth n))) number (among_variable g among variables)) in
       let slot : IsSlot g g.depth lent b.object = (variable_type b.of_type b.life true (OfLocal g.depth lent), type_is, refl) in
-      let changed : Changed old g o = handing_changed g thing old new b.object (Away g.loans) has.claims.0 (λ e. let z : Away g.loans ≡ Here = e in absurd (cc)) (λ other. refl) in
+      let own = given thing new g.own in
+      let content_changed : Changed old g first' = handing_changed g thing old new b.object (Away g.loans) has.claims.0 (λ e. let z : Away g.loans ≡ Here = e in absurd (cc)) (λ other. refl) in
+      let changed : Changed old g o = record {
+        grows = same_grows g (given also new own) (marked b.object (Away g.loans) g.here);
+        own = λ a apart. given_beside g.own own also old new a its apart ∙ content_changed.own a apart;
+        here = content_changed.here;
+        away = content_changed.away;
+        pending = refl;
+        depth = refl;
+        loans = refl;
+      } in
+      let content_typed : IsTyped first' w.regions w.objects = lent_typed g thing b.object new (variable_type b.of_type b.life true (OfLocal g.depth lent)) w.regions w.objects has.claims.0 type_is refl typed g.loans refl
+      (λ x stands n u c v. has.only_it own new (given_now g.own thing new, has.claims.1) x stands n u c v) in
       let locked : Holds g f1 bs = (reached_with Locked f lent holds.0, set_stored g e Locked f lent b.object bs bound there some holds.0 (λ s. let z : false ≡ true = s in absurd (cc)) holds.1) in
       let now : Holds o f1 bs = holds_kept old g o changed f1 bs (λ m other s its. emptied_other g Locked f lent m b.object other refl holds.0 s slot its.1) locked in
       let scope : AreVariables o bs = variables_kept old g o changed bs refl variables in
       let scope_now : AreVariables j bs = variables_more o bs scope in
-      let own = given thing new g.own in
       record {
         value = has.value;
         claims = has.claims;
-        objects = moment_typed o g.depth (suc g.loans) w.regions w.objects (lent_typed g thing b.object new (variable_type b.of_type b.life true (OfLocal g.depth lent)) w.regions w.objects has.claims.0 type_is refl typed g.loans refl
-            (λ x stands n u c v. has.only_it own new (given_now g.own thing new, has.claims.1) x stands n u c v));
-        knows = moment_globals p o g.depth (suc g.loans) (hands_globals p g own (marked b.object (Away g.loans) g.here) globals);
+        content_lent = given_too own also thing new (given_now g.own thing new);
+        also_lent = given_now own also new;
+        objects = moment_typed o g.depth (suc g.loans) w.regions w.objects (also_typed first' also b.object g.loans (variable_type b.of_type b.life true (OfLocal g.depth lent)) w.regions w.objects type_is refl (marked_now b.object (Away g.loans) g.here) (also_given g.own thing also old new its) content_typed);
+        knows = moment_globals p o g.depth (suc g.loans) (hands_globals p g (given also new own) (marked b.object (Away g.loans) g.here) globals);
         scope = scope_now;
         holds = holds_lent o (suc g.loans) f1 bs now;
         stack = (
@@ -236,12 +254,12 @@ module _ (p : Source) (g : Typing) (x : Exits) (bs : List InScope) (e : Environm
       by_life (Kept n) is_kept same =
           let key : b.of_type ≡ lives.Key (Kept n) = of_type ∙ ap (λ l. lives.Key l) is_kept in
           let known : IsAmong n g.kept = subst (λ l. IsKnownLife g l) is_kept (name_known g bs r variables) in
-          let z = lends b lent f h i cs k within among hides number_of full spared holds again stack in
+          let z = lends b None lent f h i cs k within among hides number_of full spared tt holds again stack in
           let has : g.own (KeyOf n) ≡ At b.object 0 = (subst (λ t. Claims g.own (At b.object 0) t z.value) key z.claims).0 in
           let held : IsHeld (g.own (KeyOf n)) = subst (λ o. IsHeld o) (sym has) tt in
           let (s, found, dynamic) = dynamic_found (slice_get w.regions region) (subst (λ i. IsDynamic (slice_get w.regions i)) same ((typed.kept n known).1 held)) in
-          let j = lending_typing b z.value in
-          let now : j.own (KeyOf n) ≡ Lent g.loans b.object = subst (λ t. Owns j.own (Lent g.loans b.object) (thing_of t z.value)) key (given_now g.own (thing_of b.of_type z.value) (Lent g.loans b.object)) in
+          let j = lending_typing b z.value None in
+          let now : j.own (KeyOf n) ≡ Lent g.loans b.object = subst (λ t. Owns j.own (Lent g.loans b.object) (thing_of t z.value)) key z.content_lent in
           let opens : IsOpenIn j (life_named bs r) = subst (λ l. IsOpenIn j l) (sym is_kept) (subst (λ o. is_lent_by (suc g.loans) o ≡ true) (sym now) (lent_last g.loans b.object)) in
           let named : life_named inner r ≡ Kept n = same_name r (life_named bs r) (life_named bs r) ∙ is_kept in
           let here = context_lending p x (Names r (life_named bs r) true ∷ bs) (with_key_opened r c) lent (context_again p x bs c stands loans alive r less) in
@@ -282,12 +300,12 @@ module _ (p : Source) (g : Typing) (x : Exits) (bs : List InScope) (e : Environm
       let loans : HasLoans p.reading = shared_loans p.reading shares in
       let named : List InScope = Names c.next_region heap_life true ∷ bs in
       let none = unfreed p.reading c.regions bs shares stands.regions in
-      let z = lends b lent f h i cs k within among hides number_of full spared holds again stack in
-      let j = lending_typing b z.value in
+      let z = lends b None lent f h i cs k within among hides number_of full spared tt holds again stack in
+      let j = lending_typing b z.value None in
       let here = context_lending p x named (with_opened scopes.Alias c) lent (context_alias p x bs c stands loans alive heap_life) in
       let declared : IsDeclarable p.reading (suc c.next_region) t = subst (λ y. IsDeclarable p.reading (suc c.next_region) y) (sym of_type) (alias_known p.reading c.next_region u unique known) in
       let same : read named t ≡ read bs u = ap (read named) of_type ∙ alias_read bs c.next_region u none unique known in
-      let is_now : IsResult j (Value (read bs u)) v = result_grown g j (lending_grows b z.value) (Value (read bs u)) v is in
+      let is_now : IsResult j (Value (read bs u)) v = result_grown g j (lending_grows b z.value None) (Value (read bs u)) v is in
       running p j (lending x lent) named e w z.objects z.knows (tt, bound) ((tt, λ e. λ r lent. let y : false ≡ true = lent in absurd (cc)), z.scope) (Naming number v js) (EndLoan lent ∷ k)
       (((λ is. inl refl), live.0), live.1) (
         with_opened scopes.Alias c,
