@@ -1,9 +1,12 @@
 //! The flow check of a program.
-ghost use Rattle.std.specs.Prelude.{◌≡◌, map, None, Err, IfOk, IfSome};
+ghost use Rattle.std.specs.Prelude.{◌≡◌, ℕ, List, map, None, Err, IfOk, IfSome};
 ghost use Rattle.cyc_words.specs.Decision.{Decides};
+ghost use Rattle.cyc_syntax.specs.Trees.{Declaration};
 ghost use Rattle.cyc_types.specs.TypedTreeView.{view_function, view_program};
 ghost use Rattle.cyc_types.specs.Rules.{settled, run};
+ghost use Rattle.cyc_types.specs.typing.Programs.{IsTypedProgram};
 ghost use Rattle.cyc_types.specs.flow.Programs.{start_of, end_demanded, rule_function, rule_functions, rule_program, IsAllowedProgram, IsStoppedProgram};
+ghost use Rattle.cyc_soundness.specs.Sound.{IsSound};
 ghost use Rattle.cyc_flow.specs.Code.{view_state, Ends, Allows};
 
 use crate::cause::{Cause, find_cause};
@@ -33,6 +36,8 @@ pub struct Flowed {
 pub fn flow(alloc: Global, tree: TypedTree) -> Result<Flowed, Fault>
     // What is accepted is this tree, which keeps the rules, and what is refused has this fault.
     ensures decides { Decides (λ (_ : Unit {0}). IsAllowedProgram (view_program tree)) (λ _ v. v.tree ≡ tree) (IsStoppedProgram (view_program tree)) (IsStoppedProgram (view_program tree)) result }
+    // No step of any run of a tree that is accepted is dead or wrong, whatever its input, if the typing rules derive it from a text.
+    ensures sound { IfOk result (λ _. (texts : List (List ℕ)) (declarations : List Declaration) → IsTypedProgram texts declarations (view_program tree) → IsSound (view_program tree)) }
 {
     check_functions(alloc, &tree.functions)?;
     Ok(Flowed { tree })

@@ -8,6 +8,7 @@ use Rattle.cyc_types.specs.TypedTreeView.{view_function, view_program}
 use Rattle.cyc_types.specs.Rules.{run}
 use Rattle.cyc_types.specs.flow.Programs.{rule_functions, rule_program, IsAllowedProgram, IsStoppedProgram}
 use Rattle.cyc_types.proofs.RuleLaws.{answers_tree, answers_fault, is_decided}
+use Rattle.cyc_soundness.proofs.FormedLemmas.{typed_sound}
 use Rattle.cyc_flow.specs.declared.check.Flowed.{Flowed}
 use Rattle.cyc_flow.specs.declared.stop.Stop.{Stop}
 use Rattle.cyc_flow.specs.declared.stop.Stop.TheVariants as stops
@@ -29,8 +30,15 @@ pub returns-in_err-check_functions : goal.returns-in_err-check_functions
 returns-in_err-check_functions c =
     let e = c.in_err-check_functions.field-0.0 in
     let p = err_from_is_err_and c.from_residual.result c.from_residual.ensures.1 in
-    record { decides = rw (p.1, p.2) (decides {X = Flowed} _ _ _ _ (is_decided (rule_program (view_program c.args.tree))) (Err (fault_of e)) tt (fails c.args.tree c.deref.result.now e c.deref.ensures.value c.in_err-check_functions.ensures)) }
+    record {
+      decides = rw (p.1, p.2) (decides {X = Flowed} _ _ _ _ (is_decided (rule_program (view_program c.args.tree))) (Err (fault_of e)) tt (fails c.args.tree c.deref.result.now e c.deref.ensures.value c.in_err-check_functions.ensures));
+      sound = rw p.1 tt;
+    }
 
 pub returns : goal.returns
 returns c =
-    record { decides = decides {X = Flowed} _ _ _ _ (is_decided (rule_program (view_program c.args.tree))) (Ok _) (tt, allows c.args.tree c.deref.result.now c.deref.ensures.value c.in_ok-check_functions.ensures, refl) tt }
+    let allowed = allows c.args.tree c.deref.result.now c.deref.ensures.value c.in_ok-check_functions.ensures in
+    record {
+      decides = decides {X = Flowed} _ _ _ _ (is_decided (rule_program (view_program c.args.tree))) (Ok _) (tt, allowed, refl) tt;
+      sound = λ texts declarations typed. typed_sound texts declarations (view_program c.args.tree) typed allowed;
+    }
