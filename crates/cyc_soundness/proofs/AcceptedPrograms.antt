@@ -378,6 +378,91 @@ alias_passed_ends : status_of (run alias_passed [] 500) ≡ HasEnded (Returned (
 unfolding slt_of sar_of div_of rem_of
 alias_passed_ends = refl
 
+-- int main(){ int *`U u = NULL; { let alias <`a> int *`a x = u; if (x) return 1; } ufree(u); return 3; }
+abbrev alias_of_null : t.Program
+alias_of_null = record { structs = []; exceptions = []; globals = []; functions = (record (function [] []) { locals = (star ∷ star ∷ []); body = (t.MoreItems (t.Declare 0 star (Some (t.Convert kinds.Nullable kinds.Nullable t.NullPointer))) (t.MoreItems (t.Execute (t.Block 1 (t.MoreItems (t.DeclareAlias 1 1 star here 0) (t.MoreItems (t.Execute (t.If (t.Copy (t.Local here 1) star) (t.Return (Some (t.Convert kinds.Int kinds.Int (t.Number 1)))) t.Empty)) t.NoItems)))) (t.MoreItems (t.Execute (t.Evaluate (t.FreeUnique (t.Move here 0 star)))) (t.MoreItems (t.Execute (t.Return (Some (t.Convert kinds.Int kinds.Int (t.Number 3))))) t.NoItems)))) } ∷ []); main = 0 }
+
+alias_of_null_ends : status_of (run alias_of_null [] 500) ≡ HasEnded (Returned (pos 3))
+unfolding slt_of sar_of div_of rem_of
+alias_of_null_ends = refl
+
+-- int main(){
+--     int @`U u = rnew(unique_region) 5; int @`U w = rnew(unique_region) 6; int y = 0;
+--     { let alias <`a> int @`a x = u; ufree(w); y = *x; }
+--     ufree(u); return y; }
+abbrev alias_beside_a_free : t.Program
+alias_beside_a_free = record { structs = []; exceptions = []; globals = []; functions = (record (function [] []) { locals = (at ∷ at ∷ types.Int ∷ at ∷ []); body = (t.MoreItems (t.Declare 0 at (Some (t.Convert kinds.NonNull kinds.NonNull (t.New t.AsUnique (t.Plain kinds.Int (t.Number 5)) at)))) (t.MoreItems (t.Declare 1 at (Some (t.Convert kinds.NonNull kinds.NonNull (t.New t.AsUnique (t.Plain kinds.Int (t.Number 6)) at)))) (t.MoreItems (t.Declare 2 types.Int (Some (t.Convert kinds.Int kinds.Int (t.Number 0)))) (t.MoreItems (t.Execute (t.Block 1 (t.MoreItems (t.DeclareAlias 1 3 at here 0) (t.MoreItems (t.Execute (t.Evaluate (t.FreeUnique (t.Move here 1 at)))) (t.MoreItems (t.Execute (t.Evaluate (t.Assign (t.Local here 2) (t.Convert kinds.Int kinds.Int (t.Load (t.Target kinds.NonNull (t.Copy (t.Local here 3) at) types.Int))) (types.Value types.Int)))) t.NoItems))))) (t.MoreItems (t.Execute (t.Evaluate (t.FreeUnique (t.Move here 0 at)))) (t.MoreItems (t.Execute (t.Return (Some (t.Convert kinds.Int kinds.Int (t.Copy (t.Local here 2) types.Int))))) t.NoItems)))))) } ∷ []); main = 0 }
+
+alias_beside_a_free_ends : status_of (run alias_beside_a_free [] 500) ≡ HasEnded (Returned (pos 5))
+unfolding slt_of sar_of div_of rem_of
+alias_beside_a_free_ends = refl
+
+-- int main(){
+--     int ?`U u = rnew(unique_region) {for i < 3 : i}; int n = 0;
+--     { let alias <`a> int ?`a x = u; int ?`a y = x + 1; y[1] = 7; n = numelts(y); }
+--     n = n + u[2]; ufree(u); return n; }
+abbrev alias_of_an_array : t.Program
+alias_of_an_array = record { structs = []; exceptions = []; globals = []; functions = (record (function [] []) { locals = (fat ∷ types.Int ∷ fat ∷ fat ∷ []); body = (t.MoreItems (t.Declare 1 fat (Some (t.Convert kinds.Fat kinds.Fat (t.New t.AsUnique (t.Array here 0 (t.Number 3) kinds.Int (t.Counter 0)) fat)))) (t.MoreItems (t.Declare 2 types.Int (Some (t.Convert kinds.Int kinds.Int (t.Number 0)))) (t.MoreItems (t.Execute (t.Block 1 (t.MoreItems (t.DeclareAlias 1 3 fat here 1) (t.MoreItems (t.Declare 4 fat (Some (t.Convert kinds.Fat kinds.Fat (t.Binary (t.Copy (t.Local here 3) fat) (t.ThenPointer pointers.AddFat (t.Number 1) t.NoOperations) fat)))) (t.MoreItems (t.Execute (t.Evaluate (t.Store (t.Element (t.Copy (t.Local here 4) fat) (t.Number 1) types.Int) (t.Convert kinds.Int kinds.Int (t.Number 7)) (types.Value types.Int)))) (t.MoreItems (t.Execute (t.Evaluate (t.Assign (t.Local here 2) (t.Convert kinds.Int kinds.Int (t.NumberOfElements (t.Copy (t.Local here 4) fat))) (types.Value types.Int)))) t.NoItems)))))) (t.MoreItems (t.Execute (t.Evaluate (t.Assign (t.Local here 2) (t.Convert kinds.Int kinds.Int (t.Binary (t.Copy (t.Local here 2) types.Int) (t.ThenCompute operators.Add (t.Load (t.Element (t.Peek here 1 fat) (t.Number 2) types.Int)) t.NoOperations) types.Int)) (types.Value types.Int)))) (t.MoreItems (t.Execute (t.Evaluate (t.FreeUnique (t.Move here 1 fat)))) (t.MoreItems (t.Execute (t.Return (Some (t.Convert kinds.Int kinds.Int (t.Copy (t.Local here 2) types.Int))))) t.NoItems)))))) } ∷ []); main = 0 }
+
+alias_of_an_array_ends : status_of (run alias_of_an_array [] 500) ≡ HasEnded (Returned (pos 9))
+unfolding slt_of sar_of div_of rem_of
+alias_of_an_array_ends = refl
+
+-- int main(){
+--     int @`U u = rnew(unique_region) 5; int @`U w = rnew(unique_region) 6; int y = 0;
+--     { let alias <`a> int @`a x = u; int @`a z = x; { let alias <`b> int @`b v = w; y = *z + *v; } ufree(w); }
+--     ufree(u); return y; }
+abbrev alias_of_an_alias_seen_from_inside : t.Program
+alias_of_an_alias_seen_from_inside = record { structs = []; exceptions = []; globals = []; functions = (record (function [] []) { locals = (at ∷ at ∷ types.Int ∷ at ∷ at ∷ at ∷ []); body = (t.MoreItems (t.Declare 0 at (Some (t.Convert kinds.NonNull kinds.NonNull (t.New t.AsUnique (t.Plain kinds.Int (t.Number 5)) at)))) (t.MoreItems (t.Declare 1 at (Some (t.Convert kinds.NonNull kinds.NonNull (t.New t.AsUnique (t.Plain kinds.Int (t.Number 6)) at)))) (t.MoreItems (t.Declare 2 types.Int (Some (t.Convert kinds.Int kinds.Int (t.Number 0)))) (t.MoreItems (t.Execute (t.Block 1 (t.MoreItems (t.DeclareAlias 1 3 at here 0) (t.MoreItems (t.Declare 4 at (Some (t.Convert kinds.NonNull kinds.NonNull (t.Copy (t.Local here 3) at)))) (t.MoreItems (t.Execute (t.Block 1 (t.MoreItems (t.DeclareAlias 1 5 at here 1) (t.MoreItems (t.Execute (t.Evaluate (t.Assign (t.Local here 2) (t.Convert kinds.Int kinds.Int (t.Binary (t.Load (t.Target kinds.NonNull (t.Copy (t.Local here 4) at) types.Int)) (t.ThenCompute operators.Add (t.Load (t.Target kinds.NonNull (t.Copy (t.Local here 5) at) types.Int)) t.NoOperations) types.Int)) (types.Value types.Int)))) t.NoItems)))) (t.MoreItems (t.Execute (t.Evaluate (t.FreeUnique (t.Move here 1 at)))) t.NoItems)))))) (t.MoreItems (t.Execute (t.Evaluate (t.FreeUnique (t.Move here 0 at)))) (t.MoreItems (t.Execute (t.Return (Some (t.Convert kinds.Int kinds.Int (t.Copy (t.Local here 2) types.Int))))) t.NoItems)))))) } ∷ []); main = 0 }
+
+alias_of_an_alias_seen_from_inside_ends : status_of (run alias_of_an_alias_seen_from_inside [] 500) ≡ HasEnded (Returned (pos 11))
+unfolding slt_of sar_of div_of rem_of
+alias_of_an_alias_seen_from_inside_ends = refl
+
+-- int main(){
+--     int @`U u = rnew(unique_region) 1; int i = 0;
+--     while (i < 2) { let alias <`a> int @`a x = u; i = i + *x; continue; }
+--     ufree(u); return i; }
+abbrev alias_left_by_a_continue : t.Program
+alias_left_by_a_continue = record { structs = []; exceptions = []; globals = []; functions = (record (function [] []) { locals = (at ∷ types.Int ∷ at ∷ []); body = (t.MoreItems (t.Declare 0 at (Some (t.Convert kinds.NonNull kinds.NonNull (t.New t.AsUnique (t.Plain kinds.Int (t.Number 1)) at)))) (t.MoreItems (t.Declare 1 types.Int (Some (t.Convert kinds.Int kinds.Int (t.Number 0)))) (t.MoreItems (t.Execute (t.While here (t.Binary (t.Copy (t.Local here 1) types.Int) (t.ThenCompute operators.Less (t.Number 2) t.NoOperations) types.Int) (t.Block 1 (t.MoreItems (t.DeclareAlias 1 2 at here 0) (t.MoreItems (t.Execute (t.Evaluate (t.Assign (t.Local here 1) (t.Convert kinds.Int kinds.Int (t.Binary (t.Copy (t.Local here 1) types.Int) (t.ThenCompute operators.Add (t.Load (t.Target kinds.NonNull (t.Copy (t.Local here 2) at) types.Int)) t.NoOperations) types.Int)) (types.Value types.Int)))) (t.MoreItems (t.Execute t.Continue) t.NoItems)))))) (t.MoreItems (t.Execute (t.Evaluate (t.FreeUnique (t.Move here 0 at)))) (t.MoreItems (t.Execute (t.Return (Some (t.Convert kinds.Int kinds.Int (t.Copy (t.Local here 1) types.Int))))) t.NoItems))))) } ∷ []); main = 0 }
+
+alias_left_by_a_continue_ends : status_of (run alias_left_by_a_continue [] 500) ≡ HasEnded (Returned (pos 2))
+unfolding slt_of sar_of div_of rem_of
+alias_left_by_a_continue_ends = refl
+
+-- int main(){
+--     int @`U u = rnew(unique_region) 3; int n = 0;
+--     try { let alias <`a> int @`a x = u; n = 1 / (*x - 3); } catch { default: u = rnew(unique_region) 4; }
+--     n = *u; ufree(u); return n; }
+abbrev alias_left_by_a_throw : t.Program
+alias_left_by_a_throw = record { structs = []; exceptions = []; globals = []; functions = (record (function [] []) { locals = (at ∷ types.Int ∷ at ∷ []); body = (t.MoreItems (t.Declare 0 at (Some (t.Convert kinds.NonNull kinds.NonNull (t.New t.AsUnique (t.Plain kinds.Int (t.Number 3)) at)))) (t.MoreItems (t.Declare 1 types.Int (Some (t.Convert kinds.Int kinds.Int (t.Number 0)))) (t.MoreItems (t.Execute (t.Try (t.Block 1 (t.MoreItems (t.DeclareAlias 1 2 at here 0) (t.MoreItems (t.Execute (t.Evaluate (t.Assign (t.Local here 1) (t.Convert kinds.Int kinds.Int (t.Binary (t.Number 1) (t.ThenCompute operators.Divide (t.Binary (t.Load (t.Target kinds.NonNull (t.Copy (t.Local here 2) at) types.Int)) (t.ThenCompute operators.Subtract (t.Number 3) t.NoOperations) types.Int) t.NoOperations) types.Int)) (types.Value types.Int)))) t.NoItems))) (t.Default 1 (t.MoreItems (t.Execute (t.Evaluate (t.Assign (t.Local here 0) (t.Convert kinds.NonNull kinds.NonNull (t.New t.AsUnique (t.Plain kinds.Int (t.Number 4)) at)) types.Void))) t.NoItems)))) (t.MoreItems (t.Execute (t.Evaluate (t.Assign (t.Local here 1) (t.Convert kinds.Int kinds.Int (t.Load (t.Target kinds.NonNull (t.Peek here 0 at) types.Int))) (types.Value types.Int)))) (t.MoreItems (t.Execute (t.Evaluate (t.FreeUnique (t.Move here 0 at)))) (t.MoreItems (t.Execute (t.Return (Some (t.Convert kinds.Int kinds.Int (t.Copy (t.Local here 1) types.Int))))) t.NoItems)))))) } ∷ []); main = 0 }
+
+alias_left_by_a_throw_ends : status_of (run alias_left_by_a_throw [] 500) ≡ HasEnded (Returned (pos 4))
+unfolding slt_of sar_of div_of rem_of
+alias_left_by_a_throw_ends = refl
+
+-- int main(){
+--     int @`U u = rnew(unique_region) 5; int y = 0;
+--     { let alias <`a> int @`a x = u; try 1 / (*x - 5); catch { default: *x = 6; } y = *x; }
+--     ufree(u); return y; }
+abbrev alias_behind_a_clause_inside : t.Program
+alias_behind_a_clause_inside = record { structs = []; exceptions = []; globals = []; functions = (record (function [] []) { locals = (at ∷ types.Int ∷ at ∷ []); body = (t.MoreItems (t.Declare 0 at (Some (t.Convert kinds.NonNull kinds.NonNull (t.New t.AsUnique (t.Plain kinds.Int (t.Number 5)) at)))) (t.MoreItems (t.Declare 1 types.Int (Some (t.Convert kinds.Int kinds.Int (t.Number 0)))) (t.MoreItems (t.Execute (t.Block 1 (t.MoreItems (t.DeclareAlias 1 2 at here 0) (t.MoreItems (t.Execute (t.Try (t.Evaluate (t.Binary (t.Number 1) (t.ThenCompute operators.Divide (t.Binary (t.Load (t.Target kinds.NonNull (t.Copy (t.Local here 2) at) types.Int)) (t.ThenCompute operators.Subtract (t.Number 5) t.NoOperations) types.Int) t.NoOperations) types.Int)) (t.Default 1 (t.MoreItems (t.Execute (t.Evaluate (t.Store (t.Target kinds.NonNull (t.Copy (t.Local here 2) at) types.Int) (t.Convert kinds.Int kinds.Int (t.Number 6)) (types.Value types.Int)))) t.NoItems)))) (t.MoreItems (t.Execute (t.Evaluate (t.Assign (t.Local here 1) (t.Convert kinds.Int kinds.Int (t.Load (t.Target kinds.NonNull (t.Copy (t.Local here 2) at) types.Int))) (types.Value types.Int)))) t.NoItems))))) (t.MoreItems (t.Execute (t.Evaluate (t.FreeUnique (t.Move here 0 at)))) (t.MoreItems (t.Execute (t.Return (Some (t.Convert kinds.Int kinds.Int (t.Copy (t.Local here 1) types.Int))))) t.NoItems))))) } ∷ []); main = 0 }
+
+alias_behind_a_clause_inside_ends : status_of (run alias_behind_a_clause_inside [] 500) ≡ HasEnded (Returned (pos 6))
+unfolding slt_of sar_of div_of rem_of
+alias_behind_a_clause_inside_ends = refl
+
+-- int main(){
+--     let NewDynamicRegion{<`k> k} = new_ukey(); int y = 0;
+--     { region<`k> h = open(k); int @`k p = rnew(h) 1; try 1 / 0; catch { default: *p = 2; } y = *p; }
+--     free_ukey(k); return y; }
+abbrev open_behind_a_clause_inside : t.Program
+open_behind_a_clause_inside = record { structs = []; exceptions = []; globals = []; functions = (record (function [] []) { locals = ((types.Key Heap) ∷ types.Int ∷ (types.Handle Heap) ∷ at ∷ []); body = (t.MoreItems (t.DeclareKey 1 0) (t.MoreItems (t.Declare 1 types.Int (Some (t.Convert kinds.Int kinds.Int (t.Number 0)))) (t.MoreItems (t.Execute (t.Block 1 (t.MoreItems (t.OpenRegion 1 2 here 0) (t.MoreItems (t.Declare 3 at (Some (t.Convert kinds.NonNull kinds.NonNull (t.New (t.ByHandle (t.Copy (t.Local here 2) (types.Handle Heap))) (t.Plain kinds.Int (t.Number 1)) at)))) (t.MoreItems (t.Execute (t.Try (t.Evaluate (t.Binary (t.Number 1) (t.ThenCompute operators.Divide (t.Number 0) t.NoOperations) types.Int)) (t.Default 1 (t.MoreItems (t.Execute (t.Evaluate (t.Store (t.Target kinds.NonNull (t.Copy (t.Local here 3) at) types.Int) (t.Convert kinds.Int kinds.Int (t.Number 2)) (types.Value types.Int)))) t.NoItems)))) (t.MoreItems (t.Execute (t.Evaluate (t.Assign (t.Local here 1) (t.Convert kinds.Int kinds.Int (t.Load (t.Target kinds.NonNull (t.Copy (t.Local here 3) at) types.Int))) (types.Value types.Int)))) t.NoItems)))))) (t.MoreItems (t.Execute (t.Evaluate (t.FreeKey (t.Move here 0 (types.Key Heap))))) (t.MoreItems (t.Execute (t.Return (Some (t.Convert kinds.Int kinds.Int (t.Copy (t.Local here 1) types.Int))))) t.NoItems))))) } ∷ []); main = 0 }
+
+open_behind_a_clause_inside_ends : status_of (run open_behind_a_clause_inside [] 500) ≡ HasEnded (Returned (pos 2))
+unfolding slt_of sar_of div_of rem_of
+open_behind_a_clause_inside_ends = refl
+
 -- int main(){
 --     let NewDynamicRegion{<`k> k} = new_ukey(); int *`k p = NULL;
 --     { region<`k> h = open(k); p = rnew(h) 3; }

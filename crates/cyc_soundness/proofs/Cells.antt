@@ -15,7 +15,7 @@ use Rattle.cyc_meaning.specs.Parts.{wrong, read, loaded, stored}
 use Rattle.cyc_meaning.specs.Nesting.{ends_of, AreOpen}
 use Rattle.cyc_soundness.specs.Lives.{Life, OfRegion, Owned, Kept, RunTy, RunValue, Int, Pointer, Handle, Key, Struct, Value, Lives, at, kind_at, heap_life}
 use Rattle.cyc_soundness.specs.Lives.{at as at'}
-use Rattle.cyc_soundness.specs.Worlds.{IsKept, IsPlain, PointerTo, thing_of, same_thing, given, giving, Thing, Holder, Nobody, Hand, At, IsHeld, pointer_at, Owns, Claims, ClaimsPart, ClaimsBy, IsHad, IsOpenObject, IsKeyless, AreKeyless, Stays, ObjectType, Typing, IsOpenIn, Outlasts, alike, heap as for_ever, globals as with_globals, stays, encloses, IsFilled, IsPart, IsTarget, HasType, IsResult, IsTyped, IsOpenLife, borrows, KeyOf, life_at, lent_now, global_life, Standing, Away}
+use Rattle.cyc_soundness.specs.Worlds.{IsKept, IsPlain, PointerTo, thing_of, same_thing, given, giving, Thing, Holder, Hand, At, IsHeld, pointer_at, Claims, ClaimsPart, ClaimsBy, IsHad, IsOpenObject, IsKeyless, AreKeyless, Stays, ObjectType, Typing, IsOpenIn, Outlasts, alike, heap as for_ever, globals as with_globals, stays, encloses, IsFilled, IsPart, IsTarget, HasType, IsResult, IsTyped, IsOpenLife, borrows, KeyOf, life_at, lent_now, global_life, Standing, Away}
 use Rattle.cyc_soundness.specs.Frames.{InScope, IsBound, AreVariables, LiveIn, Holds, Exits, KnowsProgram, IsLasting}
 use Rattle.cyc_soundness.specs.Stacks.{IsCommonLife, IsByType, Val, operands_in, IsStack, IsFocus, IsWell}
 use Rattle.cyc_soundness.proofs.Numbers.{slice_get-set_same, some_same}
@@ -184,14 +184,6 @@ pointer_plain k t (OfRegion number ns us) common = tt
 pointer_plain k t (Kept region) common = tt
 pointer_plain k t Owned common = absurd common
 
--- what their type tells, all values of a type claim
-pub by_type_claims : (own : Thing → Holder) (h : Holder) (t : RunTy) (u v : values.Value) → IsByType t → Claims own h t u → Claims own h t v
-by_type_claims own h Int u v by is = (tt, tt)
-by_type_claims own h (Handle l) u v by is = (tt, tt)
-by_type_claims own h (Struct n ls) u v by is = (tt, tt)
-by_type_claims own h (Key l) u v by is = (is.0, tt)
-by_type_claims own h (Pointer k t l) u v by is = plain_claims own h (Pointer k t l) v (pointer_plain k t l by)
-
 -- which has no key either
 pub plain_unkept : (t : RunTy) → IsPlain t → IsKeyless t
 plain_unkept Int plain = tt
@@ -202,14 +194,6 @@ plain_unkept (Key (Kept (PointerTo object))) plain = tt
 plain_unkept (Key (OfRegion number ns us)) plain = tt
 plain_unkept (Key Owned) plain = tt
 plain_unkept (Struct n ls) plain = tt
-
--- and is no thing
-pub plain_nothing : (t : RunTy) (v : values.Value) → IsPlain t → thing_of t v ≡ None
-plain_nothing t v plain = go (thing_of t v) (plain_claims (λ a. Nobody) (Hand 0) t v plain).0
-  where
-    go : (o : Option Thing) → Owns (λ a. Nobody) (Hand 0) o → o ≡ None
-    go None is = refl
-    go (Some a) is = absurd (let k : Nobody ≡ Hand 0 = is in cc)
 
 -- nor does what others may reach, where it is told by its type: it has no key
 pub both_plain : (t : RunTy) → IsKeyless t → IsByType t → IsPlain t

@@ -113,10 +113,6 @@ pub reached_with : (a : Fullness) (f : State) (n : ℕ) → is_reached f ≡ tru
 reached_with a Unreached n h = h
 reached_with a (Reached as') n h = refl
 
-pub reached_without : (a : Fullness) (f : State) (n : ℕ) → is_reached (with_fullness a f n) ≡ true → is_reached f ≡ true
-reached_without a Unreached n h = h
-reached_without a (Reached as') n h = refl
-
 vacated : (as' : List Fullness) (n m : ℕ) → is_vacant (get_or (slice_set as' n Vacant) m Vacant) ≡ false → is_vacant (get_or as' m Vacant) ≡ false
 vacated [] n m s = s
 vacated (a ∷ as') zero zero s = absurd (let k : true ≡ false = s in cc)

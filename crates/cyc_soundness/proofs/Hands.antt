@@ -9,11 +9,11 @@ use Rattle.cyc_meaning.specs.Values as values
 use Rattle.cyc_meaning.specs.State.{Dynamic, new_region, Region, Unique, Object, heap_number, is_open}
 use Rattle.cyc_meaning.proofs.ListLemmas.{slice_get-end, slice_get-set_other}
 use Rattle.cyc_soundness.specs.Lives.{Life, OfRegion, Owned, Kept, RunTy, RunValue, Void, Null, Value, Seen, Into}
-use Rattle.cyc_soundness.specs.Worlds.{Pending, Settled, Awaits, IsHiding, IsKept, IsAmong, first as newest, later as behind, Slot, ObjectType, variable_type, Thing, KeyOf, PointerTo, Holder, Nobody, Hand, At, Lent, Typing, IsHeld, same_thing, thing_of, Owns, Claims, ClaimsPart, ClaimsBy, ClaimsAlone, IsLookedAt, IsSlot, IsHere, given, giving, marked, handing, AreOwned, IsUniqueObject, is_lent_by, lent_now, IsOpenIn, Stays, IsDynamic, IsFull, IsOwner, IsObject, IsTyped, Grows, Standing, Here, Away, Gone, AreLent}
+use Rattle.cyc_soundness.specs.Worlds.{Pending, Settled, Awaits, IsHiding, IsKept, IsAmong, first as newest, later as behind, ObjectType, Thing, KeyOf, PointerTo, Holder, Nobody, Hand, At, Lent, Typing, IsHeld, same_thing, thing_of, Owns, Claims, ClaimsPart, ClaimsBy, ClaimsAlone, IsLookedAt, IsSlot, IsHere, given, giving, marked, handing, AreOwned, IsUniqueObject, is_lent_by, lent_now, IsOpenIn, Stays, IsDynamic, IsOwner, IsObject, IsTyped, Grows, Standing, Here, Away, Gone, AreLent}
 use Rattle.cyc_soundness.specs.Frames.{InScope, Variable, Names, Instance, IsOfVariable, local_type, HoldsIts, IsFullIn, AreVariables, AreSet, Holds, KnowsProgram}
 use Rattle.cyc_soundness.specs.Classes.{Source}
 use Rattle.cyc_soundness.proofs.Numbers.{same_or_other, slice_get-set_same, some_same}
-use Rattle.cyc_soundness.proofs.WorldLemmas.{typed_cell, life_grown, object_grown, globals_grown, opened_typed, typed_beside}
+use Rattle.cyc_soundness.proofs.WorldLemmas.{life_grown, object_grown, globals_grown, opened_typed, typed_beside}
 
 -- ---- who has what
 
@@ -116,9 +116,6 @@ away_not_here a j away here = let k : Away j ≡ Here = sym away ∙ here in abs
 
 pub away_not_gone : (a : Standing) (j : ℕ) → a ≡ Away j → a ≡ Gone → ⊥
 away_not_gone a j away gone = let k : Away j ≡ Gone = sym away ∙ gone in absurd (cc)
-
-pub gone_not_here : (a : Standing) → a ≡ Gone → a ≡ Here → ⊥
-gone_not_here a gone here = let k : Gone ≡ Here = sym gone ∙ here in absurd (cc)
 
 pub away_same : (i j : ℕ) → Away i ≡ Away j → i ≡ j
 away_same i j e = let k : Away i ≡ Away j = e in cc
@@ -319,9 +316,6 @@ pub record Raises (g h : Typing) : Type 0 where
   pub depth : h.depth ≡ g.depth
   pub loans : h.loans ≡ g.loans
 
-pub raises_changed : (g h : Typing) → Raises g h → Changed Nobody g h
-raises_changed g h raises = record { grows = raises.grows; own = λ a apart. ap (λ f. f a) raises.own; here = λ object is apart. raises.here object is; away = λ object j hides is apart other. raises.away object j hides is; pending = raises.pending; depth = raises.depth; loans = raises.loans }
-
 pub changed_raised : (old : Holder) (g h i : Typing) → Changed old g h → Raises h i → Changed old g i
 changed_raised old g h i changed raises = record {
   grows = record {
@@ -341,9 +335,6 @@ changed_raised old g h i changed raises = record {
 module _ (g h : Typing) (stays : Stays g h) where
   abbrev still : Changed Nobody g h
   still = stays_changed Nobody g h stays
-
-  pub claims_stay : (holder : Holder) (t : RunTy) (v : values.Value) → Claims g.own holder t v → Claims h.own holder t v
-  claims_stay holder t v (is, start) = (subst (λ f. Owns f holder (thing_of t v)) (sym stays.own) is, start)
 
   pub variables_grown : (bs : List InScope) → AreVariables g bs → AreVariables h bs
   variables_grown bs are = variables_kept Nobody g h still bs refl are
@@ -599,16 +590,6 @@ not_awaited g object i settled e = let k : Settled ≡ Awaits object i = sym set
 
 pub kept_now : (g : Typing) (object i : ℕ) (hidden : Bool) → g.here object ≡ Here → g.pending ≡ Settled → IsKept g object i hidden
 kept_now g object i hidden here settled = ((λ is. here), not_awaited g object i settled)
-
--- a variable that has what is in it has something
-pub here_claims : (g : Typing) (regions : List Region) (objects : List Object) (object : ℕ) (t : RunTy) (l : Life) (hidden : Bool) (s : Slot) → IsTyped g regions objects → g.here object ≡ Here → g.pending ≡ Settled → slice_get g.objects object ≡ Some (variable_type t l hidden s) → IsFull g object
-    → (v : values.Value) × Claims g.own (At object 0) t v
-here_claims g regions objects object t l hidden s typed here settled there (m, flag, enough) =
-    let (x, k, stands, filled, is) = typed.each object (variable_type t l hidden s) there in
-    let c = typed_cell g (t ∷ []) x.cells k 0 t is.cells refl in
-    let same : m ≡ k = some_same m k (sym flag ∙ filled) in
-    let (v, content, has) = c.content (let less : 0 < k = omega (arith, same, enough) in less) in
-    (v, typed.owned object (variable_type t l hidden s) x there stands 0 t c.cell v (kept_now g object 0 hidden here settled) refl c.at content)
 
 pub alone_comes : (g : Typing) (i : ℕ) (r : RunValue) (v : values.Value) → ClaimsAlone g.own i r v → ClaimsBy g i r v
 alone_comes g i (Value t) v is = is

@@ -216,6 +216,27 @@ alias_behind_its_block_ends : status_of (run alias_behind_its_block [] 500) ≡ 
 unfolding slt_of sar_of div_of rem_of
 alias_behind_its_block_ends = refl
 
+-- fault 25 at 3:71
+-- int main(){
+--     int @`U u = rnew(unique_region) 5; int @`U w = rnew(unique_region) 6;
+--     let alias <`a> int @`a x = u; { let alias <`b> int @`b y = w; x = y; } ufree(w); return *x; }
+abbrev alias_in_an_older_alias : t.Program
+alias_in_an_older_alias = record { structs = []; exceptions = []; globals = []; functions = (record (function [] []) { locals = (at ∷ at ∷ at ∷ at ∷ []); body = (t.MoreItems (t.Declare 0 at (Some (t.Convert kinds.NonNull kinds.NonNull (t.New t.AsUnique (t.Plain kinds.Int (t.Number 5)) at)))) (t.MoreItems (t.Declare 1 at (Some (t.Convert kinds.NonNull kinds.NonNull (t.New t.AsUnique (t.Plain kinds.Int (t.Number 6)) at)))) (t.MoreItems (t.DeclareAlias 1 2 at here 0) (t.MoreItems (t.Execute (t.Block 1 (t.MoreItems (t.DeclareAlias 1 3 at here 1) (t.MoreItems (t.Execute (t.Evaluate (t.Assign (t.Local here 2) (t.Convert kinds.NonNull kinds.NonNull (t.Copy (t.Local here 3) at)) (types.Value at)))) t.NoItems)))) (t.MoreItems (t.Execute (t.Evaluate (t.FreeUnique (t.Move here 1 at)))) (t.MoreItems (t.Execute (t.Return (Some (t.Convert kinds.Int kinds.Int (t.Load (t.Target kinds.NonNull (t.Copy (t.Local here 2) at) types.Int)))))) t.NoItems)))))) } ∷ []); main = 0 }
+
+alias_in_an_older_alias_ends : status_of (run alias_in_an_older_alias [] 500) ≡ IsDead
+unfolding slt_of sar_of div_of rem_of
+alias_in_an_older_alias_ends = refl
+
+-- fault 25 at 2:112
+-- struct S { int x; };
+-- int main(){ struct S @`U u = rnew(unique_region) S{1}; int *p = NULL; { let alias <`a> struct S @`a s = u; p = &s->x; } ufree(u); return *p; }
+abbrev part_of_an_aliased_object : t.Program
+part_of_an_aliased_object = record { structs = (record { parameters = 0; fields = (types.Int ∷ []) } ∷ []); exceptions = []; globals = []; functions = (record (function [] []) { locals = ((types.Pointer marks.NonNull (types.Struct 0 []) Heap) ∷ star ∷ (types.Pointer marks.NonNull (types.Struct 0 []) Heap) ∷ []); body = (t.MoreItems (t.Declare 0 (types.Pointer marks.NonNull (types.Struct 0 []) Heap) (Some (t.Convert kinds.NonNull kinds.NonNull (t.New t.AsUnique (t.Fields (t.MoreArguments (t.Convert kinds.Int kinds.Int (t.Number 1)) t.NoArguments)) (types.Pointer marks.NonNull (types.Struct 0 []) Heap))))) (t.MoreItems (t.Declare 1 star (Some (t.Convert kinds.Nullable kinds.Nullable t.NullPointer))) (t.MoreItems (t.Execute (t.Block 1 (t.MoreItems (t.DeclareAlias 1 2 (types.Pointer marks.NonNull (types.Struct 0 []) Heap) here 0) (t.MoreItems (t.Execute (t.Evaluate (t.Assign (t.Local here 1) (t.Convert kinds.NonNull kinds.Nullable (t.AddressOfCell (t.Member kinds.NonNull (t.Copy (t.Local here 2) (types.Pointer marks.NonNull (types.Struct 0 []) Heap)) 0 0 types.Int) at)) (types.Value star)))) t.NoItems)))) (t.MoreItems (t.Execute (t.Evaluate (t.FreeUnique (t.Move here 0 (types.Pointer marks.NonNull (types.Struct 0 []) Heap))))) (t.MoreItems (t.Execute (t.Return (Some (t.Convert kinds.Int kinds.Int (t.Load (t.Target kinds.Nullable (t.Copy (t.Local here 1) star) types.Int)))))) t.NoItems))))) } ∷ []); main = 0 }
+
+part_of_an_aliased_object_ends : status_of (run part_of_an_aliased_object [] 500) ≡ IsDead
+unfolding slt_of sar_of div_of rem_of
+part_of_an_aliased_object_ends = refl
+
 -- fault 25 at 1:41
 -- int main(){ int *p = new 1; int *`U w = p; ufree(w); return *p; }
 abbrev heap_object_as_unique : t.Program
@@ -629,6 +650,36 @@ alias_of_what_is_swapped = record { structs = []; exceptions = []; globals = [];
 alias_of_what_is_swapped_ends : status_of (run alias_of_what_is_swapped [] 500) ≡ IsDead
 unfolding slt_of sar_of div_of rem_of
 alias_of_what_is_swapped_ends = refl
+
+-- fault 41 at 1:84
+-- int main(){ int @`U u = rnew(unique_region) 5; let alias <`a> int @`a x = u; ufree(u); return *x; }
+abbrev alias_of_what_is_freed : t.Program
+alias_of_what_is_freed = record { structs = []; exceptions = []; globals = []; functions = (record (function [] []) { locals = (at ∷ at ∷ []); body = (t.MoreItems (t.Declare 0 at (Some (t.Convert kinds.NonNull kinds.NonNull (t.New t.AsUnique (t.Plain kinds.Int (t.Number 5)) at)))) (t.MoreItems (t.DeclareAlias 1 1 at here 0) (t.MoreItems (t.Execute (t.Evaluate (t.FreeUnique (t.Move here 0 at)))) (t.MoreItems (t.Execute (t.Return (Some (t.Convert kinds.Int kinds.Int (t.Load (t.Target kinds.NonNull (t.Copy (t.Local here 1) at) types.Int)))))) t.NoItems)))) } ∷ []); main = 0 }
+
+alias_of_what_is_freed_ends : status_of (run alias_of_what_is_freed [] 500) ≡ IsDead
+unfolding slt_of sar_of div_of rem_of
+alias_of_what_is_freed_ends = refl
+
+-- fault 41 at 2:104
+-- int main(){
+--     int @`U u = rnew(unique_region) 5; let alias <`a> int @`a x = u; try 1 / 0; catch { default: ufree(u); } return *x; }
+abbrev freed_in_a_clause_beside_its_alias : t.Program
+freed_in_a_clause_beside_its_alias = record { structs = []; exceptions = []; globals = []; functions = (record (function [] []) { locals = (at ∷ at ∷ []); body = (t.MoreItems (t.Declare 0 at (Some (t.Convert kinds.NonNull kinds.NonNull (t.New t.AsUnique (t.Plain kinds.Int (t.Number 5)) at)))) (t.MoreItems (t.DeclareAlias 1 1 at here 0) (t.MoreItems (t.Execute (t.Try (t.Evaluate (t.Binary (t.Number 1) (t.ThenCompute operators.Divide (t.Number 0) t.NoOperations) types.Int)) (t.Default 1 (t.MoreItems (t.Execute (t.Evaluate (t.FreeUnique (t.Move here 0 at)))) t.NoItems)))) (t.MoreItems (t.Execute (t.Return (Some (t.Convert kinds.Int kinds.Int (t.Load (t.Target kinds.NonNull (t.Copy (t.Local here 1) at) types.Int)))))) t.NoItems)))) } ∷ []); main = 0 }
+
+freed_in_a_clause_beside_its_alias_ends : status_of (run freed_in_a_clause_beside_its_alias [] 500) ≡ IsDead
+unfolding slt_of sar_of div_of rem_of
+freed_in_a_clause_beside_its_alias_ends = refl
+
+-- fault 41 at 3:43
+-- int main(){
+--     let NewDynamicRegion{<`k> k} = new_ukey(); region<`k> h = open(k); int @`k p = rnew(h) 1;
+--     try 1 / 0; catch { default: free_ukey(k); } return *p; }
+abbrev key_freed_in_a_clause_of_its_open : t.Program
+key_freed_in_a_clause_of_its_open = record { structs = []; exceptions = []; globals = []; functions = (record (function [] []) { locals = ((types.Key Heap) ∷ (types.Handle Heap) ∷ at ∷ []); body = (t.MoreItems (t.DeclareKey 1 0) (t.MoreItems (t.OpenRegion 1 1 here 0) (t.MoreItems (t.Declare 2 at (Some (t.Convert kinds.NonNull kinds.NonNull (t.New (t.ByHandle (t.Copy (t.Local here 1) (types.Handle Heap))) (t.Plain kinds.Int (t.Number 1)) at)))) (t.MoreItems (t.Execute (t.Try (t.Evaluate (t.Binary (t.Number 1) (t.ThenCompute operators.Divide (t.Number 0) t.NoOperations) types.Int)) (t.Default 1 (t.MoreItems (t.Execute (t.Evaluate (t.FreeKey (t.Move here 0 (types.Key Heap))))) t.NoItems)))) (t.MoreItems (t.Execute (t.Return (Some (t.Convert kinds.Int kinds.Int (t.Load (t.Target kinds.NonNull (t.Copy (t.Local here 2) at) types.Int)))))) t.NoItems))))) } ∷ []); main = 0 }
+
+key_freed_in_a_clause_of_its_open_ends : status_of (run key_freed_in_a_clause_of_its_open [] 500) ≡ IsDead
+unfolding slt_of sar_of div_of rem_of
+key_freed_in_a_clause_of_its_open_ends = refl
 
 -- fault 41 at 2:85
 -- void drop(uregion_key_t<`k> k){ free_ukey(k); }

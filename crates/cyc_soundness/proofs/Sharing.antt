@@ -1,5 +1,5 @@
 -- WHAT IS UNIQUE, and what others may reach: which types have what only one may have.
-use Rattle.std.proofs.Common.{◌≡◌, ◌≢◌, ℕ, Bool, true, false, List, refl, sym, subst, ◌∙◌}
+use Rattle.std.proofs.Common.{◌≡◌, ◌≢◌, ℕ, true, false, List, refl, sym, subst, ◌∙◌}
 use Rattle.cyc_syntax.specs.declared.tree.PointerKind.{PointerKind}
 use Rattle.cyc_types.specs.declared.region.Region.{Region}
 use Rattle.cyc_types.specs.declared.region.Region.TheVariants as regions
@@ -7,7 +7,7 @@ use Rattle.cyc_types.specs.Outlives.{RegionContext, OutlivesIn, itself, given, t
 use Rattle.cyc_types.specs.Types.{Ty, substituted_ty}
 use Rattle.cyc_types.specs.Types as types
 use Rattle.cyc_types.specs.typing.Tests.{is_key, is_moved, is_unique}
-use Rattle.cyc_soundness.specs.Lives.{Life, OfRegion, Owned, Kept, heap_life, owned_life, RunTy, Pointer, Reading, AsHeap, ByScope, Lives, at}
+use Rattle.cyc_soundness.specs.Lives.{Life, OfRegion, Owned, Kept, heap_life, RunTy, Pointer, Reading, AsHeap, ByScope, Lives, at}
 use Rattle.cyc_soundness.specs.Worlds.{Typing, IsKnownLife, IsKeyless, IsPlain, AtStart}
 use Rattle.cyc_soundness.specs.Classes.{HasFrees}
 use Rattle.cyc_soundness.specs.Frames.{InScope, AreVariables, lives_in, life_named, frees_in, read, Stand}
@@ -23,10 +23,6 @@ known_common g Owned known = absurd known
 
 pub never_owned : {A : Type 0} (l : Life) → IsCommonLife l → l ≡ Owned → A
 never_owned l common same = absurd (subst (λ z. IsCommonLife z) same common)
-
-heap_common : (frees : Bool) → frees ≡ false → IsCommonLife (owned_life frees)
-heap_common true none = absurd (let k : true ≡ false = none in cc)
-heap_common false none = tt
 
 -- a unique pointer leads to the start
 pub at_start : (l : Life) → AtStart l 0 0
@@ -46,11 +42,6 @@ module _ (g : Typing) (bs : List InScope) (variables : AreVariables g bs) where
   region_common regions.Heap plain = tt
   region_common regions.Unique plain = absurd (plain refl)
   region_common (regions.Variable n) plain = name_common n
-
-  pub life_common : (r : Region) → frees_in bs ≡ false → IsCommonLife (lives_in bs r)
-  life_common regions.Heap none = tt
-  life_common regions.Unique none = heap_common (frees_in bs) none
-  life_common (regions.Variable n) none = name_common n
 
   -- nothing but what is unique becomes unique
   unique_given : (c : RegionContext) → ((a : Region) → IsGiven c a regions.Unique → ⊥) → (a b : Region) → OutlivesIn c a b → lives_in bs b ≡ Owned → lives_in bs a ≡ Owned
@@ -90,14 +81,6 @@ module _ (g : Typing) (bs : List InScope) (variables : AreVariables g bs) where
   unique_by_type (types.Handle r) plain = tt
   unique_by_type (types.Key r) plain = tt
   unique_by_type (types.Struct n rs) plain = tt
-
-  -- where nothing is given back, what values claim their types tell
-  pub by_type_read : (t : Ty) → frees_in bs ≡ false → IsByType (read bs t)
-  by_type_read types.Int none = tt
-  by_type_read (types.Pointer k t r) none = life_common r none
-  by_type_read (types.Handle r) none = tt
-  by_type_read (types.Key r) none = tt
-  by_type_read (types.Struct n rs) none = tt
 
 -- what is no key is read as none
 pub plain_keyless : (n : Lives) (t : Ty) → is_key t ≡ false → IsKeyless (at n t)
