@@ -48,6 +48,7 @@ faults_in() {
 sh tests/tools.sh || echo "tests/tools.sh: a tool of the suite could not be installed"
 add "proofs" rt ci
 add "self tests" python3 tests/self_test.py
+add "wrong rules" python3 tests/rules.py
 add "command line" python3 tests/run.py
 add "whole language" python3 tests/run.py --whole
 add "codes" python3 tests/codes.py

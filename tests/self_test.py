@@ -1,7 +1,8 @@
 #!/usr/bin/env python3
 """Tries the tests' own tools: the suite's runner, on a stand-in for the program, passes and fails what it should; the table of what
-the gate costs, on looks at processes that are written here, has the sums worked by hand; and the reference answers the cases of the
-whole language, in tests/whole, and those of the program that check texts, as they say.
+the gate costs, on looks at processes that are written here, has the sums worked by hand; what the prover says of a wrong rule is
+judged as it should be; and the reference answers the cases of the whole language, in tests/whole, and those of the program that
+check texts, as they say.
 
     python3 tests/self_test.py [TEXTS.json]
 
@@ -17,6 +18,7 @@ import tempfile
 import gate_table
 import in_trees
 import reference
+import rules
 import run
 import suite
 
@@ -200,6 +202,36 @@ def is_table_right():
     return lines == COSTS
 
 
+# What the prover says of a wrong rule, as its status and the lines of its answer, and what is wrong with that.
+REFUSED = "only=1 proved=0"
+PROVERS_ANSWERS = [
+    (1, ["./proofs/Calls.antt:1:1: error: `call`: expected type `A`, but this has type `B`", REFUSED], None),
+    (1, ["/crates/cyc_guard/proofs/Kept.antt:1:1: error: `kept`: as printed, the two types differ", REFUSED], None),
+    (0, ["only=1 proved=1"], "not refused"),
+    (1, ["/crates/cyc_types/specs/Rules.antt:1:1: error: `f` is not in scope", "./proofs/Calls.antt:1:1: error: `call`: a type", REFUSED], "it is no rule"),
+    (1, ["./src/laws.rt:1:1: error: the clause cannot be read", REFUSED], "it is no rule"),
+    (
+        1,
+        ["/crates/cyc_types/proofs/Well.antt:1:1: error: `well`: a type",
+         "./proofs/Whole.antt:1:1: error: 8 declarations that depend on `well`, which was not admitted, were not checked: a", REFUSED],
+        "refused, but by no proof about runs",
+    ),
+    (1, ["./proofs/Calls.antt:1:1: error: `call` is not admitted: rejected", REFUSED], "refused, but by no proof about runs"),
+    (3, ["./proofs/Calls.antt:1:1: error: `call`: out of memory"], "the prover gave no answer"),
+]
+
+
+def is_judge_right():
+    """Whether what the prover says of wrong rules is judged as it should be."""
+    right = True
+    for status, said, wanted in PROVERS_ANSWERS:
+        got = rules.judged(status, "\n".join(said), "/crates")
+        if (got or "").partition(":")[0] != (wanted or ""):
+            print(suite.difference(said[0], wanted, got))
+            right = False
+    return right
+
+
 def is_runner_right(folder):
     program = os.path.join(folder, "stand_in")
     with open(program, "w", encoding="utf-8") as file:
@@ -257,7 +289,7 @@ def main():
         with open(sys.argv[1], encoding="utf-8") as file:
             texts = json.load(file)
     with tempfile.TemporaryDirectory() as folder:
-        right = [is_runner_right(folder), is_table_right()]
+        right = [is_runner_right(folder), is_table_right(), is_judge_right()]
     right += reference.with_room(lambda: [is_case_right(case) for case in cases] + [is_text_right(case) for case in texts])
     right += reference.with_room(lambda: [is_program_right(*one) for name in ("accepted", "refused") for one in in_trees.programs_in(name)])
     suite.end(right.count(True), right.count(False))

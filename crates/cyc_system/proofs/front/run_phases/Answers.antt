@@ -1,13 +1,13 @@
-use Rattle.std.proofs.Common.{map, Ok, Err}
+use Rattle.std.proofs.Common.{map, Ok, Err, sym, subst}
 use Rattle.std.proofs.lemmas.Result.{err_from_is_err_and}
 use Rattle.cyc_syntax.specs.Tokens.{token_of}
 use Rattle.cyc_lex.specs.Refusals as lexer
 use Rattle.cyc_parse.specs.Acceptance as parser
 use Rattle.cyc_parse.specs.Acceptance.{declarations_of}
+use Rattle.cyc_types.specs.declared.typed.TypedTree.{TypedTree}
 use Rattle.cyc_types.specs.TypedTreeView.{view_program}
 use Rattle.cyc_types.specs.typing.Programs.{IsTypedProgram, IsRefusedProgram}
-use Rattle.cyc_system.specs.Front.{IsAcceptedText, IsRefusedText, HasFault}
-use Rattle.cyc_system.proofs.Amounts.{accepted_sound}
+use Rattle.cyc_soundness.specs.Sound.{IsSound}
 use Rattle.cyc_system.proofs.Fronts.{passed, stopped, lexed, checked, lexer_answers, parser_answers, checker_answers, flow_answers, HasProgram, HasPhases, refused_alike, accepted_alike}
 use Rattle.cyc_system.proofs.front.run_phases.Goals as goal
 
@@ -70,7 +70,8 @@ returns c =
     (passed view_program (IsTypedProgram texts tree) (IsRefusedProgram texts tree) (IsRefusedProgram texts tree) c.in_ok-typed.typed c.in_ok-typed.ensures.decides) in
     let program = c.in_ok-program.program in
     let d = flow_answers text tokens tree c.in_ok-typed.typed (Ok program) l r k c.in_ok-program.ensures.decides in
+    let (one, allowed, same) = c.in_ok-program.ensures.decides.accepted in
     record {
       decides = accepted_alike HasProgram HasPhases text program _ (λ p same. same) d;
-      sound = accepted_sound text (view_program program.tree) (passed (λ v. view_program v.tree) (IsAcceptedText text) (IsRefusedText text) (HasFault text) program d).is;
+      sound = subst (λ (t : TypedTree). IsSound (view_program t)) (sym same) (c.in_ok-program.ensures.sound texts tree k.is);
     }
