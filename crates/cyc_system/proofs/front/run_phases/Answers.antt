@@ -8,6 +8,7 @@ use Rattle.cyc_types.specs.declared.typed.TypedTree.{TypedTree}
 use Rattle.cyc_types.specs.TypedTreeView.{view_program}
 use Rattle.cyc_types.specs.typing.Programs.{IsTypedProgram, IsRefusedProgram}
 use Rattle.cyc_soundness.specs.Sound.{IsSound}
+use Rattle.cyc_system.specs.Front.{names_in}
 use Rattle.cyc_system.proofs.Fronts.{passed, stopped, lexed, checked, lexer_answers, parser_answers, checker_answers, flow_answers, HasProgram, HasPhases, refused_alike, accepted_alike}
 use Rattle.cyc_system.proofs.front.run_phases.Goals as goal
 
@@ -73,5 +74,5 @@ returns c =
     let (one, allowed, same) = c.in_ok-program.ensures.decides.accepted in
     record {
       decides = accepted_alike HasProgram HasPhases text program _ (λ p same. same) d;
-      sound = subst (λ (t : TypedTree). IsSound (view_program t)) (sym same) (c.in_ok-program.ensures.sound texts tree k.is);
+      sound = subst (λ (t : TypedTree). IsSound (view_program t)) (sym same) (c.in_ok-program.ensures.sound (names_in tokens) tree k.is);
     }
