@@ -50,10 +50,11 @@ def crates_below(name):
 
 
 class Rule:
-    """A wrong rule: the programs that it lets through, and what it puts in the place of what, by file."""
+    """A wrong rule: the programs that it is said to let through, and what it puts in the place of what, by file."""
 
     def __init__(self, name):
         self.name = name
+        self.path = None
         self.lets = []
         self.edits = []
 
@@ -157,8 +158,11 @@ def judged(status, said, crates):
 def main():
     kit = os.path.dirname(subprocess.run(["rt", "doc"], capture_output=True, text=True, check=True).stdout.strip())
     rules = [it for it in rules_in(RULES) if not sys.argv[1:] or it.name in sys.argv[1:]]
+    unknown = set(sys.argv[1:]) - {it.name for it in rules}
+    if unknown:
+        print(f"there is no wrong rule {' '.join(sorted(unknown))}", file=sys.stderr)
+        return 2
     refused = {head[0] for head, _ in in_trees.programs_in("refused")}
-    failed = [f"{rule.name}: there is no program {it} in refused.programs" for rule in rules for it in rule.lets if it not in refused]
     with tempfile.TemporaryDirectory(prefix="rules-") as room:
         first = Lane(os.path.join(room, "1"), kit, crates_below(CRATE))
         first.fill()
@@ -175,7 +179,13 @@ def main():
         def tried(rule):
             if not hasattr(mine, "lane"):
                 mine.lane = idle.pop()
-            were = rule.apply(mine.lane.crates)
+            missing = [it for it in rule.lets if it not in refused]
+            if missing:
+                return f"there is no program {missing[0]} in refused.programs"
+            try:
+                were = rule.apply(mine.lane.crates)
+            except ValueError as error:
+                return str(error)
             try:
                 return judged(*mine.lane.prove(), mine.lane.crates)
             finally:
@@ -185,8 +195,8 @@ def main():
             answers = list(pool.map(tried, rules))
     for rule, answer in zip(rules, answers):
         print(f"FAILED {rule.name}: {answer}" if answer else f"{rule.name}: refused")
-        failed += [rule.name] if answer else []
-    print(f"{1 + len(rules) - len(failed)} passed, {len(failed)} failed")
+    failed = sum(1 for it in answers if it)
+    print(f"{1 + len(rules) - failed} passed, {failed} failed")
     return 1 if failed else 0
 
 
