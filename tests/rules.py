@@ -82,7 +82,7 @@ class Rule:
             were.setdefault(path, text)
             if text.count(old) != 1:
                 put_back(were)
-                raise ValueError(f"{self.name}: {path} has {text.count(old)} times: {old}")
+                raise ValueError(f"{path} has {text.count(old)} times: {old}")
             with open(path, "w", encoding="utf-8") as file:
                 file.write(text.replace(old, new))
         return were
