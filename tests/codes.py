@@ -4,8 +4,8 @@ code.
 
     python3 tests/codes.py [--program PATH] [--write]
 
-The docstrings of crates/cyc_words/src/fault.rt, the messages and hints of crates/cyclone/src/advice.rt and the table of
-codes in docs/LANGUAGE.md have to say what docs/codes.txt says. --write makes the table in docs/LANGUAGE.md of it, and
+The docstrings of crates/cyc_words/src/fault.rt, the messages and hints of crates/cyc_terminal/src/advice.rt and the
+table of codes in docs/LANGUAGE.md have to say what docs/codes.txt says. --write makes the table in docs/LANGUAGE.md of it, and
 tries nothing. The last line is `N passed, M failed`, of the three files and the codes.
 """
 import os
@@ -18,7 +18,7 @@ import suite
 TABLE = os.path.join(suite.ROOT, "docs", "codes.txt")
 LANGUAGE = os.path.join(suite.ROOT, "docs", "LANGUAGE.md")
 FAULTS = os.path.join(suite.ROOT, "crates", "cyc_words", "src", "fault.rt")
-ADVICE = os.path.join(suite.ROOT, "crates", "cyclone", "src", "advice.rt")
+ADVICE = os.path.join(suite.ROOT, "crates", "cyc_terminal", "src", "advice.rt")
 FIELDS = {"meaning", "place", "message", "hint", "text", "at", "by"}
 # The table of codes in docs/LANGUAGE.md, from its head to the empty line behind it.
 HEAD = "| Code | What it means | Its place | Smallest text |\n|---|---|---|---|\n"

@@ -1,8 +1,8 @@
 -- The bytes so far are written.
 use Rattle.std.proofs.Common.{take}
 use Rattle.std.specs.Fmt.{HasWritten, IsPlainFormatter}
-use Rattle.cyclone.specs.Excerpt.{shown_bytes}
-use Rattle.cyclone.proofs.excerpt.ShownDisplay.fmt.Given as goal
+use Rattle.cyc_terminal.specs.Excerpt.{shown_bytes}
+use Rattle.cyc_terminal.proofs.excerpt.ShownDisplay.fmt.Given as goal
 
 abbrev pub invariant-loop-byte : goal.invariant-loop-byte
 invariant-loop-byte g l = IsPlainFormatter l.initial.f

@@ -2,7 +2,7 @@
 use Rattle.std.specs.Prelude.{◌≡◌, ℕ, ◌+◌, ◌-◌, ◌≤◌, ◌↔◌, ◌==◌, ◌/◌, ◌%◌, ◌&&◌, nat_le, min, List, [], ◌∷◌, ◌++◌, length, replicate, take, slice_index_or, drop, codes, if◌then◌else◌, false}
 use Rattle.std.specs.List.{flat_map, slice_split}
 use Rattle.std.specs.Fmt.{digit_glyph}
-use Rattle.cyclone.specs.declared.excerpt.Excerpt.{Excerpt}
+use Rattle.cyc_terminal.specs.declared.excerpt.Excerpt.{Excerpt}
 
 -- the lines of a text, without their line feeds
 abbrev pub lines_of : List ℕ → List (List ℕ)

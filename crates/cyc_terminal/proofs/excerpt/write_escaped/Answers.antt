@@ -2,7 +2,7 @@
 use Rattle.std.proofs.Common.{arith, ◌<◌, false, ap, ◌∷◌, List, ℕ}
 use Rattle.std.proofs.lemmas.Fmt.{hex_byte}
 use Rattle.std.proofs.Output.{has_written_of_eq}
-use Rattle.cyclone.proofs.excerpt.write_escaped.Goals as goal
+use Rattle.cyc_terminal.proofs.excerpt.write_escaped.Goals as goal
 
 pub returns : goal.returns
 returns g c = λ plain ok.

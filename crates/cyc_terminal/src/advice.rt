@@ -1,6 +1,5 @@
-//! What a person reads of a refusal: what is wrong, in words, and what to do about it. `docs/codes.txt` is the
-//! table of codes; a test of the suite compares these words with it.
-use crate::answer::Answer;
+//! What a person reads of a refusal: what is wrong, in words, and what to do about it; and of an image that is none, or of a
+//! run that ended by an exception. `docs/codes.txt` is the table of codes; a test of the suite compares these words with it.
 use cyc_words::Code;
 
 /// What is wrong at the place of a refusal.
@@ -76,8 +75,8 @@ pub fn hint(code: Code) -> &'static str {
     }
 }
 
-/// What an image's fault of this number is.
-fn image_fault(number: u32) -> &'static str {
+/// What an image's fault of this number is, in words.
+pub fn image_fault(number: u32) -> &'static str {
     match number {
         1 => "not an image: the file is truncated",
         2 => "not an image: not a 32-bit big-endian ELF file",
@@ -89,27 +88,13 @@ fn image_fault(number: u32) -> &'static str {
     }
 }
 
-/// What the exception of this number is.
-fn exception(number: u32) -> &'static str {
+/// What the exception of this number is, in words.
+pub fn exception(number: u32) -> &'static str {
     match number {
         1 => "uncaught exception Null_Exception: a null pointer was dereferenced",
         2 => "uncaught exception Array_bounds: index out of bounds",
         3 => "uncaught exception Array_size: array too large",
         4 => "uncaught exception Div_zero: division by zero",
         _ => "uncaught exception that the program declares",
-    }
-}
-
-/// What there is to say about an answer to a person, beside its last line and what was said when it
-/// arose.
-pub fn explanation(answer: &Answer) -> Option<&'static str> {
-    match *answer {
-        Answer::BadImage(number) => Some(image_fault(number)),
-        Answer::Uncaught(number, _) => Some(exception(number)),
-        Answer::Full => Some("more nested calls than --calls, or more memory than --pages"),
-        Answer::Trapped(_) => Some("the machine refused an instruction of the image"),
-        Answer::Spent => Some("more instructions than --steps"),
-        Answer::NoMemory => Some("out of memory"),
-        _ => None,
     }
 }

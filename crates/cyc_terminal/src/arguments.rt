@@ -2,7 +2,7 @@
 ghost use Rattle.std.specs.Prelude.{◌≡◌, ◌≤◌, Some, IfOk, IfSome, codes};
 ghost use Rattle.std.specs.Str.Parse.{digits_value};
 ghost use Rattle.clap.specs.Words.{first_value, found_of};
-ghost use Rattle.cyclone.specs.Request.{IsNumberOf, IsRunRequest, IsWithinBudget};
+ghost use Rattle.cyc_terminal.specs.Request.{IsNumberOf, IsRunRequest, IsWithinBudget};
 
 use crate::number;
 use clap::error::ErrorKind;
@@ -72,101 +72,136 @@ const DISASM_HELP: &str = "Example:
 
 Each line has an address, the word that stands there, and its instruction.";
 
-fn file<'a>(alloc: Global, id: &'a str, help: &'a str) -> Arg<'a> {
-    Arg::new(alloc, id)
-        .required(true)
+/// How a word of a command is given.
+#[derive(Clone, Copy)]
+enum Form {
+    /// A file by its place among the words.
+    File,
+    /// A file behind `-o`.
+    Output,
+    /// A number behind the option's name, or this one.
+    Number(&'static str),
+}
+
+/// A file or an option of a command.
+#[derive(Clone, Copy)]
+struct Word {
+    id: &'static str,
+    shown: &'static str,
+    form: Form,
+    help: &'static str,
+}
+
+/// A command, with what its help says and the words that it takes.
+#[derive(Clone, Copy)]
+struct Plan {
+    name: &'static str,
+    about: &'static str,
+    after_help: &'static str,
+    words: &'static [Word],
+}
+
+const SOURCE: Word = Word {
+    id: "source",
+    shown: "SOURCE",
+    form: Form::File,
+    help: "The source file",
+};
+
+const OUTPUT: Word = Word {
+    id: "image",
+    shown: "IMAGE",
+    form: Form::Output,
+    help: "The image file to write",
+};
+
+const IMAGE: Word = Word {
+    id: "image",
+    shown: "IMAGE",
+    form: Form::File,
+    help: "The image file",
+};
+
+const PAGES: Word = Word {
+    id: "pages",
+    shown: "N",
+    form: Form::Number("1024"),
+    help: "Memory for regions, in pages of 4096 bytes, from 3 to 65536",
+};
+
+const CALLS: Word = Word {
+    id: "calls",
+    shown: "N",
+    form: Form::Number("4096"),
+    help: "Nested calls, from 1 to 4096",
+};
+
+const STEPS: Word = Word {
+    id: "steps",
+    shown: "N",
+    form: Form::Number("1000000000"),
+    help: "Instructions executed, from 1 to 1000000000000",
+};
+
+const COMMANDS: &[Plan] = &[
+    Plan {
+        name: "check",
+        about: "Checks a program, and says what is wrong with it",
+        after_help: CHECK_HELP,
+        words: &[SOURCE],
+    },
+    Plan {
+        name: "compile",
+        about: "Compiles a program to an image",
+        after_help: COMPILE_HELP,
+        words: &[SOURCE, OUTPUT],
+    },
+    Plan {
+        name: "run",
+        about: "Runs an image",
+        after_help: RUN_HELP,
+        words: &[IMAGE, PAGES, CALLS, STEPS],
+    },
+    Plan {
+        name: "disasm",
+        about: "Disassembles an image",
+        after_help: DISASM_HELP,
+        words: &[IMAGE],
+    },
+];
+
+fn argument<'a>(alloc: Global, word: &Word) -> Arg<'a> {
+    let argument = Arg::new(alloc, word.id)
+        .value_name(word.shown)
         .action(ArgAction::Set)
-        .help(help)
+        .help(word.help);
+    match word.form {
+        Form::File => argument.required(true),
+        Form::Output => argument.short('o').required(true),
+        Form::Number(default) => argument.long(word.id).default_value(default),
+    }
 }
 
-fn limit<'a>(alloc: Global, id: &'a str, default: &'a str, help: &'a str) -> Arg<'a> {
-    Arg::new(alloc, id)
-        .long(id)
-        .value_name("N")
-        .action(ArgAction::Set)
-        .default_value(default)
-        .help(help)
-}
-
-fn source<'a>(alloc: Global) -> Arg<'a> {
-    file(alloc, "source", "The source file").value_name("SOURCE")
-}
-
-fn check_command<'a>(alloc: Global) -> Result<Command<'a>, AllocError> {
-    Command::new(alloc, "check")
-        .about("Checks a program, and says what is wrong with it")
-        .after_help(CHECK_HELP)
-        .arg(source(alloc))
-}
-
-fn compile_command<'a>(alloc: Global) -> Result<Command<'a>, AllocError> {
-    let image = Arg::new(alloc, "image")
-        .short('o')
-        .value_name("IMAGE")
-        .required(true)
-        .action(ArgAction::Set)
-        .help("The image file to write");
-    Command::new(alloc, "compile")
-        .about("Compiles a program to an image")
-        .after_help(COMPILE_HELP)
-        .arg(source(alloc))?
-        .arg(image)
-}
-
-fn pages<'a>(alloc: Global) -> Arg<'a> {
-    limit(
-        alloc,
-        "pages",
-        "1024",
-        "Memory for regions, in pages of 4096 bytes, from 3 to 65536",
-    )
-}
-
-fn calls<'a>(alloc: Global) -> Arg<'a> {
-    limit(alloc, "calls", "4096", "Nested calls, from 1 to 4096")
-}
-
-fn steps<'a>(alloc: Global) -> Arg<'a> {
-    limit(
-        alloc,
-        "steps",
-        "1000000000",
-        "Instructions executed, from 1 to 1000000000000",
-    )
-}
-
-/// The command `run` before it has its limits.
-fn plain_run_command<'a>(alloc: Global) -> Result<Command<'a>, AllocError> {
-    Command::new(alloc, "run")
-        .about("Runs an image")
-        .after_help(RUN_HELP)
-        .arg(file(alloc, "image", "The image file").value_name("IMAGE"))
-}
-
-fn run_command<'a>(alloc: Global) -> Result<Command<'a>, AllocError> {
-    let command = plain_run_command(alloc)?;
-    let command = command.arg(pages(alloc))?;
-    let command = command.arg(calls(alloc))?;
-    command.arg(steps(alloc))
-}
-
-fn disasm_command<'a>(alloc: Global) -> Result<Command<'a>, AllocError> {
-    Command::new(alloc, "disasm")
-        .about("Disassembles an image")
-        .after_help(DISASM_HELP)
-        .arg(file(alloc, "image", "The image file").value_name("IMAGE"))
+fn command<'a>(alloc: Global, plan: &Plan) -> Result<Command<'a>, AllocError> {
+    let mut command = Command::new(alloc, plan.name)
+        .about(plan.about)
+        .after_help(plan.after_help);
+    for word in plan.words {
+        command = command.arg(argument(alloc, word))?;
+    }
+    Ok(command)
 }
 
 fn program<'a>(alloc: Global) -> Result<Command<'a>, AllocError> {
-    Command::new(alloc, "cyclone")
+    let mut program = Command::new(alloc, "cyclone")
         .bin_name("cyclone")?
         .about(ABOUT)
         .after_help(EXAMPLES)
-        .subcommand_required(true)
-        .subcommand(check_command(alloc)?)?
-        .subcommand(compile_command(alloc)?)?
-        .subcommand(run_command(alloc)?)?
-        .subcommand(disasm_command(alloc)?)
+        .subcommand_required(true);
+    for plan in COMMANDS {
+        program = program.subcommand(command(alloc, plan)?)?;
+    }
+    Ok(program)
 }
 
 /// The number given for an option, or by its default.
@@ -226,6 +261,19 @@ fn limits_of<'a>(
     Ok(Limits::new(pages as u32, calls as u32).unwrap())
 }
 
+/// For how many instructions a run may go on.
+fn budget_of<'a>(
+    alloc: Global,
+    program: &mut Command<'a>,
+    matches: &ArgMatches<'a>,
+) -> Result<u64, Error>
+    ensures value { IfOk result
+        (λ budget. IsNumberOf (first_value (found_of matches.now)) (codes "steps") budget) }
+    ensures range { IfOk result (λ budget. (1 ≤ budget) × (budget ≤ MOST_STEPS)) }
+{
+    number_of(alloc, program, matches, "steps", 1, MOST_STEPS)
+}
+
 fn run_request<'a>(
     alloc: Global,
     program: &mut Command<'a>,
@@ -235,7 +283,7 @@ fn run_request<'a>(
 {
     let image = file_of(program, matches, "image")?;
     let limits = limits_of(alloc, program, matches)?;
-    let budget = number_of(alloc, program, matches, "steps", 1, MOST_STEPS)?;
+    let budget = budget_of(alloc, program, matches)?;
     Ok(Request::Run {
         image,
         limits,
@@ -245,7 +293,7 @@ fn run_request<'a>(
 
 /// What the words ask for, of which the first is the program's name. The error is a mistake in the
 /// words, or the text of the help that they ask for.
-pub fn read<'a>(alloc: Global, words: &'a [String]) -> Result<Request<'a>, Error>
+pub fn read_request<'a>(alloc: Global, words: &'a [String]) -> Result<Request<'a>, Error>
     ensures { IfOk result IsWithinBudget }
 {
     let mut program = program(alloc)?;

@@ -1,7 +1,7 @@
 //! A line of a text with a mark under one place of it.
 ghost use Rattle.std.specs.Prelude.{◌≡◌, Some, slice_get, option_map, ◌≤◌, ◌<◌, ◌+◌};
 ghost use Rattle.std.specs.Fmt.{WritesOnOk};
-ghost use Rattle.cyclone.specs.Excerpt.{IsExcerpt, bytes_before, dots, escaped_byte, excerpt_text, shown_byte, shown_bytes, blank_byte, blank_bytes, line_at, lines_of};
+ghost use Rattle.cyc_terminal.specs.Excerpt.{IsExcerpt, bytes_before, dots, escaped_byte, excerpt_text, shown_byte, shown_bytes, blank_byte, blank_bytes, line_at, lines_of};
 
 use std::fmt;
 

@@ -1,8 +1,8 @@
 -- What a command line asks for. This project's own choice.
 use Rattle.std.specs.Prelude.{◌≡◌, ℕ, ◌≤◌, List, codes, Option, Some, IfSome}
 use Rattle.std.specs.Str.Parse.{digits_value}
-use Rattle.cyclone.specs.declared.arguments.Request.{Request}
-use Rattle.cyclone.specs.declared.arguments.Request.TheVariants.{Check, Compile, Run, Disassemble}
+use Rattle.cyc_terminal.specs.declared.arguments.Request.{Request}
+use Rattle.cyc_terminal.specs.declared.arguments.Request.TheVariants.{Check, Compile, Run, Disassemble}
 
 -- a run is allowed from 1 to 1,000,000,000,000 instructions
 abbrev pub IsWithinBudget : Request → Type 0
