@@ -5,7 +5,7 @@
 #               its allocations in turn
 # make bench    builds it, and prints figures of its speed, its stack, and its code beside qemu-mips, tcc and gcc (Debian's
 #               qemu-user, tcc, gcc and gcc-mips-linux-gnu)
-# make test     the gate: every proof, must-fail edit and test from nothing, and what `make cases` runs; the last line
+# make test     the gate: every proof, wrong body and test from nothing, and what `make cases` runs; the last line
 #               is `N passed, M failed`
 # make install  puts the program that was built and its manual page below PREFIX; make uninstall takes them away
 .PHONY: build demo try cases bench test install uninstall
