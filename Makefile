@@ -42,6 +42,7 @@ cases: build
 	@python3 tests/codes.py
 	@python3 tests/documents.py
 	@python3 tests/examples.py
+	@python3 tests/editors.py
 	@python3 tests/refused.py
 	@python3 tests/differential.py
 

@@ -49,6 +49,7 @@ add "whole language" on run.py --whole
 add "codes" on codes.py
 add "documents" python3 tests/documents.py
 add "examples" on examples.py
+add "editors" python3 tests/editors.py
 add "random programs" on differential.py --count 20
 echo "$passed passed, $failed failed"
 [ "$failed" -eq 0 ]
