@@ -55,6 +55,7 @@ add "whole language" python3 tests/run.py --whole
 add "codes" python3 tests/codes.py
 add "documents" python3 tests/documents.py
 add "examples" python3 tests/examples.py
+add "editors" python3 tests/editors.py
 add "refused allocations" python3 tests/refused.py
 add "random programs" python3 tests/differential.py
 echo "== costs"
