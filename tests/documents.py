@@ -15,7 +15,7 @@ import re
 import suite
 
 WIDTH = 120
-FOLDERS = ("crates", "docs", "tests", "examples", "bench")
+FOLDERS = ("crates", "docs", "tests", "examples", "bench", "editors", "tools")
 # What the gate makes, and a clean clone has not.
 MADE = re.compile(r"crates/\w+/out\b")
 ITEM = re.compile(r" *(- |\d+\. )")

@@ -1,13 +1,14 @@
 #!/usr/bin/env python3
-"""Compiles and runs the programs in examples/ that have an output beside them, checks those in docs/LANGUAGE.md and in tests/sound, and says
-which it fails.
+"""Compiles and runs the programs in examples/ that have an output beside them, checks those in docs/ and in tests/sound, and says which it
+fails.
 
     python3 tests/examples.py [--program PATH]
 
 `NAME.cyc` is compiled, and run on `NAME.in`, or on no input where there is none. `NAME.out` is what a terminal then
 shows: the standard output, and behind it the last line on standard error, which also tells the exit status. `check` has
 to take the program too. A program in docs/LANGUAGE.md whose first line is `// done` or `// fault C at L:K` has this verdict, and a
-program in tests/sound the one that its head says. The last line is `N passed, M failed`.
+program in tests/sound the one that its head says. A fragment on the right of a table in docs/FROM_C.md is accepted where the program
+above the table says `/* here */`. The last line is `N passed, M failed`.
 """
 import os
 import re
@@ -18,6 +19,11 @@ import suite
 
 FOLDER = os.path.join(suite.ROOT, "examples")
 LANGUAGE = os.path.join(suite.ROOT, "docs", "LANGUAGE.md")
+FROM_C = os.path.join(suite.ROOT, "docs", "FROM_C.md")
+# A program that fragments stand in, and a row of the table below it: its number, and the first code of its last cell.
+FRAME = re.compile(r"^(?:    .*\n)+", re.M)
+HERE = "/* here */"
+FRAGMENT = re.compile(r"^\| (\d+) \|.* \| (?:`` (.+?) ``|`([^`]+)`)[^|]*\|$", re.M)
 # A program in a document: lines that are indented, with empty lines between, and its verdict in the first.
 SHOWN = re.compile(r"^    // (done|fault \d+ at \d+:\d+)\n(?:    .*\n|\n(?=    ))*", re.M)
 PARTS = ("standard output", "last line on standard error", "exit status")
@@ -65,6 +71,22 @@ def shown_programs():
     return [(document[: found.start()].count("\n") + 1, re.sub("^    ", "", found[0], flags=re.M), found[1]) for found in SHOWN.finditer(document)]
 
 
+def fragments():
+    """The fragments in the page for C programmers: the number of each, and its text within the program above its table."""
+    with open(FROM_C, encoding="utf-8") as file:
+        document = file.read()
+    frames = [frame for frame in FRAME.finditer(document) if HERE in frame[0]]
+    found = []
+    for frame, after in zip(frames, frames[1:] + [None]):
+        table = document[frame.end(): after.start() if after else len(document)]
+        for number, ticked, plain in FRAGMENT.findall(table):
+            fragment = (ticked or plain).replace("\\|", "|")
+            found.append((int(number), re.sub("^    ", "", frame[0], flags=re.M).replace(HERE, fragment)))
+    if [number for number, _ in found] != list(range(1, len(re.findall(r"^\| \d+ \|", document, flags=re.M)) + 1)):
+        raise ValueError("docs/FROM_C.md has rows that are not read, or not numbered in order")
+    return found
+
+
 def faults_of_shown(program, text, verdict, folder):
     """What the program says of a text otherwise than its first line."""
     path = os.path.join(folder, "text.cyc")
@@ -84,6 +106,7 @@ def main():
     options = suite.command_line(__doc__).parse_args()
     names = sorted(name[: -len(".out")] for name in os.listdir(FOLDER) if name.endswith(".out"))
     judged = [(f"docs/LANGUAGE.md:{line}", text, verdict) for line, text, verdict in shown_programs()] + judged_programs()
+    judged += [(f"docs/FROM_C.md: {number}", text, "done") for number, text in fragments()]
     program = suite.program_of(options, len(names) + len(judged))
     with tempfile.TemporaryDirectory(prefix="cyclone-example-") as folder:
         things = [(f"examples/{name}.cyc", lambda name=name: faults_of(program, name, folder)) for name in names]

@@ -1,8 +1,8 @@
 #!/usr/bin/env bash
-# The gate: every proof, must-fail edit and test of the crates (rt ci), then the command-line suite, the examples and random
+# The gate: every proof and test of the crates (rt ci), their wrong bodies, then the command-line suite, the examples and random
 # programs on the program that this has just proved and built. Before the last line stands what it cost, by crate and part, which
 # is in out/gate.md too, as far as it came also where the gate is stopped, and then what failed, in short: who sees only the end of
-# a long log sees that. (rt ci says which edits were refused at its end alone.) The last line is `N passed, M failed` over all of it.
+# a long log sees that. The last line is `N passed, M failed` over all of it.
 set -u
 cd "$(dirname "$0")/.."
 log=$(mktemp)
@@ -42,18 +42,20 @@ add() {
 # The lines of a log that say what failed, and those before a crate that is not proved, which say why: at most 24.
 faults_in() {
   grep -E -B 6 '^rt: [a-z_]+(: its tests are)? NOT PROVED$' "$1" | grep -v ': proved$' | head -n 14
-  grep -E '^FAILED |^rt: FAILED|^rt: must-fail .*: (NOT REFUSED|BAD EDIT)|^there is no program' "$1" | head -n 10
+  grep -E '^FAILED |^rt: FAILED|^there is no program' "$1" | head -n 10
 }
 
 sh tests/tools.sh || echo "tests/tools.sh: a tool of the suite could not be installed"
 add "proofs" rt ci
 add "self tests" python3 tests/self_test.py
+add "wrong bodies" python3 tests/wrong.py
 add "wrong rules" python3 tests/rules.py
 add "command line" python3 tests/run.py
 add "whole language" python3 tests/run.py --whole
 add "codes" python3 tests/codes.py
 add "documents" python3 tests/documents.py
 add "examples" python3 tests/examples.py
+add "editors" python3 tests/editors.py
 add "refused allocations" python3 tests/refused.py
 add "random programs" python3 tests/differential.py
 echo "== costs"

@@ -1,5 +1,5 @@
 #!/usr/bin/env python3
-"""Says what the gate's parts cost: by crate, its proof, its tests and its must-fail edits.
+"""Says what the gate's parts cost: by crate, its proof, its tests and its wrong bodies.
 
     python3 tests/gate_table.py measure RECORD TABLE NAME COMMAND [WORD ..]
     python3 tests/gate_table.py show RECORD
@@ -25,7 +25,7 @@ from collections import namedtuple
 EVERY = 1.0
 # After how many looks the table so far is written.
 LOOKS_A_TABLE = 20
-PARTS = ("proof", "tests", "edits")
+PARTS = ("proof", "tests", "wrong bodies")
 TICK = os.sysconf("SC_CLK_TCK")
 
 # A process: its number, its parent's, when it was started (in ticks), the seconds of processors that it and the children that it
@@ -65,9 +65,9 @@ def part_of(words):
         return None
     crate = words[words.index("--crate-name") + 1]
     if "--test" in words:
-        return crate, "tests"
-    # A proof leaves a library or a checked program, and the check of an edit leaves nothing.
-    return crate, "proof" if "-o" in words else "edits"
+        return crate, PARTS[1]
+    # A proof leaves a library or a checked program, and the check of a wrong body leaves nothing.
+    return crate, PARTS[0] if "-o" in words else PARTS[2]
 
 
 class Account:
@@ -113,14 +113,9 @@ class Account:
     def rows(self):
         """For each crate and part the seconds of processors and on the clock."""
         return [
-            [*part, round(sum(spent.values()), 1), round(self.lasted[part], 1), self.each(spent)]
+            [*part, round(sum(spent.values()), 1), round(self.lasted[part], 1)]
             for part, spent in self.spent.items()
         ]
-
-    @staticmethod
-    def each(spent):
-        """The seconds of processors of each check, in the order in which they began."""
-        return [round(seconds, 1) for (_, started), seconds in sorted(spent.items(), key=lambda it: it[0][1])]
 
 
 def used(process, below):
@@ -179,35 +174,11 @@ def write_table(path, wholes, remark):
         file.write("\n".join([remark, "", *lines_now(wholes)]) + "\n")
 
 
-def edits_of(crate):
-    """The names of a crate's must-fail edits, in the order in which `rt ci` tries them."""
-    folder = os.path.join(os.path.dirname(os.path.dirname(os.path.abspath(__file__))), "crates", crate, "must-fail")
-    if not os.path.isdir(folder):
-        return []
-    return sorted(name for name in os.listdir(folder) if name.endswith(".edit"))
-
-
-def edit_lines(wholes):
-    """The lines of the table of must-fail edits. The first of a crate pays a proof from nothing. The last check of a crate with
-    several is of the crate without an edit."""
-    lines = ["| Must-fail edits | Checks | First | Dearest other |", "|---|---|---|---|"]
-    rows = [(row[0], row[4]) for whole in wholes for row in whole["checks"] if row[1] == "edits"]
-    for crate, each in sorted(rows, key=lambda it: -sum(it[1])):
-        names, others = edits_of(crate), each[1:]
-        shown = "-"
-        if others:
-            at = max(range(len(others)), key=lambda it: others[it]) + 1
-            name = f"`{names[at].removesuffix('.edit')}`" if at < len(names) else f"check {at + 1}"
-            shown = f"{each[at]:.0f} {name}"
-        lines.append(f"| `{crate}` | {len(each)} | {each[0]:.0f} | {shown} |")
-    return lines if rows else []
-
-
 def table(wholes, cores, day):
     """The lines of the table of what was recorded."""
     costs, order = {}, []
     for whole in wholes:
-        for crate, part, processors, clock, _ in whole["checks"]:
+        for crate, part, processors, clock in whole["checks"]:
             if crate not in order:
                 order.append(crate)
             before = costs.get((crate, part), (0.0, 0.0))
@@ -217,7 +188,7 @@ def table(wholes, cores, day):
         shown = [f"{cell[0]:.0f} ({cell[1]:.0f})" if cell else "-" for cell in cells]
         return f"| {name} | {' | '.join(shown)} | {total:.0f} |"
 
-    lines = ["| | Proof | Tests | Edits | All |", "|---|---|---|---|---|"]
+    lines = ["| | Proof | Tests | Wrong bodies | All |", "|---|---|---|---|---|"]
     for crate in sorted(order, key=lambda it: -sum(costs.get((it, part), (0.0,))[0] for part in PARTS)):
         cells = [costs.get((crate, part)) for part in PARTS]
         lines.append(row(f"`{crate}`", cells, sum(cell[0] for cell in cells if cell)))
@@ -229,9 +200,6 @@ def table(wholes, cores, day):
         name = f"{whole['name']}, the rest" if whole["checks"] else whole["name"]
         lines.append(row(name, [None] * 3, rest))
     processors, clock = (sum(whole[it] for whole in wholes) for it in ("processors", "clock"))
-    edits = edit_lines(wholes)
-    if edits:
-        lines += ["", *edits]
     lines.append("")
     lines.append("Seconds of processors, and in brackets those on the clock while such a check ran.")
     lines.append(f"The whole gate: {processors / 60:.1f} processor minutes in {clock / 60:.1f} minutes, on {cores} processors, {day}.")

@@ -1,10 +1,10 @@
 #!/usr/bin/env python3
 """Runs the built program on the cases in tests/cases and says which of them it fails.
 
-    python3 tests/run.py [--program PATH] [--whole] [FILE.cases ..]
+    python3 tests/run.py [--program PATH] [--whole] [--quick] [FILE.cases ..]
 
 The last line is `N passed, M failed`. A case is a few lines; tests/README.md has the format. With --whole the cases are those of
-the whole language, in tests/whole.
+the whole language, in tests/whole. With --quick those with a file of more than 8,192 bytes are left out, and it says how many.
 """
 import os
 import re
@@ -19,6 +19,8 @@ CASES = os.path.join(suite.HERE, "cases")
 WHOLE = os.path.join(suite.HERE, "whole")
 # The file that holds the text of a line `? LINE | TEXT`.
 TEXT_FILE = "text.cyc"
+# What is long for --quick, in bytes.
+LONG = 8192
 
 
 class BadCase(Exception):
@@ -74,6 +76,7 @@ class Case:
         self.place = f"{os.path.relpath(path)}:{line}"
         self.name = name
         self.actions = []
+        self.longest = 0
 
 
 def repeated(value):
@@ -189,6 +192,8 @@ class Reader:
 def made(reader, rest, content):
     """An action that makes a file."""
     path = rest
+    case = reader.cases[-1]
+    case.longest = max(case.longest, len(content))
 
     def act(folder):
         with open(os.path.join(folder, path), "wb") as file:
@@ -341,10 +346,15 @@ def case_files(folder):
 def main():
     parser = suite.command_line(__doc__)
     parser.add_argument("--whole", action="store_true")
+    parser.add_argument("--quick", action="store_true", help=f"leave out cases with a file of more than {LONG} bytes")
     parser.add_argument("files", nargs="*")
     options = parser.parse_args()
     files = options.files or case_files(WHOLE if options.whole else CASES)
     cases = [case for path in files for case in Reader(path).read()]
+    if options.quick:
+        short = [case for case in cases if case.longest <= LONG]
+        print(f"{len(cases) - len(short)} cases with long files are left out")
+        cases = short
     program = suite.program_of(options, len(cases))
     suite.try_each(cases, lambda case: f"{case.place}: {case.name}", lambda case: faults_of(case, program))
 

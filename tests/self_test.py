@@ -1,7 +1,7 @@
 #!/usr/bin/env python3
 """Tries the tests' own tools: the suite's runner, on a stand-in for the program, passes and fails what it should; the table of what
-the gate costs, on looks at processes that are written here, has the sums worked by hand; what the prover says of a wrong rule is
-judged as it should be; and the reference answers the cases of the whole language, in tests/whole, and those of the program that
+the gate costs, on looks at processes that are written here, has the sums worked by hand; wrong bodies are tried together where they may
+be, and what the prover says of them is judged as it should be; and the reference answers the cases of the whole language, in tests/whole, and those of the program that
 check texts, as they say.
 
     python3 tests/self_test.py [TEXTS.json]
@@ -21,6 +21,7 @@ import reference
 import rules
 import run
 import suite
+import wrong
 
 HERE = os.path.dirname(os.path.abspath(__file__))
 # The cases of the program that only check texts, and take little time.
@@ -152,7 +153,7 @@ def last_line_of_run(cases, folder):
     return done.stdout.rstrip().split("\n")[-1], done.returncode, done.stdout + done.stderr
 
 
-# Three looks at a gate, a second apart: two checks of a crate side by side, with a helper; an edit; a proof that ends, and
+# Three looks at a gate, a second apart: two checks of a crate side by side, with a helper; a wrong body; a proof that ends, and
 # another whose parent has ended; and a check of somebody else.
 LOOKS = """\
 100 1 5 0.2 python3 /usr/local/bin/rt ci
@@ -172,17 +173,13 @@ LOOKS = """\
 106 1 22 9.0 /opt/bin/rattle check --crate-name top src/main.rt -o /x/checked"""
 
 COSTS = """\
-| | Proof | Tests | Edits | All |
+| | Proof | Tests | Wrong bodies | All |
 |---|---|---|---|---|
 | `low` | 4 (1) | 4 (2) | 2 (2) | 10 |
 | `top` | 9 (2) | - | - | 9 |
 | all crates | 13 (3) | 4 (2) | 2 (2) | 19 |
 | proofs, the rest | - | - | - | 1 |
 | suite | - | - | - | 40 |
-
-| Must-fail edits | Checks | First | Dearest other |
-|---|---|---|---|
-| `low` | 2 | 1 | 1 check 2 |
 
 Seconds of processors, and in brackets those on the clock while such a check ran.
 The whole gate: 1.0 processor minutes in 0.5 minutes, on 4 processors, 2026-01-01."""
@@ -202,26 +199,204 @@ def is_table_right():
     return lines == COSTS
 
 
-# What the prover says of a wrong rule, as its status and the lines of its answer, and what is wrong with that.
-REFUSED = "only=1 proved=0"
-PROVERS_ANSWERS = [
-    (1, ["./proofs/Calls.antt:1:1: error: `call`: expected type `A`, but this has type `B`", REFUSED], None),
-    (1, ["/crates/cyc_guard/proofs/Kept.antt:1:1: error: `kept`: as printed, the two types differ", REFUSED], None),
-    (0, ["only=1 proved=1"], "not refused"),
-    (1, ["/crates/cyc_types/specs/Rules.antt:1:1: error: `f` is not in scope", "./proofs/Calls.antt:1:1: error: `call`: a type", REFUSED], "it is no rule"),
-    (1, ["./src/laws.rt:1:1: error: the clause cannot be read", REFUSED], "it is no rule"),
+# Files of a crate whose bodies are told apart, and what each of these cases is tried with.
+SOURCE = """\
+/// Half of a number.
+pub fn half(n: u32) -> u32
+    ensures { result ≡ n / 2 }
+{
+    part(n, 2)
+}
+
+pub trait Parted {
+    /// It has no body here.
+    fn parts(&self) -> u32
+        ensures { result ≡ count self.now };
+
+    fn more(&self) -> u32 {
+        self.parts() + 1
+    }
+}
+
+fn part(n: u32, of: u32) -> u32
+    requires { 0 < of }
+    ensures { result ≡ n / of }
+{
+    let found = n / of;
+    found
+}
+
+const THIRD: u32 = 3;
+
+fn third(n: u32) -> u32 {
+    n / THIRD
+}
+"""
+
+TURNS = """\
+== half_is_a_third
+tests: half
+file: src/lib.rt
+old: part(n, 2)
+new: part(n, 3)
+refused: half
+
+== part_is_one_more
+tests: part
+file: src/lib.rt
+old:     let found = n / of;
+old:     found
+new:     let more = n / of;
+new:     more + 1
+refused: part
+
+== third_is_a_fourth
+tests: third
+file: src/lib.rt
+old: THIRD: u32 = 3
+new: THIRD: u32 = 4
+refused: third
+
+== third_is_one_more
+tests: third
+file: src/lib.rt
+old: n / THIRD
+new: n / THIRD + 1
+file: proofs/third/Answers.antt
+old: a
+new: b
+refused: third
+
+== more_is_two_more
+tests: more
+file: src/lib.rt
+old: self.parts() + 1
+new: self.parts() + 2
+refused: Parted::more
+
+== more_is_the_same
+tests: more
+file: src/lib.rt
+old: self.parts() + 1
+new: self.parts()
+refused: Parted::more
+"""
+
+# The cases that are tried together, and whether each turns the body of its function alone. `half` calls `part`, and a constant is no body.
+ROUNDS = [
+    [("half_is_a_third", True), ("third_is_one_more", True), ("more_is_two_more", True)],
+    [("part_is_one_more", True), ("more_is_the_same", True)],
+    [("third_is_a_fourth", False)],
+]
+
+
+def are_rounds_right(folder):
+    """Whether cases are told apart that change what another one's proof rests on."""
+    source = os.path.join(folder, "crates", "low", "src", "lib.rt")
+    os.makedirs(os.path.dirname(source))
+    paths = {source: SOURCE, os.path.join(folder, "low.cases"): TURNS}
+    for path, text in paths.items():
+        with open(path, "w", encoding="utf-8") as file:
+            file.write(text)
+    crates = os.path.join(folder, "crates")
+    cases = wrong.cases_in(os.path.join(folder, "low.cases"))
+    rounds = wrong.rounds_of(cases, wrong.Bodies(crates, "low"), False)
+    got = [[(case.name, turned is not None) for case, turned in together] for together in rounds]
+    alone = [len(together) for together in wrong.rounds_of(cases, wrong.Bodies(crates, "low"), True)]
+    if got != ROUNDS or alone != [1] * len(cases):
+        print(suite.difference("rounds of cases", ROUNDS, got))
+    return got == ROUNDS and alone == [1] * len(cases)
+
+
+# What the prover says of a wrong body of `a::f` in the crate `mid`, and of a definition of `low` for a law of `mid`: its status, the lines
+# of its answer, and what is wrong with that.
+GOAL = "note: src/a.rt:9:1: it is not proved that what the function ensures holds when it returns (`returns`)"
+FALSE_GOAL = f"{GOAL}; the facts known there allow values at which this goal is false"
+LEFT = "fn mid::a::f: no proof: expected answers in ./proofs/a/f/Answers.antt; `search` did not prove `returns`"
+REFUSED = "fn mid::a::f: not proved"
+NONE, SOME = "only=1 proved=0", "only=2 proved=1"
+TYPES = "expected type `A`, but this has type `B`"
+GONE = "./proofs/a/f/Answers.antt:5:3: error: `returns`: `goal.returns`: module `Goals` has no `returns` that can be named from here"
+ANSWERS_TO_BODIES = [
+    (1, [GOAL, LEFT, NONE], None),
+    (1, [f"./proofs/a/f/Answers.antt:5:3: error: `returns`: {TYPES}", REFUSED, NONE], None),
+    (1, [FALSE_GOAL, GONE, REFUSED, NONE], None),
+    (0, ["fn mid::a::f: proved", "only=1 proved=1"], "not refused by a"),
+    (1, ["fn mid::a::f: proved", "fn mid::b::f: not proved", SOME], "not refused by a"),
+    (1, [GONE, GOAL, REFUSED, NONE], "refused by a"),
+    (1, [GOAL, "fn mid::b::g: not proved", "fn mid::a::f: no proof: it calls `mid::b::g`, which is not proved", SOME], "not refused by a"),
+    (1, [GOAL, f"{LEFT}; it calls `mid::b::g`, which is not proved", NONE], None),
+    (1, [f"./proofs/b/g/Answers.antt:5:3: error: `returns`: {TYPES}", REFUSED, NONE], "refused by a"),
+    (1, [f"./proofs/Lemmas.antt:5:3: error: `lemma`: {TYPES}", REFUSED, NONE], "refused by a"),
+    (1, ["src/a.rt:9:1: error[E0308]: mismatched types"], "it cannot be read"),
+    (1, ["./src/a.rt:9:1: error: `g` is not in scope", REFUSED, NONE], "it cannot be read"),
+    (1, [GOAL, "fn mid::b::g: not proved", NONE], "the prover says nothing of a"),
+    (1, [GOAL, LEFT], "the prover gave no answer"),
+    (3, ["fn mid::a::f: could not tell", NONE], "the prover gave no answer"),
+    (2, ["rattle: a::f fits no function"], "the prover gave no answer"),
+]
+LAW = "fn mid::a::f: not proved"
+ANSWERS_TO_DEFINITIONS = [
+    (1, [f"./proofs/Calls.antt:1:1: error: `call`: {TYPES}", LAW, NONE], None),
+    (1, ["../between/proofs/Kept.antt:1:1: error: `kept`: as printed, the two types differ", LAW, NONE], None),
+    (1, [GOAL, "fn mid::b::g: no proof: expected answers", LAW, NONE], None),
+    (0, ["fn mid::a::f: proved", "only=1 proved=1"], "not refused by a"),
+    (1, ["../low/specs/Rules.antt:1:1: error: `f` is not in scope", f"./proofs/Calls.antt:1:1: error: `call`: {TYPES}", LAW, NONE], "it cannot be read"),
+    (1, ["./src/laws.rt:1:1: error: the clause cannot be read", LAW, NONE], "it cannot be read"),
     (
         1,
-        ["/crates/cyc_types/proofs/Well.antt:1:1: error: `well`: a type",
-         "./proofs/Whole.antt:1:1: error: 8 declarations that depend on `well`, which was not admitted, were not checked: a", REFUSED],
-        "refused, but by no proof about runs",
+        [f"../low/proofs/Well.antt:1:1: error: `well`: {TYPES}",
+         "./proofs/Whole.antt:1:1: error: 8 declarations that depend on `well`, which was not admitted, were not checked: a", LAW, NONE],
+        "refused by a",
     ),
-    (1, ["./proofs/Calls.antt:1:1: error: `call` is not admitted: rejected", REFUSED], "refused, but by no proof about runs"),
+    (1, ["./proofs/Calls.antt:1:1: error: `call` is not admitted: rejected", LAW, NONE], "refused by a"),
+    (1, ["./proofs/Calls.antt:1:1: error: `call`: `g` is not in scope", LAW, NONE], "refused by a"),
     (3, ["./proofs/Calls.antt:1:1: error: `call`: out of memory"], "the prover gave no answer"),
 ]
 
 
+def case_on(path):
+    """A case of the crate `mid` that changes a file."""
+    case = wrong.Case("mid", "case")
+    for word, text in (("file", path), ("old", "a"), ("new", "b"), ("refused", "a::f")):
+        case.read(word, text)
+    return case
+
+
 def is_judge_right():
+    """Whether what the prover says of wrong bodies and definitions is judged as it should be."""
+    right = True
+    body = wrong.Body("a::f", "a/f", "mid/src/a.rt", 1, 2, frozenset())
+    for path, turned, answers in (("src/a.rt", body, ANSWERS_TO_BODIES), ("../low/specs/Rules.antt", None, ANSWERS_TO_DEFINITIONS)):
+        for status, said, wanted in answers:
+            answer = wrong.Answer(status, "\n".join(said), "mid", "/crates")
+            got = wrong.judged(case_on(path), turned, answer, ["low", "between", "mid"])
+            if (got or "").partition(":")[0] != (wanted or ""):
+                print(suite.difference(said[0], wanted, got))
+                right = False
+    return right
+
+
+# What the prover says of a wrong rule, as its status and the lines of its answer, and what is wrong with that.
+NO_RULE = "only=1 proved=0"
+PROVERS_ANSWERS = [
+    (1, ["./proofs/Calls.antt:1:1: error: `call`: expected type `A`, but this has type `B`", NO_RULE], None),
+    (1, ["/crates/cyc_guard/proofs/Kept.antt:1:1: error: `kept`: as printed, the two types differ", NO_RULE], None),
+    (0, ["only=1 proved=1"], "not refused"),
+    (1, ["/crates/cyc_types/specs/Rules.antt:1:1: error: `f` is not in scope", "./proofs/Calls.antt:1:1: error: `call`: a type", NO_RULE], "it is no rule"),
+    (1, ["./src/laws.rt:1:1: error: the clause cannot be read", NO_RULE], "it is no rule"),
+    (
+        1,
+        ["/crates/cyc_types/proofs/Well.antt:1:1: error: `well`: a type",
+         "./proofs/Whole.antt:1:1: error: 8 declarations that depend on `well`, which was not admitted, were not checked: a", NO_RULE],
+        "refused, but by no proof about runs",
+    ),
+    (1, ["./proofs/Calls.antt:1:1: error: `call` is not admitted: rejected", NO_RULE], "refused, but by no proof about runs"),
+    (3, ["./proofs/Calls.antt:1:1: error: `call`: out of memory"], "the prover gave no answer"),
+]
+
+
+def is_judge_of_rules_right():
     """Whether what the prover says of wrong rules is judged as it should be."""
     right = True
     for status, said, wanted in PROVERS_ANSWERS:
@@ -230,6 +405,14 @@ def is_judge_right():
             print(suite.difference(said[0], wanted, got))
             right = False
     return right
+
+
+def are_promises_told():
+    """Whether the document says of each wrong body what it would break."""
+    told = wrong.has_promises()
+    if not told:
+        print("the table of wrong bodies in docs/GUARANTEES.md is not that of the cases: python3 tests/wrong.py --write makes it so")
+    return told
 
 
 def is_runner_right(folder):
@@ -289,7 +472,7 @@ def main():
         with open(sys.argv[1], encoding="utf-8") as file:
             texts = json.load(file)
     with tempfile.TemporaryDirectory() as folder:
-        right = [is_runner_right(folder), is_table_right(), is_judge_right()]
+        right = [is_runner_right(folder), is_table_right(), are_rounds_right(folder), is_judge_right(), is_judge_of_rules_right(), are_promises_told()]
     right += reference.with_room(lambda: [is_case_right(case) for case in cases] + [is_text_right(case) for case in texts])
     right += reference.with_room(lambda: [is_program_right(*one) for name in ("accepted", "refused") for one in in_trees.programs_in(name)])
     suite.end(right.count(True), right.count(False))

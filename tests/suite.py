@@ -9,8 +9,8 @@ HERE = os.path.dirname(os.path.abspath(__file__))
 ROOT = os.path.dirname(HERE)
 PROGRAM = os.path.join(ROOT, "crates", "cyclone", "out", "cyclone")
 SECONDS = 60
-# The stack of each program that is run, in bytes: half of what a shell gives.
-STACK = 4 * 1024 * 1024
+# The stack of each program that is run, in MB of 2^20 bytes: half of what a shell gives.
+STACK = 4
 # A long value is shown by its two ends.
 SHOWN = 400
 
@@ -42,13 +42,15 @@ def command_line(doc):
     """A parser of a test's command line, with the first line of its text."""
     parser = argparse.ArgumentParser(description=doc.split("\n")[0])
     parser.add_argument("--program", default=PROGRAM)
+    parser.add_argument("--stack", type=int, default=STACK, metavar="MB", help="a program that is not optimised needs more than 4")
     return parser
 
 
-def limit_stack():
+def limit_stack(megabytes):
     """Limits the stack of every program that is run from here on. One that needs more may ask for it."""
     _, most = resource.getrlimit(resource.RLIMIT_STACK)
-    stack = STACK if most == resource.RLIM_INFINITY else min(STACK, most)
+    wanted = megabytes * 1024 * 1024
+    stack = wanted if most == resource.RLIM_INFINITY else min(wanted, most)
     resource.setrlimit(resource.RLIMIT_STACK, (stack, most))
 
 
@@ -58,7 +60,7 @@ def program_of(options, count):
     if not os.access(program, os.X_OK):
         print(f"there is no program {program}: `make build` proves and builds it")
         end(0, count)
-    limit_stack()
+    limit_stack(options.stack)
     return program
 
 

@@ -11,7 +11,7 @@ use cyc_forms::{Given, span_of, type_of_side};
 use cyc_scope::Meaning;
 use cyc_syntax::{Clause, Expr, Ident, Item, Stmt, WrittenType};
 use cyc_types::formation::{region_of, type_written};
-use cyc_types::{Region, ScopeKind, Ty};
+use cyc_types::{Kind, Region, Ty};
 use cyc_words::{Code, Span};
 
 /// The words for a fault among the items of a block that was entered.
@@ -293,7 +293,7 @@ fn explain_alias(
     written: &WrittenType,
     source: Ident,
 ) -> Option<Vec<u8>> {
-    let own = open_region(walk, ScopeKind::Alias, region)?;
+    let own = open_region(walk, Kind::Alias, region)?;
     if let Some(words) = explain_type(walk.named(), written, walk.fault) {
         return Some(words);
     }
@@ -355,7 +355,7 @@ fn enter_block(walk: &mut Walk<'_, '_>, label: Option<Ident>, span: Span) -> Opt
 }
 
 /// Behind an item that makes and opens a region of this name.
-fn open_region(walk: &mut Walk<'_, '_>, kind: ScopeKind, name: Ident) -> Option<Region> {
+fn open_region(walk: &mut Walk<'_, '_>, kind: Kind, name: Ident) -> Option<Region> {
     let own = Region::Variable(walk.scope.next_region());
     note_home(walk, Some(name), name.span, Origin::Block)?;
     walk.scope.open_region(kind, name).ok()?;
@@ -393,7 +393,7 @@ fn pass_item(walk: &mut Walk<'_, '_>, item: &Item) -> Option<()> {
             handle,
             key: None,
         } => {
-            let own = open_region(walk, ScopeKind::Lexical, *region)?;
+            let own = open_region(walk, Kind::Lexical, *region)?;
             walk.scope
                 .declare_fixed(*handle, Ty::Handle { region: own })
                 .ok()
@@ -411,7 +411,7 @@ fn pass_item(walk: &mut Walk<'_, '_>, item: &Item) -> Option<()> {
             name,
             source,
         } => {
-            open_region(walk, ScopeKind::Alias, *region)?;
+            open_region(walk, Kind::Alias, *region)?;
             let left_out = region_of_type(&source_type(walk, *source)?);
             let written = alias_type(walk, of_type, left_out)?;
             walk.scope.declare_local(*name, written).ok()
