@@ -45,7 +45,7 @@ add() {
 }
 
 echo "The program is built with no proof, in a minute or two; then it is tried."
-if ! python3 tests/unproved.py "$program"; then
+if ! tools/unproved "$program"; then
   echo "0 passed, 1 failed"
   exit 1
 fi
