@@ -23,7 +23,7 @@ begin() {
 on() {
   script=$1
   shift
-  python3 "tests/$script" --program "$program" --stack 64 "$@"
+  python3 "tests/runners/$script" --program "$program" --stack 64 "$@"
 }
 
 # add NAME: shows what a test said, and adds up its last line
@@ -52,8 +52,8 @@ fi
 begin "command line" on run.py --quick
 begin "whole language" on run.py --whole
 begin "random programs" on differential.py --count 20
-begin "editors" python3 tests/editors.py
-begin "documents" python3 tests/documents.py
+begin "editors" python3 tests/runners/editors.py
+begin "documents" python3 tests/runners/documents.py
 begin "codes" on codes.py
 begin "examples" on examples.py
 wait
