@@ -23,7 +23,7 @@ begin() {
 on() {
   script=$1
   shift
-  python3 "tests/$script" --program "$program" --stack 64 "$@"
+  python3 "tests/runners/$script" --program "$program" --stack 64 "$@"
 }
 
 # add NAME: shows what a test said, and adds up its last line
@@ -45,15 +45,15 @@ add() {
 }
 
 echo "The program is built with no proof, in a minute or two; then it is tried."
-if ! python3 tests/unproved.py "$program"; then
+if ! tools/unproved "$program"; then
   echo "0 passed, 1 failed"
   exit 1
 fi
 begin "command line" on run.py --quick
 begin "whole language" on run.py --whole
 begin "random programs" on differential.py --count 20
-begin "editors" python3 tests/editors.py
-begin "documents" python3 tests/documents.py
+begin "editors" python3 tests/runners/editors.py
+begin "documents" python3 tests/runners/documents.py
 begin "codes" on codes.py
 begin "examples" on examples.py
 wait

@@ -2,7 +2,7 @@
 """Compares what stands elsewhere of the codes of refusals with docs/codes.txt, and tries the smallest text of each
 code.
 
-    python3 tests/codes.py [--program PATH] [--write]
+    python3 tests/runners/codes.py [--program PATH] [--write]
 
 The docstrings of crates/cyc_words/src/fault.rt, the messages and hints of crates/cyc_terminal/src/advice.rt and the
 table of codes in docs/LANGUAGE.md have to say what docs/codes.txt says. --write makes the table in docs/LANGUAGE.md of it, and

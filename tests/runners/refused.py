@@ -1,10 +1,10 @@
 #!/usr/bin/env python3
 """Refuses each allocation of the program in turn, and looks at how it ends.
 
-    python3 tests/refused.py [--program PATH]
+    python3 tests/runners/refused.py [--program PATH]
 
 Commands are run once with all the memory that they ask for, and then once for each allocation with that one refused, by
-tests/refuse.c. Either the program does without it, and all is as before; or it says `no memory` with status 8, its output is
+tests/runners/refuse.c. Either the program does without it, and all is as before; or it says `no memory` with status 8, its output is
 the beginning of what it was, and the file that it was to write holds what it held. The last line is `N passed, M failed`; each
 command is one.
 """

@@ -2,7 +2,7 @@
 """Compiles and runs the programs in examples/ that have an output beside them, checks those in docs/ and in tests/sound, and says which it
 fails.
 
-    python3 tests/examples.py [--program PATH]
+    python3 tests/runners/examples.py [--program PATH]
 
 `NAME.cyc` is compiled, and run on `NAME.in`, or on no input where there is none. `NAME.out` is what a terminal then
 shows: the standard output, and behind it the last line on standard error, which also tells the exit status. `check` has
@@ -14,8 +14,8 @@ import os
 import re
 import tempfile
 
+import suite  # first: it says where the references and the generators are
 import in_trees
-import suite
 
 FOLDER = os.path.join(suite.ROOT, "examples")
 LANGUAGE = os.path.join(suite.ROOT, "docs", "LANGUAGE.md")

@@ -1,21 +1,24 @@
 #!/usr/bin/env python3
 """Programs as typed trees with what the reference says of their runs, for the definitions of the meaning to be held against it.
 
-    python3 tests/in_trees.py TEXT.cyc .. > crates/cyc_meaning/proofs/Texts.antt
+    python3 tests/generators/in_trees.py TEXT.cyc .. > crates/cyc_meaning/proofs/Texts.antt
 
 Each text becomes a tree as `crates/cyc_types/specs/TypedTrees.antt` has it, and three equations that hold by computation: how its run
 ends, what it prints, and how many words the frames of its functions have. A text that the rules of empty and locked variables
 refuse is run all the same: then the run may be dead. With `pub mod Texts` in `crates/cyc_meaning/proofs/Lib.antt`, `rt check` there
 says whether the definitions agree. Runs should be short: the prover makes every step.
 
-    python3 tests/in_trees.py --accepted > crates/cyc_soundness/proofs/AcceptedPrograms.antt
-    python3 tests/in_trees.py --refused > crates/cyc_soundness/proofs/RefusedPrograms.antt
+    python3 tests/generators/in_trees.py --accepted > crates/cyc_soundness/proofs/AcceptedPrograms.antt
+    python3 tests/generators/in_trees.py --refused > crates/cyc_soundness/proofs/RefusedPrograms.antt
 
 These are the programs of `sound/accepted.programs` and `sound/refused.programs`, each with how its run ends. A program that the rules
 refuse is made a tree by leaving out the rules of the code that refuses it.
 """
 import os
 import sys
+
+TESTS = os.path.dirname(os.path.dirname(os.path.abspath(__file__)))
+sys.path.append(os.path.join(TESTS, "references"))
 
 import reference
 from language import runs, types
@@ -31,7 +34,7 @@ OPERATORS = {
     "%": "Remainder",
 }
 UNARY = {"-": "Negate", "~": "Complement", "!": "Not"}
-HEAD = """-- Made by tests/in_trees.py.
+HEAD = """-- Made by tests/generators/in_trees.py.
 use Rattle.std.proofs.Common.{◌≡◌, ℕ, [], ◌∷◌, Some, None, pos, negsuc, refl}
 use Rattle.std.specs.Prelude.{map}
 use Rattle.cyc_words.specs.Word.{slt_of, sar_of, div_of, rem_of}
@@ -377,7 +380,6 @@ abbrev {name} : t.Program
 
 # --- Programs with the ending of their runs ---
 
-HERE = os.path.dirname(os.path.abspath(__file__))
 STEPS_STATED = 500
 ACCEPTED = """-- Programs that the rules accept, run through the ends of their scopes: none is dead or wrong. Each is proved by computation."""
 REFUSED = """-- Programs that the rules refuse, as the trees that a checker would make without the rules of that one code: each is dead or wrong.
@@ -387,7 +389,7 @@ REFUSED = """-- Programs that the rules refuse, as the trees that a checker woul
 def programs_in(name):
     """The programs of a file: for each what stands behind its `==`, and its text."""
     found = []
-    for line in reference.read(os.path.join(HERE, "sound", name + ".programs")).splitlines():
+    for line in reference.read(os.path.join(TESTS, "sound", name + ".programs")).splitlines():
         if line.startswith("== "):
             found.append(([part.strip() for part in line[3:].split("|")], []))
         elif line and not line.startswith("#"):
@@ -450,7 +452,7 @@ def module(name, purpose):
     body = "".join(stated(head, text) for head, text in programs_in(name))
     code = "\n".join(line for line in body.split("\n") if not line.startswith("--"))
     imports = "".join(imported(line, code) for line in HEAD.splitlines()[1:])
-    return f"{purpose} Made by tests/in_trees.py of tests/sound.\n{imports}{body}"
+    return f"{purpose} Made by tests/generators/in_trees.py of tests/sound.\n{imports}{body}"
 
 
 def main():

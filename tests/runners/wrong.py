@@ -1,7 +1,7 @@
 #!/usr/bin/env python3
 """Wrong bodies of functions and wrong definitions, each refused by the proof of a function or a law.
 
-    python3 tests/wrong.py [CRATE ..] [--only NAME ..]
+    python3 tests/runners/wrong.py [CRATE ..] [--only NAME ..]
 
 `wrong/CRATE.cases` has those that a proof of the crate must refuse: what each puts in the place of what, and the functions or laws
 whose proofs these are. First the functions are proved as they stand, so that a case that no check reads fails. Then the prover is asked
@@ -24,10 +24,10 @@ import sys
 import tempfile
 from concurrent.futures import FIRST_COMPLETED, ThreadPoolExecutor, wait
 
+import suite  # first: it says where the references and the generators are
 import in_trees
-import suite
 
-CASES = os.path.join(suite.HERE, "wrong")
+CASES = os.path.join(suite.TESTS, "wrong")
 PARTS = ("src", "specs", "proofs")
 LANES = max(1, len(os.sched_getaffinity(0)) // 2)
 

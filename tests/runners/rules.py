@@ -1,7 +1,7 @@
 #!/usr/bin/env python3
 """Wrong rules of types and of flow, each refused by the theorem that no accepted program is ever dead or wrong.
 
-    python3 tests/rules.py [NAME ..]
+    python3 tests/runners/rules.py [NAME ..]
 
 `sound/wrong.rules` has them, all or those that are named. Each is put into a copy of the definitions of `cyc_types`, where the
 checkers would follow it, and the prover is asked for the theorem alone, over the sources of the crates below it: what else these
@@ -17,9 +17,10 @@ import tempfile
 import threading
 from concurrent.futures import ThreadPoolExecutor
 
+import suite  # first: it says where the references and the generators are
 import in_trees
 
-ROOT = os.path.dirname(os.path.dirname(os.path.abspath(__file__)))
+ROOT = os.path.dirname(os.path.dirname(os.path.dirname(os.path.abspath(__file__))))
 RULES = os.path.join(ROOT, "tests", "sound", "wrong.rules")
 CRATE, THEOREM = "cyc_soundness", "typed_programs_are_sound"
 # Where a proof about runs may be refused: `cyc_types` has only proofs of how its own definitions hang together.

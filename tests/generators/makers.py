@@ -1,6 +1,6 @@
 """Makes the texts of random programs, by profile: ints, and beside them thin pointers, heap objects, exceptions, unique pointers, regions and keys.
 
-A program is made so that it is mostly accepted and ends soon. Whether it is, the reference says (`tests/reference.py`). `broken`
+A program is made so that it is mostly accepted and ends soon. Whether it is, the reference says (`tests/references/reference.py`). `broken`
 changes one token of a text.
 """
 from language.texts import KEYWORDS, tokens_of

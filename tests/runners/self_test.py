@@ -4,7 +4,7 @@ the gate costs, on looks at processes that are written here, has the sums worked
 be, and what the prover says of them is judged as it should be; and the reference answers the cases of the whole language, in tests/whole, and those of the program that
 check texts, as they say.
 
-    python3 tests/self_test.py [TEXTS.json]
+    python3 tests/runners/self_test.py [TEXTS.json]
 
 A file of texts with their verdicts, a list of objects with `text` and `expect`, is held against the reference too.
 """
@@ -15,12 +15,12 @@ import subprocess
 import sys
 import tempfile
 
+import suite  # first: it says where the references and the generators are
 import gate_table
 import in_trees
 import reference
 import rules
 import run
-import suite
 import wrong
 
 HERE = os.path.dirname(os.path.abspath(__file__))
@@ -411,7 +411,7 @@ def are_promises_told():
     """Whether the document says of each wrong body what it would break."""
     told = wrong.has_promises()
     if not told:
-        print("the table of wrong bodies in docs/GUARANTEES.md is not that of the cases: python3 tests/wrong.py --write makes it so")
+        print("the table of wrong bodies in docs/GUARANTEES.md is not that of the cases: python3 tests/runners/wrong.py --write makes it so")
     return told
 
 

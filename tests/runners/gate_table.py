@@ -1,8 +1,8 @@
 #!/usr/bin/env python3
 """Says what the gate's parts cost: by crate, its proof, its tests and its wrong bodies.
 
-    python3 tests/gate_table.py measure RECORD TABLE NAME COMMAND [WORD ..]
-    python3 tests/gate_table.py show RECORD
+    python3 tests/runners/gate_table.py measure RECORD TABLE NAME COMMAND [WORD ..]
+    python3 tests/runners/gate_table.py show RECORD
 
 `measure` runs a command, ends as it ends, and appends to the file RECORD what it cost: the seconds on the clock, and those of
 processors, of the whole command and of the checks that the prover does in it. `show` prints the table of what was recorded.

@@ -1,7 +1,7 @@
 #!/usr/bin/env python3
 """Reads the examples, and a text of odd tokens, with the syntax files in editors/, and says which bytes are taken for what they are not.
 
-    python3 tests/editors.py
+    python3 tests/runners/editors.py
 
 What each byte is comes from the reference's rules of tokens (language/texts.py). The file for vim is read by vim; the TextMate grammar
 by a small reader of such grammars here, a line and a token at a time, as editors do. The last line is `N passed, M failed`, of texts
@@ -13,7 +13,7 @@ import re
 import subprocess
 import tempfile
 
-import suite
+import suite  # first: it says where the references and the generators are
 from language import texts
 
 EXAMPLES = os.path.join(suite.ROOT, "examples")

@@ -1,7 +1,7 @@
 #!/usr/bin/env python3
 """Runs the built program on the cases in tests/cases and says which of them it fails.
 
-    python3 tests/run.py [--program PATH] [--whole] [--quick] [FILE.cases ..]
+    python3 tests/runners/run.py [--program PATH] [--whole] [--quick] [FILE.cases ..]
 
 The last line is `N passed, M failed`. A case is a few lines; tests/README.md has the format. With --whole the cases are those of
 the whole language, in tests/whole. With --quick those with a file of more than 8,192 bytes are left out, and it says how many.
@@ -15,8 +15,8 @@ import tempfile
 
 import suite
 
-CASES = os.path.join(suite.HERE, "cases")
-WHOLE = os.path.join(suite.HERE, "whole")
+CASES = os.path.join(suite.TESTS, "cases")
+WHOLE = os.path.join(suite.TESTS, "whole")
 # The file that holds the text of a line `? LINE | TEXT`.
 TEXT_FILE = "text.cyc"
 # What is long for --quick, in bytes.

@@ -1,7 +1,7 @@
 #!/usr/bin/env python3
-"""Random programs, checked, compiled and run, beside what tests/reference.py says of them.
+"""Random programs, checked, compiled and run, beside what tests/references/reference.py says of them.
 
-    python3 tests/differential.py [--program PATH] [--count N] [--profile NAME] [--seed N] [--check] [--texts FOLDER]
+    python3 tests/runners/differential.py [--program PATH] [--count N] [--profile NAME] [--seed N] [--check] [--texts FOLDER]
 
 The profiles are ints, pointers, heap, exceptions, unique and regions; each has what those before it have. Each program is made so
 that it is mostly accepted and ends soon. One that is accepted is run on two inputs, with just as many calls and pages as
@@ -14,16 +14,16 @@ gives the same programs. The last line is `N passed, M failed`, of programs: `--
 other profile.
 
 --check only asks what `check` says. --texts writes the programs to a folder, and those of ints in C beside it. As
-`--program tests/in_c.py` answers like the program itself, the expectations for ints can be held against gcc too.
+`--program tests/references/in_c.py` answers like the program itself, the expectations for ints can be held against gcc too.
 """
 import os
 import random
 import tempfile
 
+import suite  # first: it says where the references and the generators are
 import in_c
 import makers
 import reference
-import suite
 from language import runs
 
 # A program whose evaluation takes more calls and passes of loops than this is not used.

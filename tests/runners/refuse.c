@@ -1,4 +1,4 @@
-/* Refuses one allocation of the program into which it is loaded (LD_PRELOAD), for tests/refused.py. The calls of malloc,
+/* Refuses one allocation of the program into which it is loaded (LD_PRELOAD), for tests/runners/refused.py. The calls of malloc,
    calloc and realloc are counted from 1; the one with the number in REFUSE_AT is answered with NULL. At the end of the
    program the file that REFUSE_COUNT names gets the number of calls. */
 #include <errno.h>

@@ -1,12 +1,12 @@
 #!/usr/bin/env python3
 """The whole language read and run a second time, plainly, for the tests to hold the compiler against.
 
-    python3 tests/reference.py check F | compile F -o I | run I [--pages N] [--calls N] [--steps N]
+    python3 tests/references/reference.py check F | compile F -o I | run I [--pages N] [--calls N] [--steps N]
 
 Nothing here is fast or proved, and nothing is shared with the compiler: a text becomes a tree by recursive descent, the
 tree is held against the rules of types and regions and of variables that are empty or locked, and then evaluated as it
-stands (`tests/language`). It answers as the program `cyclone` does, so the command-line suite can be run on it too
-(`tests/run.py --program tests/reference.py`): that shows that a case's expected values do not hang on the compiler. Its
+stands (`tests/references/language`). It answers as the program `cyclone` does, so the command-line suite can be run on it too
+(`tests/runners/run.py --program tests/references/reference.py`): that shows that a case's expected values do not hang on the compiler. Its
 images are texts, and it has no instructions: `--steps` counts calls and passes of loops.
 """
 import re

@@ -1,12 +1,12 @@
 #!/usr/bin/env python3
 """The int language in C, for gcc: one more answer to hold expected values against.
 
-    python3 tests/in_c.py check F | compile F -o I | run I [--calls N] [--steps N]
+    python3 tests/references/in_c.py check F | compile F -o I | run I [--calls N] [--steps N]
 
 A program becomes C with a temporary for each value, so that the order of evaluation stands in the text and C's own does
 not matter. Division by 0, the quotient of -2147483648 by -1, counts of shifts and the limit of calls are written out;
 the rest is C's `int` with -fwrapv. It answers as the program `cyclone` does, so the command-line suite can be run on it
-too (`tests/run.py --program tests/in_c.py`). Its images are programs of this computer; `--steps` counts calls and
+too (`tests/runners/run.py --program tests/references/in_c.py`). Its images are programs of this computer; `--steps` counts calls and
 passes of loops.
 """
 import os

@@ -1,7 +1,7 @@
 #!/usr/bin/env python3
 """Looks over the documents: their lines, their code spans, and the files that they name.
 
-    python3 tests/documents.py [--write]
+    python3 tests/runners/documents.py [--write]
 
 Outside of tables and programs a line of a document has at most 120 characters, a code span ends on its line, and a path
 in a code span that begins with a folder of the repository leads to a file or a folder. --write fills the lines of the
