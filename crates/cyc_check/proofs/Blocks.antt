@@ -7,7 +7,7 @@ use Rattle.cyc_types.specs.declared.typed.Item.{Item as ItemCode}
 use Rattle.cyc_types.specs.TypedTrees as typed
 use Rattle.cyc_types.specs.TypedTreeView.{view_item, items_of}
 use Rattle.cyc_types.specs.declared.region.Region.TheVariants as regions
-use Rattle.cyc_types.specs.declared.scope.ScopeKind.TheVariants as kinds
+use Rattle.cyc_types.specs.declared.scope.Kind.TheVariants as kinds
 use Rattle.cyc_types.specs.Types.{Handle, Key}
 use Rattle.cyc_types.specs.typing.Formation.{region_of}
 use Rattle.cyc_types.specs.typing.Scopes.{Scope, Ordinary, OfRegion, with_opened, with_region, with_key_opened, item_locals, one_item_locals, item_regions, one_item_regions, item_names, one_item_names, locals_in, regions_in, names_in, behind, in_block, in_labelled, in_body}

@@ -5,8 +5,8 @@ use Rattle.cyc_types.specs.declared.scope.Scope.{Scope as Opened}
 use Rattle.cyc_syntax.specs.Trees.{Named, Statement}
 use Rattle.cyc_types.specs.typing.Scopes.{Scope, RegionName, LocalVariable, Sort, OfLoop, behind, in_block, in_labelled, in_body, with_local, with_counter, with_opened, with_region, with_key_opened}
 use Rattle.cyc_types.specs.declared.region.Region.TheVariants as regions
-use Rattle.cyc_types.specs.declared.scope.ScopeKind.{ScopeKind}
-use Rattle.cyc_types.specs.declared.scope.ScopeKind.TheVariants as kinds
+use Rattle.cyc_types.specs.declared.scope.Kind.{Kind}
+use Rattle.cyc_types.specs.declared.scope.Kind.TheVariants as kinds
 use Rattle.cyc_types.specs.declared.region.Region.{Region}
 use Rattle.cyc_types.specs.Types.{Ty, Int}
 use Rattle.cyc_check.specs.Inside.{Inside, extended}
@@ -35,7 +35,7 @@ inside_local k x t g = record { locals = record { name = x.name; number = g.next
 pub inside_counter : (x : Named) (g : Scope) → Inside g (with_counter x g)
 inside_counter x g = record { locals = record { name = x.name; number = g.counters; of_type = Int; region = g.region; sort = OfLoop } ∷ []; names = []; opened = []; same = refl }
 
-pub inside_opened : (k : ScopeKind) (r : Named) (g : Scope) → Inside g (with_opened k r g)
+pub inside_opened : (k : Kind) (r : Named) (g : Scope) → Inside g (with_opened k r g)
 inside_opened k r g = record {
   locals = [];
   names = record { name = r.name; region = regions.Variable g.next_region } ∷ [];

@@ -3,7 +3,7 @@ ghost use Rattle.std.specs.Prelude.{◌≡◌, [], ◌∷◌, None, OnOk, IfOk, 
 ghost use Rattle.cyc_words.specs.declared.fault.Code.TheVariants as codes;
 ghost use Rattle.cyc_syntax.specs.Trees.{Named};
 ghost use Rattle.cyc_syntax.specs.TreeView.{place_of_span, view_name, view_type, view_expression};
-ghost use Rattle.cyc_types.specs.declared.scope.ScopeKind.TheVariants as kinds;
+ghost use Rattle.cyc_types.specs.declared.scope.Kind.TheVariants as kinds;
 ghost use Rattle.cyc_types.specs.declared.region.Region.TheVariants as regions;
 ghost use Rattle.cyc_types.specs.Types as types;
 ghost use Rattle.cyc_types.specs.TypeView.{view_ty};
@@ -31,7 +31,7 @@ use cyc_scope::{Meaning, Scope, Settled, Stop, refused};
 use cyc_syntax::{Expr, Ident, WrittenType};
 use cyc_types::formation::{region_of, type_written};
 use cyc_types::typed::Lvalue;
-use cyc_types::{Region, ScopeKind, Ty, typed};
+use cyc_types::{Kind, Region, Ty, typed};
 use cyc_words::{Code, Span};
 use std::alloc::AllocError;
 
@@ -271,7 +271,7 @@ pub(crate) fn open_lexical(
     are_new(scope, region, handle)?;
     let own = scope.next_region();
     let number = scope.next_local();
-    scope.open_region(ScopeKind::Lexical, region)?;
+    scope.open_region(Kind::Lexical, region)?;
     let of_type = Ty::Handle {
         region: Region::Variable(own),
     };
@@ -548,7 +548,7 @@ pub(crate) fn declare_alias(
 {
     is_region_new(scope, region)?;
     let own = scope.next_region();
-    scope.open_region(ScopeKind::Alias, region)?;
+    scope.open_region(Kind::Alias, region)?;
     is_type(scope, written)?;
     let item = aliased(scope, own, name, written, source)?;
     scope.declare_local(name, declared_type(&item)?)?;

@@ -2,7 +2,7 @@
 use Rattle.std.proofs.Common.{◌≡◌, ℕ, zero, suc, ◌≤◌, true, false, List, [], ◌∷◌, length, Some, None, subst, arith}
 use Rattle.std.specs.Prelude.{slice_get}
 use Rattle.cyc_types.specs.declared.region.Region.TheVariants as regions
-use Rattle.cyc_types.specs.declared.scope.ScopeKind.TheVariants as scopes
+use Rattle.cyc_types.specs.declared.scope.Kind.TheVariants as scopes
 use Rattle.cyc_types.specs.Types.{Handle, Key}
 use Rattle.cyc_types.specs.TypedTrees.{Statement, Block, If, While, Try, Items, NoItems, MoreItems, Execute, Declare, DeclareRegion, OpenRegion, DeclareAlias, DeclareKey, Clauses, NoClauses, Default, Case, Function, Program}
 use Rattle.cyc_types.specs.typing.WellTyped.{Context, WellTypedStatement, WellTypedItems, WellTypedClauses, behind, in_block, in_body, with_local, with_region, with_opened, with_key_opened, with_caught, behind_clause, body_context, AreWellTypedFunctions, IsWellTypedProgram}

@@ -1,7 +1,7 @@
 -- What a scope is left to: a mark is made where something is entered, and what came into scope since then is forgotten when it is left.
 use Rattle.std.specs.Prelude.{ℕ, suc, ◌-◌, ◌<◌, ◌≤◌, List, [], ◌∷◌, length, drop}
 use Rattle.cyc_types.specs.declared.region.Region.TheVariants as regions
-use Rattle.cyc_types.specs.declared.scope.ScopeKind.{ScopeKind}
+use Rattle.cyc_types.specs.declared.scope.Kind.{Kind}
 use Rattle.cyc_types.specs.typing.Scopes.{LocalVariable, Scope, with_scope}
 use Rattle.cyc_scope.specs.declared.scope.Mark.{Mark}
 
@@ -37,5 +37,5 @@ left_to m g = record g {
 }
 
 -- where the next region, which has its name already, is declared and opened
-abbrev pub with_next_opened : ScopeKind → Scope → Scope
+abbrev pub with_next_opened : Kind → Scope → Scope
 with_next_opened k g = record g { next_region = suc g.next_region; regions = with_scope k (regions.Variable g.next_region) g.regions }

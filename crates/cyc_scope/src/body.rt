@@ -14,7 +14,7 @@ use crate::scope::Scope;
 use crate::stop::Stop;
 use crate::table::after;
 use cyc_syntax::{Ident, Member};
-use cyc_types::{NameSet, Outlives, Region, RegionNames, ScopeKind, Signature, Ty};
+use cyc_types::{Kind, NameSet, Outlives, Region, RegionNames, Signature, Ty};
 use std::alloc::Global;
 
 /// The tables of a function's names. They have a place for each name of the text, so one function hands them to the next.
@@ -71,7 +71,7 @@ fn regions_of(alloc: Global, signature: &Signature) -> Result<Outlives, Stop>
     live.push(Region::Unique)?;
     live.extend_from_slice(&signature.effect)?;
     let mut regions = Outlives::new(alloc, &signature.constraints, &live)?;
-    regions.open_scope(Region::Variable(0), ScopeKind::Block)?;
+    regions.open_scope(Region::Variable(0), Kind::Block)?;
     Ok(regions)
 }
 

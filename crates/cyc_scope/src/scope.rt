@@ -7,7 +7,7 @@ use crate::program::{Field, Program};
 use crate::stop::Stop;
 use crate::table::after;
 use cyc_syntax::Ident;
-use cyc_types::{NameSet, Outlives, Region, RegionNames, ScopeKind, StructNames, Ty};
+use cyc_types::{Kind, NameSet, Outlives, Region, RegionNames, StructNames, Ty};
 use std::alloc::Global;
 use std::marker::Model;
 
@@ -86,7 +86,7 @@ impl<'a> Model for Scope<'a> {
 impl<'a> Scope<'a> {
     ghost use Rattle.std.specs.Prelude.{◌≡◌, [], map, slice_get, unwrap_or, option_map, OnOk, IfErr, IfSome};
     ghost use Rattle.cyc_syntax.specs.TreeView.{view_name};
-    ghost use Rattle.cyc_types.specs.declared.scope.ScopeKind.TheVariants as kinds;
+    ghost use Rattle.cyc_types.specs.declared.scope.Kind.TheVariants as kinds;
     ghost use Rattle.cyc_types.specs.TypeView.{view_ty};
     ghost use Rattle.cyc_types.specs.Closure.{is_outliving};
     ghost use Rattle.cyc_types.specs.typing.Scopes as scopes;
@@ -212,7 +212,7 @@ impl<'a> Scope<'a> {
         let region = self.next_region;
         let next = after(region)?;
         self.regions
-            .open_scope(Region::Variable(region), ScopeKind::Block)?;
+            .open_scope(Region::Variable(region), Kind::Block)?;
         self.region = region;
         self.next_region = next;
         Ok(())
@@ -297,7 +297,7 @@ impl<'a> Scope<'a> {
     }
 
     /// Behind an item that declares and opens the next region, which has its name already.
-    pub fn open_next(&mut self, kind: ScopeKind) -> Result<(), Stop>
+    pub fn open_next(&mut self, kind: Kind) -> Result<(), Stop>
         ensures opened { OnOk result (self.new ≡ with_next_opened kind self.old) }
         ensures memory { IfErr result (λ e. e ≡ Memory) }
     {
@@ -309,7 +309,7 @@ impl<'a> Scope<'a> {
     }
 
     /// Behind an item that declares a region of this name, and opens a scope of it.
-    pub fn open_region(&mut self, kind: ScopeKind, name: Ident) -> Result<(), Stop>
+    pub fn open_region(&mut self, kind: Kind, name: Ident) -> Result<(), Stop>
         ensures opened { OnOk result (self.new ≡ with_opened kind (view_name name) self.old) }
         ensures memory { IfErr result (λ e. e ≡ Memory) }
     {
@@ -333,7 +333,7 @@ impl<'a> Scope<'a> {
         ensures opened { OnOk result (self.new ≡ with_key_opened region self.old) }
         ensures memory { IfErr result (λ e. e ≡ Memory) }
     {
-        self.regions.open_scope(region, ScopeKind::Dynamic)?;
+        self.regions.open_scope(region, Kind::Dynamic)?;
         Ok(())
     }
 

@@ -11,7 +11,7 @@ use Rattle.cyc_types.specs.TypedTrees.{Items, Clauses, NoClauses, Default, Case,
 use Rattle.cyc_types.specs.Declarations.{caught_types, item_types, item_regions}
 use Rattle.cyc_types.specs.Outlives.{live_regions}
 use Rattle.cyc_types.specs.declared.region.Region.TheVariants as regions
-use Rattle.cyc_types.specs.declared.scope.ScopeKind.TheVariants as scopes
+use Rattle.cyc_types.specs.declared.scope.Kind.TheVariants as scopes
 use Rattle.cyc_types.specs.Rules.{Derives}
 use Rattle.cyc_types.specs.typing.WellTyped.{LocalInScope, Context, IsLive, IsCaught, in_block, with_local, with_caught, behind_clause, WellTypedItems, WellTypedClauses, body_context, parameters_in_scope}
 use Rattle.cyc_types.specs.flow.States as flow

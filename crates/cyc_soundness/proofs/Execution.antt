@@ -10,7 +10,7 @@ use Rattle.cyc_types.specs.Declarations.{declared_types, declared_regions}
 use Rattle.cyc_types.specs.Outlives.{live_regions}
 use Rattle.cyc_types.specs.declared.region.Region.{Region}
 use Rattle.cyc_types.specs.declared.region.Region.TheVariants as regions
-use Rattle.cyc_types.specs.declared.scope.ScopeKind.TheVariants as scopes
+use Rattle.cyc_types.specs.declared.scope.Kind.TheVariants as scopes
 use Rattle.cyc_types.specs.declared.typed.Kind.TheVariants as kinds
 use Rattle.cyc_types.specs.typing.WellTyped.{Context, IsReturned, IsThrown, in_block, behind, IsLive, with_local, with_opened, with_key_opened, WellTypedStatement, WellTypedItems}
 use Rattle.cyc_types.specs.typing.Statements.{with_region_of}

@@ -6,7 +6,7 @@ use Rattle.cyc_syntax.specs.declared.tree.PointerKind.{PointerKind}
 use Rattle.cyc_syntax.specs.declared.tree.PointerKind.TheVariants as marks
 use Rattle.cyc_types.specs.declared.region.Region.{Region as Region'}
 use Rattle.cyc_types.specs.declared.region.Region.TheVariants as regions
-use Rattle.cyc_types.specs.declared.scope.ScopeKind.TheVariants as scopes
+use Rattle.cyc_types.specs.declared.scope.Kind.TheVariants as scopes
 use Rattle.cyc_types.specs.declared.typed.Kind.TheVariants as kinds
 use Rattle.cyc_types.specs.Outlives.{live_regions}
 use Rattle.cyc_types.specs.Types.{Ty}

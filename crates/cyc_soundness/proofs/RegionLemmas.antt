@@ -5,8 +5,8 @@ use Rattle.std.proofs.lemmas.Bool.{eqb-true, eq-eqb, false_from_ne_true}
 use Rattle.cyc_types.specs.declared.region.Region.{Region}
 use Rattle.cyc_types.specs.declared.region.Region.TheVariants as regions
 use Rattle.cyc_types.specs.declared.scope.Scope.{Scope}
-use Rattle.cyc_types.specs.declared.scope.ScopeKind.{ScopeKind}
-use Rattle.cyc_types.specs.declared.scope.ScopeKind.TheVariants as scopes
+use Rattle.cyc_types.specs.declared.scope.Kind.{Kind}
+use Rattle.cyc_types.specs.declared.scope.Kind.TheVariants as scopes
 use Rattle.cyc_types.specs.Outlives.{RegionContext, live_regions, is_outlived_by_live, IsLiveAtOpening, IsGiven, OutlivesIn}
 use Rattle.cyc_types.specs.Regions.{substituted_region}
 use Rattle.cyc_types.specs.TypedTrees.{Dereference, Target, Member, Element, StructType, Function, Program}
@@ -176,13 +176,13 @@ at_opening live (s ∷ earlier) a b (inr is) =
     let (one, two) = at_opening live earlier a b is in (contains_more s.region a (live_regions live earlier) one, contains_more s.region b (live_regions live earlier) two)
 
 -- where a scope opens, nothing else outlives what is unique
-opened_plain : (kind : ScopeKind) (number : ℕ) (c : RegionContext) → ((a : Region) → IsGiven c a regions.Unique → ⊥) → (a : Region) → IsGiven (with_scope kind (regions.Variable number) c) a regions.Unique → ⊥
+opened_plain : (kind : Kind) (number : ℕ) (c : RegionContext) → ((a : Region) → IsGiven c a regions.Unique → ⊥) → (a : Region) → IsGiven (with_scope kind (regions.Variable number) c) a regions.Unique → ⊥
 opened_plain kind number c plain a (inl (heap, other)) = other refl
 opened_plain kind number c plain a (inr (inl written)) = plain a (inr (inl written))
 opened_plain kind number c plain a (inr (inr (inl (outlived, new, other, has)))) = let e : regions.Unique ≡ regions.Variable number = new in absurd (cc)
 opened_plain kind number c plain a (inr (inr (inr old))) = plain a (inr (inr old))
 
-module _ (g : Typing) (kind : ScopeKind) (number region : ℕ) (ns : List ℕ) (c : RegionContext) (bs : List InScope) (variables : AreVariables g bs) (outlived : is_outlived_by_live kind ≡ true) (live : AreLiveIn ns bs)
+module _ (g : Typing) (kind : Kind) (number region : ℕ) (ns : List ℕ) (c : RegionContext) (bs : List InScope) (variables : AreVariables g bs) (outlived : is_outlived_by_live kind ≡ true) (live : AreLiveIn ns bs)
     (others : (r : Region) → Contains (live_regions c.live c.opened) r → IsOther number r) (pairs : (a b : Region) → Contains c.written (a, b) → IsOther number a × IsOther number b) where
   abbrev inner : List InScope
   inner = Names number (OfRegion region ns (lent_now g)) true ∷ bs
@@ -233,7 +233,7 @@ module _ (number : ℕ) (l : Life) (alive : Bool) (c : RegionContext) (bs : List
       agrees a b (inr (inr old)) = let (one, two) = at_opening c.live c.opened a b old in moved a b (others a one) (others b two) (names.agrees a b (inr (inr old)))
 
 -- a scope whose region is older than itself
-also_opened : (kind : ScopeKind) (number : ℕ) (c : RegionContext) (frees : Bool) (these : ℕ → Life) (live : ℕ → Bool) → is_outlived_by_live kind ≡ false → live number ≡ true → AreNamed c frees these live
+also_opened : (kind : Kind) (number : ℕ) (c : RegionContext) (frees : Bool) (these : ℕ → Life) (live : ℕ → Bool) → is_outlived_by_live kind ≡ false → live number ≡ true → AreNamed c frees these live
     → AreNamed (with_scope kind (regions.Variable number) c) frees these live
 also_opened kind number c frees these live older alive names = record { there = there; agrees = agrees; plain = opened_plain kind number c names.plain }
   where
@@ -377,7 +377,7 @@ known_behind (ByScope lends frees) n k c vs result most known = record {
   gives = in_value (IsKnown n) (IsKnown k) (λ r is. known_more n k r most is) (result_type result) known.gives;
 }
 
-known_opened : (m : Reading) (n : ℕ) (kind : ScopeKind) (c : RegionContext) (vs : List LocalInScope) (result : Option Ty) → AreKnown m n c vs result
+known_opened : (m : Reading) (n : ℕ) (kind : Kind) (c : RegionContext) (vs : List LocalInScope) (result : Option Ty) → AreKnown m n c vs result
     → AreKnown m (suc n) (with_scope kind (regions.Variable n) c) vs result
 known_opened AsHeap n kind c vs result known = tt
 known_opened (ByScope lends frees) n kind c vs result known = record {
@@ -408,7 +408,7 @@ known_local (ByScope lends frees) c b t known (declared, live) = record {
 
 -- ---- a region is opened in a context
 
-pub stand_opened : (g : Typing) (m : Reading) (kind : ScopeKind) (number region : ℕ) (ns : List ℕ) (c : RegionContext) (bs : List InScope) → AreVariables g bs → is_outlived_by_live kind ≡ true → AreLiveIn ns bs
+pub stand_opened : (g : Typing) (m : Reading) (kind : Kind) (number region : ℕ) (ns : List ℕ) (c : RegionContext) (bs : List InScope) → AreVariables g bs → is_outlived_by_live kind ≡ true → AreLiveIn ns bs
     → ((r : Region) → Contains (live_regions c.live c.opened) r → IsOtherBy m number r) → ((a b : Region) → Contains c.written (a, b) → IsOtherBy m number a × IsOtherBy m number b)
     → Stand m c bs → Stand m (with_scope kind (regions.Variable number) c) (Names number (opened_life m region ns (lent_now g)) true ∷ bs)
 stand_opened g AsHeap kind number region ns c bs variables outlived live others pairs stand = (stand.0, named_heap number (λ n. life_named bs n) (λ n. is_live_named bs n) stand.1)
@@ -468,7 +468,7 @@ module _ (p : Source) (x : Exits) (bs : List InScope) (c : Context) (stands : Is
     scope_here : IsScope p.reading (lives_in here) c.locals bs
     scope_here = scope_kept p.reading c.next_region (lives_in bs) (lives_in here) c.locals bs same_here (others_locals p.reading c.next_region c.regions c.locals c.result stands.known) stands.scope
 
-    stand_here : (kind : ScopeKind) → is_outlived_by_live kind ≡ true → Stand p.reading (with_scope kind (regions.Variable c.next_region) c.regions) here
+    stand_here : (kind : Kind) → is_outlived_by_live kind ≡ true → Stand p.reading (with_scope kind (regions.Variable c.next_region) c.regions) here
     stand_here kind outlived = stand_opened g p.reading kind c.next_region region ns c.regions bs variables outlived live
         (known_live p.reading c.next_region c.regions c.locals c.result stands.known) (known_pairs p.reading c.next_region c.regions c.locals c.result stands.known) stands.regions
 
@@ -525,7 +525,7 @@ stand_again AsHeap loans number c bs stand = absurd loans
 stand_again (ByScope lends frees) loans number c bs (same, stand) =
     (same, renamed number (life_named bs number) true c bs (λ r. Unit {0}) (λ r is. again_life number bs r) (λ r is there. again_there number (life_named bs number) bs r there) (λ r has. tt) (λ a b has. (tt, tt)) stand)
 
-stand_also : (m : Reading) → HasLoans m → (kind : ScopeKind) (number : ℕ) (l : Life) (c : RegionContext) (bs : List InScope) → is_outlived_by_live kind ≡ false → Stand m c (Names number l true ∷ bs)
+stand_also : (m : Reading) → HasLoans m → (kind : Kind) (number : ℕ) (l : Life) (c : RegionContext) (bs : List InScope) → is_outlived_by_live kind ≡ false → Stand m c (Names number l true ∷ bs)
     → Stand m (with_scope kind (regions.Variable number) c) (Names number l true ∷ bs)
 stand_also AsHeap loans kind number l c bs older stand = absurd loans
 stand_also (ByScope lends frees) loans kind number l c bs older (same, stand) =

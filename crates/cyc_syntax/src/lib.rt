@@ -2,6 +2,7 @@
 //! grammar as definitions that the lexer and the parser are proved against.
 #![tactic(auto)]
 
+pub use cyc_words::Span;
 pub use interning::{Name, Names};
 pub use place::place_behind;
 pub use tokens::{Keyword, Sign, Token, TokenKind};

@@ -2,7 +2,7 @@
 
 use crate::rows::expect;
 use cyc_syntax::PointerKind;
-use cyc_types::{Outlives, Region, ScopeKind, Ty};
+use cyc_types::{Kind, Outlives, Region, Ty};
 use std::alloc::Global;
 use std::process::Abort;
 use std::rc::{Rc, RcSlice};
@@ -28,9 +28,9 @@ fn expect_table<R: Abort>(rt: &R, outlives: &Outlives, want: &str) {
 /// A lexical region, C, between an opened dynamic region, B, and an alias block, D.
 fn expect_scopes<R: Abort>(rt: &R, alloc: Global) -> Option<()> {
     let mut outlives = Outlives::new(alloc, &[], &[A, Region::Unique]).ok()?;
-    outlives.open_scope(B, ScopeKind::Dynamic).ok()?;
-    outlives.open_scope(C, ScopeKind::Lexical).ok()?;
-    outlives.open_scope(D, ScopeKind::Alias).ok()?;
+    outlives.open_scope(B, Kind::Dynamic).ok()?;
+    outlives.open_scope(C, Kind::Lexical).ok()?;
+    outlives.open_scope(D, Kind::Alias).ok()?;
     expect_table(rt, &outlives, "101111 010000 001010 000110 000010 000001");
     outlives.close_scope();
     outlives.close_scope();

@@ -6,7 +6,7 @@ use Rattle.std.proofs.lemmas.List.{get_or-take, get_or_append_left, length-take-
 use Rattle.std.proofs.lemmas.List.Folds.{list_any_at}
 use Rattle.cyc_types.specs.declared.region.Region.{Region}
 use Rattle.cyc_types.specs.declared.region.Region.TheVariants.{Heap, Unique}
-use Rattle.cyc_types.specs.declared.scope.ScopeKind.TheVariants.{Block}
+use Rattle.cyc_types.specs.declared.scope.Kind.TheVariants.{Block}
 use Rattle.cyc_types.specs.declared.scope.Scope.{Scope}
 use Rattle.cyc_types.specs.Regions.{region_eq, is_region_among}
 use Rattle.cyc_types.specs.Outlives.{live_regions, is_outlived_by_live}

@@ -3,7 +3,7 @@
 use Rattle.std.specs.Prelude.{◌≡◌, ◌⊎◌, ◌<◌, ◌≤◌, ℕ, true, false, List, get_or, take, reverse, length}
 use Rattle.cyc_types.specs.declared.region.Region.{Region}
 use Rattle.cyc_types.specs.declared.region.Region.TheVariants.{Heap, Unique, Variable}
-use Rattle.cyc_types.specs.declared.scope.ScopeKind.TheVariants.{Block}
+use Rattle.cyc_types.specs.declared.scope.Kind.TheVariants.{Block}
 use Rattle.cyc_types.specs.declared.scope.Scope.{Scope}
 use Rattle.cyc_types.specs.Regions.{region_eq, is_region_among}
 use Rattle.cyc_types.specs.Outlives.{live_regions, is_outlived_by_live}

@@ -5,8 +5,8 @@ use Rattle.std.specs.Prelude.{◌≡◌, ◌≢◌, ◌⊎◌, Bool, true, false
 use Rattle.std.specs.List.{list_all}
 use Rattle.cyc_types.specs.declared.region.Region.{Region}
 use Rattle.cyc_types.specs.declared.region.Region.TheVariants.{Heap, Unique}
-use Rattle.cyc_types.specs.declared.scope.ScopeKind.{ScopeKind}
-use Rattle.cyc_types.specs.declared.scope.ScopeKind.TheVariants.{Block, Lexical, Dynamic, Alias}
+use Rattle.cyc_types.specs.declared.scope.Kind.{Kind}
+use Rattle.cyc_types.specs.declared.scope.Kind.TheVariants.{Block, Lexical, Dynamic, Alias}
 use Rattle.cyc_types.specs.declared.scope.Scope.{Scope}
 use Rattle.cyc_types.specs.Regions.{region_eq}
 
@@ -25,7 +25,7 @@ live_regions live opened = map (λ s. s.region) opened ++ live
 
 -- whether what is live when a scope opens outlives its region: an opened dynamic region and an alias block's are older than
 -- their scopes
-abbrev pub is_outlived_by_live : ScopeKind → Bool
+abbrev pub is_outlived_by_live : Kind → Bool
 is_outlived_by_live Block = true
 is_outlived_by_live Lexical = true
 is_outlived_by_live Dynamic = false

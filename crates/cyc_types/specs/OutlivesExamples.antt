@@ -1,7 +1,7 @@
 -- The outlives relation at work.
 use Rattle.std.specs.Prelude.{◌≡◌, true, false, [], ◌∷◌, refl}
 use Rattle.cyc_types.specs.declared.region.Region.TheVariants.{Heap, Unique, Variable}
-use Rattle.cyc_types.specs.declared.scope.ScopeKind.TheVariants.{Lexical, Dynamic}
+use Rattle.cyc_types.specs.declared.scope.Kind.TheVariants.{Lexical, Dynamic}
 use Rattle.cyc_types.specs.Outlives.{RegionContext}
 use Rattle.cyc_types.specs.Closure.{is_outliving}
 

@@ -6,7 +6,7 @@ pub use name_set::NameSet;
 pub use names::RegionNames;
 pub use outlives::Outlives;
 pub use region::Region;
-pub use scope::{Scope, ScopeKind};
+pub use scope::{Kind, Scope};
 pub use signature::Signature;
 pub use structs::StructNames;
 pub use ty::Ty;

@@ -10,7 +10,7 @@ ghost use Rattle.cyc_types.specs.Closure.{HasNoUnique, IsClosed, above, above_on
 use crate::Region;
 use crate::constraints::{Constraint, closed, is_region_among, table_leads};
 use crate::openings::{is_live_before, leads_in_order, opens_in_order};
-use crate::scope::{Scope, ScopeKind, is_outlived_by_live};
+use crate::scope::{Kind, Scope, is_outlived_by_live};
 use std::alloc::{AllocError, Global};
 use std::marker::Model;
 
@@ -100,7 +100,7 @@ impl Outlives {
 
     /// Opens a scope. Its region is live until the scope is closed. It may be a region that the constraints name or that is live
     /// already, as the region of a key is.
-    pub fn open_scope(&mut self, region: Region, kind: ScopeKind) -> Result<(), AllocError>
+    pub fn open_scope(&mut self, region: Region, kind: Kind) -> Result<(), AllocError>
         ensures opened { OnOk result (self.new ≡ record self.old { opened = record { region = region; kind = kind } ∷ self.old.opened }) }
         ensures unchanged { OnErr result (self.new ≡ self.old) }
     {

@@ -6,7 +6,7 @@ use crate::Region;
 
 /// What opens a region for the rest of a block.
 #[derive(Clone, Copy, Debug, PartialEq, Eq)]
-pub enum ScopeKind {
+pub enum Kind {
     /// A block, whose variables live in its region.
     Block,
     /// A `region` item that makes its region.
@@ -21,15 +21,15 @@ pub enum ScopeKind {
 #[derive(Clone, Copy, Debug, PartialEq, Eq)]
 pub struct Scope {
     pub region: Region,
-    pub kind: ScopeKind,
+    pub kind: Kind,
 }
 
 /// Whether what is live when such a scope opens outlives its region.
-pub(crate) fn is_outlived_by_live(kind: ScopeKind) -> bool
+pub(crate) fn is_outlived_by_live(kind: Kind) -> bool
     ensures { result ≡ is_outlived_by_live kind }
 {
     match kind {
-        ScopeKind::Block | ScopeKind::Lexical => true,
-        ScopeKind::Dynamic | ScopeKind::Alias => false,
+        Kind::Block | Kind::Lexical => true,
+        Kind::Dynamic | Kind::Alias => false,
     }
 }

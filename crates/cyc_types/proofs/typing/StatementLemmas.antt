@@ -7,8 +7,8 @@ use Rattle.cyc_syntax.specs.Trees.{Named, Pointer, BaseType, Struct, WrittenType
 use Rattle.cyc_syntax.specs.Trees as written
 use Rattle.cyc_types.specs.declared.region.Region.{Region as RegionCode}
 use Rattle.cyc_types.specs.declared.region.Region.TheVariants as regions
-use Rattle.cyc_types.specs.declared.scope.ScopeKind.{ScopeKind}
-use Rattle.cyc_types.specs.declared.scope.ScopeKind.TheVariants as kinds
+use Rattle.cyc_types.specs.declared.scope.Kind.{Kind}
+use Rattle.cyc_types.specs.declared.scope.Kind.TheVariants as kinds
 use Rattle.cyc_types.specs.Regions.{region_eq}
 use Rattle.cyc_types.specs.Types.{Ty, Int, Handle, Key, ValueType, Void, Null, Value}
 use Rattle.cyc_types.specs.Types as types
@@ -127,7 +127,7 @@ module _ (p : typed.Program) (h : typed.Function) where
   }
 
   -- a scope of a region variable opens within a block
-  opening : (g : Scope) (k : ScopeKind) (n m : ℕ) → Fits p h g → Fits p h (record g { next_region = m; regions = with_scope k (regions.Variable n) g.regions })
+  opening : (g : Scope) (k : Kind) (n m : ℕ) → Fits p h g → Fits p h (record g { next_region = m; regions = with_scope k (regions.Variable n) g.regions })
   opening g k n m fits = record {
     locals = fits.locals;
     program = fits.program;

@@ -7,7 +7,7 @@ use Rattle.cyc_syntax.specs.Names.{number_of}
 use Rattle.cyc_syntax.specs.Symbols.{Place}
 use Rattle.cyc_syntax.specs.Trees.{Named, Body, Braces, Items, Member, GlobalValue, Positive, Negative, Byte, NullPointer, Parameters, Declaration, StructType, Exceptions, Global, Function}
 use Rattle.cyc_types.specs.declared.region.Region.TheVariants as regions
-use Rattle.cyc_types.specs.declared.scope.ScopeKind.TheVariants as kinds
+use Rattle.cyc_types.specs.declared.scope.Kind.TheVariants as kinds
 use Rattle.cyc_types.specs.declared.typed.Callee.TheVariants as callees
 use Rattle.cyc_types.specs.Types.{Ty, Int}
 use Rattle.cyc_types.specs.Outlives.{RegionContext}

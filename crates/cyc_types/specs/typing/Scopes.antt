@@ -7,8 +7,8 @@ use Rattle.cyc_syntax.specs.Trees.{Named, Statement, Block, Labelled, Empty, Eva
 use Rattle.cyc_syntax.specs.Trees as written
 use Rattle.cyc_types.specs.declared.region.Region.{Region as RegionCode}
 use Rattle.cyc_types.specs.declared.region.Region.TheVariants as regions
-use Rattle.cyc_types.specs.declared.scope.ScopeKind.{ScopeKind}
-use Rattle.cyc_types.specs.declared.scope.ScopeKind.TheVariants as kinds
+use Rattle.cyc_types.specs.declared.scope.Kind.{Kind}
+use Rattle.cyc_types.specs.declared.scope.Kind.TheVariants as kinds
 use Rattle.cyc_types.specs.declared.typed.Callee.{Callee}
 use Rattle.cyc_types.specs.Types.{Ty, Int}
 use Rattle.cyc_types.specs.Outlives.{RegionContext, live_regions}
@@ -240,7 +240,7 @@ abbrev pub behind : Scope → Statement → Scope
 behind g s = record g { next_local = g.next_local + locals_in s; next_region = g.next_region + regions_in s; taken = names_in s ++ g.taken }
 
 -- with a scope of this region open
-abbrev pub with_scope : ScopeKind → RegionCode → RegionContext → RegionContext
+abbrev pub with_scope : Kind → RegionCode → RegionContext → RegionContext
 with_scope k r c = record c { opened = record { region = r; kind = k } ∷ c.opened }
 
 -- inside a block
@@ -274,7 +274,7 @@ with_counter x g = record g {
 }
 
 -- behind an item that declares a region of this name, and opens a scope of it
-abbrev pub with_opened : ScopeKind → Named → Scope → Scope
+abbrev pub with_opened : Kind → Named → Scope → Scope
 with_opened k r g = record (with_name r g) { next_region = suc g.next_region; regions = with_scope k (regions.Variable g.next_region) g.regions }
 
 -- behind one that declares a region that is not opened

@@ -7,7 +7,7 @@ use Rattle.cyc_syntax.specs.Symbols.{Place}
 use Rattle.cyc_syntax.specs.Trees.{Named, WrittenType, Expression, Statement, Block, Labelled, Empty, Evaluate, Swap, If, IfElse, While, Return, Break, Continue, Throw, Try, Body, Braces, Items, NoItems, MoreItems, Item, Execute, Local, Region, Alias, DynamicRegion, Clauses, NoClauses, Default, Case, place_of}
 use Rattle.cyc_types.specs.declared.region.Region.{Region as RegionCode}
 use Rattle.cyc_types.specs.declared.region.Region.TheVariants as regions
-use Rattle.cyc_types.specs.declared.scope.ScopeKind.TheVariants as kinds
+use Rattle.cyc_types.specs.declared.scope.Kind.TheVariants as kinds
 use Rattle.cyc_types.specs.Regions.{region_eq}
 use Rattle.cyc_types.specs.Types.{Ty, Int, Pointer, Handle, Key, ValueType, Value}
 use Rattle.cyc_types.specs.TypedTrees.{Lvalue, Global, Converted, type_of}

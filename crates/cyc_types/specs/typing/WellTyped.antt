@@ -7,8 +7,8 @@ use Rattle.cyc_syntax.specs.declared.tree.PointerKind.{PointerKind}
 use Rattle.cyc_syntax.specs.declared.tree.PointerKind.TheVariants as marks
 use Rattle.cyc_types.specs.declared.region.Region.{Region}
 use Rattle.cyc_types.specs.declared.region.Region.TheVariants as regions
-use Rattle.cyc_types.specs.declared.scope.ScopeKind.{ScopeKind}
-use Rattle.cyc_types.specs.declared.scope.ScopeKind.TheVariants as scopes
+use Rattle.cyc_types.specs.declared.scope.Kind.{Kind}
+use Rattle.cyc_types.specs.declared.scope.Kind.TheVariants as scopes
 use Rattle.cyc_types.specs.declared.typed.Callee.{Callee}
 use Rattle.cyc_types.specs.declared.typed.Callee.TheVariants as callees
 use Rattle.cyc_types.specs.declared.typed.UnaryOperator.{UnaryOperator}
@@ -251,7 +251,7 @@ with_local b t c = record c { locals = record { number = c.next_local; of_type =
 abbrev pub with_region : Context → Context
 with_region c = record c { next_region = suc c.next_region }
 
-abbrev pub with_opened : ScopeKind → Context → Context
+abbrev pub with_opened : Kind → Context → Context
 with_opened k c = record c { next_region = suc c.next_region; regions = with_scope k (regions.Variable c.next_region) c.regions }
 
 abbrev pub with_key_opened : ℕ → Context → Context

@@ -1,7 +1,7 @@
 use Rattle.std.proofs.Common.{◌≡◌, true, sym, ◌∙◌, reverse, take, get_or}
 use Rattle.std.proofs.lemmas.Bool.{and_left, and_right}
 use Rattle.cyc_types.specs.declared.region.Region.TheVariants.{Heap}
-use Rattle.cyc_types.specs.declared.scope.ScopeKind.TheVariants.{Block}
+use Rattle.cyc_types.specs.declared.scope.Kind.TheVariants.{Block}
 use Rattle.cyc_types.specs.declared.scope.Scope.{Scope}
 use Rattle.cyc_types.specs.Outlives.{live_regions, is_outlived_by_live}
 use Rattle.cyc_types.specs.Closure.{above_one_of, written_in}
