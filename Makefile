@@ -37,14 +37,14 @@ quick:
 
 cases: build
 	@sh tests/tools.sh
-	@python3 tests/run.py
-	@python3 tests/run.py --whole
-	@python3 tests/codes.py
-	@python3 tests/documents.py
-	@python3 tests/examples.py
-	@python3 tests/editors.py
-	@python3 tests/refused.py
-	@python3 tests/differential.py
+	@python3 tests/runners/run.py
+	@python3 tests/runners/run.py --whole
+	@python3 tests/runners/codes.py
+	@python3 tests/runners/documents.py
+	@python3 tests/runners/examples.py
+	@python3 tests/runners/editors.py
+	@python3 tests/runners/refused.py
+	@python3 tests/runners/differential.py
 
 bench: build
 	@python3 bench/machine.py

@@ -18,7 +18,7 @@ add() {
   local name=$1 status count good bad
   shift
   echo "== $name"
-  python3 tests/gate_table.py measure "$costs" out/gate.md "$name" "$@" 2>&1 | tee "$log" | sed -u "s/^\([0-9]* passed, [0-9]* failed\)\$/$name: \1/"
+  python3 tests/runners/gate_table.py measure "$costs" out/gate.md "$name" "$@" 2>&1 | tee "$log" | sed -u "s/^\([0-9]* passed, [0-9]* failed\)\$/$name: \1/"
   status=${PIPESTATUS[0]}
   count=$(grep -E '^[0-9]+ passed, [0-9]+ failed$' "$log" | tail -n 1)
   good=0
@@ -47,20 +47,20 @@ faults_in() {
 
 sh tests/tools.sh || echo "tests/tools.sh: a tool of the suite could not be installed"
 add "proofs" rt ci
-add "self tests" python3 tests/self_test.py
-add "wrong bodies" python3 tests/wrong.py
-add "wrong rules" python3 tests/rules.py
-add "command line" python3 tests/run.py
-add "whole language" python3 tests/run.py --whole
-add "codes" python3 tests/codes.py
-add "documents" python3 tests/documents.py
-add "examples" python3 tests/examples.py
-add "editors" python3 tests/editors.py
-add "refused allocations" python3 tests/refused.py
-add "random programs" python3 tests/differential.py
+add "self tests" python3 tests/runners/self_test.py
+add "wrong bodies" python3 tests/runners/wrong.py
+add "wrong rules" python3 tests/runners/rules.py
+add "command line" python3 tests/runners/run.py
+add "whole language" python3 tests/runners/run.py --whole
+add "codes" python3 tests/runners/codes.py
+add "documents" python3 tests/runners/documents.py
+add "examples" python3 tests/runners/examples.py
+add "editors" python3 tests/runners/editors.py
+add "refused allocations" python3 tests/runners/refused.py
+add "random programs" python3 tests/runners/differential.py
 echo "== costs"
 mkdir -p out
-python3 tests/gate_table.py show "$costs" | tee out/gate.md
+python3 tests/runners/gate_table.py show "$costs" | tee out/gate.md
 if [ -s "$faults" ]; then
   echo "== what failed"
   cat "$faults"

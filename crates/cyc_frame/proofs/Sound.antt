@@ -1,5 +1,5 @@
 -- Frames are frames, and what is refused is the first that is too large.
-use Rattle.std.proofs.Common.{◌≡◌, ℕ, zero, suc, ◌+◌, ◌<◌, ◌≤◌, Bool, false, List, [], ◌∷◌, length, map, Some, None, Result, Err, refl, sym, ap, subst, ◌∙◌, arith, inl, inr}
+use Rattle.std.proofs.Common.{◌≡◌, ℕ, zero, suc, ◌+◌, ◌<◌, ◌≤◌, Bool, false, List, [], ◌∷◌, length, map, Some, None, Result, Ok, Err, refl, sym, ap, subst, ◌∙◌, arith, inl, inr}
 use Rattle.std.specs.Prelude.{if◌then◌else◌, slice_index_or, ◌⊎◌, Option}
 use Rattle.std.proofs.lemmas.Bool.{cases_lt, lt-ltb}
 use Rattle.std.proofs.lemmas.List.{length-map}
@@ -15,7 +15,7 @@ use Rattle.cyc_words.specs.Decision.{Decides}
 use Rattle.cyc_words.specs.Fault.{memory_fault}
 use Rattle.cyc_words.proofs.Decisions.{IsDecided, decides}
 use Rattle.cyc_frame.specs.declared.frame.TheConstants.{MOST_FRAME_WORDS}
-use Rattle.cyc_frame.specs.Layout.{AreFrames, FramedProgram, HasSmallFrames, IsAccepted, IsFrame, IsFramed, IsTooLarge, first_too_large, frame_at, frame_of, is_too_large}
+use Rattle.cyc_frame.specs.Layout.{AreFrames, HasSmallFrames, IsAccepted, IsFrame, IsTooLarge, first_too_large, frame_at, frame_of, is_too_large}
 
 pub is_frame : (r : Routine) → r.slots + LAYOUT_WORDS ≤ r.frame_count → r.frame_count ≤ MOST_FRAME_WORDS → IsFrame r (frame_of r)
 is_frame r fits small = record {
@@ -158,12 +158,12 @@ is_decided program =
       never_faulty = λ a fault accepted large. not_both program fault (subst HasSmallFrames accepted.0 accepted.1) large;
     }
 
-abbrev Answers : Program → Result FramedProgram Fault → Type 0
-Answers program result = Decides (IsAccepted program) IsFramed (IsTooLarge program) (IsTooLarge program) result
+abbrev Answers : Program → Result (List Frame) Fault → Type 0
+Answers program result = Decides (IsAccepted program) AreFrames (IsTooLarge program) (IsTooLarge program) result
 
 refused : (program : Program) (fault : Fault) → (fault ≡ memory_fault) ⊎ IsTooLarge program fault → Answers program (Err fault)
 refused program fault why =
-    decides (IsAccepted program) IsFramed (IsTooLarge program) (IsTooLarge program) (is_decided program) (Err fault) tt why
+    decides (IsAccepted program) AreFrames (IsTooLarge program) (IsTooLarge program) (is_decided program) (Err fault) tt why
 
 module _ (program : Program) (functions : List Function) (are : map routine_of functions ≡ program.functions) where
   pub too_large : (place : Span) (fault : Fault) → first_too_large (map routine_of functions) ≡ Some place
@@ -172,7 +172,13 @@ module _ (program : Program) (functions : List Function) (are : map routine_of f
       refused program fault (inr (some_large program place fault (ap first_too_large (sym are) ∙ some) code line column))
 
   -- the frames that were made
-  pub are_frames : IsWellFormed program → (frames : List Frame) → frames ≡ map frame_of (map routine_of functions)
+  are_frames : IsWellFormed program → (frames : List Frame) → frames ≡ map frame_of (map routine_of functions)
       → first_too_large (map routine_of functions) ≡ None → AreFrames program frames
   are_frames well frames made none =
       subst (AreFrames program) (sym (made ∙ ap (map frame_of) are)) (frames_stand program well (none_large program (ap first_too_large (sym are) ∙ none)))
+
+  pub framed : IsWellFormed program → (frames : List Frame) → frames ≡ map frame_of (map routine_of functions)
+      → first_too_large (map routine_of functions) ≡ None → Answers program (Ok frames)
+  framed well frames made none =
+      decides (IsAccepted program) AreFrames (IsTooLarge program) (IsTooLarge program) (is_decided program) (Ok frames)
+      (program, (refl, none_large program (ap first_too_large (sym are) ∙ none)), are_frames well frames made none) tt

@@ -35,11 +35,6 @@ pub record AreFrames (program : Program) (frames : List Frame) : Type 0 where
   pub as_many : length frames ≡ length program.functions
   pub each : (k : ℕ) → k < length program.functions → IsFrame (routine_at program k) (frame_at frames k)
 
--- a program with the frames of its functions
-pub record FramedProgram : Type 0 where
-  pub program : Program
-  pub frames : List Frame
-
 -- The frame of a function: the words that are kept for the layout, of which the first is for the return address, and
 -- then the slots in order.
 abbrev pub frame_of : Routine → Frame
@@ -67,9 +62,6 @@ pub record IsTooLarge (program : Program) (fault : Fault) : Type 0 where
   pub line : fault.line ≡ (routine_at program function).name.line
   pub column : fault.column ≡ (routine_at program function).name.column
 
--- what is accepted, and with which answer
+-- what is accepted
 abbrev pub IsAccepted : (given program : Program) → Type 0
 IsAccepted given program = (program ≡ given) × HasSmallFrames program
-
-abbrev pub IsFramed : Program → FramedProgram → Type 0
-IsFramed program framed = (framed.program ≡ program) × AreFrames program framed.frames

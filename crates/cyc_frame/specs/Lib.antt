@@ -1,2 +1,2 @@
--- what the contract of `layout` and the type `Framed` rest on, and the functions inside the crate
+-- what the contract of `layout` rests on, and the functions inside the crate
 pub mod Layout

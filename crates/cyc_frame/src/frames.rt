@@ -1,49 +1,34 @@
-//! A plain program with the frames of its functions.
+//! The frames of all functions of a program.
 ghost use Rattle.std.specs.Prelude.{◌≡◌};
-ghost use Rattle.cyc_plain.specs.Program.{Program};
-ghost use Rattle.cyc_frame.specs.Layout.{AreFrames, FramedProgram};
 
 use crate::frame::Frame;
-use cyc_plain::Plain;
 use std::marker::Model;
 
-/// A plain program whose functions have frames: one for each, in order.
+/// A frame for each function of a program, in the order of the functions' numbers.
 #[derive(Drop)]
-pub struct Framed {
-    plain: Plain,
+pub struct Frames {
     frames: Vec<Frame>,
 }
 
-impl Model for Framed {
-    ghost use Rattle.cyc_frame.specs.Layout.{AreFrames, FramedProgram};
+impl Model for Frames {
+    ghost use Rattle.std.specs.Prelude.{List};
+    ghost use Rattle.cyc_frame.specs.declared.frame.Frame.{Frame};
 
-    ghost Value = { FramedProgram };
+    ghost Value = { List Frame };
 
-    ghost view = { λ a. record { program = a.plain; frames = a.frames.items } };
-
-    ghost invariant = { λ a. AreFrames a.plain a.frames.items };
+    ghost view = { λ a. a.frames.items };
 }
 
-impl Framed {
-    pub(crate) fn new(plain: Plain, frames: Vec<Frame>) -> Framed
-        requires { AreFrames plain frames.items }
-        ensures program { result.program ≡ plain }
-        ensures frames { result.frames ≡ frames.items }
+impl Frames {
+    pub(crate) fn new(frames: Vec<Frame>) -> Frames
+        ensures { result ≡ frames.items }
     {
-        Framed { plain, frames }
+        Frames { frames }
     }
 
-    /// The program.
-    pub fn plain(&self) -> &Plain
-        ensures { result.now ≡ self.now.program }
-    {
-        &self.plain
-    }
-
-    /// The frames, in the order of the functions' numbers.
-    pub fn frames(&self) -> &[Frame]
-        ensures value { result.now ≡ self.now.frames }
-        ensures frames { AreFrames self.now.program self.now.frames }
+    /// The frames.
+    pub fn as_slice(&self) -> &[Frame]
+        ensures { result.now ≡ self.now }
     {
         &self.frames
     }

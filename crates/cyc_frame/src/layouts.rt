@@ -3,10 +3,10 @@
 ghost use Rattle.std.specs.Prelude.{◌≡◌, ◌≤◌, map, All, IfOk};
 ghost use Rattle.cyc_words.specs.Decision.{Decides};
 ghost use Rattle.cyc_plain.specs.Program.{routine_of};
-ghost use Rattle.cyc_frame.specs.Layout.{IsAccepted, IsFramed, IsTooLarge, first_too_large, frame_of};
+ghost use Rattle.cyc_frame.specs.Layout.{AreFrames, IsAccepted, IsTooLarge, first_too_large, frame_of};
 
 use crate::frame::{Frame, MOST_FRAME_WORDS};
-use crate::framed::Framed;
+use crate::frames::Frames;
 use cyc_plain::{Function, LAYOUT_WORDS, Plain};
 use cyc_words::{Code, Fault, Span};
 use std::alloc::{AllocError, Global};
@@ -45,17 +45,17 @@ fn frames_of(alloc: Global, functions: &[Function]) -> Result<Vec<Frame>, AllocE
     Ok(frames)
 }
 
-/// The program with the frame of each of its functions.
+/// The frame of each function of a program.
 ///
 /// Where a function says that its frame may have more than `MOST_FRAME_WORDS` words, the answer is `FrameTooLarge`, at the
 /// name of the first such function. Any other program has frames, unless memory runs out.
-pub fn layout(alloc: Global, plain: Plain) -> Result<Framed, Fault>
-    ensures { Decides (IsAccepted plain) IsFramed (IsTooLarge plain) (IsTooLarge plain) result }
+pub fn layout(alloc: Global, plain: &Plain) -> Result<Frames, Fault>
+    ensures { Decides (IsAccepted plain.now) AreFrames (IsTooLarge plain.now) (IsTooLarge plain.now) result }
 {
     let functions = plain.functions();
     if let Some(place) = first_too_large(functions) {
         return Err(Fault::new(Code::FrameTooLarge, place.line, place.column));
     }
     let frames = frames_of(alloc, functions)?;
-    Ok(Framed::new(plain, frames))
+    Ok(Frames::new(frames))
 }

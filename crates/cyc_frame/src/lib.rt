@@ -2,9 +2,9 @@
 #![tactic(auto)]
 
 mod frame;
-mod framed;
+mod frames;
 mod layouts;
 
 pub use frame::{Frame, MOST_FRAME_WORDS};
-pub use framed::Framed;
+pub use frames::Frames;
 pub use layouts::layout;

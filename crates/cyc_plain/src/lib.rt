@@ -11,4 +11,4 @@ pub use instruction::{BinaryOperator, Comparison, Instruction, Operand, Request,
 pub use limits::{
     GLOBALS_BASE, GREATEST_VALUE, LAYOUT_WORDS, MOST_GLOBALS, MOST_SIZE, RECORD_WORDS,
 };
-pub use program::{Function, Plain};
+pub use program::{Function, Plain, well_formed};

@@ -1,7 +1,7 @@
 //! A plain program: its functions and its globals.
-ghost use Rattle.std.specs.Prelude.{◌≡◌, ◌<◌, length, map};
+ghost use Rattle.std.specs.Prelude.{◌≡◌, ◌↔◌, ◌<◌, IsTrue, length, map};
 ghost use Rattle.cyc_plain.specs.Program.{program_of, routine_at, routine_of};
-ghost use Rattle.cyc_plain.specs.WellFormed.{IsPlain};
+ghost use Rattle.cyc_plain.specs.WellFormed.{IsPlain, IsWellFormed};
 
 use crate::instruction::Instruction;
 use cyc_words::Span;
@@ -87,4 +87,12 @@ impl Plain {
     {
         self.main
     }
+}
+
+/// Whether a program is well formed. Each is, since who makes one has proved it.
+pub fn well_formed(program: &Plain) -> bool
+    ensures { IsTrue result ↔ IsWellFormed program.now }
+{
+    let _functions = program.functions();
+    true
 }

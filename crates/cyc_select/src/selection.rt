@@ -14,7 +14,7 @@ use crate::counting::{function_starts, instruction_lines};
 use crate::emitter::Emitter;
 use crate::instructions::{add_immediate, minus, push_frame};
 use crate::tables::{Ready, Tables};
-use cyc_frame::{Frame, Framed, MOST_FRAME_WORDS};
+use cyc_frame::{Frame, Frames, MOST_FRAME_WORDS};
 use cyc_machine::constants::ARGUMENT;
 use cyc_plain::{Instruction, Plain};
 use cyc_words::Fault;
@@ -83,13 +83,12 @@ impl Emitter {
 }
 
 /// The code, where memory suffices.
-fn selected(alloc: Global, framed: &Framed) -> Result<Code, AllocError>
-    ensures code { IfOk result (λ code. code ≡ select_of framed.now.program framed.now.frames) }
-    ensures plain { IfOk result (λ _. IsPlain framed.now.program) }
-    ensures fit { IfOk result (λ _. AreFrames framed.now.program framed.now.frames) }
+fn selected(alloc: Global, plain: &Plain, frames: &Frames) -> Result<Code, AllocError>
+    requires { AreFrames plain.now frames.now }
+    ensures code { IfOk result (λ code. code ≡ select_of plain.now frames.now) }
+    ensures plain { IfOk result (λ _. IsPlain plain.now) }
 {
-    let plain = framed.plain();
-    let frames = framed.frames();
+    let frames = frames.as_slice();
     let starts = function_starts(alloc, plain)?;
     let globals = Vec::from_slice(alloc, plain.globals())?;
     let main = plain.main();
@@ -106,15 +105,16 @@ fn selected(alloc: Global, framed: &Framed) -> Result<Code, AllocError>
     Ok(Code::new(emitter.lines, globals))
 }
 
-/// The labelled code of a plain program whose functions have these frames.
+/// The labelled code of a plain program whose functions have these frames, as `layout` gives them.
 ///
 /// Nothing is refused but for want of memory.
-pub fn select(alloc: Global, framed: &Framed) -> Result<Code, Fault>
+pub fn select(alloc: Global, plain: &Plain, frames: &Frames) -> Result<Code, Fault>
+    requires { AreFrames plain.now frames.now }
     // Each line belongs to one instruction of the program or to the start, and the code does what the program does.
-    ensures selected { IfOk result (λ code. IsCodeOf framed.now.program code) }
+    ensures selected { IfOk result (λ code. IsCodeOf plain.now code) }
     // The data range begins with the program's globals.
-    ensures globals { IfOk result (λ code. code.globals ≡ framed.now.program.globals) }
+    ensures globals { IfOk result (λ code. code.globals ≡ plain.now.globals) }
     ensures refused { IfErr result (λ fault. fault ≡ memory_fault) }
 {
-    Ok(selected(alloc, framed)?)
+    Ok(selected(alloc, plain, frames)?)
 }

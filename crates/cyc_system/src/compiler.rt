@@ -10,6 +10,7 @@ ghost use Rattle.cyc_types.specs.typing.WellTyped.{IsWellTypedProgram};
 ghost use Rattle.cyc_types.specs.Weight.{program_weight};
 ghost use Rattle.cyc_soundness.specs.Sound.{IsSound};
 ghost use Rattle.cyc_lower.specs.Lowered.{CanBeLowered, IsLowered};
+ghost use Rattle.cyc_frame.specs.Layout.{AreFrames};
 ghost use Rattle.cyc_system.specs.Front.{IsAcceptedText};
 ghost use Rattle.cyc_system.specs.FullPreservation.{IsImageOf};
 ghost use Rattle.cyc_system.specs.Compiled.{IsTooLarge, IsSmall, IsCompiledText, IsRefusedAtLast, HasFaultAtLast};
@@ -18,18 +19,20 @@ use crate::front::accept;
 use crate::image::write_program;
 use cyc_asm::assemble;
 use cyc_flow::Flowed;
-use cyc_frame::{Framed, layout};
+use cyc_frame::{Frames, layout};
 use cyc_lower::lower;
+use cyc_plain::Plain;
 use cyc_select::select;
 use cyc_words::Fault;
 use std::alloc::Global;
 
 /// Compiles a plain program whose functions have frames. The bytes are an image of each program that was lowered to the plain one, if no run of it is dead or wrong.
-fn compile_plain(alloc: Global, framed: &Framed) -> Result<Vec<u8>, Fault>
-    ensures image { IfOk result (λ file. (p : Program) → IsSound p → IsLowered p framed.now.program → IsImageOf p file.items) }
+fn compile_plain(alloc: Global, plain: &Plain, frames: &Frames) -> Result<Vec<u8>, Fault>
+    requires { AreFrames plain.now frames.now }
+    ensures image { IfOk result (λ file. (p : Program) → IsSound p → IsLowered p plain.now → IsImageOf p file.items) }
     ensures refused { IfErr result (λ f. f ≡ memory_fault) }
 {
-    let code = select(alloc, framed)?;
+    let code = select(alloc, plain, frames)?;
     let words = assemble(alloc, &code)?;
     let file = write_program(alloc, &words, code.globals())?;
     Ok(file)
@@ -45,8 +48,8 @@ fn build(alloc: Global, program: &Flowed) -> Result<Vec<u8>, Fault>
         (IsTooLarge (view_program program.now.tree)) (IsTooLarge (view_program program.now.tree)) result }
 {
     let plain = lower(alloc, program)?;
-    let framed = layout(alloc, plain)?;
-    compile_plain(alloc, &framed)
+    let frames = layout(alloc, &plain)?;
+    compile_plain(alloc, &plain, &frames)
 }
 
 /// Compiles a text to an image, as the bytes of a file.

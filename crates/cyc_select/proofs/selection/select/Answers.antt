@@ -6,7 +6,7 @@ use Rattle.cyc_select.proofs.selection.select.Goals as goal
 
 pub returns-clause-selected : goal.returns-clause-selected
 returns-clause-selected c =
-    let program = c.args.framed.now.program in
+    let program = c.args.plain.now in
     let made = c.in_ok-selected.ensures in
     subst (λ (code : Labelled). IsCodeOf program code) (sym made.code)
-    (is_code_of program made.plain.well_formed made.plain.words c.args.framed.now.frames made.fit)
+    (is_code_of program made.plain.well_formed made.plain.words c.args.frames.now c.requires)

@@ -7,8 +7,7 @@ use Rattle.cyc_plain.specs.Program.{Program as PlainProgram}
 use Rattle.cyc_lower.specs.declared.limits.TheConstants.{MOST_FUNCTIONS}
 use Rattle.cyc_soundness.specs.Sound.{IsSound}
 use Rattle.cyc_lower.specs.Lowered.{IsLowered}
-use Rattle.cyc_frame.specs.Layout as frames
-use Rattle.cyc_frame.specs.Layout.{HasSmallFrames}
+use Rattle.cyc_frame.specs.Layout.{AreFrames, HasSmallFrames}
 use Rattle.cyc_system.specs.FullPreservation.{IsImageOf}
 use Rattle.cyc_system.proofs.Refusals.{lowering_refuses, layout_refuses, image_answers}
 use Rattle.cyc_system.proofs.compiler.build.Goals as goal
@@ -18,14 +17,14 @@ returns-in_err-plain c =
     let e = err_from_is_err_and c.from_residual.result c.from_residual.ensures.1 in
     rw (e.1, e.2) (lowering_refuses (λ p file. IsImageOf p file.items) (view_program c.args.program.now.tree) _ c.in_err-plain.field-0.0 c.in_err-plain.ensures)
 
-pub returns-in_err-framed : goal.returns-in_err-framed
-returns-in_err-framed c =
+pub returns-in_err-frames : goal.returns-in_err-frames
+returns-in_err-frames c =
     let p = view_program c.args.program.now.tree in
     let (a, (same, few), is) = c.in_ok-plain.ensures.accepted in
-    let e = err_from_is_err_and c.from_residual-in_err-framed.result c.from_residual-in_err-framed.ensures.1 in
+    let e = err_from_is_err_and c.from_residual-in_err-frames.result c.from_residual-in_err-frames.ensures.1 in
     rw (e.1, e.2) (layout_refuses (λ q file. IsImageOf q file.items) p c.in_ok-plain.plain
     (subst (λ (q : Program). IsLowered q c.in_ok-plain.plain) same is) (subst (λ (q : Program). length q.functions ≤ MOST_FUNCTIONS) same few)
-    c.in_ok-plain.ensures.refuses _ c.in_err-framed.field-0.0 c.in_err-framed.ensures)
+    c.in_ok-plain.ensures.refuses _ c.in_err-frames.field-0.0 c.in_err-frames.ensures)
 
 -- the image of the program that was lowered to the plain one
 image_there : {X F : Type 0} (Image : Program → X → Type 0) (p : Program) (lowered : PlainProgram) (result : Result X F) → IsSound p → IsLowered p lowered
@@ -37,10 +36,14 @@ pub returns : goal.returns
 returns c =
     let p = view_program c.args.program.now.tree in
     let (a, (one, few), is) = c.in_ok-plain.ensures.accepted in
-    let (l, (same, small), (of, are)) = c.in_ok-framed.ensures.accepted in
-    let there = sym (of ∙ same) in
-    let lowered = subst (IsLowered p) there (subst (λ (q : Program). IsLowered q c.in_ok-plain.plain) one is) in
-    image_answers (λ q file. IsImageOf q file.items) p c.in_ok-framed.framed.program lowered (subst (λ (q : Program). length q.functions ≤ MOST_FUNCTIONS) one few)
-    c.in_ok-plain.ensures.refuses (subst HasSmallFrames (sym of) small) (λ f large. c.in_ok-framed.ensures.refuses f (subst (λ (r : PlainProgram). frames.IsTooLarge r f) (of ∙ same) large))
+    let (l, (same, small), are) = c.in_ok-frames.ensures.accepted in
+    let lowered = subst (λ (q : Program). IsLowered q c.in_ok-plain.plain) one is in
+    image_answers (λ q file. IsImageOf q file.items) p c.in_ok-plain.plain lowered (subst (λ (q : Program). length q.functions ≤ MOST_FUNCTIONS) one few)
+    c.in_ok-plain.ensures.refuses (subst HasSmallFrames same small) c.in_ok-frames.ensures.refuses
     c.compile_plain.result
-    (image_there (λ q file. IsImageOf q file.items) p c.in_ok-framed.framed.program c.compile_plain.result c.requires.sound lowered c.compile_plain.ensures.image) c.compile_plain.ensures.refused
+    (image_there (λ q file. IsImageOf q file.items) p c.in_ok-plain.plain c.compile_plain.result c.requires.sound lowered c.compile_plain.ensures.image) c.compile_plain.ensures.refused
+
+pub compile_plain-requires : goal.compile_plain-requires
+compile_plain-requires c =
+    let (l, (same, small), are) = c.in_ok-frames.ensures.accepted in
+    subst (λ (program : PlainProgram). AreFrames program c.in_ok-frames.frames) same are
