@@ -3,22 +3,25 @@
 
     python3 tests/runners/wrong.py [CRATE ..] [--only NAME ..]
 
-`wrong/CRATE.cases` has those that a proof of the crate must refuse: what each puts in the place of what, and the functions or laws
-whose proofs these are. First the functions are proved as they stand, so that a case that no check reads fails. Then the prover is asked
+`wrong/CRATE.cases` has those that a proof of the crate must refuse: what each puts in the place of what, and the functions, laws or
+files of proofs which that is. First these are proved as they stand, so that a case that no check reads fails. Then the prover is asked
 for them with the case in its place, and for nothing else: what it would refuse elsewhere does not count. A case that it cannot read, or
 one that only takes away a name which a proof has, fails too, since no contract was tried.
 
-Of the crates below, the libraries are taken that `rt ci` leaves in `crates/NAME/out`. Where a case changes a file of another crate, that
-crate and those between are taken as they are written, and what refuses it must be a proof of a crate that it does not change.
+A proof rests on what other functions promise, and on no other body. So the proofs of the crate's other functions are left out, which
+`rt ci` has proved, and wrong bodies of functions that do not call each other are tried together. What is not refused so is tried once
+more alone; with `--alone` each is. Of the crates below, the libraries are taken that `rt ci` leaves in `crates/NAME/out`. Where a case
+changes a file of another crate, that crate and those between are taken as they are written, and what refuses it must be a proof of a
+crate that it does not change.
 
-Wrong bodies of functions that do not call each other are tried together, since a proof rests on no other function's body. What is not
-refused so is tried once more alone; with `--alone` each is. Before the last line, `N passed, M failed`, stands what it took.
+Before the last line, `N passed, M failed`, stands what it took.
 """
 import argparse
 import collections
 import os
 import re
 import shutil
+import signal
 import subprocess
 import sys
 import tempfile
@@ -77,7 +80,8 @@ class Case:
         self.name = name
         self.path = None
         self.edits = []
-        # the functions or laws whose proofs must be refused, the programs that it is said to let through, and the promise that it tests
+        # the functions, laws or files whose proofs must be refused, the programs that it is said to let through, and the promise that it
+        # tests
         self.refused = []
         self.lets = []
         self.tests = None
@@ -255,17 +259,19 @@ class Bodies:
             self.words[it.function.split("::")[-1]] |= it.words
 
     def settled(self, body, crate):
-        """The body with the folder of its proof, which is named as a cycle's where the function calls itself."""
+        """The body with the folder of its proof, which is named as a cycle's where the function calls itself. Where a function of the same
+        name is called, it is taken for that, unless there is a folder that says otherwise."""
         above, name = os.path.split(body.proof)
         own = os.path.join(above, f"+{name}")
-        return body._replace(proof=own) if os.path.isdir(os.path.join(self.crates, crate, "proofs", own)) else body
+        there = [os.path.isdir(os.path.join(self.crates, crate, "proofs", it)) for it in (body.proof, own)]
+        return body._replace(proof=own) if there[1] or not there[0] and name in body.words else body
 
     def proofs_beside(self, functions):
         """The folders in `proofs` of all functions but these and those of their cycles."""
         return {it.proof for it in self.all} - {it.proof for it in self.all if it.function in functions}
 
     def turned_by(self, case):
-        """The function that must be refused, where a case changes its body, and maybe what its proof has of it, and nothing else; or None."""
+        """The function that must be refused, where a case changes its body and maybe its proof, and nothing else; or None."""
         own = next((it for it in self.all if [it.function] == case.refused), None)
         if not own:
             return None
@@ -314,7 +320,7 @@ def rounds_of(cases, bodies, is_alone):
 
 ERROR = re.compile(r"(\S+?\.(?:antt|rt)):\d+:\d+: error(\[[\w-]+\])?: (.*)")
 GOAL = re.compile(r"note: \S+\.rt:\d+:\d+: it is not proved that ")
-COUNTS = re.compile(r"only=\d+ proved=\d+")
+COUNTS = re.compile(r"only=\d+ proved=\d+|logic=.*")
 # What is said of a function whose own proof holds, where one that it calls has none.
 RESTS = re.compile(r"no proof: it calls [^;]*, which (is|are) not proved")
 # What a note says of a goal that does not hold.
@@ -364,9 +370,16 @@ class Answer:
         return self.functions.get(f"{crate}::{function}", (None, []))
 
     def holds(self, crate, function):
-        """Whether the function's own proof holds, whatever is known of those that it calls."""
+        """Whether the function's own proof holds, whatever is known of those that it calls. A file holds where no error stands in it."""
+        if is_file(function):
+            return not any(it.path == os.path.join(crate, function) for it in self.errors)
         said, goals = self.of(crate, function)
         return bool(said == "proved" or said and RESTS.fullmatch(said) and not goals)
+
+
+def is_file(refused):
+    """Whether what must be refused is a file of proofs."""
+    return refused.startswith("proofs/")
 
 
 def judged(case, turned, answer, between=()):
@@ -386,13 +399,15 @@ def judged_of(case, function, turned, answer, between):
     A wrong body is refused by an error in the function's own proof, or by a goal that is left there; a wrong definition by one in what the
     proof rests on, but not in a crate that is not its own and that it changes: such proofs say how the definitions hang together."""
     said, goals = answer.of(case.crate, function)
-    if said is None:
+    if said is None and not is_file(function):
         return f"the prover says nothing of {function}"
     if answer.holds(case.crate, function):
         return f"not refused by {function}"
-    if said.startswith("could not tell"):
+    if said and said.startswith("could not tell"):
         return f"the prover gave no answer: {function}: {said}"
-    if turned:
+    if is_file(function):
+        folders, goals = [os.path.join(case.crate, function)], []
+    elif turned:
         folders = [os.path.join(case.crate, "proofs", turned.proof, "")]
     else:
         folders = [os.path.join(it, "proofs", "") for it in between if it == case.crate or it not in case.changed()]
@@ -411,6 +426,8 @@ def judged_of(case, function, turned, answer, between):
 # Where the prover and its libraries are, the crates, what each stands on, a folder with the libraries that are built of them, and one for
 # what is made here.
 Settings = collections.namedtuple("Settings", "kit crates graph built room")
+# The prover's processes, which end where the script is ended.
+RUNNING = set()
 
 
 class Group:
@@ -423,7 +440,7 @@ class Group:
         self.written = [it for it in self.order if it == crate or others & set(in_order(it, settings.graph))]
         self.bodies = Bodies(settings.crates, crate)
         self.cases = []
-        self.seed = os.path.join(settings.room, "-".join([crate, *sorted(others)]))
+        self.seed = None
 
     def library(self, crate):
         return os.path.join(self.settings.built, crate, "out", "rlib", f"{crate}.rlib")
@@ -473,7 +490,9 @@ class Group:
             else:
                 words += ["-L", f"dependency={os.path.dirname(self.library(it))}"]
         words += ["--antt-project", f"{kit}/rattle/logic/antt-project.json", "--logic-built", f"{kit}/logic_built"]
-        return words + ["--incremental", kept, "--jobs", "1", *(word for it in functions for word in ("--only", it))]
+        words += ["--incremental", kept, "--jobs", "1"]
+        # Files of proofs are read where the whole crate is asked for.
+        return words if any(map(is_file, functions)) else words + [word for it in functions for word in ("--only", it)]
 
     def ask(self, texts, functions, kept):
         """The prover's answer for these functions, with these texts in place, and the seconds of processors that it took. In a folder the
@@ -482,14 +501,16 @@ class Group:
             self.fill(crates, texts)
             how = {"stdin": subprocess.DEVNULL, "stdout": subprocess.PIPE, "stderr": subprocess.STDOUT, "text": True, "errors": "replace"}
             with subprocess.Popen(self.words(crates, kept, functions), cwd=os.path.join(crates, self.crate), **how) as process:
+                RUNNING.add(process)
                 said = process.stdout.read()
                 _, status, used = os.wait4(process.pid, 0)
                 process.returncode = os.waitstatus_to_exitcode(status)
+                RUNNING.discard(process)
             return Answer(process.returncode, said, self.crate, crates), used.ru_utime + used.ru_stime
 
     def prove(self):
         """Proves the functions of all cases as they stand, and says of each that is not proved why; and the seconds that it took."""
-        os.mkdir(self.seed)
+        self.seed = tempfile.mkdtemp(dir=self.settings.room)
         functions = sorted({it for case in self.cases for it in case.refused})
         answer, spent = self.ask({}, functions, self.seed)
         fault = answer.fault(())
@@ -538,15 +559,24 @@ class Run:
 
     def on(self, lanes):
         """Tries all on so many lanes."""
-        running = {}
         with ThreadPoolExecutor(lanes) as pool:
-            while running or self.ready or self.waiting:
-                while len(running) < lanes and (self.ready or self.waiting):
-                    task = (self.ready or self.waiting).pop(0)
-                    work = (task.group.attempt, task.together) if task.together else (task.group.prove,)
-                    running[pool.submit(*work)] = task
-                for it in wait(running, return_when=FIRST_COMPLETED).done:
-                    self.take(running.pop(it), *it.result())
+            try:
+                self.work(pool, lanes)
+            except BaseException:
+                for process in list(RUNNING):
+                    process.kill()
+                raise
+
+    def work(self, pool, lanes):
+        """Keeps the lanes of the pool busy until nothing is left."""
+        running = {}
+        while running or self.ready or self.waiting:
+            while len(running) < lanes and (self.ready or self.waiting):
+                task = (self.ready or self.waiting).pop(0)
+                work = (task.group.attempt, task.together) if task.together else (task.group.prove,)
+                running[pool.submit(*work)] = task
+            for it in wait(running, return_when=FIRST_COMPLETED).done:
+                self.take(running.pop(it), *it.result())
 
     def take(self, task, result, spent):
         """Takes what a task came to."""
@@ -606,8 +636,10 @@ def groups_of(cases, settings):
     """The groups of cases, those with most to prove first."""
     found = {}
     for case in cases:
-        others = frozenset(case.changed() - {case.crate})
-        found.setdefault((case.crate, others), Group(case.crate, others, settings)).cases.append(case)
+        others, is_whole = frozenset(case.changed() - {case.crate}), any(map(is_file, case.refused))
+        if (case.crate, others, is_whole) not in found:
+            found[case.crate, others, is_whole] = Group(case.crate, others, settings)
+        found[case.crate, others, is_whole].cases.append(case)
     return sorted(found.values(), key=lambda it: -it.size())
 
 
@@ -617,7 +649,8 @@ def main():
     parser.add_argument("--only", action="append", default=[], metavar="NAME", help="this case (repeatable)")
     parser.add_argument("--alone", action="store_true", help="each case by itself")
     parser.add_argument("--lanes", type=int, default=LANES, help="so many runs of the prover side by side")
-    parser.add_argument("--built", default=os.path.join(suite.ROOT, "crates"), help="the folder of the crates whose libraries are built")
+    built = os.path.join(suite.ROOT, "crates")
+    parser.add_argument("--built", default=built, metavar="FOLDER", help="the crates whose libraries are taken")
     parser.add_argument("--write", action="store_true", help="makes the table in docs/GUARANTEES.md of the cases, and tries none")
     options = parser.parse_args()
     if options.write:
@@ -626,6 +659,7 @@ def main():
     cases = chosen(options)
     if cases is None:
         return 2
+    signal.signal(signal.SIGTERM, lambda *_: sys.exit("it was ended"))
     kit = os.path.dirname(subprocess.run(["rt", "doc"], capture_output=True, text=True, check=True).stdout.strip())
     refused = {head[0] for head, _ in in_trees.programs_in("refused")}
     with tempfile.TemporaryDirectory(prefix="wrong-") as room:
