@@ -10,6 +10,7 @@ mod counting;
 mod emitter;
 mod handling;
 mod instructions;
+pub mod laws;
 mod memory;
 mod numbers;
 mod operands;
