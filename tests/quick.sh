@@ -51,7 +51,7 @@ if ! tools/unproved "$program"; then
 fi
 begin "command line" on run.py --quick
 begin "whole language" on run.py --whole --quick
-begin "random programs" on differential.py --count 20
+begin "random programs" on differential.py --count 12
 begin "editors" python3 tests/runners/editors.py
 begin "documents" python3 tests/runners/documents.py
 begin "codes" on codes.py
