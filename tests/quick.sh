@@ -1,7 +1,7 @@
 #!/bin/sh
-# What can be tried in some minutes of a change, with no proof: builds the program unproved at the place that is named, and runs on it, side
-# by side, the command-line suite but for the cases with long files, the whole-language cases, the codes, the documents, the examples, the
-# syntax files and some random programs. The last line is `N passed, M failed` over all of it.
+# What can be tried in some minutes of a change, with no proof: builds the program unproved at the place that is named, and runs on it,
+# side by side, the command-line suite and the whole-language cases but for those with long files or many steps, the codes, the documents,
+# the examples, the syntax files and some random programs. The last line is `N passed, M failed` over all of it.
 #
 #     sh tests/quick.sh PROGRAM
 set -u
@@ -50,8 +50,8 @@ if ! tools/unproved "$program"; then
   exit 1
 fi
 begin "command line" on run.py --quick
-begin "whole language" on run.py --whole
-begin "random programs" on differential.py --count 20
+begin "whole language" on run.py --whole --quick
+begin "random programs" on differential.py --count 12
 begin "editors" python3 tests/runners/editors.py
 begin "documents" python3 tests/runners/documents.py
 begin "codes" on codes.py

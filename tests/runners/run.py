@@ -4,7 +4,7 @@
     python3 tests/runners/run.py [--program PATH] [--whole] [--quick] [FILE.cases ..]
 
 The last line is `N passed, M failed`. A case is a few lines; tests/README.md has the format. With --whole the cases are those of
-the whole language, in tests/whole. With --quick those with a file of more than 8,192 bytes are left out, and it says how many.
+the whole language, in tests/whole. With --quick those with a file of more than 8,192 bytes, and those that are marked as slow, are left out, and it says how many.
 """
 import os
 import re
@@ -77,6 +77,7 @@ class Case:
         self.name = name
         self.actions = []
         self.longest = 0
+        self.is_slow = False
 
 
 def repeated(value):
@@ -143,6 +144,8 @@ class Reader:
             scope[name.strip()] = repeated(value.strip()) or self.block()
         elif not self.cases:
             raise BadCase("a case begins with a line `== NAME`")
+        elif line == "slow":
+            self.cases[-1].is_slow = True
         elif word in (">", "$"):
             self.step = Step(self.at, shlex.split(self.with_names(rest)), word == ">")
             self.cases[-1].actions.append(self.step)
@@ -346,14 +349,14 @@ def case_files(folder):
 def main():
     parser = suite.command_line(__doc__)
     parser.add_argument("--whole", action="store_true")
-    parser.add_argument("--quick", action="store_true", help=f"leave out cases with a file of more than {LONG} bytes")
+    parser.add_argument("--quick", action="store_true", help=f"leave out slow cases, and those with a file of more than {LONG} bytes")
     parser.add_argument("files", nargs="*")
     options = parser.parse_args()
     files = options.files or case_files(WHOLE if options.whole else CASES)
     cases = [case for path in files for case in Reader(path).read()]
     if options.quick:
-        short = [case for case in cases if case.longest <= LONG]
-        print(f"{len(cases) - len(short)} cases with long files are left out")
+        short = [case for case in cases if case.longest <= LONG and not case.is_slow]
+        print(f"left out, with long files or many steps: {len(cases) - len(short)}")
         cases = short
     program = suite.program_of(options, len(cases))
     suite.try_each(cases, lambda case: f"{case.place}: {case.name}", lambda case: faults_of(case, program))

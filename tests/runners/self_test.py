@@ -281,10 +281,10 @@ new: self.parts()
 refused: Parted::more
 """
 
-# The cases that are tried together, and whether each turns the body of its function alone. `half` calls `part`, and a constant is no body.
+# The cases that are tried together, and whether each turns the body of its function alone: a constant is no body.
 ROUNDS = [
-    [("half_is_a_third", True), ("third_is_one_more", True), ("more_is_two_more", True)],
-    [("part_is_one_more", True), ("more_is_the_same", True)],
+    [("half_is_a_third", True), ("part_is_one_more", True), ("third_is_one_more", True), ("more_is_two_more", True)],
+    [("more_is_the_same", True)],
     [("third_is_a_fourth", False)],
 ]
 

@@ -1,11 +1,12 @@
 -- What the writer lays out is read again as the same image.
-use Rattle.std.proofs.Common.{◌≡◌, ℕ, suc, ◌+◌, ◌-◌, ◌*◌, ◌^◌, ◌<◌, ◌≤◌, true, List, [], ◌∷◌, ◌++◌, length, map, take, drop, replicate, None, Ok, All, refl, sym, ap, subst, ◌∙◌, append_assoc, arith}
+use Rattle.std.proofs.Common.{◌≡◌, ℕ, suc, ◌+◌, ◌-◌, ◌*◌, ◌^◌, ◌<◌, ◌≤◌, true, false, List, [], ◌∷◌, ◌++◌, length, map, take, drop, replicate, Option, Some, None, is_some, IfSome, Ok, All, refl, sym, ap, subst, ◌∙◌, append_assoc, arith}
 use Rattle.std.specs.Prelude.{nat_eq}
 use Rattle.std.specs.List.{flat_map, list_any, starts_with, AllByRecursion}
 use Rattle.std.proofs.Math.Seq.{drop-append-add}
-use Rattle.std.proofs.lemmas.Bool.{le-ltb, eq-eqb, and_from}
-use Rattle.std.proofs.lemmas.List.{drop_at, take_at, get_or-map, length-append, length-map, length-replicate}
+use Rattle.std.proofs.lemmas.Bool.{le-ltb, le-leb, eqb-true, eq-eqb, and_from}
+use Rattle.std.proofs.lemmas.List.{drop_at, take_at, get_or-map, length-append, length-map, length-replicate, append-nil}
 use Rattle.std.proofs.lemmas.List.Concat.{flat_map-cons}
+use Rattle.std.proofs.lemmas.Grind.{flat_map-append}
 use Rattle.std.proofs.lemmas.List.Elements.{recursion_from_All}
 use Rattle.byteorder.specs.Endian.{big_number}
 use Rattle.byteorder.specs.Numbers.{big_number-reads_back}
@@ -13,11 +14,13 @@ use Rattle.cyc_elf.specs.declared.image.Image.{Image}
 use Rattle.cyc_elf.specs.declared.image.Segment.{Segment}
 use Rattle.cyc_elf.specs.Header.{ProgramHeader, ident, field, program_header_at, headers_from, program_headers, object_type, machine, version, entry, table_offset, header_size, header_count}
 use Rattle.cyc_elf.specs.Image.{SegmentContents, ImageContents, segment_contents, contents_of, padded, IsSegment, IsWellFormed}
-use Rattle.cyc_elf.specs.Layout.{file_header, program_header, header_of, headers_of, stored, bytes_start, layout, FitsFields}
-use Rattle.cyc_elf.specs.Reading.{first_fault, file_rules, covers, segment_of, reading}
+use Rattle.cyc_elf.specs.Note.{note_name, is_named, limits_at, is_note, AreLimits}
+use Rattle.cyc_elf.specs.Layout.{file_header, program_header, header_of, headers_of, stored, bytes_end, note_header, note_headers, note_bytes, notes, note_count, headers_count, bytes_start, note_start, laid_headers, layout, FitsFields}
+use Rattle.cyc_elf.specs.Reading.{first_fault, file_rules, own_rules, covers, segment_of, reading}
 use Rattle.cyc_elf.specs.Parts.{Walk, IsInWords, walk, are_apart}
-use Rattle.cyc_elf.proofs.Rules.{Keeps, table_of, is_entry, reading-image}
-use Rattle.cyc_elf.proofs.Sound.{keeps_from_kept, are_apart_from_pairs, covered_from_held}
+use Rattle.cyc_elf.proofs.Rules.{Keeps, own_rules-load, own_rules-note, is_note-load, table_of, is_entry, reading-image}
+use Rattle.cyc_elf.proofs.Walks.{with_front}
+use Rattle.cyc_elf.proofs.Sound.{keeps_from_kept, are_limits-from, are_apart_from_pairs, covered_from_held}
 
 -- ---- fields
 
@@ -102,43 +105,120 @@ length-stored : (s : SegmentContents) → length (stored s) ≡ padded (length s
 length-stored s = omega (arith, length-append s.bytes (replicate (padded (length s.bytes) - length s.bytes) 0), length-replicate {A = ℕ} (padded (length s.bytes) - length s.bytes) 0)
 
 -- where the bytes of each segment stand in the file
-stands_at : (file : List ℕ) (s : SegmentContents) (rest : List SegmentContents) (front : List ℕ) → file ≡ front ++ flat_map stored (s ∷ rest)
-    → file ≡ front ++ (s.bytes ++ (replicate (padded (length s.bytes) - length s.bytes) 0 ++ flat_map stored rest))
-stands_at file s rest front is =
-    is ∙ ap (λ (ys : List ℕ). front ++ ys) (flat_map-cons stored s rest ∙ append_assoc s.bytes (replicate (padded (length s.bytes) - length s.bytes) 0) (flat_map stored rest))
+stands_at : (file : List ℕ) (s : SegmentContents) (rest : List SegmentContents) (front behind : List ℕ) → file ≡ front ++ (flat_map stored (s ∷ rest) ++ behind)
+    → file ≡ front ++ (s.bytes ++ (replicate (padded (length s.bytes) - length s.bytes) 0 ++ (flat_map stored rest ++ behind)))
+stands_at file s rest front behind is =
+    is
+    ∙ ap (λ (ys : List ℕ). front ++ (ys ++ behind)) (flat_map-cons stored s rest)
+    ∙ ap (λ (ys : List ℕ). front ++ ys) (append_assoc (stored s) (flat_map stored rest) behind ∙ append_assoc s.bytes (replicate (padded (length s.bytes) - length s.bytes) 0) (flat_map stored rest ++ behind))
 
-next_stands : (file : List ℕ) (s : SegmentContents) (rest : List SegmentContents) (front : List ℕ) → file ≡ front ++ flat_map stored (s ∷ rest) → file ≡ (front ++ stored s) ++ flat_map stored rest
-next_stands file s rest front is =
-    is ∙ ap (λ (ys : List ℕ). front ++ ys) (flat_map-cons stored s rest) ∙ sym (append_assoc front (stored s) (flat_map stored rest))
+next_stands : (file : List ℕ) (s : SegmentContents) (rest : List SegmentContents) (front behind : List ℕ) → file ≡ front ++ (flat_map stored (s ∷ rest) ++ behind) → file ≡ (front ++ stored s) ++ (flat_map stored rest ++ behind)
+next_stands file s rest front behind is =
+    is
+    ∙ ap (λ (ys : List ℕ). front ++ (ys ++ behind)) (flat_map-cons stored s rest)
+    ∙ ap (λ (ys : List ℕ). front ++ ys) (append_assoc (stored s) (flat_map stored rest) behind)
+    ∙ sym (append_assoc front (stored s) (flat_map stored rest ++ behind))
 
 next_length : (offset : ℕ) (s : SegmentContents) (front : List ℕ) → length front ≡ offset → length (front ++ stored s) ≡ offset + padded (length s.bytes)
 next_length offset s front len = omega (arith, length-append front (stored s), length-stored s)
 
-segments_again : (file : List ℕ) (ss : List SegmentContents) (offset : ℕ) (front : List ℕ) → length front ≡ offset → file ≡ front ++ flat_map stored ss → map (segment_of file) (headers_of offset ss) ≡ ss
-segments_again file [] offset front len is = refl
-segments_again file (s ∷ ss) offset front len is =
-    let later = replicate (padded (length s.bytes) - length s.bytes) 0 ++ flat_map stored ss in
+segments_again : (file : List ℕ) (ss : List SegmentContents) (offset : ℕ) (front behind : List ℕ) → length front ≡ offset → file ≡ front ++ (flat_map stored ss ++ behind) → map (segment_of file) (headers_of offset ss) ≡ ss
+segments_again file [] offset front behind len is = refl
+segments_again file (s ∷ ss) offset front behind len is =
+    let later = replicate (padded (length s.bytes) - length s.bytes) 0 ++ (flat_map stored ss ++ behind) in
     let bytes : take (length s.bytes) (drop offset file) ≡ s.bytes
-    = ap (λ (ys : List ℕ). take (length s.bytes) (drop offset ys)) (stands_at file s ss front is)
+    = ap (λ (ys : List ℕ). take (length s.bytes) (drop offset ys)) (stands_at file s ss front behind is)
     ∙ ap (take (length s.bytes)) (drop_at front (s.bytes ++ later) offset len)
     ∙ take_at s.bytes later (length s.bytes) refl in
-    let others = segments_again file ss (offset + padded (length s.bytes)) (front ++ stored s) (next_length offset s front len) (next_stands file s ss front is) in
+    let others = segments_again file ss (offset + padded (length s.bytes)) (front ++ stored s) behind (next_length offset s front len) (next_stands file s ss front behind is) in
     ap (λ (b : List ℕ). record { vaddr = s.vaddr; flags = s.flags; bytes = b; size = s.size } ∷ map (segment_of file) (headers_of (offset + padded (length s.bytes)) ss)) bytes
     ∙ ap (λ (r : List SegmentContents). s ∷ r) others
 
-keeps_again : (file : List ℕ) (ss : List SegmentContents) (offset : ℕ) (front : List ℕ) → length front ≡ offset → file ≡ front ++ flat_map stored ss → AllByRecursion IsSegment ss → AllByRecursion (Keeps (length file)) (headers_of offset ss)
-keeps_again file [] offset front len is each = tt
-keeps_again file (s ∷ ss) offset front len is each =
-    let later = replicate (padded (length s.bytes) - length s.bytes) 0 ++ flat_map stored ss in
-    let inside : offset + length s.bytes ≤ length file = omega (arith, ap length (stands_at file s ss front is), length-append front (s.bytes ++ later), length-append s.bytes later, len) in (
+keeps_again : (file : List ℕ) (ss : List SegmentContents) (offset : ℕ) (front behind : List ℕ) → length front ≡ offset → file ≡ front ++ (flat_map stored ss ++ behind) → AllByRecursion IsSegment ss → AllByRecursion (Keeps (length file)) (headers_of offset ss)
+keeps_again file [] offset front behind len is each = tt
+keeps_again file (s ∷ ss) offset front behind len is each =
+    let later = replicate (padded (length s.bytes) - length s.bytes) 0 ++ (flat_map stored ss ++ behind) in
+    let inside : offset + length s.bytes ≤ length file = omega (arith, ap length (stands_at file s ss front behind is), length-append front (s.bytes ++ later), length-append s.bytes later, len) in (
       keeps_from_kept (length file) (header_of offset s) (record { load = refl; fits = each.0.stored; ends = each.0.in_memory; word = each.0.aligned; stored = inside }),
-      keeps_again file ss (offset + padded (length s.bytes)) (front ++ stored s) (next_length offset s front len) (next_stands file s ss front is) each.1,
+      keeps_again file ss (offset + padded (length s.bytes)) (front ++ stored s) behind (next_length offset s front len) (next_stands file s ss front behind is) each.1,
     )
 
--- a walk over headers that keep their own rules finds them all
-walk_all : (len : ℕ) (hs : List ProgramHeader) → AllByRecursion (Keeps len) hs → walk len hs ≡ record { loads = hs; fault = None }
-walk_all len [] keeps = refl
-walk_all len (h ∷ hs) keeps = rw (keeps.0.own, keeps.0.load, walk_all len hs keeps.1) refl
+-- where they end
+bytes_end-length : (offset : ℕ) (ss : List SegmentContents) → bytes_end offset ss ≡ offset + length (flat_map stored ss)
+bytes_end-length offset [] = omega arith
+bytes_end-length offset (s ∷ ss) =
+    omega (arith, bytes_end-length (offset + padded (length s.bytes)) ss, ap length (flat_map-cons stored s ss), length-append (stored s) (flat_map stored ss), length-stored s)
+
+-- a walk over loadable headers that keep their own rules finds them all, and goes on behind them
+walk_loads : (file : List ℕ) (known : Option (ℕ × ℕ)) (hs rest : List ProgramHeader) → AllByRecursion (Keeps (length file)) hs → walk file known (hs ++ rest) ≡ with_front hs (walk file known rest)
+walk_loads file known [] rest keeps = refl
+walk_loads file known (h ∷ hs) rest keeps =
+    let own : first_fault (own_rules file (is_some known) h) ≡ None
+    = ap first_fault (own_rules-load file (is_some known) h (eqb-true _ _ keeps.0.load)) ∙ keeps.0.own in
+    rw (own, is_note-load file h keeps.0.load, keeps.0.load, walk_loads file known hs rest keeps.1) refl
+
+-- ---- the note
+
+length-note_bytes : (limits : ℕ × ℕ) → length (note_bytes limits) ≡ 28
+unfolding note_bytes
+length-note_bytes limits = refl
+
+pages_again : (limits : ℕ × ℕ) → limits.0 < 2 ^ 32 → field 4 20 (note_bytes limits) ≡ limits.0
+unfolding field note_bytes
+pages_again limits fits = big_number-reads_back 4 limits.0 (drop 24 (note_bytes limits)) fits
+
+calls_again : (limits : ℕ × ℕ) → limits.1 < 2 ^ 32 → field 4 24 (note_bytes limits) ≡ limits.1
+unfolding field note_bytes
+calls_again limits fits = big_number-reads_back 4 limits.1 (drop 28 (note_bytes limits)) fits
+
+-- the fields of a note as it is laid out that do not tell limits
+fixed_again : (limits : ℕ × ℕ) → (field 4 0 (note_bytes limits) ≡ 8) × (field 4 4 (note_bytes limits) ≡ 8) × (field 4 8 (note_bytes limits) ≡ 1) × (starts_with nat_eq (drop 12 (note_bytes limits)) note_name ≡ true)
+unfolding field note_bytes
+fixed_again limits = (refl, refl, refl, refl)
+
+-- a note as it is laid out, behind whatever else
+record NoteAgain (limits : ℕ × ℕ) (place : ℕ) (file : List ℕ) : Type 0 where
+  named : is_named file place ≡ true
+  description : field 4 (place + 4) file ≡ 8
+  kind : field 4 (place + 8) file ≡ 1
+  limits_are : limits_at file place ≡ limits
+  stored : place + 28 ≤ length file
+
+note_again : (limits : ℕ × ℕ) (place : ℕ) (front : List ℕ) → length front ≡ place → AreLimits limits → NoteAgain limits place (front ++ note_bytes limits)
+unfolding is_named limits_at
+note_again limits place front len fit =
+    let xs = note_bytes limits in
+    let fixed = fixed_again limits in
+    let name : drop (place + 12) (front ++ xs) ≡ drop 12 xs = ap (λ (p : ℕ). drop (p + 12) (front ++ xs)) (sym len) ∙ drop-append-add front xs 12 in
+    record {
+      named = rw (field-right_behind 4 place front xs len, fixed.0, name, fixed.3) refl;
+      description = field-behind 4 4 place front xs len ∙ fixed.1;
+      kind = field-behind 4 8 place front xs len ∙ fixed.2;
+      limits_are = rw (
+        field-behind 4 20 place front xs len,
+        pages_again limits (omega (arith, fit.few_pages)),
+        field-behind 4 24 place front xs len,
+        calls_again limits (omega (arith, fit.few_calls)),
+      ) refl;
+      stored = omega (arith, length-append front xs, length-note_bytes limits, len);
+    }
+
+is_note_again : (limits : ℕ × ℕ) (place : ℕ) (file : List ℕ) → NoteAgain limits place file → is_note file (note_header place) ≡ true
+unfolding is_note
+is_note_again limits place file n = rw (le-leb (place + 28) (length file) n.stored, n.named) refl
+
+note_rules_again : (limits : ℕ × ℕ) (place : ℕ) (file : List ℕ) → NoteAgain limits place file → AreLimits limits → first_fault (own_rules file false (note_header place)) ≡ None
+note_rules_again limits place file n fit =
+    ap first_fault (own_rules-note file false (note_header place) (is_note_again limits place file n))
+    ∙ rw (n.description, n.kind, n.limits_are, are_limits-from limits fit) refl
+
+-- a walk over the header of a note finds its limits
+walk_notes : (file : List ℕ) (known : Option (ℕ × ℕ)) (place : ℕ) (front : List ℕ) → length front ≡ place → file ≡ front ++ notes known → IfSome known AreLimits
+    → walk file None (note_headers place known) ≡ record { loads = []; note = known; fault = None }
+walk_notes file None place front len is fit = refl
+walk_notes file (Some limits) place front len is fit =
+    let n : NoteAgain limits place file = subst (NoteAgain limits place) (sym is) (note_again limits place front len fit) in
+    rw (note_rules_again limits place file n fit, is_note_again limits place file n, n.limits_are) refl
 
 -- ---- the file header
 
@@ -189,18 +269,21 @@ file_rules_again address count file h room =
 
 -- the parts of the layout, the file header first
 abbrev table : ImageContents → List ℕ
-table i = flat_map program_header (headers_of (bytes_start i.segments) i.segments)
+table i = flat_map program_header (laid_headers i)
 
 abbrev bytes : ImageContents → List ℕ
 bytes i = flat_map stored i.segments
 
-layout-parts : (i : ImageContents) → layout i ≡ file_header i.entry (length i.segments) ++ (table i ++ bytes i)
+layout-front : (i : ImageContents) → layout i ≡ (file_header i.entry (headers_count i) ++ table i) ++ (bytes i ++ notes i.note)
 unfolding layout
-layout-parts i = append_assoc (file_header i.entry (length i.segments)) (table i) (bytes i)
+layout-front i = append_assoc (file_header i.entry (headers_count i) ++ table i) (bytes i) (notes i.note)
 
-layout-front : (i : ImageContents) → layout i ≡ (file_header i.entry (length i.segments) ++ table i) ++ bytes i
+layout-parts : (i : ImageContents) → layout i ≡ file_header i.entry (headers_count i) ++ (table i ++ (bytes i ++ notes i.note))
+layout-parts i = layout-front i ∙ append_assoc (file_header i.entry (headers_count i)) (table i) (bytes i ++ notes i.note)
+
+layout-note : (i : ImageContents) → layout i ≡ ((file_header i.entry (headers_count i) ++ table i) ++ bytes i) ++ notes i.note
 unfolding layout
-layout-front i = refl
+layout-note i = refl
 
 length-headers_of : (offset : ℕ) (ss : List SegmentContents) → length (headers_of offset ss) ≡ length ss
 length-headers_of offset [] = refl
@@ -212,41 +295,51 @@ length-table (h ∷ hs) =
     ap length (flat_map-cons program_header h hs)
     ∙ omega (arith, length-append (program_header h) (flat_map program_header hs), length-program_header h, length-table hs)
 
--- what the file header's fields say, and the program headers and segments that they lead to
+length-note_headers : (place : ℕ) (known : Option (ℕ × ℕ)) → length (note_headers place known) ≡ note_count known
+length-note_headers place None = refl
+length-note_headers place (Some limits) = refl
+
+-- what the file header's fields say, and the program headers, segments and limits that they lead to
 record Laid (i : ImageContents) : Type 0 where
   fine : first_fault (file_rules (layout i)) ≡ None
   entry_is : entry (layout i) ≡ i.entry
-  walked : table_of (layout i) ≡ record { loads = headers_of (bytes_start i.segments) i.segments; fault = None }
-  segments_are : map (segment_of (layout i)) (headers_of (bytes_start i.segments) i.segments) ≡ i.segments
+  walked : table_of (layout i) ≡ record { loads = headers_of (bytes_start i) i.segments; note = i.note; fault = None }
+  segments_are : map (segment_of (layout i)) (headers_of (bytes_start i) i.segments) ≡ i.segments
 
-laid : (i : ImageContents) → IsWellFormed i → FitsFields i → i.entry < 2 ^ 32 → All IsInWords (headers_of (bytes_start i.segments) i.segments) → Laid i
+laid : (i : ImageContents) → IsWellFormed i → FitsFields i → i.entry < 2 ^ 32 → All IsInWords (laid_headers i) → Laid i
 laid i good fits address words =
-    let count = length i.segments in
-    let hs = headers_of (bytes_start i.segments) i.segments in
+    let count = headers_count i in
+    let hs = headers_of (bytes_start i) i.segments in
+    let ns = note_headers (note_start i) i.note in
     let front = file_header i.entry count in
-    let many : length hs ≡ count = length-headers_of (bytes_start i.segments) i.segments in
+    let many : length (hs ++ ns) ≡ count = omega (arith, length-append hs ns, length-headers_of (bytes_start i) i.segments, length-note_headers (note_start i) i.note) in
     let h : HeaderAgain i.entry count (layout i)
-    = subst (HeaderAgain i.entry count) (sym (layout-parts i)) (file_header_again i.entry count (table i ++ bytes i) address fits.count) in
-    let start : length (front ++ table i) ≡ bytes_start i.segments
-    = omega (arith, length-append front (table i), length-file_header i.entry count, length-table hs, many) in
+    = subst (HeaderAgain i.entry count) (sym (layout-parts i)) (file_header_again i.entry count (table i ++ (bytes i ++ notes i.note)) address fits.count) in
+    let start : length (front ++ table i) ≡ bytes_start i
+    = omega (arith, length-append front (table i), length-file_header i.entry count, length-table (hs ++ ns), many) in
+    let end : length ((front ++ table i) ++ bytes i) ≡ note_start i
+    = omega (arith, length-append (front ++ table i) (bytes i), start, bytes_end-length (bytes_start i) i.segments) in
     let room : 52 + 32 * count ≤ length (layout i)
-    = omega (arith, ap length (layout-front i), length-append (front ++ table i) (bytes i), start) in
-    let headers : program_headers (layout i) ≡ hs
+    = omega (arith, ap length (layout-front i), length-append (front ++ table i) (bytes i ++ notes i.note), start) in
+    let headers : program_headers (layout i) ≡ hs ++ ns
     = ap (λ (place : ℕ). headers_from (layout i) place (header_count (layout i))) h.table_is
     ∙ ap (headers_from (layout i) 52) (h.count_is ∙ sym many)
-    ∙ table_again (layout i) hs 52 front (bytes i) (length-file_header i.entry count) (recursion_from_All IsInWords hs words) (layout-parts i) in
-    let keeps = keeps_again (layout i) i.segments (bytes_start i.segments) (front ++ table i) start (layout-front i) (recursion_from_All IsSegment i.segments good.each) in
+    ∙ table_again (layout i) (hs ++ ns) 52 front (bytes i ++ notes i.note) (length-file_header i.entry count) (recursion_from_All IsInWords (hs ++ ns) words) (layout-parts i) in
+    let keeps = keeps_again (layout i) i.segments (bytes_start i) (front ++ table i) (notes i.note) start (layout-front i) (recursion_from_All IsSegment i.segments good.each) in
     record {
       fine = file_rules_again i.entry count (layout i) h room;
       entry_is = h.address_is;
-      walked = ap (walk (length (layout i))) headers ∙ walk_all (length (layout i)) hs keeps;
-      segments_are = segments_again (layout i) i.segments (bytes_start i.segments) (front ++ table i) start (layout-front i);
+      walked = ap (walk (layout i) None) headers
+          ∙ walk_loads (layout i) None hs ns keeps
+          ∙ ap (with_front hs) (walk_notes (layout i) i.note (note_start i) ((front ++ table i) ++ bytes i) end (layout-note i) good.note)
+          ∙ ap (λ (gs : List ProgramHeader). record { loads = gs; note = i.note; fault = None }) (append-nil hs);
+      segments_are = segments_again (layout i) i.segments (bytes_start i) (front ++ table i) (notes i.note) start (layout-front i);
     }
 
-pub reading-layout : (i : ImageContents) → IsWellFormed i → FitsFields i → i.entry < 2 ^ 32 → All IsInWords (headers_of (bytes_start i.segments) i.segments) → reading (layout i) ≡ Ok i
+pub reading-layout : (i : ImageContents) → IsWellFormed i → FitsFields i → i.entry < 2 ^ 32 → All IsInWords (laid_headers i) → reading (layout i) ≡ Ok i
 reading-layout i good fits address words =
     let l = laid i good fits address words in
-    let hs = headers_of (bytes_start i.segments) i.segments in
+    let hs = headers_of (bytes_start i) i.segments in
     let found : (table_of (layout i)).loads ≡ hs = ap (λ (w : Walk). w.loads) l.walked in
     let apart : are_apart [] (table_of (layout i)).loads ≡ true
     = ap (are_apart []) found ∙ are_apart_from_pairs (layout i) hs (rw l.segments_are good.apart) in
@@ -255,9 +348,9 @@ reading-layout i good fits address words =
     let right : is_entry (table_of (layout i)).loads (entry (layout i)) ≡ true
     = ap (λ (gs : List ProgramHeader). is_entry gs (entry (layout i))) found ∙ ap (is_entry hs) l.entry_is ∙ and_from _ _ covered (eq-eqb _ _ good.entry_aligned) in
     reading-image (layout i) l.fine apart (ap (λ (w : Walk). w.fault) l.walked) right
-    ∙ ap (λ (gs : List ProgramHeader). Ok (record { entry = entry (layout i); segments = map (segment_of (layout i)) gs })) found
-    ∙ ap (λ (a : ℕ). Ok (record { entry = a; segments = map (segment_of (layout i)) hs })) l.entry_is
-    ∙ ap (λ (ss : List SegmentContents). Ok (record { entry = i.entry; segments = ss })) l.segments_are
+    ∙ ap (λ (w : Walk). Ok (record { entry = entry (layout i); segments = map (segment_of (layout i)) w.loads; note = w.note })) l.walked
+    ∙ ap (λ (a : ℕ). Ok (record { entry = a; segments = map (segment_of (layout i)) hs; note = i.note })) l.entry_is
+    ∙ ap (λ (ss : List SegmentContents). Ok (record { entry = i.entry; segments = ss; note = i.note })) l.segments_are
 
 -- ---- an image of the code
 
@@ -267,16 +360,24 @@ each_stored i segments good same =
     (λ k d lt. subst (λ (s : SegmentContents). length s.bytes ≤ s.size) (get_or-map segment_contents i.segments.items k d (segment_contents d) lt)
     (good.each k (segment_contents d) (omega (arith, length-map i.segments.items segment_contents))).stored)
 
--- the three parts, one behind the other
-pub written : (i : Image) (count : ℕ) (segments segments' : List Segment) (a b c : List ℕ) → count ≡ length i.segments.items → segments ≡ i.segments.items → segments' ≡ i.segments.items
-    → a ≡ [] ++ file_header i.entry count
-    → b ≡ a ++ flat_map program_header (headers_of (bytes_start (map segment_contents segments)) (map segment_contents segments))
-    → c ≡ b ++ flat_map stored (map segment_contents segments')
-    → c ≡ layout (contents_of i)
+-- how many headers it has, as the code counts them
+pub counted : (i : Image) (len more : ℕ) (segments : List Segment) → len ≡ length segments → more ≡ note_count i.note → segments ≡ i.segments.items → len + more ≡ headers_count (contents_of i)
+counted i len more segments many one same = omega (arith, many, one, ap length same, length-map i.segments.items segment_contents)
+
+-- the five parts, one behind the other
+pub written : (i : ImageContents) (a b c d e : List ℕ) → a ≡ file_header i.entry (headers_count i)
+    → b ≡ a ++ flat_map program_header (headers_of (bytes_start i) i.segments)
+    → c ≡ b ++ flat_map program_header (note_headers (note_start i) i.note)
+    → d ≡ c ++ flat_map stored i.segments
+    → e ≡ d ++ notes i.note
+    → e ≡ layout i
 unfolding layout
-written i count segments segments' a b c many same same' first second third =
-    third
-    ∙ ap (λ (ys : List ℕ). ys ++ flat_map stored (map segment_contents segments')) (second ∙ ap (λ (ys : List ℕ). ys ++ flat_map program_header (headers_of (bytes_start (map segment_contents segments)) (map segment_contents segments))) first)
-    ∙ ap (λ (ss : List Segment). (file_header i.entry count ++ flat_map program_header (headers_of (bytes_start (map segment_contents segments)) (map segment_contents segments))) ++ flat_map stored (map segment_contents ss)) same'
-    ∙ ap (λ (ss : List Segment). (file_header i.entry count ++ flat_map program_header (headers_of (bytes_start (map segment_contents ss)) (map segment_contents ss))) ++ bytes (contents_of i)) same
-    ∙ ap (λ (n : ℕ). (file_header i.entry n ++ table (contents_of i)) ++ bytes (contents_of i)) (many ∙ sym (length-map i.segments.items segment_contents))
+written i a b c d e first second third fourth fifth =
+    let hs = headers_of (bytes_start i) i.segments in
+    let ns = note_headers (note_start i) i.note in
+    let headers : c ≡ file_header i.entry (headers_count i) ++ table i
+    = third
+    ∙ ap (λ (ys : List ℕ). ys ++ flat_map program_header ns) (second ∙ ap (λ (ys : List ℕ). ys ++ flat_map program_header hs) first)
+    ∙ append_assoc (file_header i.entry (headers_count i)) (flat_map program_header hs) (flat_map program_header ns)
+    ∙ ap (λ (ys : List ℕ). file_header i.entry (headers_count i) ++ ys) (sym (flat_map-append program_header hs ns)) in
+    fifth ∙ ap (λ (ys : List ℕ). ys ++ notes i.note) (fourth ∙ ap (λ (ys : List ℕ). ys ++ bytes i) headers)

@@ -1,5 +1,5 @@
 -- What the reader answers, from what its parts found.
-use Rattle.std.proofs.Common.{◌≡◌, ℕ, ◌+◌, ◌≤◌, ◌%◌, Bool, true, false, ◌&&◌, ◌||◌, eqb, List, [], ◌∷◌, length, map, Some, None, Result, Ok, Err, All, refl, sym, ap, subst, ◌∙◌, arith}
+use Rattle.std.proofs.Common.{◌≡◌, ℕ, ◌+◌, ◌≤◌, ◌%◌, Bool, true, false, ◌&&◌, ◌||◌, eqb, List, [], ◌∷◌, length, map, Option, Some, None, Result, Ok, Err, All, refl, sym, ap, subst, ◌∙◌, arith}
 use Rattle.std.specs.List.{list_any}
 use Rattle.std.proofs.lemmas.List.{get_or-map, length-map}
 use Rattle.cyc_elf.specs.declared.fault.ElfFault.{ElfFault}
@@ -29,16 +29,19 @@ Answers-fault faults.Memory read e = tt
 pub record Found (file : List ℕ) (h : FileHeader) (w : table.Walk) : Type 0 where
   pub fine : first_fault (file_rules file) ≡ None
   pub fields : record { entry = entry file; table = table_offset file; count = header_count file } ≡ h
-  pub walked : walk_of w ≡ walk (length file) (headers_from file h.table h.count)
+  pub walked : walk_of w ≡ walk file None (headers_from file h.table h.count)
 
 table_found : {file : List ℕ} {h : FileHeader} {w : table.Walk} → Found file h w → walk_of w ≡ table_of file
-table_found {file} f = f.walked ∙ ap (λ (g : FileHeader). walk (length file) (headers_from file g.table g.count)) (sym f.fields)
+table_found {file} f = f.walked ∙ ap (λ (g : FileHeader). walk file None (headers_from file g.table g.count)) (sym f.fields)
 
 loads_found : {file : List ℕ} {h : FileHeader} {w : table.Walk} → Found file h w → map fields_of w.loads.items ≡ (table_of file).loads
 loads_found f = ap (λ (v : Walk). v.loads) (table_found f)
 
 fault_found : {file : List ℕ} {h : FileHeader} {w : table.Walk} → Found file h w → w.fault ≡ (table_of file).fault
 fault_found f = ap (λ (v : Walk). v.fault) (table_found f)
+
+note_found : {file : List ℕ} {h : FileHeader} {w : table.Walk} → Found file h w → w.note ≡ (table_of file).note
+note_found f = ap (λ (v : Walk). v.note) (table_found f)
 
 pub apart_found : {file : List ℕ} {h : FileHeader} {w : table.Walk} (apart : Bool) (ls : List raw.ProgramHeader) → Found file h w → apart ≡ are_apart [] (map fields_of ls) → ls ≡ w.loads.items → are_apart [] (table_of file).loads ≡ apart
 apart_found apart ls f e same = sym (e ∙ ap (λ (xs : List raw.ProgramHeader). are_apart [] (map fields_of xs)) same ∙ ap (are_apart []) (loads_found f))
@@ -74,21 +77,22 @@ stored {file} ls f same =
     subst (λ (g : ProgramHeader). g.offset + g.file_size ≤ length file) (get_or-map fields_of ls k d (fields_of d) lt) (kept k (fields_of d) (omega (arith, length-map ls fields_of)))
 
 -- the image as the code makes it
-abbrev made : FileHeader → List Segment → ImageContents
-made h segments = record { entry = h.entry; segments = map segment_contents segments }
+abbrev made : FileHeader → table.Walk → List Segment → ImageContents
+made h w segments = record { entry = h.entry; segments = map segment_contents segments; note = w.note }
 
 made_is : {file : List ℕ} {h : FileHeader} {w : table.Walk} (ls : List raw.ProgramHeader) (segments : List Segment) → Found file h w → ls ≡ w.loads.items → map segment_contents segments ≡ map (segment_of file) (map fields_of ls)
-    → made h segments ≡ record { entry = entry file; segments = map (segment_of file) (table_of file).loads }
-made_is {file} {h} ls segments f same e =
-    ap (λ (ss : List SegmentContents). record { entry = h.entry; segments = ss }) (e ∙ ap (map (segment_of file)) (ap (map fields_of) same ∙ loads_found f))
-    ∙ ap (λ (g : FileHeader). record { entry = g.entry; segments = map (segment_of file) (table_of file).loads }) (sym f.fields)
+    → made h w segments ≡ record { entry = entry file; segments = map (segment_of file) (table_of file).loads; note = (table_of file).note }
+made_is {file} {h} {w} ls segments f same e =
+    ap (λ (ss : List SegmentContents). record { entry = h.entry; segments = ss; note = w.note }) (e ∙ ap (map (segment_of file)) (ap (map fields_of) same ∙ loads_found f))
+    ∙ ap (λ (g : FileHeader). record { entry = g.entry; segments = map (segment_of file) (table_of file).loads; note = w.note }) (sym f.fields)
+    ∙ ap (λ (n : Option (ℕ × ℕ)). record { entry = entry file; segments = map (segment_of file) (table_of file).loads; note = n }) (note_found f)
 
 pub image : {file : List ℕ} {h : FileHeader} {w : table.Walk} (ls : List raw.ProgramHeader) (segments : List Segment) → Found file h w → are_apart [] (table_of file).loads ≡ true → w.fault ≡ None → is_entry (table_of file).loads (entry file) ≡ true
-    → ls ≡ w.loads.items → map segment_contents segments ≡ map (segment_of file) (map fields_of ls) → reading file ≡ Ok (made h segments)
+    → ls ≡ w.loads.items → map segment_contents segments ≡ map (segment_of file) (map fields_of ls) → reading file ≡ Ok (made h w segments)
 image {file} ls segments f apart none right same e =
     reading-image file f.fine apart (sym (fault_found f) ∙ none) right ∙ ap (λ (i : ImageContents). Ok i) (sym (made_is ls segments f same e))
 
 pub well_formed : {file : List ℕ} {h : FileHeader} {w : table.Walk} (ls : List raw.ProgramHeader) (segments : List Segment) → Found file h w → are_apart [] (table_of file).loads ≡ true → is_entry (table_of file).loads (entry file) ≡ true
-    → ls ≡ w.loads.items → map segment_contents segments ≡ map (segment_of file) (map fields_of ls) → IsWellFormed (made h segments)
+    → ls ≡ w.loads.items → map segment_contents segments ≡ map (segment_of file) (map fields_of ls) → IsWellFormed (made h w segments)
 well_formed {file} ls segments f apart right same e =
     subst IsWellFormed (sym (made_is ls segments f same e)) (is_well_formed file apart right)

@@ -1,20 +1,21 @@
 -- The rules of the format, as tests of program headers, against what makes an image well formed, as facts
 -- on the segments that the headers describe.
-use Rattle.std.proofs.Common.{◌≡◌, ℕ, zero, suc, ◌+◌, ◌%◌, ◌^◌, ◌<◌, ◌≤◌, Bool, true, false, cond, not, ◌||◌, eqb, ltb, List, [], ◌∷◌, length, map, get_or, drop, Option, Some, None, All, refl, sym, ap, ◌∙◌, inl, inr, arith}
+use Rattle.std.proofs.Common.{◌≡◌, ℕ, zero, suc, ◌+◌, ◌%◌, ◌^◌, ◌<◌, ◌≤◌, Bool, true, false, cond, not, ◌&&◌, ◌||◌, eqb, ltb, leb, List, [], ◌∷◌, length, map, get_or, drop, Option, Some, None, is_some, IfSome, All, refl, sym, ap, ◌∙◌, inl, inr, arith}
 use Rattle.std.specs.Prelude.{Any, AllPairs}
 use Rattle.std.specs.List.{list_any, AllByRecursion}
-use Rattle.std.proofs.lemmas.Bool.{ltb-false, le-ltb, eqb-true, eq-eqb, not-false, and_parts, cases_Bool, false≢true}
+use Rattle.std.proofs.lemmas.Bool.{ltb-false, leb-true, le-leb, le-ltb, eqb-true, eq-eqb, not-false, and_parts, cases_Bool, false≢true}
 use Rattle.std.proofs.lemmas.List.{length-take}
 use Rattle.std.proofs.lemmas.List.Elements.{All-from_recursion, All-map, All-head, All-tail}
 use Rattle.std.proofs.lemmas.List.Kept.{AllPairs-cons}
 use Rattle.cyc_elf.specs.declared.fault.ElfFault.{ElfFault}
-use Rattle.cyc_elf.specs.declared.fault.ElfFault.TheVariants.{Truncated, BadSegment, Interp}
-use Rattle.cyc_elf.specs.Header.{ProgramHeader, program_headers, entry}
+use Rattle.cyc_elf.specs.declared.fault.ElfFault.TheVariants.{Truncated, BadSegment}
+use Rattle.cyc_elf.specs.Header.{field, ProgramHeader, program_headers, entry}
+use Rattle.cyc_elf.specs.Note.{limits_at, is_note, are_limits, AreLimits}
 use Rattle.cyc_elf.specs.Image.{SegmentContents, Holds, AreApart, IsSegment, IsWellFormed}
-use Rattle.cyc_elf.specs.Reading.{first_fault, load_rules, own_rules, covers, segment_of}
-use Rattle.cyc_elf.specs.Parts.{are_apart}
+use Rattle.cyc_elf.specs.Reading.{first_fault, own_rules, covers, segment_of}
+use Rattle.cyc_elf.specs.Parts.{Walk, step, noted, walk, are_apart}
 use Rattle.cyc_elf.proofs.Apart.{one, covering, covers-from, covers-true, are_apart-true, are_apart-false}
-use Rattle.cyc_elf.proofs.Rules.{Keeps, walk_keeps, table_of, is_entry}
+use Rattle.cyc_elf.proofs.Rules.{Keeps, own_rules-note, walk_keeps, table_of, is_entry}
 
 -- ---- a loadable header on its own
 
@@ -31,15 +32,10 @@ unbroken : (b : Bool) (f : ElfFault) (later : Option ElfFault) → cond b (Some 
 unbroken true f later e = absurd cc
 unbroken false f later e = (refl, e)
 
-own_rules-load : (len : ℕ) (h : ProgramHeader) → h.kind ≡ 1 → own_rules len h ≡ load_rules len h
-unfolding own_rules
-own_rules-load len h load = ap (λ (k : ℕ). cond (eqb k 3) (record { is_broken = true; fault = Interp } ∷ []) (cond (eqb k 1) (load_rules len h) [])) load
-
 pub kept_from_keeps : (len : ℕ) (h : ProgramHeader) → Keeps len h → Kept len h
 kept_from_keeps len h keeps =
     let load : h.kind ≡ 1 = eqb-true _ _ keeps.load in
-    let e : first_fault (load_rules len h) ≡ None = sym (ap first_fault (own_rules-load len h load)) ∙ keeps.own in
-    let fits = unbroken (ltb h.memory_size h.file_size) BadSegment _ e in
+    let fits = unbroken (ltb h.memory_size h.file_size) BadSegment _ keeps.own in
     let ends = unbroken (ltb (2 ^ 32) (h.vaddr + h.memory_size)) BadSegment _ fits.1 in
     let word = unbroken (not (eqb (h.vaddr % 4) 0)) BadSegment _ ends.1 in
     let stored = unbroken (ltb len (h.offset + h.file_size)) Truncated _ word.1 in
@@ -54,8 +50,7 @@ kept_from_keeps len h keeps =
 pub keeps_from_kept : (len : ℕ) (h : ProgramHeader) → Kept len h → Keeps len h
 keeps_from_kept len h kept = record {
   load = eq-eqb _ _ kept.load;
-  own = ap first_fault (own_rules-load len h kept.load)
-      ∙ rw (le-ltb h.memory_size h.file_size kept.fits, le-ltb (2 ^ 32) (h.vaddr + h.memory_size) kept.ends, eq-eqb (h.vaddr % 4) 0 kept.word, le-ltb len (h.offset + h.file_size) kept.stored) refl;
+  own = rw (le-ltb h.memory_size h.file_size kept.fits, le-ltb (2 ^ 32) (h.vaddr + h.memory_size) kept.ends, eq-eqb (h.vaddr % 4) 0 kept.word, le-ltb len (h.offset + h.file_size) kept.stored) refl;
 }
 
 pub segment_from_kept : (file : List ℕ) (h : ProgramHeader) → Kept (length file) h → IsSegment (segment_of file h)
@@ -64,6 +59,64 @@ segment_from_kept file h kept = record {
   in_memory = kept.ends;
   aligned = kept.word;
 }
+
+-- ---- a note on its own
+
+-- pages and calls are in their ranges
+pub are_limits-true : (limits : ℕ × ℕ) → are_limits limits ≡ true → AreLimits limits
+are_limits-true limits e =
+    let three = and_parts (leb 3 limits.0 && leb limits.0 65536 && leb 1 limits.1) (leb limits.1 4096) e in
+    let two = and_parts (leb 3 limits.0 && leb limits.0 65536) (leb 1 limits.1) three.0 in
+    let one = and_parts (leb 3 limits.0) (leb limits.0 65536) two.0 in
+    record {
+      enough_pages = leb-true _ _ one.0;
+      few_pages = leb-true _ _ one.1;
+      enough_calls = leb-true _ _ two.1;
+      few_calls = leb-true _ _ three.1;
+    }
+
+pub are_limits-from : (limits : ℕ × ℕ) → AreLimits limits → are_limits limits ≡ true
+are_limits-from limits fit =
+    rw (le-leb 3 limits.0 fit.enough_pages, le-leb limits.0 65536 fit.few_pages, le-leb 1 limits.1 fit.enough_calls, le-leb limits.1 4096 fit.few_calls) refl
+
+-- the rules that a note keeps, as facts
+pub record KeptNote (file : List ℕ) (h : ProgramHeader) : Type 0 where
+  pub whole : 28 ≤ h.file_size
+  pub description : field 4 (h.offset + 4) file ≡ 8
+  pub kind : field 4 (h.offset + 8) file ≡ 1
+  pub limits : AreLimits (limits_at file h.offset)
+
+pub kept_note : (file : List ℕ) (before : Bool) (h : ProgramHeader) → is_note file h ≡ true → first_fault (own_rules file before h) ≡ None → KeptNote file h
+kept_note file before h is keeps =
+    let e = sym (ap first_fault (own_rules-note file before h is)) ∙ keeps in
+    let whole = unbroken (ltb h.file_size 28) BadSegment _ e in
+    let description = unbroken (not (eqb (field 4 (h.offset + 4) file) 8)) BadSegment _ whole.1 in
+    let kind = unbroken (not (eqb (field 4 (h.offset + 8) file) 1)) BadSegment _ description.1 in
+    let limits = unbroken (not (are_limits (limits_at file h.offset))) BadSegment _ kind.1 in
+    record {
+      whole = ltb-false _ _ whole.0;
+      description = eqb-true _ _ (not-false _ description.0);
+      kind = eqb-true _ _ (not-false _ kind.0);
+      limits = are_limits-true _ (not-false _ limits.0);
+    }
+
+-- limits that are known behind a header without a fault are in their ranges
+noted_fit : (file : List ℕ) (known : Option (ℕ × ℕ)) (h : ProgramHeader) → first_fault (own_rules file (is_some known) h) ≡ None → IfSome known AreLimits → IfSome (noted file known h) AreLimits
+noted_fit file known h keeps fit =
+    elim (cases_Bool (is_note file h)) [
+      | inl is ↦ rw is (kept_note file (is_some known) h is keeps).limits
+      | inr other ↦ rw other fit
+    ]
+
+step_fit : (known : Option (ℕ × ℕ)) (h : ProgramHeader) (w : Walk) (o : Option ElfFault) → IfSome known AreLimits → (o ≡ None → IfSome w.note AreLimits) → IfSome (step known h o w).note AreLimits
+step_fit known h w (Some f) fit later = fit
+step_fit known h w None fit later = later refl
+
+walk_fit : (file : List ℕ) (known : Option (ℕ × ℕ)) (headers : List ProgramHeader) → IfSome known AreLimits → IfSome (walk file known headers).note AreLimits
+walk_fit file known [] fit = fit
+walk_fit file known (h ∷ rest) fit =
+    step_fit known h (walk file (noted file known h) rest) (first_fault (own_rules file (is_some known) h)) fit
+    (λ keeps. walk_fit file (noted file known h) rest (noted_fit file known h keeps fit))
 
 -- ---- headers that are apart
 
@@ -166,17 +219,18 @@ segments_all file (h ∷ hs) kept = (segment_from_kept file h kept.0, segments_a
 -- the bytes of each header that the walk keeps lie in the file
 pub stored_all : (file : List ℕ) → All (λ h. h.offset + h.file_size ≤ length file) (table_of file).loads
 stored_all file =
-    let kept = All-from_recursion (Kept (length file)) _ (kept_all (length file) _ (walk_keeps (length file) (program_headers file))) in
+    let kept = All-from_recursion (Kept (length file)) _ (kept_all (length file) _ (walk_keeps file None (program_headers file))) in
     λ k d lt. (kept k d lt).stored
 
 pub is_well_formed : (file : List ℕ) → are_apart [] (table_of file).loads ≡ true → is_entry (table_of file).loads (entry file) ≡ true
-    → IsWellFormed (record { entry = entry file; segments = map (segment_of file) (table_of file).loads })
+    → IsWellFormed (record { entry = entry file; segments = map (segment_of file) (table_of file).loads; note = (table_of file).note })
 is_well_formed file apart right =
     let hs = (table_of file).loads in
     let both = and_parts (list_any (λ h. covers h (entry file)) hs) (eqb (entry file % 4) 0) right in
     record {
-      each = All-map IsSegment (segment_of file) hs (All-from_recursion (λ h. IsSegment (segment_of file h)) hs (segments_all file hs (kept_all (length file) hs (walk_keeps (length file) (program_headers file)))));
+      each = All-map IsSegment (segment_of file) hs (All-from_recursion (λ h. IsSegment (segment_of file h)) hs (segments_all file hs (kept_all (length file) hs (walk_keeps file None (program_headers file)))));
       apart = pairs_from_are_apart file hs apart;
       entry_held = held_from_covered file hs (entry file) both.0;
       entry_aligned = eqb-true _ _ both.1;
+      note = walk_fit file None (program_headers file) tt;
     }

@@ -1,27 +1,30 @@
--- The writer's loop over the segments.
-use Rattle.std.proofs.Common.{◌≡◌, ℕ, ◌+◌, ◌^◌, ◌<◌, List, ◌∷◌, ◌++◌, length, map, get_or, drop, All, refl, sym, ap, subst, ◌∙◌, append_assoc, add-one, drop-cons}
+-- The writer's loop over the segments, and the headers of both kinds.
+use Rattle.std.proofs.Common.{◌≡◌, ℕ, ◌+◌, ◌^◌, ◌<◌, List, [], ◌∷◌, ◌++◌, length, map, get_or, drop, All, refl, sym, ap, subst, ◌∙◌, append_assoc, add-one, drop-cons}
 use Rattle.std.specs.List.{flat_map}
 use Rattle.std.proofs.lemmas.List.Concat.{flat_map-cons}
-use Rattle.std.proofs.lemmas.List.Elements.{All-cons, All-head, All-tail}
+use Rattle.std.proofs.lemmas.List.Elements.{All-nil, All-cons, All-head, All-tail}
 use Rattle.cyc_elf.specs.declared.image.Segment.{Segment}
 use Rattle.cyc_elf.specs.Header.{ProgramHeader}
 use Rattle.cyc_elf.specs.Image.{segment_contents, padded}
-use Rattle.cyc_elf.specs.Layout.{program_header, header_of, headers_of, bytes_start}
+use Rattle.cyc_elf.specs.Layout.{program_header, header_of, headers_of, bytes_end}
 use Rattle.cyc_elf.specs.Parts.{IsInWords}
 
 -- the headers that are left in front of the segment at an index
 abbrev pub headers_left : (offset i : ℕ) → List Segment → List ProgramHeader
 headers_left offset i xs = headers_of offset (map segment_contents (drop i xs))
 
--- all of them
-abbrev pub headers_whole : List Segment → List ProgramHeader
-headers_whole xs = headers_of (bytes_start (map segment_contents xs)) (map segment_contents xs)
-
 pub headers_left-at : (xs : List Segment) (i offset : ℕ) (x : Segment) → i < length xs → x ≡ get_or xs i x
     → headers_left offset i xs ≡ header_of offset (segment_contents x) ∷ headers_left (offset + padded (length x.bytes.items)) (i + 1) xs
 headers_left-at xs i offset x lt here =
     let split : drop i xs ≡ x ∷ drop (i + 1) xs = rw add-one (drop-cons xs i x lt ∙ rw (← here) refl) in
     ap (λ (ys : List Segment). headers_of offset (map segment_contents ys)) split
+
+-- where the bytes end, from the segment at an index on
+pub bytes_end-at : (xs : List Segment) (i offset : ℕ) (x : Segment) → i < length xs → x ≡ get_or xs i x
+    → bytes_end offset (map segment_contents (drop i xs)) ≡ bytes_end (offset + padded (length x.bytes.items)) (map segment_contents (drop (i + 1) xs))
+bytes_end-at xs i offset x lt here =
+    let split : drop i xs ≡ x ∷ drop (i + 1) xs = rw add-one (drop-cons xs i x lt ∙ rw (← here) refl) in
+    ap (λ (ys : List Segment). bytes_end offset (map segment_contents ys)) split
 
 -- what holds with `rest` left of the headers: their offsets fit, what was written goes on with them, and the
 -- numbers of those written fit
@@ -48,3 +51,13 @@ goes_on out after start h rest rest' whole split put fits at =
 pub offset_fits : (out start : List ℕ) (h : ProgramHeader) (rest rest' whole : List ProgramHeader) → rest ≡ h ∷ rest' → IsAt out start rest whole → h.offset < 2 ^ 32
 offset_fits out start h rest rest' whole split at =
     All-head (λ g. g.offset < 2 ^ 32) h rest' (subst (All (λ g. g.offset < 2 ^ 32)) split at.fit)
+
+-- ---- what holds of all headers, of those of segments and of a note's
+
+pub All-left : {X : Type 0} (P : X → Type 0) (xs ys : List X) → All P (xs ++ ys) → All P xs
+All-left P [] ys all = All-nil P
+All-left P (x ∷ xs) ys all = All-cons P x xs (All-head P x (xs ++ ys) all) (All-left P xs ys (All-tail P x (xs ++ ys) all))
+
+pub All-right : {X : Type 0} (P : X → Type 0) (xs ys : List X) → All P (xs ++ ys) → All P ys
+All-right P [] ys all = all
+All-right P (x ∷ xs) ys all = All-right P xs ys (All-tail P x (xs ++ ys) all)

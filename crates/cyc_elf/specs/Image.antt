@@ -1,7 +1,8 @@
--- What an image is: an entry and segments of memory, without where they lie in the program.
-use Rattle.std.specs.Prelude.{◌≡◌, ℕ, ◌+◌, ◌*◌, ◌/◌, ◌%◌, ◌^◌, ◌<◌, ◌≤◌, List, length, map, All, Any, AllPairs}
+-- What an image is: an entry, segments of memory and the limits of its runs, without where they lie in the program.
+use Rattle.std.specs.Prelude.{◌≡◌, ℕ, ◌+◌, ◌*◌, ◌/◌, ◌%◌, ◌^◌, ◌<◌, ◌≤◌, Option, List, length, map, All, Any, AllPairs, IfSome}
 use Rattle.cyc_elf.specs.declared.image.Segment.{Segment}
 use Rattle.cyc_elf.specs.declared.image.Image.{Image}
+use Rattle.cyc_elf.specs.Note.{AreLimits}
 
 -- A segment of memory: its first address, the header's flags, the bytes that the file holds, and how many
 -- bytes it has in memory. The bytes past those of the file are 0.
@@ -11,16 +12,18 @@ pub record SegmentContents : Type 0 where
   pub bytes : List ℕ
   pub size : ℕ
 
--- an image: the address of the first instruction, and the segments in the order of their headers
+-- an image: the address of the first instruction, the segments in the order of their headers, and the pages and calls that a run
+-- may take, where the image says
 pub record ImageContents : Type 0 where
   pub entry : ℕ
   pub segments : List SegmentContents
+  pub note : Option (ℕ × ℕ)
 
 abbrev pub segment_contents : Segment → SegmentContents
 segment_contents s = record { vaddr = s.vaddr; flags = s.flags; bytes = s.bytes.items; size = s.size }
 
 abbrev pub contents_of : Image → ImageContents
-contents_of i = record { entry = i.entry; segments = map segment_contents i.segments.items }
+contents_of i = record { entry = i.entry; segments = map segment_contents i.segments.items; note = i.note }
 
 -- n, rounded up to a multiple of 4
 abbrev pub padded : ℕ → ℕ
@@ -44,10 +47,11 @@ pub record IsSegment (s : SegmentContents) : Type 0 where
   pub in_memory : s.vaddr + s.size ≤ 2 ^ 32
   pub aligned : s.vaddr % 4 ≡ 0
 
--- A well-formed image: each of its segments is one, no two share an address, and the entry is a word's
--- address in one of them.
+-- A well-formed image: each of its segments is one, no two share an address, the entry is a word's
+-- address in one of them, and limits are in their ranges.
 pub record IsWellFormed (i : ImageContents) : Type 0 where
   pub each : All IsSegment i.segments
   pub apart : AllPairs AreApart i.segments
   pub entry_held : Any (λ s. Holds s i.entry) i.segments
   pub entry_aligned : i.entry % 4 ≡ 0
+  pub note : IfSome i.note AreLimits

@@ -1,10 +1,11 @@
--- The one file that the writer makes of an image: the file header, the program headers, and the segments'
--- bytes in order, each padded with zeros to whole words. There is nothing else, so each field that points
--- to a section table is 0.
-use Rattle.std.specs.Prelude.{ℕ, ◌+◌, ◌-◌, ◌*◌, ◌^◌, ◌<◌, List, [], ◌∷◌, ◌++◌, length, replicate, All}
+-- The one file that the writer makes of an image: the file header, the program headers, the segments'
+-- bytes in order, each padded with zeros to whole words, and last the note, where the image has limits. There is nothing else,
+-- so each field that points to a section table is 0.
+use Rattle.std.specs.Prelude.{ℕ, ◌+◌, ◌-◌, ◌*◌, ◌^◌, ◌<◌, Option, Some, None, List, [], ◌∷◌, ◌++◌, length, replicate, All}
 use Rattle.std.specs.List.{flat_map}
 use Rattle.byteorder.specs.Endian.{big_bytes}
 use Rattle.cyc_elf.specs.Header.{ident, file_header_size, program_header_size, ProgramHeader}
+use Rattle.cyc_elf.specs.Note.{note_name, name_size, description_size, note_type, note_size}
 use Rattle.cyc_elf.specs.Image.{SegmentContents, ImageContents, padded}
 
 -- numbers of two and of four bytes, each with its highest byte first
@@ -49,22 +50,66 @@ headers_of offset (s ∷ rest) = header_of offset s ∷ headers_of (offset + pad
 abbrev pub stored : SegmentContents → List ℕ
 stored s = s.bytes ++ replicate (padded (length s.bytes) - length s.bytes) 0
 
--- where the bytes of the first segment begin
-abbrev pub bytes_start : List SegmentContents → ℕ
-bytes_start segments = file_header_size + program_header_size * length segments
+-- where the bytes of segments end that stand one behind the other from an offset on
+abbrev pub bytes_end : ℕ → List SegmentContents → ℕ
+bytes_end offset [] = offset
+bytes_end offset (s ∷ rest) = bytes_end (offset + padded (length s.bytes)) rest
 
--- the program headers of all of an image's segments
-abbrev pub laid_headers : List SegmentContents → List ProgramHeader
-laid_headers segments = headers_of (bytes_start segments) segments
+-- ---- the note, where there is one
+
+-- the program header (4) of a note at an offset: it has no place in memory, and is to be read (4)
+abbrev pub note_header : ℕ → ProgramHeader
+note_header offset = record {
+  kind = 4;
+  offset = offset;
+  vaddr = 0;
+  file_size = note_size;
+  memory_size = note_size;
+  flags = 4;
+}
+
+abbrev pub note_headers : ℕ → (note : Option (ℕ × ℕ)) → List ProgramHeader
+note_headers offset None = []
+note_headers offset (Some limits) = note_header offset ∷ []
+
+-- its bytes: the two sizes and the type, the name, and the limits
+unfoldable pub note_bytes : (limits : ℕ × ℕ) → List ℕ
+note_bytes limits = words (name_size ∷ description_size ∷ note_type ∷ []) ++ note_name ++ words (limits.0 ∷ limits.1 ∷ [])
+
+abbrev pub notes : (note : Option (ℕ × ℕ)) → List ℕ
+notes None = []
+notes (Some limits) = note_bytes limits
+
+-- ---- the whole
+
+-- how many program headers limits take, and how many an image has
+abbrev pub note_count : (note : Option (ℕ × ℕ)) → ℕ
+note_count None = 0
+note_count (Some limits) = 1
+
+abbrev pub headers_count : ImageContents → ℕ
+headers_count i = length i.segments + note_count i.note
+
+-- where the bytes of its first segment begin, and where those of the last end
+abbrev pub bytes_start : ImageContents → ℕ
+bytes_start i = file_header_size + program_header_size * headers_count i
+
+abbrev pub note_start : ImageContents → ℕ
+note_start i = bytes_end (bytes_start i) i.segments
+
+-- its program headers
+abbrev pub laid_headers : ImageContents → List ProgramHeader
+laid_headers i = headers_of (bytes_start i) i.segments ++ note_headers (note_start i) i.note
 
 unfoldable pub layout : ImageContents → List ℕ
 layout i =
-    file_header i.entry (length i.segments)
-    ++ flat_map program_header (laid_headers i.segments)
+    file_header i.entry (headers_count i)
+    ++ flat_map program_header (laid_headers i)
     ++ flat_map stored i.segments
+    ++ notes i.note
 
--- the numbers that the writer finds out fit their fields: how many segments there are, and where the bytes
+-- the numbers that the writer finds out fit their fields: how many program headers there are, and where the bytes
 -- of each begin
 pub record FitsFields (i : ImageContents) : Type 0 where
-  pub count : length i.segments < 2 ^ 16
-  pub offsets : All (λ h. h.offset < 2 ^ 32) (laid_headers i.segments)
+  pub count : headers_count i < 2 ^ 16
+  pub offsets : All (λ h. h.offset < 2 ^ 32) (laid_headers i)

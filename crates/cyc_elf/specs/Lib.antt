@@ -1,5 +1,6 @@
 -- what the contracts of `read_image` and `write_image` rest on
 pub mod Header
+pub mod Note
 pub mod Image
 pub mod Reading
 pub mod Layout

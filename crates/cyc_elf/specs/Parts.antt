@@ -1,11 +1,12 @@
 -- What the parts of the reader answer. The reader's own contract cites none of this: `proofs/` shows that
 -- the parts together answer as the rules do.
-use Rattle.std.specs.Prelude.{ℕ, ◌+◌, ◌^◌, ◌<◌, Bool, true, not, ◌&&◌, nat_le, ◌==◌, if◌then◌else◌, Option, Some, None, List, [], ◌∷◌, ◌++◌, map}
+use Rattle.std.specs.Prelude.{ℕ, ◌+◌, ◌^◌, ◌<◌, Bool, true, not, ◌&&◌, nat_le, ◌==◌, if◌then◌else◌, Option, Some, None, is_some, List, [], ◌∷◌, ◌++◌, map}
 use Rattle.std.specs.List.{list_any}
 use Rattle.cyc_elf.specs.declared.fault.ElfFault.{ElfFault}
 use Rattle.cyc_elf.specs.declared.program_header.ProgramHeader as raw
 use Rattle.cyc_elf.specs.declared.table.Walk as table
 use Rattle.cyc_elf.specs.Header.{ProgramHeader}
+use Rattle.cyc_elf.specs.Note.{is_note, limits_at}
 use Rattle.cyc_elf.specs.Reading.{first_fault, own_rules, is_load, overlap}
 
 -- a program header as the code keeps it
@@ -19,21 +20,27 @@ fields_of h = record {
   flags = h.flags;
 }
 
--- the loadable program headers before the first header that breaks a rule on its own, and its fault
+-- the loadable program headers and the limits of the first note before the first header that breaks a rule on its own, and its fault
 pub record Walk : Type 0 where
   pub loads : List ProgramHeader
+  pub note : Option (ℕ × ℕ)
   pub fault : Option ElfFault
 
 abbrev pub walk_of : table.Walk → Walk
-walk_of w = record { loads = map fields_of w.loads.items; fault = w.fault }
+walk_of w = record { loads = map fields_of w.loads.items; note = w.note; fault = w.fault }
 
-abbrev pub step : ProgramHeader → Option ElfFault → Walk → Walk
-step h (Some f) rest = record { loads = []; fault = Some f }
-step h None rest = record { loads = if is_load h then h ∷ rest.loads else rest.loads; fault = rest.fault }
+abbrev pub step : (known : Option (ℕ × ℕ)) → ProgramHeader → Option ElfFault → Walk → Walk
+step known h (Some f) rest = record { loads = []; note = known; fault = Some f }
+step known h None rest = record { loads = if is_load h then h ∷ rest.loads else rest.loads; note = rest.note; fault = rest.fault }
 
-abbrev pub walk : ℕ → List ProgramHeader → Walk
-walk len [] = record { loads = []; fault = None }
-walk len (h ∷ rest) = step h (first_fault (own_rules len h)) (walk len rest)
+-- the limits that are known behind a header, where these were known before
+abbrev pub noted : List ℕ → (known : Option (ℕ × ℕ)) → ProgramHeader → Option (ℕ × ℕ)
+noted file known h = if is_note file h then Some (limits_at file h.offset) else known
+
+-- a walk that knows limits from headers before
+abbrev pub walk : List ℕ → (known : Option (ℕ × ℕ)) → List ProgramHeader → Walk
+walk file known [] = record { loads = []; note = known; fault = None }
+walk file known (h ∷ rest) = step known h (first_fault (own_rules file (is_some known) h)) (walk file (noted file known h) rest)
 
 -- none of the headers overlaps one before it, where `earlier` stand before them all
 abbrev pub are_apart : (earlier headers : List ProgramHeader) → Bool

@@ -4,7 +4,8 @@ use Rattle.std.specs.Prelude.{◌≡◌, ℕ, ◌+◌, ◌*◌, ◌%◌, ◌^◌
 use Rattle.std.specs.List.{list_any, starts_with}
 use Rattle.cyc_elf.specs.declared.fault.ElfFault.{ElfFault}
 use Rattle.cyc_elf.specs.declared.fault.ElfFault.TheVariants as faults
-use Rattle.cyc_elf.specs.Header.{ident, file_header_size, object_type, machine, version, entry, table_offset, header_size, header_count, program_header_size, ProgramHeader, program_headers}
+use Rattle.cyc_elf.specs.Header.{ident, field, file_header_size, object_type, machine, version, entry, table_offset, header_size, header_count, program_header_size, ProgramHeader, program_headers}
+use Rattle.cyc_elf.specs.Note.{description_size, note_type, note_size, limits_at, is_note, are_limits}
 use Rattle.cyc_elf.specs.declared.image.Image.{Image}
 use Rattle.cyc_elf.specs.Image.{SegmentContents, ImageContents, contents_of}
 
@@ -34,7 +35,7 @@ file_rules file =
     ∷ broken (nat_lt (length file) (table_offset file + program_header_size * header_count file)) faults.Truncated
     ∷ []
 
--- the kinds of a program header that are looked at: PT_LOAD and PT_INTERP
+-- the kinds of a program header that are looked at beside notes: PT_LOAD and PT_INTERP
 abbrev pub is_load : ProgramHeader → Bool
 is_load h = h.kind == 1
 
@@ -63,23 +64,38 @@ load_rules len h =
     ∷ broken (nat_lt len (h.offset + h.file_size)) faults.Truncated
     ∷ []
 
--- a program header on its own: none may ask for an interpreter, and other kinds are ignored
-unfoldable pub own_rules : ℕ → ProgramHeader → List Rule
-own_rules len h =
+-- A note that carries limits: it has all of its bytes, describes two words and is of its owner's type 1, its limits are in their
+-- ranges, and none came before.
+abbrev pub note_rules : List ℕ → (noted : Bool) → ProgramHeader → List Rule
+note_rules file noted h =
+    broken (nat_lt h.file_size note_size) faults.BadSegment
+    ∷ broken (not (field 4 (h.offset + 4) file == description_size)) faults.BadSegment
+    ∷ broken (not (field 4 (h.offset + 8) file == note_type)) faults.BadSegment
+    ∷ broken (not (are_limits (limits_at file h.offset))) faults.BadSegment
+    ∷ broken noted faults.BadSegment
+    ∷ []
+
+-- A program header on its own, where a note came before or did not: none may ask for an interpreter, and other kinds and other notes
+-- are ignored.
+unfoldable pub own_rules : List ℕ → (noted : Bool) → ProgramHeader → List Rule
+own_rules file noted h =
     if is_interpreter h
     then broken true faults.Interp ∷ []
     else (if is_load h
-    then load_rules len h
-    else [])
+    then load_rules (length file) h
+    else (if is_note file h
+    then note_rules file noted h
+    else []))
 
 -- a program header beside those before it: a loadable one overlaps none that is loadable
 abbrev pub overlap_rule : List ProgramHeader → ProgramHeader → Rule
 overlap_rule earlier h = broken (is_load h && list_any (overlap h) (loads earlier)) faults.BadSegment
 
 -- all of a list of program headers, in their order, each with those before it
-abbrev pub table_rules : ℕ → (earlier headers : List ProgramHeader) → List Rule
-table_rules len earlier [] = []
-table_rules len earlier (h ∷ rest) = own_rules len h ++ overlap_rule earlier h ∷ table_rules len (earlier ++ h ∷ []) rest
+abbrev pub table_rules : List ℕ → (earlier headers : List ProgramHeader) → List Rule
+table_rules file earlier [] = []
+table_rules file earlier (h ∷ rest) =
+    own_rules file (list_any (is_note file) earlier) h ++ overlap_rule earlier h ∷ table_rules file (earlier ++ h ∷ []) rest
 
 -- the entry is a word's address in one of the segments
 unfoldable pub entry_rules : List ProgramHeader → ℕ → List Rule
@@ -92,7 +108,7 @@ entry_rules headers address =
 abbrev pub rules : List ℕ → List Rule
 rules file =
     file_rules file
-    ++ table_rules (length file) [] (program_headers file)
+    ++ table_rules file [] (program_headers file)
     ++ entry_rules (program_headers file) (entry file)
 
 -- the segment that a program header describes, with its bytes of the file
@@ -104,9 +120,18 @@ segment_of file h = record {
   size = h.memory_size;
 }
 
+-- the limits that the first note among program headers carries
+abbrev pub note_among : List ℕ → List ProgramHeader → Option (ℕ × ℕ)
+note_among file [] = None
+note_among file (h ∷ rest) = if is_note file h then Some (limits_at file h.offset) else note_among file rest
+
 -- what the file's fields name
 abbrev pub named_image : List ℕ → ImageContents
-named_image file = record { entry = entry file; segments = map (segment_of file) (loads (program_headers file)) }
+named_image file = record {
+  entry = entry file;
+  segments = map (segment_of file) (loads (program_headers file));
+  note = note_among file (program_headers file);
+}
 
 abbrev pub unless : Option ElfFault → ImageContents → Result ImageContents ElfFault
 unless (Some f) image = Err f

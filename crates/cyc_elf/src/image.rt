@@ -17,11 +17,14 @@ pub struct Segment {
     pub size: u32,
 }
 
-/// An executable image: where it starts, and its segments in the order of their headers.
+/// An executable image: where it starts, its segments in the order of their headers, and the limits that it carries.
 #[derive(Debug, PartialEq, Eq, Drop)]
 pub struct Image {
     /// The address of the first instruction.
     pub entry: u32,
     /// The segments, in the order of their program headers.
     pub segments: Vec<Segment>,
+    /// How many pages the store of a run has, from 3 to 65,536, and how many calls may be under way at once, from 1 to 4,096, where
+    /// the image says.
+    pub note: Option<(u32, u32)>,
 }

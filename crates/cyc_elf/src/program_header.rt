@@ -3,17 +3,24 @@
 ghost use Rattle.std.specs.Prelude.{◌≡◌, ◌+◌, ◌*◌, ◌≤◌, length, map, IfOk};
 ghost use Rattle.cyc_elf.specs.Header.{program_header_size, program_header_at, headers_from};
 ghost use Rattle.cyc_elf.specs.Image.{segment_contents};
-ghost use Rattle.cyc_elf.specs.Layout.{header_of};
-ghost use Rattle.cyc_elf.specs.Reading.{first_fault, own_rules, is_load, covers};
+ghost use Rattle.cyc_elf.specs.Layout.{header_of, note_header};
+ghost use Rattle.cyc_elf.specs.Note.{is_note};
+ghost use Rattle.cyc_elf.specs.Reading.{first_fault, own_rules, load_rules, is_load, covers};
 
 use crate::fault::ElfFault;
 use crate::fields::word_at;
 use crate::image::Segment;
+use crate::note::{NAMED_SIZE, NOTE_SIZE, is_named, keeps_rules};
 
 /// The kinds that the reader looks at.
 const LOAD: u32 = 1;
 
 const INTERPRETER: u32 = 3;
+
+const NOTE: u32 = 4;
+
+/// The flag of what is read.
+const READ: u32 = 4;
 
 /// The end of the address space.
 const ADDRESSES: u64 = 1 << 32;
@@ -65,6 +72,21 @@ impl ProgramHeader {
         }
     }
 
+    /// The header of a note whose bytes begin at an offset in the file.
+    pub fn of_note(offset: u32) -> ProgramHeader
+        ensures { fields_of result ≡ note_header offset }
+    {
+        let size = NOTE_SIZE as u32;
+        ProgramHeader {
+            kind: NOTE,
+            offset,
+            vaddr: 0,
+            file_size: size,
+            memory_size: size,
+            flags: READ,
+        }
+    }
+
     /// Whether the header describes a segment.
     pub fn is_load(&self) -> bool
         ensures { result ≡ is_load (fields_of self.now) }
@@ -86,22 +108,47 @@ impl ProgramHeader {
         self.vaddr <= address && u64::from(address) < self.end()
     }
 
-    /// The first rule that the header breaks on its own, in a file of `len` bytes.
-    #[tactic(auto, unfolding(crate::specs::Reading::own_rules))]
-    pub fn own_fault(&self, len: usize) -> Option<ElfFault>
-        ensures { result ≡ first_fault (own_rules len (fields_of self.now)) }
+    /// Whether the header describes a note that carries limits. A note of another owner does not, nor one whose bytes do not lie in
+    /// the file.
+    #[tactic(auto, unfolding(crate::specs::Note::is_note))]
+    pub fn is_note(&self, file: &[u8]) -> bool
+        ensures { result ≡ is_note file.now (fields_of self.now) }
     {
-        if self.kind == INTERPRETER {
-            return Some(ElfFault::Interp);
-        }
-        if !self.is_load() {
-            return None;
-        }
+        let (start, size) = (self.offset as usize, self.file_size as usize);
+        self.kind == NOTE
+            && NAMED_SIZE <= size
+            && start + size <= file.len()
+            && is_named(file, start)
+    }
+
+    /// The first rule that a loadable header breaks on its own, in a file of `len` bytes.
+    fn load_fault(&self, len: usize) -> Option<ElfFault>
+        ensures { result ≡ first_fault (load_rules len (fields_of self.now)) }
+    {
         if self.memory_size < self.file_size || self.end() > ADDRESSES || self.vaddr % 4 != 0 {
             return Some(ElfFault::BadSegment);
         }
         if len < self.offset as usize + self.file_size as usize {
             return Some(ElfFault::Truncated);
+        }
+        None
+    }
+
+    /// The first rule that the header breaks on its own, where a note came before it or did not.
+    #[tactic(auto, unfolding(crate::specs::Reading::own_rules, crate::specs::Note::is_note))]
+    pub fn own_fault(&self, file: &[u8], noted: bool) -> Option<ElfFault>
+        ensures { result ≡ first_fault (own_rules file.now noted (fields_of self.now)) }
+    {
+        if self.kind == INTERPRETER {
+            return Some(ElfFault::Interp);
+        }
+        if self.is_load() {
+            return self.load_fault(file.len());
+        }
+        if self.is_note(file)
+            && (noted || !keeps_rules(file, self.offset as usize, self.file_size as usize))
+        {
+            return Some(ElfFault::BadSegment);
         }
         None
     }

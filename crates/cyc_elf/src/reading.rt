@@ -54,5 +54,6 @@ pub fn read_image(alloc: Global, file: &[u8]) -> Result<Image, ElfFault>
     Ok(Image {
         entry: header.entry,
         segments,
+        note: walk.note,
     })
 }

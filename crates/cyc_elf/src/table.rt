@@ -1,46 +1,67 @@
 //! The table of program headers as a whole.
 
-ghost use Rattle.std.specs.Prelude.{◌≡◌, ◌+◌, ◌*◌, ◌≤◌, [], length, map, All, IfOk};
+ghost use Rattle.std.specs.Prelude.{◌≡◌, ◌+◌, ◌*◌, ◌≤◌, true, [], None, length, map, All, IfOk};
 ghost use Rattle.std.specs.List.Sorted.{IsPermutation, IsNonDecreasingBy};
 ghost use Rattle.cyc_elf.specs.Header.{program_header_size, headers_from};
 ghost use Rattle.cyc_elf.specs.Image.{segment_contents};
-ghost use Rattle.cyc_elf.specs.Parts.{fields_of, walk, walk_of, in_order, are_apart};
+ghost use Rattle.cyc_elf.specs.Note.{note_size, is_note};
+ghost use Rattle.cyc_elf.specs.Parts.{fields_of, noted, walk, walk_of, in_order, are_apart};
 ghost use Rattle.cyc_elf.specs.Reading.{segment_of};
 
 use crate::fault::ElfFault;
 use crate::file_header::PROGRAM_HEADER_SIZE;
 use crate::image::Segment;
+use crate::note::limits_at;
 use crate::program_header::ProgramHeader;
 use std::alloc::{AllocError, Global};
 
-/// The loadable program headers before the first header that breaks a rule on its own, and its fault.
+/// The loadable program headers and the limits of the note before the first header that breaks a rule on its own, and its fault.
 #[derive(Drop)]
 pub struct Walk {
     pub loads: Vec<ProgramHeader>,
+    pub note: Option<(u32, u32)>,
     pub fault: Option<ElfFault>,
+}
+
+/// The limits that are known behind a header that keeps its rules, where these were known before it.
+fn noted(file: &[u8], header: ProgramHeader, known: Option<(u32, u32)>) -> Option<(u32, u32)>
+    requires { is_note file.now (fields_of header) ≡ true → header.offset + note_size ≤ length file.now }
+    ensures { result ≡ noted file.now known (fields_of header) }
+{
+    if header.is_note(file) {
+        return Some(limits_at(file, header.offset as usize));
+    }
+    known
 }
 
 /// Walks the `count` program headers from the place `table` on.
 pub fn walk_table(alloc: Global, file: &[u8], table: u32, count: u16) -> Result<Walk, AllocError>
     requires { table + program_header_size * count ≤ length file.now }
-    ensures { IfOk result (λ w. walk_of w ≡ walk (length file.now) (headers_from file.now table count)) }
+    ensures { IfOk result (λ w. walk_of w ≡ walk file.now None (headers_from file.now table count)) }
 {
     let mut loads = Vec::new(alloc);
+    let mut note = None;
     let mut place = table as usize;
     for _ in 0..count {
         let header = ProgramHeader::at(file, place);
-        if let Some(fault) = header.own_fault(file.len()) {
+        if let Some(fault) = header.own_fault(file, note.is_some()) {
             return Ok(Walk {
                 loads,
+                note,
                 fault: Some(fault),
             });
         }
         if header.is_load() {
             loads.push(header)?;
         }
+        note = noted(file, header, note);
         place += PROGRAM_HEADER_SIZE;
     }
-    Ok(Walk { loads, fault: None })
+    Ok(Walk {
+        loads,
+        note,
+        fault: None,
+    })
 }
 
 /// The headers in the order of their addresses.

@@ -3,12 +3,13 @@
 ghost use Rattle.std.specs.Prelude.{◌≡◌, ◌+◌, ◌-◌, ◌^◌, ◌<◌, ◌≤◌, ◌++◌, length, map, All, Ok, OnOk, IfOk};
 ghost use Rattle.std.specs.List.{flat_map};
 ghost use Rattle.cyc_elf.specs.Image.{IsWellFormed, contents_of, segment_contents, padded};
-ghost use Rattle.cyc_elf.specs.Layout.{halves, words, file_header, program_header, laid_headers, stored, layout, FitsFields};
+ghost use Rattle.cyc_elf.specs.Layout.{halves, words, file_header, program_header, headers_of, stored, bytes_end, note_headers, note_bytes, notes, note_count, layout, FitsFields};
 ghost use Rattle.cyc_elf.specs.Parts.{fields_of, IsInWords};
 ghost use Rattle.cyc_elf.specs.Reading.{reading};
 
 use crate::file_header::{EXECUTABLE, FILE_HEADER_SIZE, IDENT, MIPS, PROGRAM_HEADER_SIZE, VERSION};
 use crate::image::{Image, Segment};
+use crate::note::{DESCRIPTION_SIZE, NAME, NAME_SIZE, NOTE_TYPE};
 use crate::program_header::ProgramHeader;
 use byteorder::{BigEndian, ByteOrder};
 use std::alloc::{AllocError, Global};
@@ -101,20 +102,67 @@ fn put_bytes(out: &mut Vec<u8>, s: &Segment) -> Result<(), AllocError>
     Ok(())
 }
 
-/// Appends the program headers of an image's segments.
-fn put_headers(out: &mut Vec<u8>, segments: &[Segment]) -> Result<(), AllocError>
+/// Appends the program headers of segments whose bytes begin at `start`, and answers where they end.
+fn put_headers(out: &mut Vec<u8>, segments: &[Segment], start: usize) -> Result<usize, AllocError>
     requires each { All (λ s. length s.bytes.items ≤ s.size) segments.now }
-    requires offsets { All (λ h. h.offset < 2 ^ 32) (laid_headers (map segment_contents segments.now)) }
+    requires offsets { All (λ h. h.offset < 2 ^ 32) (headers_of start (map segment_contents segments.now)) }
     ensures bytes { OnOk result (out.new.items
-        ≡ out.old.items ++ flat_map program_header (laid_headers (map segment_contents segments.now))) }
-    ensures words { OnOk result (All IsInWords (laid_headers (map segment_contents segments.now))) }
+        ≡ out.old.items ++ flat_map program_header (headers_of start (map segment_contents segments.now))) }
+    ensures words { OnOk result (All IsInWords (headers_of start (map segment_contents segments.now))) }
+    ensures end { IfOk result (λ end. end ≡ bytes_end start (map segment_contents segments.now)) }
 {
-    let mut offset = FILE_HEADER_SIZE + PROGRAM_HEADER_SIZE * segments.len();
+    let mut offset = start;
     for s in segments {
         put_program_header(out, ProgramHeader::of(s, offset as u32))?;
         offset += s.bytes.len() + padding(s.bytes.len());
     }
-    Ok(())
+    Ok(offset)
+}
+
+/// How many program headers the limits of an image take.
+fn note_count(note: Option<(u32, u32)>) -> usize
+    ensures { result ≡ note_count note }
+{
+    match note {
+        Some(_) => 1,
+        None => 0,
+    }
+}
+
+/// Appends the program header of a note whose bytes begin at `offset`, where there are limits.
+fn put_note_header(
+    out: &mut Vec<u8>,
+    note: Option<(u32, u32)>,
+    offset: usize,
+) -> Result<(), AllocError>
+    requires { All (λ h. h.offset < 2 ^ 32) (note_headers offset note) }
+    ensures bytes { OnOk result (out.new.items ≡ out.old.items ++ flat_map program_header (note_headers offset note)) }
+    ensures words { OnOk result (All IsInWords (note_headers offset note)) }
+{
+    match note {
+        Some(_) => put_program_header(out, ProgramHeader::of_note(offset as u32)),
+        None => Ok(()),
+    }
+}
+
+/// Appends the bytes of a note that carries limits.
+#[tactic(auto, unfolding(crate::specs::Layout::note_bytes))]
+fn put_note_bytes(out: &mut Vec<u8>, pages: u32, calls: u32) -> Result<(), AllocError>
+    ensures bytes { OnOk result (out.new.items ≡ out.old.items ++ note_bytes (pages, calls)) }
+{
+    put_words(out, &[NAME_SIZE, DESCRIPTION_SIZE, NOTE_TYPE])?;
+    out.extend_from_slice(&NAME)?;
+    put_words(out, &[pages, calls])
+}
+
+/// Appends the bytes of a note, where there are limits.
+fn put_note(out: &mut Vec<u8>, note: Option<(u32, u32)>) -> Result<(), AllocError>
+    ensures bytes { OnOk result (out.new.items ≡ out.old.items ++ notes note) }
+{
+    match note {
+        Some((pages, calls)) => put_note_bytes(out, pages, calls),
+        None => Ok(()),
+    }
 }
 
 /// Appends the bytes of an image's segments, each up to a whole word.
@@ -127,11 +175,12 @@ fn put_all_bytes(out: &mut Vec<u8>, segments: &[Segment]) -> Result<(), AllocErr
     Ok(())
 }
 
-/// Writes an image as a file: the file header, a program header for each segment, and the segments' bytes in
-/// order, each padded with zeros to whole words. There are no section headers.
+/// Writes an image as a file: the file header, a program header for each segment, the segments' bytes in
+/// order, each padded with zeros to whole words. Where the image has limits, the program header of their note stands behind the
+/// others, and the note's bytes behind all. There are no section headers.
 ///
 /// The file has 52 bytes, 32 for each segment, and each segment's bytes rounded up to words: zeros that a
-/// segment has past its bytes are not written.
+/// segment has past its bytes are not written. Limits take 60 bytes more.
 pub fn write_image(alloc: Global, image: &Image) -> Result<Vec<u8>, AllocError>
     requires well_formed { IsWellFormed (contents_of image.now) }
     requires fits { FitsFields (contents_of image.now) }
@@ -140,8 +189,12 @@ pub fn write_image(alloc: Global, image: &Image) -> Result<Vec<u8>, AllocError>
     ensures read_again { IfOk result (λ file. reading file.items ≡ Ok (contents_of image.now)) }
 {
     let mut file = Vec::new(alloc);
-    put_file_header(&mut file, image.entry, image.segments.len() as u16)?;
-    put_headers(&mut file, &image.segments)?;
+    let count = image.segments.len() + note_count(image.note);
+    put_file_header(&mut file, image.entry, count as u16)?;
+    let start = FILE_HEADER_SIZE + PROGRAM_HEADER_SIZE * count;
+    let end = put_headers(&mut file, &image.segments, start)?;
+    put_note_header(&mut file, image.note, end)?;
     put_all_bytes(&mut file, &image.segments)?;
+    put_note(&mut file, image.note)?;
     Ok(file)
 }

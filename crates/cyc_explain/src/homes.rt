@@ -5,7 +5,7 @@ use cyc_words::Span;
 use std::alloc::{AllocError, Global};
 
 /// What makes a region.
-#[derive(Clone, Copy, PartialEq, Eq)]
+#[derive(Clone, Copy)]
 pub(crate) enum Origin {
     /// The caller.
     Caller,

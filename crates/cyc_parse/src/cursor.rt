@@ -1,7 +1,7 @@
 //! The symbols that are left, and the parsers of one symbol.
 #![tactic(auto, unfolding(crate::specs::Parsing::take))]
 
-ghost use Rattle.std.specs.Prelude.{◌≡◌, ℕ, suc, length, map, option_map, if◌then◌else◌};
+ghost use Rattle.std.specs.Prelude.{◌≡◌, ℕ, suc, true, length, map, option_map, is_some, IfSome, IfNone, Ok, if◌then◌else◌};
 ghost use Rattle.cyc_parse.specs.declared.stop.Reason.TheVariants as reasons;
 ghost use Rattle.cyc_parse.specs.declared.stop.Stop.TheVariants.{Refused};
 ghost use Rattle.cyc_syntax.specs.TreeView.{place_of_span, view_name};
@@ -108,6 +108,20 @@ impl<'a> Parser<'a> {
         }
     }
 
+    /// Takes the next symbol, whatever it is, where there is one.
+    pub(crate) fn take_next(&mut self) -> Span
+        requires { is_some (next self.old) ≡ true }
+        ensures { advance self.old ≡ Ok (place_of_span result, self.new) }
+    {
+        match self.left {
+            [first, rest @ ..] => {
+                self.left = rest;
+                first.span
+            }
+            [] => unreachable!(),
+        }
+    }
+
     /// Takes the next symbol, whatever it is, if it does not stand too deep.
     fn accept(&mut self, room: u32) -> Result<Span, Stop>
         ensures { Gives place_of_span result (accepted room self.old) self.new }
@@ -129,6 +143,18 @@ impl<'a> Parser<'a> {
         self.advance()
     }
 
+    /// Takes this sign, if it comes next.
+    pub(crate) fn take_if(&mut self, wanted: Sign) -> Option<Span>
+        ensures seen { sees wanted self.old ≡ is_some result }
+        ensures taken { IfSome result (λ span. (room : ℕ) → sign (suc room) wanted self.old ≡ Ok (place_of_span span, self.new)) }
+        ensures left { IfNone result (self.new ≡ self.old) }
+    {
+        if !self.sees(wanted) {
+            return None;
+        }
+        Some(self.take_next())
+    }
+
     pub(crate) fn take_word(&mut self, wanted: Keyword) -> Result<Span, Stop>
         ensures { (room : ℕ) → Gives place_of_span result (word (suc room) wanted self.old) self.new }
     {
@@ -144,7 +170,7 @@ impl<'a> Parser<'a> {
         let Some(Terminal::Identifier(name)) = self.next() else {
             return Err(Stop::Refused(Reason::Unexpected));
         };
-        let span = self.advance()?;
+        let span = self.take_next();
         Ok(Ident { name, span })
     }
 
@@ -154,7 +180,7 @@ impl<'a> Parser<'a> {
         let Some(Terminal::RegionName(name)) = self.next() else {
             return Err(Stop::Refused(Reason::Unexpected));
         };
-        let span = self.advance()?;
+        let span = self.take_next();
         Ok(Ident { name, span })
     }
 
@@ -164,7 +190,7 @@ impl<'a> Parser<'a> {
         let Some(Terminal::Number(value)) = self.next() else {
             return Err(Stop::Refused(Reason::Unexpected));
         };
-        self.advance()?;
+        self.take_next();
         Ok(value)
     }
 

@@ -96,10 +96,9 @@ impl<'a> Parser<'a> {
     fn parse_int(&mut self) -> Result<bool, Stop>
         ensures { Gives (λ b. b) result (has_int 200 self.old) self.new }
     {
-        if !self.sees(Sign::LeftParen) {
+        let Some(_) = self.take_if(Sign::LeftParen) else {
             return Ok(false);
-        }
-        self.take_sign(Sign::LeftParen)?;
+        };
         self.take_word(Keyword::Int)?;
         self.take_sign(Sign::RightParen)?;
         Ok(true)
@@ -154,20 +153,18 @@ impl<'a> Parser<'a> {
     fn parse_member_after_comma(&mut self) -> Result<Option<Member>, Stop>
         ensures { (room : ℕ) → Gives (option_map view_member) result (after_comma (suc room) (member (suc room)) self.old) self.new }
     {
-        if !self.sees(Sign::Comma) {
+        let Some(_) = self.take_if(Sign::Comma) else {
             return Ok(None);
-        }
-        self.take_sign(Sign::Comma)?;
+        };
         Ok(Some(self.parse_member()?))
     }
 
     fn end_members(&mut self) -> Result<(), Stop>
         ensures { (room : ℕ) → Gives {Y = List trees.Member} (λ _. []) result (no_more_items (suc room) begins_type self.old) self.new }
     {
-        if !self.sees(Sign::Comma) {
+        let Some(_) = self.take_if(Sign::Comma) else {
             return Ok(());
-        }
-        self.take_sign(Sign::Comma)?;
+        };
         Err(refusal(self.begins_type(), Reason::TooLong))
     }
 
@@ -217,10 +214,9 @@ impl<'a> Parser<'a> {
     fn parse_effect(&mut self) -> Result<Option<Vec<Ident>>, Stop>
         ensures { Gives (option_map (λ v. map view_name v.items)) result (effect 200 self.old) self.new }
     {
-        if !self.sees(Sign::Semicolon) {
+        let Some(_) = self.take_if(Sign::Semicolon) else {
             return Ok(None);
-        }
-        self.take_sign(Sign::Semicolon)?;
+        };
         self.take_sign(Sign::LeftBrace)?;
         let regions = self.parse_effect_regions()?;
         self.take_sign(Sign::RightBrace)?;
@@ -239,20 +235,18 @@ impl<'a> Parser<'a> {
     fn parse_constraint_after_comma(&mut self) -> Result<Option<Constraint>, Stop>
         ensures { (room : ℕ) → Gives (option_map view_constraint) result (after_comma (suc room) (constraint (suc room)) self.old) self.new }
     {
-        if !self.sees(Sign::Comma) {
+        let Some(_) = self.take_if(Sign::Comma) else {
             return Ok(None);
-        }
-        self.take_sign(Sign::Comma)?;
+        };
         Ok(Some(self.parse_constraint()?))
     }
 
     fn end_constraints(&mut self) -> Result<(), Stop>
         ensures { (room : ℕ) → Gives {Y = List trees.Constraint} (λ _. []) result (no_more_items (suc room) begins_region self.old) self.new }
     {
-        if !self.sees(Sign::Comma) {
+        let Some(_) = self.take_if(Sign::Comma) else {
             return Ok(());
-        }
-        self.take_sign(Sign::Comma)?;
+        };
         Err(refusal(self.begins_region(), Reason::TooLong))
     }
 
@@ -276,10 +270,9 @@ impl<'a> Parser<'a> {
     fn parse_constraints(&mut self) -> Result<Vec<Constraint>, Stop>
         ensures { Gives (λ v. map view_constraint v.items) result (constraints 200 self.old) self.new }
     {
-        if !self.sees(Sign::Colon) {
+        let Some(_) = self.take_if(Sign::Colon) else {
             return Ok(Vec::new(self.alloc()));
-        }
-        self.take_sign(Sign::Colon)?;
+        };
         self.parse_constraint_list()
     }
 
@@ -304,19 +297,19 @@ impl<'a> Parser<'a> {
     {
         match self.next() {
             Some(Terminal::Number(value)) => {
-                let span = self.advance()?;
+                let span = self.take_next();
                 Ok(GlobalValue::Number { span, value })
             }
             Some(Terminal::Character(value)) => {
-                let span = self.advance()?;
+                let span = self.take_next();
                 Ok(GlobalValue::Character { span, value })
             }
             Some(Terminal::Word(Keyword::Null)) => {
-                let span = self.advance()?;
+                let span = self.take_next();
                 Ok(GlobalValue::Null { span })
             }
             Some(Terminal::Mark(Sign::Minus)) => {
-                let span = self.advance()?;
+                let span = self.take_next();
                 let value = self.take_number()?;
                 Ok(GlobalValue::Negative { span, value })
             }
@@ -328,10 +321,9 @@ impl<'a> Parser<'a> {
     fn parse_global_value(&mut self) -> Result<Option<GlobalValue>, Stop>
         ensures { Gives (option_map view_value) result (global_value 200 self.old) self.new }
     {
-        if !self.sees(Sign::Assign) {
+        let Some(_) = self.take_if(Sign::Assign) else {
             return Ok(None);
-        }
-        self.take_sign(Sign::Assign)?;
+        };
         Ok(Some(self.parse_value()?))
     }
 
@@ -427,12 +419,12 @@ impl<'a> Parser<'a> {
     {
         match self.next() {
             Some(Terminal::Word(Keyword::Struct)) => {
-                let span = self.advance()?;
+                let span = self.take_next();
                 self.parse_struct_or_typed(span)
             }
             Some(Terminal::Word(Keyword::Datatype)) => self.parse_exceptions(),
             Some(Terminal::Word(Keyword::Void)) => {
-                self.advance()?;
+                self.take_next();
                 let name = self.take_identifier()?;
                 self.parse_function(None, name)
             }

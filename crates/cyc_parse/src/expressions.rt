@@ -2,7 +2,7 @@
 //! reads at a level of nesting below which so many are left.
 #![tactic(auto, unfolding(crate::specs::Parsing::bind, crate::specs::Parsing::choose, crate::specs::Parsing::if_sees, crate::specs::Parsing::if_starts, crate::specs::Parsing::if_is, crate::specs::Parsing::refuse_item, crate::specs::Expressions::nested), using(crate::proofs::Levels::levels))]
 
-ghost use Rattle.std.specs.Prelude.{◌≡◌, ◌<◌, ◌≤◌, ◌-◌, suc, ◌||◌, map, option_map, List, [], Ok, IfSome};
+ghost use Rattle.std.specs.Prelude.{◌≡◌, ◌<◌, ◌≤◌, ◌-◌, suc, true, ◌||◌, map, option_map, is_some, List, [], Ok, IfSome};
 ghost use Rattle.cyc_syntax.specs.declared.tokens.Sign.TheVariants as signs;
 ghost use Rattle.cyc_syntax.specs.TreeView.{view_name, view_expression, view_initial, expressions_of, postfixes_of, operations_of, then_postfix};
 ghost use Rattle.cyc_parse.specs.Boxes.{view_boxed, view_boxed_initial};
@@ -242,9 +242,10 @@ impl<'a> Parser<'a> {
 
     /// `free_ukey(..)`
     fn parse_freed_key(&mut self, room: u32) -> Result<Box<Expr>, Stop>
+        requires { is_some (next self.old) ≡ true }
         ensures { Gives view_boxed result (freed_key room self.old) self.new }
     {
-        let span = self.advance()?;
+        let span = self.take_next();
         self.take_sign(Sign::LeftParen)?;
         let key = self.take_identifier_inside(room)?;
         self.take_sign_inside(room, Sign::RightParen)?;
@@ -254,9 +255,10 @@ impl<'a> Parser<'a> {
     /// An expression in round brackets, as a tree.
     #[cycle(expression)]
     fn parse_bracketed(&mut self, room: u32) -> Result<Box<Expr>, Stop>
+        requires { is_some (next self.old) ≡ true }
         ensures { Gives view_boxed result (bracketed room (nested room) self.old) self.new }
     {
-        let span = self.advance()?;
+        let span = self.take_next();
         let inner = self.parse_expression(room)?;
         self.take_sign_inside(room, Sign::RightParen)?;
         self.node(Expr::Bracketed { span, inner })
@@ -269,36 +271,36 @@ impl<'a> Parser<'a> {
     {
         match self.next() {
             Some(Terminal::Number(value)) => {
-                let span = self.advance()?;
+                let span = self.take_next();
                 self.node(Expr::Number { span, value })
             }
             Some(Terminal::Character(value)) => {
-                let span = self.advance()?;
+                let span = self.take_next();
                 self.node(Expr::Character { span, value })
             }
             Some(Terminal::Identifier(name)) => {
-                let span = self.advance()?;
+                let span = self.take_next();
                 self.parse_from_name(room, Ident { name, span })
             }
             Some(Terminal::Word(Keyword::Null)) => {
-                let span = self.advance()?;
+                let span = self.take_next();
                 self.node(Expr::Null { span })
             }
             Some(Terminal::Word(Keyword::HeapRegion)) => {
-                let span = self.advance()?;
+                let span = self.take_next();
                 self.node(Expr::HeapRegion { span })
             }
             Some(Terminal::Word(Keyword::UniqueRegion)) => {
-                let span = self.advance()?;
+                let span = self.take_next();
                 self.node(Expr::UniqueRegion { span })
             }
             Some(Terminal::Word(Keyword::NumberOfElements)) => {
-                let span = self.advance()?;
+                let span = self.take_next();
                 let pointer = self.parse_group_here(room)?;
                 self.node(Expr::NumberOfElements { span, pointer })
             }
             Some(Terminal::Word(Keyword::FreeUnique)) => {
-                let span = self.advance()?;
+                let span = self.take_next();
                 let pointer = self.parse_group_here(room)?;
                 self.node(Expr::FreeUnique { span, pointer })
             }
@@ -376,9 +378,10 @@ impl<'a> Parser<'a> {
 
     #[cycle(expression)]
     fn parse_prefixed(&mut self, room: u32, operator: PrefixOperator) -> Result<Box<Expr>, Stop>
+        requires { is_some (next self.old) ≡ true }
         ensures { Gives view_boxed result (prefixed (nested room) operator self.old) self.new }
     {
-        let span = self.advance()?;
+        let span = self.take_next();
         let operand = self.parse_unary(room)?;
         self.node(Expr::Prefixed {
             span,
@@ -390,9 +393,10 @@ impl<'a> Parser<'a> {
     /// `new`
     #[cycle(expression)]
     fn parse_new(&mut self, room: u32) -> Result<Box<Expr>, Stop>
+        requires { is_some (next self.old) ≡ true }
         ensures { Gives view_boxed result (created (nested room) self.old) self.new }
     {
-        let span = self.advance()?;
+        let span = self.take_next();
         let value = self.parse_initial(room)?;
         self.node(Expr::New { span, value })
     }
@@ -400,9 +404,10 @@ impl<'a> Parser<'a> {
     /// `rnew(..)`
     #[cycle(expression)]
     fn parse_region_new(&mut self, room: u32) -> Result<Box<Expr>, Stop>
+        requires { is_some (next self.old) ≡ true }
         ensures { Gives view_boxed result (created_in (nested room) self.old) self.new }
     {
-        let span = self.advance()?;
+        let span = self.take_next();
         let region = self.parse_group(room)?;
         let value = self.parse_initial(room)?;
         self.node(Expr::RegionNew {
@@ -713,7 +718,7 @@ impl<'a> Parser<'a> {
     {
         match self.next() {
             Some(Terminal::Identifier(name)) => {
-                let span = self.advance()?;
+                let span = self.take_next();
                 self.parse_initial_from_name(room, Ident { name, span })
             }
             Some(Terminal::Mark(Sign::LeftBrace)) => self.parse_array(room),

@@ -2,14 +2,14 @@
 //! so many are left.
 #![tactic(auto, unfolding(crate::specs::Parsing::bind, crate::specs::Parsing::choose, crate::specs::Parsing::if_sees, crate::specs::Parsing::if_starts, crate::specs::Parsing::refuse_item, crate::specs::Expressions::nested, crate::specs::Statements::nested_statements), using(crate::proofs::StatementLevels::nested_statement, crate::proofs::StatementLevels::nested_items))]
 
-ghost use Rattle.std.specs.Prelude.{◌≡◌, ℕ, suc, length, option_map};
+ghost use Rattle.std.specs.Prelude.{◌≡◌, ℕ, suc, true, length, option_map, is_some};
 ghost use Rattle.cyc_syntax.specs.TreeView.{place_of_span, view_name, view_expression, view_initial, view_statement, view_item, view_block, items_of, clauses_of, default_of};
 ghost use Rattle.cyc_syntax.specs.Trees as trees;
 ghost use Rattle.cyc_parse.specs.Boxes.{view_boxed, view_boxed_statement};
 ghost use Rattle.cyc_parse.specs.Code.{Gives};
-ghost use Rattle.cyc_parse.specs.Parsing.{pure, next, starts, inside, sign};
+ghost use Rattle.cyc_parse.specs.Parsing.{next, starts, inside, sign};
 ghost use Rattle.cyc_parse.specs.Types.{region_of};
-ghost use Rattle.cyc_parse.specs.Statements.{begins_statement, begins_item, is_case, is_default, begins_clause, is_else, is_unary, ends_in_new, ends_in_name, end_of_swap, nested_statements, body, expression_from, swap, behind, statement_from_name, else_part, return_value, thrown, caught, clauses_in, clauses, if_statement, while_statement, throw_statement, try_statement, statement, local_value, local, opened_key, region, alias, new_key, dynamic_region, item, items};
+ghost use Rattle.cyc_parse.specs.Statements.{begins_statement, begins_item, is_case, is_default, begins_clause, is_else, is_unary, ends_in_new, ends_in_name, end_of_swap, nested_statements, body, expression_from, swap, behind, else_part, return_value, thrown, caught, clauses_in, clauses, if_statement, while_statement, throw_statement, try_statement, statement, local_value, local, opened_key, region, alias, new_key, dynamic_region, item, items};
 ghost use Rattle.cyc_parse.specs.StatementSteps.{one_item, one_clause, then_clause, default_clause, end_of_try, after_symbol, return_statement, named_statement, block_statement, expression_statement, let_item};
 
 use crate::cursor::{Parser, refusal};
@@ -186,9 +186,12 @@ impl<'a> Parser<'a> {
 
     /// A label's colon follows the name, or the name begins an expression.
     #[cycle(statement)]
-    fn parse_statement_from_name(&mut self, room: u32, name: Ident) -> Result<Stmt, Stop>
-        ensures { Gives view_statement result (statement_from_name room (nested_statements room) (view_name name) self.old) self.new }
+    fn parse_named_statement(&mut self, room: u32, name: Name) -> Result<Stmt, Stop>
+        requires { is_some (next self.old) ≡ true }
+        ensures { Gives view_statement result (named_statement room (nested_statements room) name.number self.old) self.new }
     {
+        let span = self.take_next();
+        let name = Ident { name, span };
         if self.sees(Sign::Colon) {
             self.take_sign(Sign::Colon)?;
             let block = self.parse_block(room)?;
@@ -198,22 +201,7 @@ impl<'a> Parser<'a> {
         self.parse_rest_of_statement(room, value)
     }
 
-    #[cycle(statement)]
-    fn parse_named_statement(&mut self, room: u32, name: Name) -> Result<Stmt, Stop>
-        ensures { Gives view_statement result (named_statement room (nested_statements room) name.number self.old) self.new }
-    {
-        let span = self.advance()?;
-        self.parse_statement_from_name(room, Ident { name, span })
-    }
-
     // ---- statements that begin with words and signs
-
-    fn parse_empty(&mut self) -> Result<Stmt, Stop>
-        ensures { Gives view_statement result (after_symbol (λ p. pure (trees.Empty p)) self.old) self.new }
-    {
-        let span = self.advance()?;
-        Ok(Stmt::Empty { span })
-    }
 
     /// Items in braces.
     #[cycle(statement)]
@@ -264,9 +252,10 @@ impl<'a> Parser<'a> {
     /// `if`
     #[cycle(statement)]
     fn parse_if(&mut self, room: u32) -> Result<Stmt, Stop>
+        requires { is_some (next self.old) ≡ true }
         ensures { Gives view_statement result (after_symbol (if_statement room (nested_statements room)) self.old) self.new }
     {
-        let span = self.advance()?;
+        let span = self.take_next();
         let condition = self.parse_group_here(room)?;
         let then = self.parse_statement(room)?;
         self.parse_else_part(room, span, condition, then)
@@ -275,9 +264,10 @@ impl<'a> Parser<'a> {
     /// `while`
     #[cycle(statement)]
     fn parse_while(&mut self, room: u32) -> Result<Stmt, Stop>
+        requires { is_some (next self.old) ≡ true }
         ensures { Gives view_statement result (after_symbol (while_statement room (nested_statements room)) self.old) self.new }
     {
-        let span = self.advance()?;
+        let span = self.take_next();
         let condition = self.parse_group_here(room)?;
         let body = self.parse_statement(room)?;
         Ok(Stmt::While {
@@ -320,9 +310,10 @@ impl<'a> Parser<'a> {
 
     /// `throw`
     fn parse_throw(&mut self, room: u32) -> Result<Stmt, Stop>
+        requires { is_some (next self.old) ≡ true }
         ensures { Gives view_statement result (after_symbol (throw_statement room (nested_statements room)) self.old) self.new }
     {
-        let span = self.advance()?;
+        let span = self.take_next();
         self.take_word(Keyword::New)?;
         let exception = self.take_identifier_inside(room)?;
         let value = self.parse_thrown(room)?;
@@ -428,9 +419,10 @@ impl<'a> Parser<'a> {
     /// `try`
     #[cycle(statement)]
     fn parse_try(&mut self, room: u32) -> Result<Stmt, Stop>
+        requires { is_some (next self.old) ≡ true }
         ensures { Gives view_statement result (after_symbol (try_statement room (nested_statements room)) self.old) self.new }
     {
-        let span = self.advance()?;
+        let span = self.take_next();
         let body = self.parse_statement(room)?;
         self.take_word(Keyword::Catch)?;
         self.take_sign(Sign::LeftBrace)?;
@@ -446,20 +438,23 @@ impl<'a> Parser<'a> {
         match self.next() {
             Some(Terminal::Identifier(name)) => self.parse_named_statement(room, name),
             Some(Terminal::Mark(Sign::LeftBrace)) => self.parse_block_statement(room),
-            Some(Terminal::Mark(Sign::Semicolon)) => self.parse_empty(),
+            Some(Terminal::Mark(Sign::Semicolon)) => {
+                let span = self.take_next();
+                Ok(Stmt::Empty { span })
+            }
             Some(Terminal::Word(Keyword::If)) => self.parse_if(room),
             Some(Terminal::Word(Keyword::While)) => self.parse_while(room),
             Some(Terminal::Word(Keyword::Return)) => {
-                let span = self.advance()?;
+                let span = self.take_next();
                 self.parse_return(room, span)
             }
             Some(Terminal::Word(Keyword::Break)) => {
-                let span = self.advance()?;
+                let span = self.take_next();
                 self.take_sign(Sign::Semicolon)?;
                 Ok(Stmt::Break { span })
             }
             Some(Terminal::Word(Keyword::Continue)) => {
-                let span = self.advance()?;
+                let span = self.take_next();
                 self.take_sign(Sign::Semicolon)?;
                 Ok(Stmt::Continue { span })
             }
@@ -474,10 +469,9 @@ impl<'a> Parser<'a> {
     fn parse_local_value(&mut self, room: u32) -> Result<Option<Box<Expr>>, Stop>
         ensures { Gives (option_map view_boxed) result (local_value room (nested_statements room) self.old) self.new }
     {
-        if !self.sees(Sign::Assign) {
+        let Some(_) = self.take_if(Sign::Assign) else {
             return Ok(None);
-        }
-        self.take_sign(Sign::Assign)?;
+        };
         Ok(Some(self.parse_expression(room)?))
     }
 
@@ -499,10 +493,9 @@ impl<'a> Parser<'a> {
     fn parse_opened_key(&mut self, room: u32) -> Result<Option<Ident>, Stop>
         ensures { Gives (option_map view_name) result (opened_key room (nested_statements room) self.old) self.new }
     {
-        if !self.sees(Sign::Assign) {
+        let Some(_) = self.take_if(Sign::Assign) else {
             return Ok(None);
-        }
-        self.take_sign(Sign::Assign)?;
+        };
         self.take_word_inside(room, Keyword::Open)?;
         self.take_sign_inside(room, Sign::LeftParen)?;
         let key = self.take_identifier_inside(inside(room))?;
@@ -603,7 +596,7 @@ impl<'a> Parser<'a> {
             ) => self.parse_local(room),
             Some(Terminal::Word(Keyword::Region)) => self.parse_region(room),
             Some(Terminal::Word(Keyword::Let)) => {
-                self.advance()?;
+                self.take_next();
                 self.parse_let_item(room)
             }
             _ => {

@@ -37,10 +37,9 @@ impl<'a> Parser<'a> {
     fn parse_region_after_comma(&mut self) -> Result<Option<Ident>, Stop>
         ensures { (room : ℕ) → Gives (option_map view_name) result (after_comma (suc room) (region_name (suc room)) self.old) self.new }
     {
-        if !self.sees(Sign::Comma) {
+        let Some(_) = self.take_if(Sign::Comma) else {
             return Ok(None);
-        }
-        self.take_sign(Sign::Comma)?;
+        };
         Ok(Some(self.take_region_name()?))
     }
 
@@ -48,10 +47,9 @@ impl<'a> Parser<'a> {
     fn end_regions(&mut self) -> Result<(), Stop>
         ensures { (room : ℕ) → Gives {Y = List Named} (λ _. []) result (no_more_items (suc room) begins_region self.old) self.new }
     {
-        if !self.sees(Sign::Comma) {
+        let Some(_) = self.take_if(Sign::Comma) else {
             return Ok(());
-        }
-        self.take_sign(Sign::Comma)?;
+        };
         Err(refusal(self.begins_region(), Reason::TooLong))
     }
 
@@ -176,22 +174,22 @@ impl<'a> Parser<'a> {
     {
         match self.next() {
             Some(Terminal::Word(Keyword::Int)) => {
-                let span = self.advance()?;
+                let span = self.take_next();
                 self.parse_rest_of_type(span, BaseType::Int)
             }
             Some(Terminal::Word(Keyword::Struct)) => {
-                let span = self.advance()?;
+                let span = self.take_next();
                 let name = self.take_identifier()?;
                 let regions = self.parse_optional_regions()?;
                 self.parse_rest_of_type(span, BaseType::Struct { name, regions })
             }
             Some(Terminal::Word(Keyword::RegionType)) => {
-                let span = self.advance()?;
+                let span = self.take_next();
                 let region = self.parse_region_of()?;
                 self.parse_rest_of_type(span, BaseType::Handle { region })
             }
             Some(Terminal::Word(Keyword::KeyType)) => {
-                let span = self.advance()?;
+                let span = self.take_next();
                 let region = self.parse_region_of()?;
                 self.parse_rest_of_type(span, BaseType::Key { region })
             }

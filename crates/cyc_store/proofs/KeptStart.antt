@@ -62,7 +62,7 @@ no-words address = either ((address % 4 == 0) && nat_le 536870912 address)
     either true = omega arith
     either false = omega arith
 
-abbrev first_layout : (most : ℕ) → Layout
+abbrev pub first_layout : (most : ℕ) → Layout
 first_layout most = record { pages = all_free; free = numbers_from 0 most; class = λ (page : ℕ). 0; dead = λ (class : ℕ). [] }
 
 least : (n : ℕ) → 0 ≤ n
@@ -81,7 +81,7 @@ first-sound most = record {
     few : (c m n : ℕ) → m ≡ 0 → m ≤ n
     few c m n none = omega (arith, none)
 
-first-laid : (most : ℕ) → IsLaidOut (store_of most [] no_regions) (first_layout most)
+pub first-laid : (most : ℕ) → IsLaidOut (store_of most [] no_regions) (first_layout most)
 first-laid most = record {
   sound = first-sound most;
   paged = bare-paged most (memory_of []);

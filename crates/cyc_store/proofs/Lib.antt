@@ -1,4 +1,5 @@
 pub mod BlockLemmas
+pub mod Choices
 pub mod CountLemmas
 pub mod Examples
 pub mod HolderLemmas
@@ -16,6 +17,7 @@ pub mod KeptUnwinding
 pub mod KeptWords
 pub mod LiveWords
 pub mod LookupLemmas
+pub mod MadeLemmas
 pub mod NewStores
 pub mod PageLemmas
 pub mod PageServices

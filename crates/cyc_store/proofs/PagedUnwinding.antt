@@ -18,7 +18,7 @@ part-length is_empty = omega arith
 part-length (is_left {x} {xs} {ys} part) = let rest : length xs ≤ length ys = part-length part in omega (arith, rest)
 part-length (is_kept {x} {xs} {ys} part) = let rest : length xs ≤ length ys = part-length part in omega (arith, rest)
 
-shorter : (rs : List Home) (h : ℕ) (r : Home) → lookup handle_of rs h ≡ Some r → length (without handle_of rs h) < length rs
+pub shorter : (rs : List Home) (h : ℕ) (r : Home) → lookup handle_of rs h ≡ Some r → length (without handle_of rs h) < length rs
 shorter [] h r there = absurd (let e : None ≡ Some r = there in cc)
 shorter (q ∷ rs) h r there = elim (cases_eq q.handle h) [
   | inl same ↦
@@ -30,12 +30,12 @@ shorter (q ∷ rs) h r there = elim (cases_eq q.handle h) [
 ]
 
 -- a region that is left out, and the part that the others have
-record LeavesOut (qs rs : List Home) : Type 0 where
+pub record LeavesOut (qs rs : List Home) : Type 0 where
   pub region : Home
   pub there : lookup handle_of rs region.handle ≡ Some region
   pub part : IsPart qs (without handle_of rs region.handle)
 
-part-step : {qs rs : List Home} → IsPart qs rs → AreDistinct handle_of rs → (qs ≡ rs) ⊎ LeavesOut qs rs
+pub part-step : {qs rs : List Home} → IsPart qs rs → AreDistinct handle_of rs → (qs ≡ rs) ⊎ LeavesOut qs rs
 part-step is_empty distinct = inl refl
 part-step (is_left {x = r} {xs = qs} {ys = rs} part) distinct = inr (record {
   region = r;

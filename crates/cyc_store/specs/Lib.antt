@@ -2,7 +2,9 @@ pub mod Answers
 pub mod Kept
 pub mod Ledger
 pub mod Lookup
+pub mod Made
 pub mod New
+pub mod Ordered
 pub mod Pages
 pub mod Run
 pub mod Services

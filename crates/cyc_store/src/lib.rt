@@ -12,6 +12,7 @@ mod ledger;
 mod plain;
 mod range;
 mod row;
+pub mod runs;
 mod store;
 
 pub use answer::{BadHandle, BadMark, No, NotABlock};

@@ -7,6 +7,7 @@ ghost use Rattle.cyc_store.specs.Ledger.{Unwinds, held_of, memory_of};
 ghost use Rattle.cyc_store.specs.Lookup.{lookup};
 ghost use Rattle.cyc_store.specs.Services.{Allocate, Free, Done, Serves};
 ghost use Rattle.cyc_store.specs.Kept.{next_slot_of};
+ghost use Rattle.cyc_store.specs.Ordered.{IsOrdered};
 ghost use Rattle.cyc_store.specs.Slots.{HasSlot, IsSpent, Stocks, Fills};
 ghost use Rattle.cyc_store.specs.State.{AreWords, start, homes, holder, address_of, handle_of, lexical_count, demand, word_at};
 
@@ -164,6 +165,15 @@ impl PlainStore {
             classes: [none; 11],
             ledger: Ledger::new(),
         })
+    }
+
+    /// Its blocks lie page by page, so there is a place for each call that demand allows, as [`choices_exist`] says.
+    ///
+    /// [`choices_exist`]: super::runs::choices_exist
+    pub fn lies_in_pages(&self)
+        ensures { IsOrdered (held_of self.now) }
+    {
+        let _most = self.table.most;
     }
 
     /// Whether a word is one of a live block.

@@ -1,5 +1,5 @@
 -- The image that the chain makes is one of the program.
-use Rattle.std.proofs.Common.{◌≡◌, ℕ, ◌≤◌, ◌<◌, List, [], ◌∷◌, length, Bool, true, false, cond, nat_le, None, refl, sym, ap, subst, ◌∙◌, arith, Ok}
+use Rattle.std.proofs.Common.{◌≡◌, ℕ, ◌≤◌, ◌<◌, List, [], ◌∷◌, length, Bool, true, false, cond, nat_le, Option, None, refl, sym, ap, subst, ◌∙◌, arith, Ok}
 use Rattle.std.specs.Prelude.{slice_get, slice_index_or}
 use Rattle.std.specs.List.{AllByRecursion}
 use Rattle.std.proofs.lemmas.Option.{none-some}
@@ -66,7 +66,7 @@ text_has_words code addresses words some text = first_line code.lines refl some
 
 -- ---- it does what the program means
 
-module _ (p : Program) (lowered : PlainProgram) (code : Labelled) (addresses : ℕ → ℕ) (words : List ℕ)
+module _ (p : Program) (lowered : PlainProgram) (code : Labelled) (addresses : ℕ → ℕ) (words : List ℕ) (note : Option (ℕ × ℕ))
     (sound : IsSound p) (is : IsLowered p lowered) (selected : IsCodeOf lowered code) (globals : code.globals ≡ lowered.globals) (text : IsTextOf code addresses words) (runs : Runs code addresses words)
     (is_code : IsCode code) (fit : AllByRecursion IsWord words) (fit_globals : AllByRecursion IsWord code.globals) where
   few : length code.globals ≤ globals_length
@@ -75,33 +75,33 @@ module _ (p : Program) (lowered : PlainProgram) (code : Labelled) (addresses : �
   some : 0 < length words
   some = text_has_words code addresses words is_code.some text
 
-  does : DoesTheSame p (program_image words code.globals)
+  does : DoesTheSame p (program_image words code.globals note)
   does limits store input allowed new bytes =
       let pages = limits.pages in
       let calls = limits.calls in
       let together = chain_preserves p lowered code addresses words pages calls store input selected
       (is.follows pages calls selected.base store input new (omega (arith, allowed.enough_pages)) allowed.few_pages allowed.enough_calls bytes selected.placed) text runs allowed new bytes (never_fails p limits input sound) in
-      subst (λ each. Preserves (source_machine p pages calls) world_machine each (start p input) (start_world (program_image words code.globals) limits store input))
-      (sym (text_words-image words code.globals some text.inside few fit fit_globals))
+      subst (λ each. Preserves (source_machine p pages calls) world_machine each (start p input) (start_world (program_image words code.globals note) limits store input))
+      (sym (text_words-image words code.globals note some text.inside few fit fit_globals))
       (subst (λ (w : World). Preserves (source_machine p pages calls) world_machine (length words) (start p input) w)
-      (sym (image_starts words code.globals some text.inside few fit fit_globals code limits store input refl)) together)
+      (sym (image_starts words code.globals note some text.inside few fit fit_globals code limits store input refl)) together)
 
-  pub image_of_chain : (file : List ℕ) → reading file ≡ Ok (program_image words code.globals) → file ≡ layout (program_image words code.globals) → IsImageOf p file
+  pub image_of_chain : (file : List ℕ) → reading file ≡ Ok (program_image words code.globals note) → file ≡ layout (program_image words code.globals note) → IsImageOf p file
   image_of_chain file read written = record {
-    image = program_image words code.globals;
+    image = program_image words code.globals note;
     read = read;
     written = written;
-    form = subst (λ (n : ℕ). HasForm n (program_image words code.globals)) (ap length globals ∙ is.globals) (image_form words code.globals);
-    loads = image_loads words code.globals some text.inside few fit fit_globals;
+    form = subst (λ (n : ℕ). HasForm n (program_image words code.globals note)) (ap length globals ∙ is.globals) (image_form words code.globals note);
+    loads = image_loads words code.globals note some text.inside few fit fit_globals;
     does = does;
   }
 
 -- the same, for words and globals that the image was made of
-pub image_made : (p : Program) (lowered : PlainProgram) (code : Labelled) (addresses : ℕ → ℕ) (words there globals : List ℕ) (file : List ℕ)
+pub image_made : (p : Program) (lowered : PlainProgram) (code : Labelled) (addresses : ℕ → ℕ) (words there globals : List ℕ) (note : Option (ℕ × ℕ)) (file : List ℕ)
     → there ≡ words → globals ≡ code.globals → IsSound p → IsLowered p lowered → IsCodeOf lowered code → code.globals ≡ lowered.globals → IsTextOf code addresses words → Runs code addresses words
-    → IsCode code → AllByRecursion IsWord there → AllByRecursion IsWord globals → reading file ≡ Ok (program_image there globals)
-    → file ≡ layout (program_image there globals) → IsImageOf p file
-image_made p lowered code addresses words there globals file same same_globals sound is selected are text runs is_code fit fit_globals read written =
-    image_of_chain p lowered code addresses words sound is selected are text runs is_code (subst (AllByRecursion IsWord) same fit) (subst (AllByRecursion IsWord) same_globals fit_globals) file
-    (subst (λ (ws : List ℕ). reading file ≡ Ok (program_image ws code.globals)) same (subst (λ (gs : List ℕ). reading file ≡ Ok (program_image there gs)) same_globals read))
-    (subst (λ (ws : List ℕ). file ≡ layout (program_image ws code.globals)) same (subst (λ (gs : List ℕ). file ≡ layout (program_image there gs)) same_globals written))
+    → IsCode code → AllByRecursion IsWord there → AllByRecursion IsWord globals → reading file ≡ Ok (program_image there globals note)
+    → file ≡ layout (program_image there globals note) → IsImageOf p file
+image_made p lowered code addresses words there globals note file same same_globals sound is selected are text runs is_code fit fit_globals read written =
+    image_of_chain p lowered code addresses words note sound is selected are text runs is_code (subst (AllByRecursion IsWord) same fit) (subst (AllByRecursion IsWord) same_globals fit_globals) file
+    (subst (λ (ws : List ℕ). reading file ≡ Ok (program_image ws code.globals note)) same (subst (λ (gs : List ℕ). reading file ≡ Ok (program_image there gs note)) same_globals read))
+    (subst (λ (ws : List ℕ). file ≡ layout (program_image ws code.globals note)) same (subst (λ (gs : List ℕ). file ≡ layout (program_image there gs note)) same_globals written))

@@ -1,12 +1,12 @@
 -- The image of a compiled program, loaded: its words stand in the text and in the data range, as for the labelled machine.
 use Rattle.std.proofs.Common.{◌≡◌, ℕ, zero, suc, ◌+◌, ◌-◌, ◌*◌, ◌/◌, ◌^◌, ◌≤◌, ◌<◌, List, [], ◌∷◌, ◌++◌, length, true, false, cond, ◌&&◌, nat_le, nat_lt, max, Option, None, Some, refl, sym, ap, ◌∙◌, arith, inl, inr, length-append, get_or, map}
-use Rattle.std.specs.Prelude.{slice_index, replicate, unwrap_or, All, AllPairs, sum_by}
+use Rattle.std.specs.Prelude.{slice_index, replicate, unwrap_or, All, AllPairs, IfSome, sum_by}
 use Rattle.std.specs.List.{range_with_len, AllByRecursion, list_any}
 use Rattle.std.specs.Option.{option_or}
 use Rattle.std.proofs.lemmas.Bool.{le-leb, lt-ltb, lt-leb, le-ltb, cases_lt}
 use Rattle.std.proofs.lemmas.List.{get_or-append_right, get_or_append_left, get_or_past, length-map, length-replicate, get_or-replicate}
 use Rattle.std.proofs.lemmas.List.FromFn.{fill_by_all}
-use Rattle.std.proofs.lemmas.List.Elements.{All-cons, All-nil}
+use Rattle.std.proofs.lemmas.List.Elements.{All-cons, All-nil, All-append}
 use Rattle.std.proofs.lemmas.List.Kept.{AllPairs-cons}
 use Rattle.std.proofs.lemmas.List.Sums.{sum_by-cons}
 use Rattle.std.proofs.lemmas.Simd.{map-map}
@@ -14,8 +14,9 @@ use Rattle.cyc_words.specs.Word.{IsWord}
 use Rattle.cyc_words.specs.Bytes.{bytes_of_word, word_of_bytes}
 use Rattle.cyc_words.proofs.BytesLemmas.{word_of_bytes-bytes_of_word}
 use Rattle.cyc_elf.specs.Image.{SegmentContents, padded, AreApart, IsSegment, IsWellFormed}
-use Rattle.cyc_elf.specs.Layout.{header_of, headers_of, bytes_start, FitsFields}
-use Rattle.cyc_machine.specs.Bounds.{Bounds}
+use Rattle.cyc_elf.specs.Note.{AreLimits}
+use Rattle.cyc_elf.specs.Layout.{header_of, headers_of, note_header, note_headers, note_count, bytes_end, bytes_start, note_start, FitsFields}
+use Rattle.cyc_machine.specs.Bounds.{Bounds, AreAllowed}
 use Rattle.cyc_machine.specs.State.{text_base, text_end, data_base, data_end, globals_length, word_number, words_per_call}
 use Rattle.cyc_machine.specs.Run.{World}
 use Rattle.cyc_store.specs.State.{StoreState}
@@ -26,6 +27,7 @@ use Rattle.cyc_select.specs.Machine.{globals_of}
 use Rattle.cyc_asm.specs.Text.{text_of}
 use Rattle.cyc_asm.specs.Machine as assembled
 use Rattle.cyc_system.specs.FullPreservation.{text_words, IsLoadable}
+use Rattle.cyc_system.specs.Notes.{AreAllowedIfAny}
 use Rattle.cyc_system.specs.declared.image.TheConstants.{READ_AND_EXECUTE, READ_AND_WRITE}
 use Rattle.cyc_system.specs.ProgramImage.{bytes_of_words, segment_of, text_segment, data_segment, data_segments, program_image, HasForm}
 
@@ -162,11 +164,27 @@ zeros_behind globals count k within = elim (cases_lt k (length globals)) [
       ∙ sym (get_or_past globals k 0 past)
 ]
 
+-- ---- limits
+
+pub limits_allowed : (limits : ℕ × ℕ) → AreLimits limits → AreAllowed limits.0 limits.1
+limits_allowed limits fit = record { enough_pages = fit.enough_pages; few_pages = fit.few_pages; enough_calls = fit.enough_calls; few_calls = fit.few_calls }
+
+pub allowed_limits : (limits : ℕ × ℕ) → AreAllowed limits.0 limits.1 → AreLimits limits
+allowed_limits limits fit = record { enough_pages = fit.enough_pages; few_pages = fit.few_pages; enough_calls = fit.enough_calls; few_calls = fit.few_calls }
+
+limits_if_any : (note : Option (ℕ × ℕ)) → AreAllowedIfAny note → IfSome note AreLimits
+limits_if_any None allowed = tt
+limits_if_any (Some limits) allowed = allowed_limits limits allowed
+
+pub allowed_if_any : (note : Option (ℕ × ℕ)) → IfSome note AreLimits → AreAllowedIfAny note
+allowed_if_any None fit = tt
+allowed_if_any (Some limits) fit = limits_allowed limits fit
+
 -- ---- the image
 
-pub image_form : (words globals : List ℕ) → HasForm (length globals) (program_image words globals)
-image_form words [] = record { entry = refl; segments = record { address = refl; flags = refl; stored = refl } }
-image_form words (g ∷ globals) = record {
+pub image_form : (words globals : List ℕ) (note : Option (ℕ × ℕ)) → HasForm (length globals) (program_image words globals note)
+image_form words [] limits = record { entry = refl; segments = record { address = refl; flags = refl; stored = refl } }
+image_form words (g ∷ globals) limits = record {
   entry = refl;
   segments = (
     record { address = refl; flags = refl; stored = refl },
@@ -191,20 +209,20 @@ started limits store input text globals = record {
   input = input;
 }
 
-module _ (words globals : List ℕ) (some : 0 < length words) (inside : text_base + 4 * length words ≤ text_end) (few : length globals ≤ globals_length)
+module _ (words globals : List ℕ) (note : Option (ℕ × ℕ)) (some : 0 < length words) (inside : text_base + 4 * length words ≤ text_end) (few : length globals ≤ globals_length)
     (fit : AllByRecursion IsWord words) (fit_globals : AllByRecursion IsWord globals) where
   abbrev segments : List SegmentContents
   segments = text_segment words ∷ data_segments globals
 
   -- T is the number of words
-  pub text_words-image : text_words (program_image words globals) ≡ length words
+  pub text_words-image : text_words (program_image words globals note) ≡ length words
   text_words-image =
       sum_by-cons (λ s. cond (lies_in_text s) (padded s.size / 4) 0) (text_segment words) (data_segments globals)
       ∙ ap (λ b. cond b (padded (length (bytes_of_words words)) / 4) 0 + sum_by (λ s. cond (lies_in_text s) (padded s.size / 4) 0) (data_segments globals)) (text_lies_in words some inside)
       ∙ (let all : padded (length (bytes_of_words words)) / 4 + sum_by (λ s. cond (lies_in_text s) (padded s.size / 4) 0) (data_segments globals) ≡ length words =
       omega (arith, text_counts words some inside, no_data_counted globals) in all)
 
-  pub image_loads : IsLoadable (program_image words globals)
+  pub image_loads : IsLoadable (program_image words globals note)
   image_loads = rw (text_not_outside words some inside, no_data_outside globals few) refl
 
   text_long : text_length segments ≡ length words
@@ -237,7 +255,7 @@ module _ (words globals : List ℕ) (some : 0 < length words) (inside : text_bas
 
   -- the machine starts with these words in its text and its data range
   pub image_starts : (code : Labelled) (limits : Bounds) (store : StoreState) (input : List ℕ) → code.globals ≡ globals
-      → start_world (program_image words globals) limits store input ≡ assembled.start code words store limits.calls input
+      → start_world (program_image words globals note) limits store input ≡ assembled.start code words store limits.calls input
   image_starts code limits store input same =
       ap (λ text. started limits store input text (map (λ (word : Option ℕ). unwrap_or word 0) (image_words segments data_base globals_length))) text_at_start
       ∙ ap (started limits store input (text_of words)) (data_at_start ∙ ap globals_of (sym same))
@@ -269,12 +287,13 @@ module _ (words globals : List ℕ) (some : 0 < length words) (inside : text_bas
   data_apart [] = λ i j d before within. absurd (omega arith)
   data_apart (g ∷ held) = λ i j d before within. absurd (omega arith)
 
-  pub image_well_formed : IsWellFormed (program_image words globals)
-  image_well_formed = record {
+  pub image_well_formed : AreAllowedIfAny note → IsWellFormed (program_image words globals note)
+  image_well_formed allowed = record {
     each = All-cons IsSegment (text_segment words) (data_segments globals) text_is_segment (data_are_segments globals few);
     apart = AllPairs-cons AreApart (text_segment words) (data_segments globals) (text_apart globals) (data_apart globals);
     entry_held = (0, text_segment words, (omega arith), refl, ((omega arith), (omega (arith, length-bytes_of_words words, some))));
     entry_aligned = refl;
+    note = limits_if_any note allowed;
   }
 
   data_count : (held : List ℕ) → length (data_segments held) ≤ 1
@@ -286,12 +305,27 @@ module _ (words globals : List ℕ) (some : 0 < length words) (inside : text_bas
   data_offsets (g ∷ held) from small =
       All-cons (λ h. h.offset < 2 ^ 32) (header_of from (data_segment (g ∷ held))) [] small (All-nil (λ h. h.offset < 2 ^ 32))
 
-  pub image_fits : FitsFields (program_image words globals)
-  image_fits = record {
-    count = omega (arith, data_count globals);
-    offsets =
-        let from = bytes_start segments in
-        All-cons (λ h. h.offset < 2 ^ 32) (header_of from (text_segment words)) (headers_of (from + padded (length (bytes_of_words words))) (data_segments globals))
-        (omega (arith, data_count globals))
-        (data_offsets globals (from + padded (length (bytes_of_words words))) (omega (arith, data_count globals, length-bytes_of_words words, inside)));
-  }
+  data_end_small : (held : List ℕ) (from : ℕ) → length held ≤ globals_length → from < 2 ^ 31 → bytes_end from (data_segments held) < 2 ^ 32
+  data_end_small [] from small below = omega (arith, below)
+  data_end_small (g ∷ held) from small below = omega (arith, below, length-bytes_of_words (g ∷ held), small)
+
+  note_offsets : (known : Option (ℕ × ℕ)) (from : ℕ) → from < 2 ^ 32 → All (λ h. h.offset < 2 ^ 32) (note_headers from known)
+  note_offsets None from small = All-nil (λ h. h.offset < 2 ^ 32)
+  note_offsets (Some limits) from small = All-cons (λ h. h.offset < 2 ^ 32) (note_header from) [] small (All-nil (λ h. h.offset < 2 ^ 32))
+
+  counted : (known : Option (ℕ × ℕ)) → note_count known ≤ 1
+  counted None = omega arith
+  counted (Some limits) = omega arith
+
+  pub image_fits : FitsFields (program_image words globals note)
+  image_fits =
+      let i = program_image words globals note in
+      let from = bytes_start i in
+      let next = from + padded (length (bytes_of_words words)) in
+      let small : next < 2 ^ 31 = omega (arith, data_count globals, counted note, length-bytes_of_words words, inside) in
+      record {
+        count = omega (arith, data_count globals, counted note);
+        offsets = All-append (λ h. h.offset < 2 ^ 32) (headers_of from segments) (note_headers (note_start i) note)
+            (All-cons (λ h. h.offset < 2 ^ 32) (header_of from (text_segment words)) (headers_of next (data_segments globals)) (omega (arith, small)) (data_offsets globals next (omega (arith, small))))
+            (note_offsets note (note_start i) (data_end_small globals next few small));
+      }

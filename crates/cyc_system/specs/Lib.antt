@@ -3,6 +3,8 @@ pub mod Front
 pub mod Compiled
 pub mod FullPreservation
 pub mod ProgramImage
+-- that of `note_of`, and what `compile_with` says of limits
+pub mod Notes
 -- those of `run` and `disassemble`
 pub mod Engine
 pub mod Faults

@@ -1,6 +1,6 @@
 -- The image of a compiled program. That text is to be read (4) and executed (1), and data to be read (4) and written (2),
 -- is as in the System V ABI, chapter 5, "Program Header"; the segments and their addresses are this project's own choice.
-use Rattle.std.specs.Prelude.{◌≡◌, ℕ, zero, suc, ◌*◌, List, [], ◌∷◌, length}
+use Rattle.std.specs.Prelude.{◌≡◌, ℕ, zero, suc, ◌*◌, Option, List, [], ◌∷◌, length}
 use Rattle.std.specs.List.{flat_map}
 use Rattle.cyc_words.specs.Bytes.{bytes_of_word}
 use Rattle.cyc_elf.specs.Image.{SegmentContents, ImageContents}
@@ -31,9 +31,13 @@ abbrev pub data_segments : (globals : List ℕ) → List SegmentContents
 data_segments [] = []
 data_segments (word ∷ globals) = data_segment (word ∷ globals) ∷ []
 
--- the words of text, entered at the first, and what the globals hold at the start
-abbrev pub program_image : (words globals : List ℕ) → ImageContents
-program_image words globals = record { entry = text_base; segments = text_segment words ∷ data_segments globals }
+-- the words of text, entered at the first, what the globals hold at the start, and the limits that it carries
+abbrev pub program_image : (words globals : List ℕ) (note : Option (ℕ × ℕ)) → ImageContents
+program_image words globals note = record {
+  entry = text_base;
+  segments = text_segment words ∷ data_segments globals;
+  note = note;
+}
 
 -- ---- what may be seen of it
 

@@ -1,6 +1,6 @@
 //! Compiles a text to an image.
 
-ghost use Rattle.std.specs.Prelude.{◌≡◌, ◌≤◌, IfOk, IfErr};
+ghost use Rattle.std.specs.Prelude.{◌≡◌, ◌≤◌, None, IfOk, IfErr};
 ghost use Rattle.cyc_words.specs.Decision.{Decides};
 ghost use Rattle.cyc_words.specs.Fault.{memory_fault};
 ghost use Rattle.cyc_syntax.specs.TokenRule.{max_tokens};
@@ -13,6 +13,7 @@ ghost use Rattle.cyc_lower.specs.Lowered.{CanBeLowered, IsLowered};
 ghost use Rattle.cyc_frame.specs.Layout.{AreFrames};
 ghost use Rattle.cyc_system.specs.Front.{IsAcceptedText};
 ghost use Rattle.cyc_system.specs.FullPreservation.{IsImageOf};
+ghost use Rattle.cyc_system.specs.Notes.{AreAllowedIfAny, Carries};
 ghost use Rattle.cyc_system.specs.Compiled.{IsTooLarge, IsSmall, IsCompiledText, IsRefusedAtLast, HasFaultAtLast};
 
 use crate::front::accept;
@@ -27,36 +28,62 @@ use cyc_words::Fault;
 use std::alloc::Global;
 
 /// Compiles a plain program whose functions have frames. The bytes are an image of each program that was lowered to the plain one, if no run of it is dead or wrong.
-fn compile_plain(alloc: Global, plain: &Plain, frames: &Frames) -> Result<Vec<u8>, Fault>
-    requires { AreFrames plain.now frames.now }
+fn compile_plain(
+    alloc: Global,
+    plain: &Plain,
+    frames: &Frames,
+    note: Option<(u32, u32)>,
+) -> Result<Vec<u8>, Fault>
+    requires frames { AreFrames plain.now frames.now }
+    requires allowed { AreAllowedIfAny note }
     ensures image { IfOk result (λ file. (p : Program) → IsSound p → IsLowered p plain.now → IsImageOf p file.items) }
+    ensures note { IfOk result (λ file. Carries file.items note) }
     ensures refused { IfErr result (λ f. f ≡ memory_fault) }
 {
     let code = select(alloc, plain, frames)?;
     let words = assemble(alloc, &code)?;
-    let file = write_program(alloc, &words, code.globals())?;
+    let file = write_program(alloc, &words, code.globals(), note)?;
     Ok(file)
 }
 
 /// Compiles a typed program to an image, as the bytes of a file.
-fn build(alloc: Global, program: &Flowed) -> Result<Vec<u8>, Fault>
+fn build(alloc: Global, program: &Flowed, note: Option<(u32, u32)>) -> Result<Vec<u8>, Fault>
     requires well_typed { IsWellTypedProgram (view_program program.now.tree) }
     requires small { program_weight (view_program program.now.tree) ≤ max_tokens }
     requires can_be { CanBeLowered (view_program program.now.tree) }
     requires sound { IsSound (view_program program.now.tree) }
-    ensures { Decides (IsSmall (view_program program.now.tree)) (λ p file. IsImageOf p file.items)
+    requires allowed { AreAllowedIfAny note }
+    ensures decides { Decides (IsSmall (view_program program.now.tree)) (λ p file. IsImageOf p file.items)
         (IsTooLarge (view_program program.now.tree)) (IsTooLarge (view_program program.now.tree)) result }
+    ensures note { IfOk result (λ file. Carries file.items note) }
 {
     let plain = lower(alloc, program)?;
     let frames = layout(alloc, &plain)?;
-    compile_plain(alloc, &plain, &frames)
+    compile_plain(alloc, &plain, &frames, note)
 }
 
-/// Compiles a text to an image, as the bytes of a file.
+/// Compiles a text to an image that carries limits for its runs, pages and calls, or none, as the bytes of a file.
 ///
 /// The front end of the compiler comes first: what it refuses is refused with its fault. A program that it accepts is refused
 /// with `TooManyFunctions` at the name of the 4,097th function, or else with `FrameTooLarge` at the name of the first function whose
 /// frame may need more than 256 words. Any growth may be refused for want of memory.
+pub fn compile_with(alloc: Global, text: &[u8], note: Option<(u32, u32)>) -> Result<Vec<u8>, Fault>
+    requires { AreAllowedIfAny note }
+    // What is answered is an image that the machine can load, and that does what the program of the text means: it
+    // prints and ends as the program does within its limits, and does nothing else. What is refused is so by the front end, or its
+    // program is too large.
+    ensures decides { Decides (IsCompiledText text.now) (λ p file. IsImageOf p file.items) (IsRefusedAtLast text.now) (HasFaultAtLast text.now) result }
+    // No step of any run of the program is dead or wrong, whatever its input, and without limits: none reaches a cell of a closed
+    // region or a freed object.
+    ensures sound { IfOk result (λ _. (p : Program) → IsAcceptedText text.now p → IsSound p) }
+    // The image carries these limits. They change nothing of what it does: a run is given its limits by who runs it.
+    ensures note { IfOk result (λ file. Carries file.items note) }
+{
+    let program = accept(alloc, text)?;
+    build(alloc, &program, note)
+}
+
+/// Compiles a text to an image that carries no limits, as the bytes of a file: `compile_with` with `None`.
 pub fn compile(alloc: Global, text: &[u8]) -> Result<Vec<u8>, Fault>
     // What is answered is an image that the machine can load, and that does what the program of the text means: it
     // prints and ends as the program does within its limits, and does nothing else. What is refused is so by the front end, or its
@@ -65,7 +92,8 @@ pub fn compile(alloc: Global, text: &[u8]) -> Result<Vec<u8>, Fault>
     // No step of any run of the program is dead or wrong, whatever its input, and without limits: none reaches a cell of a closed
     // region or a freed object.
     ensures sound { IfOk result (λ _. (p : Program) → IsAcceptedText text.now p → IsSound p) }
+    // It carries none.
+    ensures note { IfOk result (λ file. Carries file.items None) }
 {
-    let program = accept(alloc, text)?;
-    build(alloc, &program)
+    compile_with(alloc, text, None)
 }

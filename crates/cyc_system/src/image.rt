@@ -7,6 +7,7 @@ ghost use Rattle.cyc_elf.specs.Image.{segment_contents, contents_of};
 ghost use Rattle.cyc_elf.specs.Layout.{layout};
 ghost use Rattle.cyc_elf.specs.Reading.{reading};
 ghost use Rattle.cyc_machine.specs.State.{text_base, text_end, globals_length};
+ghost use Rattle.cyc_system.specs.Notes.{AreAllowedIfAny};
 ghost use Rattle.cyc_system.specs.ProgramImage.{bytes_of_words, segment_of, program_image};
 
 use cyc_elf::{Image, Segment, write_image};
@@ -48,11 +49,16 @@ fn segment_of(alloc: Global, vaddr: u32, flags: u32, words: &[u32]) -> Result<Se
     })
 }
 
-/// The image of a program: a segment of text, and one of data where there are globals.
-fn image_of_program(alloc: Global, words: &[u32], globals: &[u32]) -> Result<Image, AllocError>
+/// The image of a program: a segment of text, one of data where there are globals, and the limits that it carries.
+fn image_of_program(
+    alloc: Global,
+    words: &[u32],
+    globals: &[u32],
+    note: Option<(u32, u32)>,
+) -> Result<Image, AllocError>
     requires fit { text_base + 4 * length words.now ≤ text_end }
     requires few { length globals.now ≤ globals_length }
-    ensures image { IfOk result (λ image. contents_of image ≡ program_image words.now globals.now) }
+    ensures image { IfOk result (λ image. contents_of image ≡ program_image words.now globals.now note) }
     ensures words { IfOk result (λ _. AllByRecursion IsWord words.now) }
     ensures globals { IfOk result (λ _. AllByRecursion IsWord globals.now) }
 {
@@ -66,6 +72,7 @@ fn image_of_program(alloc: Global, words: &[u32], globals: &[u32]) -> Result<Ima
     Ok(Image {
         entry: TEXT_BASE,
         segments,
+        note,
     })
 }
 
@@ -74,15 +81,17 @@ pub(crate) fn write_program(
     alloc: Global,
     words: &[u32],
     globals: &[u32],
+    note: Option<(u32, u32)>,
 ) -> Result<Vec<u8>, AllocError>
     requires some { 0 < length words.now }
     requires fit { text_base + 4 * length words.now ≤ text_end }
     requires few { length globals.now ≤ globals_length }
-    ensures exact { IfOk result (λ file. file.items ≡ layout (program_image words.now globals.now)) }
-    ensures read { IfOk result (λ file. reading file.items ≡ Ok (program_image words.now globals.now)) }
+    requires allowed { AreAllowedIfAny note }
+    ensures exact { IfOk result (λ file. file.items ≡ layout (program_image words.now globals.now note)) }
+    ensures read { IfOk result (λ file. reading file.items ≡ Ok (program_image words.now globals.now note)) }
     ensures words { IfOk result (λ _. AllByRecursion IsWord words.now) }
     ensures globals { IfOk result (λ _. AllByRecursion IsWord globals.now) }
 {
-    let image = image_of_program(alloc, words, globals)?;
+    let image = image_of_program(alloc, words, globals, note)?;
     write_image(alloc, &image)
 }

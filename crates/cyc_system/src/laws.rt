@@ -1,9 +1,10 @@
 //! Laws of the definitions in `specs/`. Each function does nothing: its contract is the law, and so it is proved with the
 //! crate.
 
-ghost use Rattle.std.specs.Prelude.{◌≡◌, ◌<◌, Bool, List, ℕ, Some, Ok, Result};
+ghost use Rattle.std.specs.Prelude.{◌≡◌, ◌<◌, ◌↔◌, Bool, List, ℕ, Some, Ok, Result};
 ghost use Rattle.std.specs.List.{AllByRecursion};
 ghost use Rattle.cyc_elf.specs.Image.{ImageContents};
+ghost use Rattle.cyc_elf.specs.Note.{AreLimits};
 ghost use Rattle.cyc_elf.specs.Reading.{reading};
 ghost use Rattle.cyc_store.specs.State.{StoreState};
 ghost use Rattle.cyc_store.specs.New.{IsNew};
@@ -49,6 +50,11 @@ pub fn accepted_programs_are_sound()
 /// What `compile` answers is read as an image, and the machine never answers that it has no place for it.
 pub fn compiled_images_load()
     ensures { (p : Program) (file : List ℕ) → IsImageOf p file → (image : ImageContents) × (reading file ≡ Ok image) × IsLoadable image }
+{}
+
+/// The ranges of the limits that an image may carry are those of every run's.
+pub fn note_limits_are_allowed()
+    ensures { (limits : ℕ × ℕ) → AreLimits limits ↔ AreAllowed limits.0 limits.1 }
 {}
 
 /// An image that does what a program means: each run of the machine is, in what is seen of it, the program's limited run, and none

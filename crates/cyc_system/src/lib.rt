@@ -7,10 +7,12 @@ mod front;
 mod image;
 pub mod laws;
 mod listing;
+mod notes;
 mod report;
 
-pub use compiler::compile;
+pub use compiler::{compile, compile_with};
 pub use engine::{run, run_with};
 pub use front::{Phases, accept, run_phases};
 pub use listing::disassemble;
+pub use notes::note_of;
 pub use report::{Report, RunFault, Stop};

@@ -13,6 +13,8 @@ mod lex;
 #[cfg(test)]
 mod machine;
 #[cfg(test)]
+mod notes;
+#[cfg(test)]
 mod pool;
 #[cfg(test)]
 mod rows;

@@ -61,6 +61,32 @@ fn reason(no: No) -> &'static str {
     }
 }
 
+/// What a call that closes or frees answers: that it is done, or why not.
+fn done_or(done: bool, why: &'static str) -> &'static str {
+    if done { "done" } else { why }
+}
+
+/// Opens a dynamic region of a store, and tells the answer.
+fn open_call<S: Store>(store: &mut S, names: &mut Names, letter: &str) -> Option<&'static str> {
+    match store.open_dynamic() {
+        Ok(handle) => {
+            name(names, letter, handle)?;
+            Some("opened")
+        }
+        Err(no) => Some(reason(no)),
+    }
+}
+
+/// Makes a call of a store that closes or frees, and tells its answer.
+fn end_call<S: Store>(store: &mut S, call: &str, number: u32) -> Option<&'static str> {
+    match call {
+        "close_to" => Some(done_or(store.close_to(number).is_ok(), "BadMark")),
+        "close" => Some(done_or(store.close_dynamic(number).is_ok(), "BadHandle")),
+        "free" => Some(done_or(store.free(number).is_ok(), "NotABlock")),
+        _ => None,
+    }
+}
+
 /// Makes a call of a store that opens or closes, and tells its answer.
 fn region_call<S: Store>(
     store: &mut S,
@@ -68,28 +94,10 @@ fn region_call<S: Store>(
     call: &str,
     word: &str,
 ) -> Option<&'static str> {
-    match call {
-        "dynamic" => match store.open_dynamic() {
-            Ok(handle) => {
-                name(names, word, handle)?;
-                Some("opened")
-            }
-            Err(no) => Some(reason(no)),
-        },
-        "close_to" => match store.close_to(number(names, word)?) {
-            Ok(()) => Some("done"),
-            Err(_) => Some("BadMark"),
-        },
-        "close" => match store.close_dynamic(number(names, word)?) {
-            Ok(()) => Some("done"),
-            Err(_) => Some("BadHandle"),
-        },
-        "free" => match store.free(number(names, word)?) {
-            Ok(()) => Some("done"),
-            Err(_) => Some("NotABlock"),
-        },
-        _ => None,
+    if call == "dynamic" {
+        return open_call(store, names, word);
     }
+    end_call(store, call, number(names, word)?)
 }
 
 /// Makes a call of a store that makes a block, and tells its answer.

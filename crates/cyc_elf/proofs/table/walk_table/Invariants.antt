@@ -1,4 +1,4 @@
-use Rattle.std.proofs.Common.{◌≡◌, ◌+◌, ◌-◌, ◌*◌, length, map}
+use Rattle.std.proofs.Common.{◌≡◌, ◌+◌, ◌-◌, ◌*◌, None, map}
 use Rattle.cyc_elf.specs.Header.{headers_from}
 use Rattle.cyc_elf.specs.Parts.{fields_of, walk}
 use Rattle.cyc_elf.proofs.Walks.{with_front}
@@ -7,4 +7,4 @@ use Rattle.cyc_elf.proofs.table.walk_table.Given as goal
 abbrev pub invariant-loop : goal.invariant-loop
 invariant-loop l =
     (l.place ≡ l.table + 32 * l.counter)
-    × (with_front (map fields_of l.loads.items) (walk (length l.file) (headers_from l.file l.place (l.count - l.counter))) ≡ walk (length l.file) (headers_from l.file l.table l.count))
+    × (with_front (map fields_of l.loads.items) (walk l.file l.note (headers_from l.file l.place (l.count - l.counter))) ≡ walk l.file None (headers_from l.file l.table l.count))

@@ -12,13 +12,13 @@ use Rattle.cyc_system.specs.FullPreservation.{IsImageOf}
 use Rattle.cyc_system.proofs.Refusals.{lowering_refuses, layout_refuses, image_answers}
 use Rattle.cyc_system.proofs.compiler.build.Goals as goal
 
-pub returns-in_err-plain : goal.returns-in_err-plain
-returns-in_err-plain c =
+pub returns-in_err-plain-clause-decides : goal.returns-in_err-plain-clause-decides
+returns-in_err-plain-clause-decides c =
     let e = err_from_is_err_and c.from_residual.result c.from_residual.ensures.1 in
     rw (e.1, e.2) (lowering_refuses (λ p file. IsImageOf p file.items) (view_program c.args.program.now.tree) _ c.in_err-plain.field-0.0 c.in_err-plain.ensures)
 
-pub returns-in_err-frames : goal.returns-in_err-frames
-returns-in_err-frames c =
+pub returns-in_err-frames-clause-decides : goal.returns-in_err-frames-clause-decides
+returns-in_err-frames-clause-decides c =
     let p = view_program c.args.program.now.tree in
     let (a, (same, few), is) = c.in_ok-plain.ensures.accepted in
     let e = err_from_is_err_and c.from_residual-in_err-frames.result c.from_residual-in_err-frames.ensures.1 in
@@ -32,8 +32,8 @@ image_there : {X F : Type 0} (Image : Program → X → Type 0) (p : Program) (l
 image_there Image p lowered (Ok x) sound is image = image p sound is
 image_there Image p lowered (Err f) sound is image = tt
 
-pub returns : goal.returns
-returns c =
+pub returns-clause-decides : goal.returns-clause-decides
+returns-clause-decides c =
     let p = view_program c.args.program.now.tree in
     let (a, (one, few), is) = c.in_ok-plain.ensures.accepted in
     let (l, (same, small), are) = c.in_ok-frames.ensures.accepted in
@@ -43,7 +43,7 @@ returns c =
     c.compile_plain.result
     (image_there (λ q file. IsImageOf q file.items) p c.in_ok-plain.plain c.compile_plain.result c.requires.sound lowered c.compile_plain.ensures.image) c.compile_plain.ensures.refused
 
-pub compile_plain-requires : goal.compile_plain-requires
-compile_plain-requires c =
+pub compile_plain-requires-clause-frames : goal.compile_plain-requires-clause-frames
+compile_plain-requires-clause-frames c =
     let (l, (same, small), are) = c.in_ok-frames.ensures.accepted in
     subst (λ (program : PlainProgram). AreFrames program c.in_ok-frames.frames) same are

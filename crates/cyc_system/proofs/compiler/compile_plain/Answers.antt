@@ -1,14 +1,18 @@
-use Rattle.std.proofs.Common.{ℕ, ◌<◌, List, length, sym, ap, subst, arith}
+use Rattle.std.proofs.Common.{ℕ, ◌<◌, List, length, refl, sym, ap, subst, arith}
 use Rattle.cyc_asm.specs.Layout.{addresses_of}
+use Rattle.cyc_system.specs.ProgramImage.{program_image}
 use Rattle.cyc_system.proofs.Chains.{text_has_words, image_made}
 use Rattle.cyc_system.proofs.compiler.compile_plain.Goals as goal
 
 pub returns-clause-image : goal.returns-clause-image
 returns-clause-image c = λ p sound is.
     let code = c.in_ok-code.code in
-    image_made p c.args.plain.now code (addresses_of code) c.in_ok-words.words.items c.deref.result.now c.globals.result.now c.in_ok-file.file.items
+    image_made p c.args.plain.now code (addresses_of code) c.in_ok-words.words.items c.deref.result.now c.globals.result.now c.args.note c.in_ok-file.file.items
     c.deref.ensures.value c.globals.ensures.value sound is c.in_ok-code.ensures.selected c.in_ok-code.ensures.globals c.in_ok-words.ensures.means c.in_ok-words.ensures.runs
     c.globals.ensures.code c.in_ok-file.ensures.words c.in_ok-file.ensures.globals c.in_ok-file.ensures.read c.in_ok-file.ensures.exact
+
+pub returns-clause-note : goal.returns-clause-note
+returns-clause-note c = (program_image c.deref.result.now c.globals.result.now c.args.note, c.in_ok-file.ensures.read, refl)
 
 pub write_program-requires-clause-some : goal.write_program-requires-clause-some
 write_program-requires-clause-some c =

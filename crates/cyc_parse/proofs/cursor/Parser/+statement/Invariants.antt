@@ -15,11 +15,8 @@ decreases-parse_items l = 16 * l.room
 abbrev pub decreases-parse_block : goal.decreases-parse_block
 decreases-parse_block l = 16 * l.room + 1
 
-abbrev pub decreases-parse_statement_from_name : goal.decreases-parse_statement_from_name
-decreases-parse_statement_from_name l = 16 * l.room + 2
-
 abbrev pub decreases-parse_named_statement : goal.decreases-parse_named_statement
-decreases-parse_named_statement l = 16 * l.room + 3
+decreases-parse_named_statement l = 16 * l.room + 2
 
 abbrev pub decreases-parse_block_statement : goal.decreases-parse_block_statement
 decreases-parse_block_statement l = 16 * l.room + 2

@@ -8,12 +8,12 @@ use Rattle.cyc_system.specs.Front.{names_in, IsAcceptedText}
 use Rattle.cyc_system.specs.FullPreservation.{IsImageOf}
 use Rattle.cyc_system.proofs.Amounts.{accepted_light, accepted_sound}
 use Rattle.cyc_system.proofs.Refusals.{behind_answers, front_answers}
-use Rattle.cyc_system.proofs.compiler.compile.Goals as goal
+use Rattle.cyc_system.proofs.compiler.compile_with.Goals as goal
 
 pub returns-in_err-program : goal.returns-in_err-program
 returns-in_err-program c =
     let e = err_from_is_err_and c.from_residual.result c.from_residual.ensures.1 in
-    record { decides = rw (e.1, e.2) (front_answers (λ p file. IsImageOf p file.items) c.args.text.now (λ p v. view_program v.tree ≡ p) c.in_err-program.field-0.0 c.in_err-program.ensures.decides); sound = rw e.1 tt }
+    record { decides = rw (e.1, e.2) (front_answers (λ p file. IsImageOf p file.items) c.args.text.now (λ p v. view_program v.tree ≡ p) c.in_err-program.field-0.0 c.in_err-program.ensures.decides); sound = rw e.1 tt; note = rw e.1 tt }
 
 pub build-requires-clause-well_typed : goal.build-requires-clause-well_typed
 build-requires-clause-well_typed c =
@@ -49,6 +49,7 @@ returns c =
     record {
       decides =
           behind_answers (λ p file. IsImageOf p file.items) text (view_program c.in_ok-program.program.tree) (subst (IsAcceptedText text) (sym same) is) d.accepts d.refuses
-          c.build.result c.build.ensures;
+          c.build.result c.build.ensures.decides;
       sound = whatever c.build.result (accepted_sound text);
+      note = c.build.ensures.note;
     }

@@ -1,0 +1,37 @@
+-- Stores whose blocks lie page by page. Where demand allows a call of such a store there is a place for what it makes, and a choice by
+-- which its blocks lie page by page still.
+use Rattle.std.specs.Prelude.{◌≡◌, ℕ, ◌≤◌, List, [], ◌∷◌}
+use Rattle.cyc_store.specs.State.{StoreState}
+use Rattle.cyc_store.specs.Services.{Call, Choice, served, IsAllowed}
+use Rattle.cyc_store.specs.Run.{Exchange, Service, Load, Save, Run}
+use Rattle.cyc_store.specs.Slots.{Layout, IsLaidOut}
+use Rattle.cyc_store.specs.declared.range.TheConstants.{MOST_PAGES}
+
+-- its pages are within the limit, and some layout in pages lays its blocks out
+pub record IsOrdered (s : StoreState) : Type 0 where
+  pub few : s.pages ≤ MOST_PAGES
+  pub layout : Layout
+  pub laid : IsLaidOut s layout
+
+-- the store relation allows a choice after which the blocks lie page by page still
+pub record HasChoice (s : StoreState) (call : Call) : Type 0 where
+  pub choice : Choice
+  pub allowed : IsAllowed s call choice
+  pub ordered : IsOrdered (served s call choice)
+
+-- one exchange for each of these calls, in order
+abbrev pub AreServices : List Call → List Exchange → Type 0
+AreServices [] [] = Unit {0}
+AreServices [] (e ∷ es) = ⊥
+AreServices (call ∷ calls) [] = ⊥
+AreServices (call ∷ calls) (Service other a ∷ es) = (other ≡ call) × AreServices calls es
+AreServices (call ∷ calls) (Load address word ∷ es) = ⊥
+AreServices (call ∷ calls) (Save address word done ∷ es) = ⊥
+
+-- a run that answers each of these calls, and ends in a store whose blocks lie page by page
+pub record Answers (calls : List Call) (s : StoreState) : Type 0 where
+  pub exchanges : List Exchange
+  pub services : AreServices calls exchanges
+  pub end : StoreState
+  pub run : Run exchanges s end
+  pub ordered : IsOrdered end

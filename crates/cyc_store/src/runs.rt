@@ -1,0 +1,85 @@
+//! Lists of calls of a store: each list is a run of the store relation, and where blocks lie page by page it can always go on.
+
+ghost use Rattle.std.specs.Prelude.{◌≡◌, ℕ, ◌≤◌, List, None};
+ghost use Rattle.cyc_words.specs.Word.{IsWord};
+ghost use Rattle.cyc_store.specs.State.{StoreState, saved};
+ghost use Rattle.cyc_store.specs.Services.{Call, refusal};
+ghost use Rattle.cyc_store.specs.New.{IsNew};
+ghost use Rattle.cyc_store.specs.Ordered.{IsOrdered, HasChoice, Answers};
+ghost use Rattle.cyc_store.specs.Made.{Makes, MakesAll};
+ghost use Rattle.cyc_store.specs.declared.runs.Asked.TheVariants.{Save};
+
+use super::range::MOST_PAGES;
+use super::store::Store;
+
+/// A call of a store, with what it is given.
+#[derive(Clone, Copy)]
+pub enum Asked {
+    OpenLexical,
+    CloseTo { mark: u32 },
+    OpenDynamic,
+    CloseDynamic { handle: u32 },
+    Alloc { handle: u32, words: u32 },
+    Free { address: u32 },
+    Load { address: u32 },
+    Save { address: u32, word: u32 },
+}
+
+/// Writes a word of a store, whatever it answers.
+fn write<S: Store>(store: &mut S, address: u32, word: u32)
+    ensures { Makes S.GROWS (Save address word) (S.held store.old) (S.held store.new) }
+{
+    let _done = store.save(address, word);
+}
+
+/// Makes a call of a store, whatever it answers.
+fn make<S: Store>(store: &mut S, asked: Asked)
+    ensures { Makes S.GROWS asked (S.held store.old) (S.held store.new) }
+{
+    match asked {
+        Asked::OpenLexical => {
+            let _answer = store.open_lexical();
+        }
+        Asked::CloseTo { mark } => {
+            let _answer = store.close_to(mark);
+        }
+        Asked::OpenDynamic => {
+            let _answer = store.open_dynamic();
+        }
+        Asked::CloseDynamic { handle } => {
+            let _answer = store.close_dynamic(handle);
+        }
+        Asked::Alloc { handle, words } => {
+            let _answer = store.alloc(handle, words);
+        }
+        Asked::Free { address } => {
+            let _answer = store.free(address);
+        }
+        Asked::Load { address } => {
+            let _word = store.load(address);
+        }
+        Asked::Save { address, word } => write(store, address, word),
+    }
+}
+
+/// Makes calls of a store, one after another, whatever it answers.
+///
+/// What the store holds then is the end of a run of the store relation over these calls, from what it held before. A call that wants
+/// memory is no part of it, and changes nothing; a store that does not grow has none.
+pub fn make_all<S: Store>(store: &mut S, calls: &[Asked])
+    ensures { MakesAll S.GROWS calls.now (S.held store.old) (S.held store.new) }
+{
+    for asked in calls {
+        make(store, *asked);
+    }
+}
+
+/// Where the blocks of a store lie page by page, the store relation allows a choice for each call that is not refused, after which they
+/// lie so still. So there is a place wherever demand allows a call, and every list of calls has a run that answers each of them. A new
+/// store begins so, and writing a word changes nothing of it.
+pub fn choices_exist()
+    ensures begins { (pages : ℕ) (s : StoreState) → IsNew pages s → 1 ≤ pages → pages ≤ MOST_PAGES → IsOrdered s }
+    ensures chooses { (s : StoreState) (call : Call) → IsOrdered s → refusal s call ≡ None → HasChoice s call }
+    ensures writes { (s : StoreState) (address word : ℕ) → IsOrdered s → IsWord word → IsOrdered (saved s address word) }
+    ensures answers { (calls : List Call) (s : StoreState) → IsOrdered s → Answers calls s }
+{}
