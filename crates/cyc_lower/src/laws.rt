@@ -1,14 +1,10 @@
-//! Laws of the definitions in `specs/`. Each function does nothing: its contract is the law, and so it is proved with the crate.
+//! Laws of the definitions in `specs/`. The function does nothing: its contract is the law, and so it is proved with the crate.
 
 ghost use Rattle.std.specs.Prelude.{◌≡◌, ℕ, ◌+◌, ◌<◌, ◌≤◌, List, ◌++◌, length, Some, slice_get};
 ghost use Rattle.std.specs.List.{AllByRecursion};
 ghost use Rattle.cyc_types.specs.Types.{Ty, words_of};
-ghost use Rattle.cyc_types.specs.TypedTrees.{Program};
-ghost use Rattle.cyc_types.specs.typing.WellTyped.{IsWellTypedProgram};
 ghost use Rattle.cyc_meaning.specs.FrameCount.{words_of_all};
 ghost use Rattle.cyc_lower.specs.Slots.{slot_in};
-ghost use Rattle.cyc_lower.specs.Lowering.{lower_program};
-ghost use Rattle.cyc_lower.specs.Lowered.{CanBeLowered, IsLowered};
 
 /// The slots of locals of any types are apart and in order, and none is left out between them, before the first temporary, or
 /// behind the parameters. Where each local has one word, its slot is its number.
@@ -19,9 +15,4 @@ pub fn slots_are_apart()
     ensures all { (types : List Ty) → slot_in types (length types) ≡ words_of_all types }
     ensures behind { (first types : List Ty) (number : ℕ) → slot_in (first ++ types) (length first + number) ≡ words_of_all first + slot_in types number }
     ensures one { (types : List Ty) (number : ℕ) → AllByRecursion (λ t. words_of t ≡ 1) types → number ≤ length types → slot_in types number ≡ number }
-{}
-
-/// What the definitions make of a source program is well formed and does what the source does, whoever makes it.
-pub fn lowered_programs_follow()
-    ensures { (source : Program) → IsWellTypedProgram source → CanBeLowered source → IsLowered source (lower_program source) }
 {}

@@ -10,7 +10,6 @@ mod counting;
 mod emitter;
 mod handling;
 mod instructions;
-pub mod laws;
 mod memory;
 mod numbers;
 mod operands;
