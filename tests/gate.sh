@@ -49,7 +49,6 @@ sh tests/tools.sh || echo "tests/tools.sh: a tool of the suite could not be inst
 add "proofs" rt ci
 add "self tests" python3 tests/runners/self_test.py
 add "wrong bodies" python3 tests/runners/wrong.py
-add "wrong rules" python3 tests/runners/rules.py
 add "command line" python3 tests/runners/run.py
 add "whole language" python3 tests/runners/run.py --whole
 add "codes" python3 tests/runners/codes.py

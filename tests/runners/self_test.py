@@ -19,7 +19,6 @@ import suite  # first: it says where the references and the generators are
 import gate_table
 import in_trees
 import reference
-import rules
 import run
 import wrong
 
@@ -282,10 +281,10 @@ new: self.parts()
 refused: Parted::more
 """
 
-# The cases that are tried together, and whether each turns the body of its function alone. `half` calls `part`, and a constant is no body.
+# The cases that are tried together, and whether each turns the body of its function alone: a constant is no body.
 ROUNDS = [
-    [("half_is_a_third", True), ("third_is_one_more", True), ("more_is_two_more", True)],
-    [("part_is_one_more", True), ("more_is_the_same", True)],
+    [("half_is_a_third", True), ("part_is_one_more", True), ("third_is_one_more", True), ("more_is_two_more", True)],
+    [("more_is_the_same", True)],
     [("third_is_a_fourth", False)],
 ]
 
@@ -377,36 +376,6 @@ def is_judge_right():
     return right
 
 
-# What the prover says of a wrong rule, as its status and the lines of its answer, and what is wrong with that.
-NO_RULE = "only=1 proved=0"
-PROVERS_ANSWERS = [
-    (1, ["./proofs/Calls.antt:1:1: error: `call`: expected type `A`, but this has type `B`", NO_RULE], None),
-    (1, ["/crates/cyc_guard/proofs/Kept.antt:1:1: error: `kept`: as printed, the two types differ", NO_RULE], None),
-    (0, ["only=1 proved=1"], "not refused"),
-    (1, ["/crates/cyc_types/specs/Rules.antt:1:1: error: `f` is not in scope", "./proofs/Calls.antt:1:1: error: `call`: a type", NO_RULE], "it is no rule"),
-    (1, ["./src/laws.rt:1:1: error: the clause cannot be read", NO_RULE], "it is no rule"),
-    (
-        1,
-        ["/crates/cyc_types/proofs/Well.antt:1:1: error: `well`: a type",
-         "./proofs/Whole.antt:1:1: error: 8 declarations that depend on `well`, which was not admitted, were not checked: a", NO_RULE],
-        "refused, but by no proof about runs",
-    ),
-    (1, ["./proofs/Calls.antt:1:1: error: `call` is not admitted: rejected", NO_RULE], "refused, but by no proof about runs"),
-    (3, ["./proofs/Calls.antt:1:1: error: `call`: out of memory"], "the prover gave no answer"),
-]
-
-
-def is_judge_of_rules_right():
-    """Whether what the prover says of wrong rules is judged as it should be."""
-    right = True
-    for status, said, wanted in PROVERS_ANSWERS:
-        got = rules.judged(status, "\n".join(said), "/crates")
-        if (got or "").partition(":")[0] != (wanted or ""):
-            print(suite.difference(said[0], wanted, got))
-            right = False
-    return right
-
-
 def are_promises_told():
     """Whether the document says of each wrong body what it would break."""
     told = wrong.has_promises()
@@ -472,7 +441,7 @@ def main():
         with open(sys.argv[1], encoding="utf-8") as file:
             texts = json.load(file)
     with tempfile.TemporaryDirectory() as folder:
-        right = [is_runner_right(folder), is_table_right(), are_rounds_right(folder), is_judge_right(), is_judge_of_rules_right(), are_promises_told()]
+        right = [is_runner_right(folder), is_table_right(), are_rounds_right(folder), is_judge_right(), are_promises_told()]
     right += reference.with_room(lambda: [is_case_right(case) for case in cases] + [is_text_right(case) for case in texts])
     right += reference.with_room(lambda: [is_program_right(*one) for name in ("accepted", "refused") for one in in_trees.programs_in(name)])
     suite.end(right.count(True), right.count(False))

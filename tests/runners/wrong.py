@@ -9,8 +9,8 @@ for them with the case in its place, and for nothing else: what it would refuse 
 one that only takes away a name which a proof has, fails too, since no contract was tried.
 
 A proof rests on what other functions promise, and on no other body. So the proofs of the crate's other functions are left out, which
-`rt ci` has proved, and wrong bodies of functions that do not call each other are tried together. What is not refused so is tried once
-more alone; with `--alone` each is. Of the crates below, the libraries are taken that `rt ci` leaves in `crates/NAME/out`. Where a case
+`rt ci` has proved, and wrong bodies of several functions are tried together. What is not refused so is tried once more alone; with
+`--alone` each is. Of the crates below, the libraries are taken that `rt ci` leaves in `crates/NAME/out`. Where a case
 changes a file of another crate, that crate and those between are taken as they are written, and what refuses it must be a proof of a
 crate that it does not change.
 
@@ -109,19 +109,27 @@ class Case:
         """The crates whose files it changes."""
         return {it.path.split(os.sep)[0] for it in self.edits}
 
-    def texts(self, crates, others):
-        """The texts that it makes of files in a folder of crates, by their paths, where others have made these of them. Each text that it
-        replaces stands there once."""
-        found = dict(others)
-        for edit in self.edits:
-            if edit.path not in found:
-                with open(os.path.join(crates, edit.path), encoding="utf-8") as file:
-                    found[edit.path] = file.read()
-            old = "\n".join(edit.old)
-            if found[edit.path].count(old) != 1:
-                raise ValueError(f"{edit.path} has {found[edit.path].count(old)} times: {old}")
-            found[edit.path] = found[edit.path].replace(old, "\n".join(edit.new))
-        return found
+
+def texts_with(cases, crates):
+    """The texts of files in a folder of crates where cases are in their places, by the files' paths. What a case replaces stands there
+    once, and no two replace the same."""
+    texts, places = {}, collections.defaultdict(list)
+    for edit in (edit for case in cases for edit in case.edits):
+        if edit.path not in texts:
+            with open(os.path.join(crates, edit.path), encoding="utf-8") as file:
+                texts[edit.path] = file.read()
+        old = "\n".join(edit.old)
+        if texts[edit.path].count(old) != 1:
+            raise ValueError(f"{edit.path} has {texts[edit.path].count(old)} times: {old}")
+        start = texts[edit.path].index(old)
+        places[edit.path].append((start, start + len(old), "\n".join(edit.new)))
+    for path, found in places.items():
+        last = len(texts[path])
+        for start, end, new in sorted(found, reverse=True):
+            if end > last:
+                raise ValueError(f"two cases replace the same in {path}")
+            texts[path], last = texts[path][:start] + new + texts[path][end:], start
+    return texts
 
 
 def cases_in(path):
@@ -254,9 +262,6 @@ class Bodies:
                     texts[os.path.relpath(path, crates)] = file.read()
         types = {name: steps for path, text in texts.items() for name, steps in types_in(path, text).items()}
         self.all = [self.settled(body, crate) for path, text in texts.items() for body in bodies_in(path, text, types)]
-        self.words = collections.defaultdict(set)
-        for it in self.all:
-            self.words[it.function.split("::")[-1]] |= it.words
 
     def settled(self, body, crate):
         """The body with the folder of its proof, which is named as a cycle's where the function calls itself. Where a function of the same
@@ -286,33 +291,23 @@ class Bodies:
         is_in = lambda it: it.path == edit.path and it.first <= first and first + len(edit.old) <= it.behind
         return next(filter(is_in, self.all), None)
 
-    def reached_from(self, function):
-        """The names of the functions that one may call, in turn too, as far as words in bodies tell."""
-        found, left = set(), [function.split("::")[-1]]
-        while left:
-            new = (self.words[left.pop()] & self.words.keys()) - found
-            found |= new
-            left += new
-        return found
-
 
 def rounds_of(cases, bodies, is_alone):
-    """The cases that are tried together, list by list: none changes what another's proof rests on. With each stands the function whose
-    body alone it changes, or None."""
+    """The cases that are tried together, list by list: each changes the body of a function whose proof no other one changes. With each
+    stands that function, or None where a case changes something else, and is alone."""
     rounds, others = [], []
     for case in cases:
         turned = bodies.turned_by(case)
         if not turned or is_alone:
             others.append([(case, turned)])
             continue
-        name, reached = turned.function.split("::")[-1], bodies.reached_from(turned.function)
-        for names, together in rounds:
-            if name not in names and not any(it in reached or name in names[it] for it in names):
-                names[name] = reached
+        for proofs, together in rounds:
+            if turned.proof not in proofs:
+                proofs.add(turned.proof)
                 together.append((case, turned))
                 break
         else:
-            rounds.append(({name: reached}, [(case, turned)]))
+            rounds.append(({turned.proof}, [(case, turned)]))
     return [together for _, together in rounds] + others
 
 
@@ -519,10 +514,8 @@ class Group:
 
     def attempt(self, together):
         """Tries cases together: what is wrong with each, or None; and the seconds that it took."""
-        texts = {}
         try:
-            for case, _ in together:
-                texts = case.texts(self.settings.crates, texts)
+            texts = texts_with([case for case, _ in together], self.settings.crates)
         except (OSError, ValueError) as error:
             return [str(error)] * len(together), 0.0
         with tempfile.TemporaryDirectory(dir=self.settings.room) as folder:
