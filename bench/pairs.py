@@ -28,6 +28,7 @@ FLAGS = "-w -fwrapv -mips2 -mabi=32 -msoft-float -mno-abicalls -fno-pic -G0 -mno
 FLAGS += "-ffreestanding -fno-builtin -nostdlib -static -Wl,--build-id=none".split()
 LINKED = [os.path.join(PAIRS, "start.s"), "-Wl,-T," + os.path.join(PAIRS, "layout.ld"), "-I", PAIRS]
 MOST = 1_000_000_000
+SHOWN = 40
 
 
 class Fault(Exception):
@@ -66,6 +67,13 @@ def count_of(program, image, given):
     return enough
 
 
+def difference(in_c, here):
+    """Where a run in C and one here are not the same."""
+    at = len(os.path.commonprefix([in_c[0], here[0]]))
+    texts = [f"{output[at:at + SHOWN]!r} and ends with `{last}`" for output, last in (in_c, here)]
+    return f"it prints, behind {at} bytes, {texts[0]}, and here {texts[1]}"
+
+
 def counts_of(name, options):
     """The instructions of a pair: those of the program in this language, and those of the one in C, level by level."""
     source, given = os.path.join(options.pairs, name), b""
@@ -82,7 +90,7 @@ def counts_of(name, options):
             if not end[1].startswith("returned "):
                 raise Fault(f"with {level} it ends with: {end[1]}")
             if end != ends[0]:
-                raise Fault(f"with {level} it prints {end[0]!r} and ends with `{end[1]}`, and here {ends[0][0]!r} and `{ends[0][1]}`")
+                raise Fault(f"with {level} {difference(end, ends[0])}")
         return [count_of(options.program, image, given) for image in images]
 
 
