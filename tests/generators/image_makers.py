@@ -30,13 +30,14 @@ SMALL_IMAGES = {"one segment": PLAIN, "a note": WITH_NOTE, "two segments": WITH_
 SET_TO = (0x00, 0x7F, 0xFF)
 # Values at the ends of what a field of a header may hold, and one beyond.
 FIELDS = [
-    0, 1, 2, 3, 4, 5, 6, 7, 8, 0x14, 0x17, 0x18, 0x19, 0x1B, 0x1C, 0x1D, 0x20, 0x34, 0x54, 0x58, 0x74, 0x8C, 0x3FFFFC, 0x400000, 0x400002, 0x400004,
-    0x400014, 0x400018, 0x1FFFFFC, 0x2000000, 0xFFFFFFC, 0x10000000, 0x10000004, 0x103FFFFC, 0x10400000, 0x20000000, 0x30000000, 0x7FFFEFFC,
+    0, 1, 2, 3, 4, 5, 6, 7, 8, 0x14, 0x17, 0x18, 0x19, 0x1B, 0x1C, 0x1D, 0x20, 0x34, 0x54, 0x58, 0x74, 0x8C, 0x3FFFFC,
+    0x400000, 0x400002, 0x400004, 0x400014, 0x400018, 0x1FFFFFC, 0x2000000, 0xFFFFFFC, 0x10000000, 0x10000004, 0x103FFFFC, 0x10400000, 0x20000000, 0x30000000, 0x7FFFEFFC,
     0x7FFFFFFF, 0x80000000, 0xFFFFFFF8, 0xFFFFFFFC, 0xFFFFFFFF,
 ]
 EDGES = [0, 1, 2, 3, 4, 31, 32, 255, 0x7FFF, 0x8000, 0xFFFF, 0x10000, 0x7FFFFFFF, 0x80000000, 0x80000001, 0xFFFFFFFE, 0xFFFFFFFF]
-# Words of a block, with the ends of a unique block's classes, of a page, and of what is allowed.
-SIZES = [0, 1, 1, 2, 3, 4, 8, 24, 25, 64, 127, 128, 129, 256, 257, 400, 512, 513, 999, 1000, 1000, 1001, 0xFFFFFFFF]
+# Words of a block, with the ends of a unique block's classes, of a page, and of what is allowed; and what is not.
+SIZES = [1, 1, 2, 3, 4, 8, 24, 25, 64, 127, 128, 129, 256, 257, 400, 512, 513, 999, 1000]
+NO_SIZES = [0, 1001, 1024, 0xFFFFFFFF]
 
 OPCODE_OF = {name: opcode for opcode, (name, _) in machine.OPCODES.items()}
 BRANCH_OF = {name: number for number, (name, _) in machine.BRANCHES.items()}
@@ -100,8 +101,9 @@ class Made:
     def __init__(self, family, file, given=b"", pages=None, calls=None, steps=STEPS):
         self.family, self.file, self.given, self.pages, self.calls, self.steps = family, file, given, pages, calls, steps
 
-    def options(self):
-        limits = [("--pages", self.pages), ("--calls", self.calls), ("--steps", self.steps)]
+    def options(self, steps):
+        """The limits of a run of so many steps, as the command line has them."""
+        limits = [("--pages", self.pages), ("--calls", self.calls), ("--steps", steps)]
         return [word for name, value in limits if value is not None for word in (name, str(value))]
 
 
@@ -121,6 +123,8 @@ class Words:
         while len(self.words) < self.length:
             self.words += numbers.choice(self.MAKERS)(self)
         self.spoil()
+        for register in (8, 9, 10, 11):
+            self.words += [*self.print_byte(register, 0), *self.print_byte(register, 24)]
         self.words += numbers.choice([[], service(3), service(3, moved(4, 8)), service(4, moved(5, 9)), service(11)])
 
     def register(self):
@@ -163,19 +167,31 @@ class Words:
         offset = self.numbers.randint(-4, 6) if self.numbers.random() < 0.9 else self.numbers.choice(EDGES)
         return [word_of(name, s, t if name in ("beq", "bne") else 0, i=offset), *slot]
 
+    @staticmethod
+    def print_byte(register, place):
+        return service(2, word_of("srl", t=register, d=4, a=place))
+
     def print(self):
-        return service(2, moved(4, self.register()))
+        return self.print_byte(self.register(), self.numbers.choice([0, 0, 8, 16, 24]))
 
     def read(self):
-        return service(1)
+        return service(1) + self.print_byte(2, 0)
 
     def ask(self):
         return service(self.numbers.choice([5, 6, 7, 8, 9, 10, self.numbers.randint(0, 13)]))
 
-    def anything(self):
-        return [self.numbers.choice([self.numbers.getrandbits(32), self.numbers.getrandbits(26), BREAK])] if self.numbers.random() < 0.3 else [NOP]
+    def rarity(self):
+        """Mostly nothing; at times what the machine refuses, or any word."""
+        words = [
+            [self.numbers.getrandbits(32)], [self.numbers.getrandbits(26)], [BREAK], [word_of("div", 8, 0)],
+            [*constant(8, 1 << 31), word_of("addiu", 0, 9, i=-1), word_of("div", 8, 9)],
+            [*constant(10, machine.TEXT), word_of("jalr", 10, d=10), NOP],
+            [*constant(10, machine.STORE + 4 * self.numbers.randrange(2_048)), word_of("lw", 10, 8)],
+            [*constant(10, self.numbers.choice(FIELDS)), word_of(self.numbers.choice(["lw", "sw"]), 10, 8)],
+        ]
+        return self.numbers.choice(words) if self.numbers.random() < 0.3 else [NOP]
 
-    MAKERS = [calculation] * 4 + [access] * 4 + [jump] * 3 + [print] * 3 + [read, ask, anything]
+    MAKERS = [calculation] * 4 + [access] * 4 + [jump] * 3 + [print] * 3 + [read, read, ask, rarity]
 
     def spoil(self):
         """Sometimes a bit of a word is turned."""
@@ -184,63 +200,101 @@ class Words:
 
 
 class Calls:
-    """Calls of the store. Handles and addresses are kept in registers 16 to 23, and only what a store may not choose is printed."""
+    """Calls of the store. Handles and addresses are kept in registers 16 to 23, and only what a store may not choose is printed.
+
+    Most calls are of what is open or live by then; some are not, and the same calls are often made over and over, until a call that
+    was none is one, or there is no room.
+    """
 
     KEPT = range(16, 24)
 
     def __init__(self, numbers):
-        self.numbers, self.words, self.handles, self.blocks, self.lexical, self.is_used = numbers, [], [], [], 0, 16
+        self.numbers, self.words, self.next = numbers, [], 0
+        # registers of handles and of addresses, and how many lexical regions are open
+        self.lexical, self.dynamic, self.blocks, self.unique, self.opened = [], [], [], [], 0
         for _ in range(numbers.randint(3, 24)):
-            self.words += self.call()
+            self.words += numbers.choice(self.MAKERS)(self)
         if numbers.random() < 0.5:
-            # over and over, until the store is full or the budget is spent
             self.words += [word_of("j", i=machine.TEXT >> 2), NOP]
         self.words += service(3)
 
+    def happens(self, chance):
+        return self.numbers.random() < chance
+
     def kept(self, names):
         """Keeps the answer of a call in the next register; what stood there is gone."""
-        register = self.is_used
-        self.is_used = 16 + (self.is_used + 1 - 16) % len(self.KEPT)
-        self.handles = [other for other in self.handles if other != register]
-        self.blocks = [other for other in self.blocks if other != register]
+        register = self.KEPT[self.next]
+        self.next = (self.next + 1) % len(self.KEPT)
+        for others in (self.lexical, self.dynamic, self.blocks, self.unique):
+            if register in others:
+                others.remove(register)
         names.append(register)
         return moved(register, 2)
 
-    def first(self, names, others):
-        """Puts an argument in register 4: one that was kept, or a number."""
-        if names and self.numbers.random() < 0.85:
-            return [moved(4, self.numbers.choice(names))]
-        return number_in(4, self.numbers.choice(others))
-
-    def call(self):
-        choice = self.numbers.choice([self.open, self.open, self.make, self.make, self.make, self.make, self.use, self.use, self.use, self.free, self.close])
-        return choice()
-
     def open(self):
-        if self.numbers.random() < 0.6:
-            return [*service(5), self.kept(self.handles), word_of("addiu", 3, 4, i=48), *service(2)]
-        return [*service(7), self.kept(self.handles)]
+        if self.happens(0.6):
+            self.opened += 1
+            return [*service(5), self.kept(self.lexical), word_of("addiu", 3, 4, i=48), *service(2)]
+        return [*service(7), self.kept(self.dynamic)]
 
     def make(self):
-        first = self.first(self.handles, [1, 1, 1, 2, 2, 2, 2, 0, 77])
-        return [*first, *number_in(5, self.numbers.choice(SIZES)), *service(9), self.kept(self.blocks)]
+        """A block of the heap, of a region, or of its own."""
+        size = number_in(5, self.numbers.choice(SIZES if self.happens(0.97) else NO_SIZES))
+        if self.happens(0.03):
+            return [*number_in(4, self.numbers.choice([0, 3, 77, machine.STORE])), *size, *service(9), self.kept(self.blocks)]
+        handles = self.lexical + self.dynamic
+        if handles and self.happens(0.6):
+            return [moved(4, self.numbers.choice(handles)), *size, *service(9), self.kept(self.blocks)]
+        is_unique = self.happens(0.6)
+        first = number_in(4, machine.UNIQUE if is_unique else machine.HEAP)
+        return [*first, *size, *service(9), self.kept(self.unique if is_unique else self.blocks)]
+
+    def rush(self):
+        """Several large unique blocks of one size, of which most are freed at once: their pages stay taken."""
+        size, words = self.numbers.choice([200, 256, 257, 512, 513, 1000]), []
+        for _ in range(self.numbers.randint(2, 6)):
+            words += [*number_in(4, machine.UNIQUE), *number_in(5, size), *service(9), self.kept(self.unique)]
+        while self.unique and self.happens(0.9):
+            words += [moved(4, self.unique.pop()), *service(10)]
+        return words
 
     def use(self):
-        """Stores a word and prints what is loaded from there."""
-        if not self.blocks:
+        """Stores a word and prints what is loaded from there, which a block of one word has at its beginning alone."""
+        blocks = self.blocks + self.unique
+        if not blocks:
             return self.make()
-        base, offset = self.numbers.choice(self.blocks), self.numbers.choice([0] * 12 + [4, 8, 12, 1, -4])
+        base, offset = self.numbers.choice(blocks), 0 if self.happens(0.9) else self.numbers.choice([4, 8, 12, 1, 2, -4])
         value = self.numbers.choice([65, 66, 67, 300])
         return [*number_in(8, value), word_of("sw", base, 8, i=offset), word_of("lw", base, 4, i=offset), *service(2)]
 
     def free(self):
-        move = [word_of("addiu", 4, 4, i=4)] if self.numbers.random() < 0.05 else []
-        return [*self.first(self.blocks, [0, 1, machine.STORE, machine.STORE + 4]), *move, *service(10)]
+        """Frees a block, which is mostly not used again."""
+        others = self.blocks + self.unique
+        if others and self.happens(0.03):
+            return [moved(4, self.numbers.choice(others)), word_of("addiu", 4, 4, i=4 * self.numbers.randrange(2)), *service(10)]
+        if not self.unique:
+            return self.make()
+        register = self.numbers.choice(self.unique)
+        if self.happens(0.85):
+            self.unique.remove(register)
+        return [moved(4, register), *service(10)]
 
     def close(self):
-        if self.numbers.random() < 0.5:
-            return [*number_in(4, self.numbers.choice([0, 0, 0, 1, 1, 2, 77])), *service(6)]
-        return [*self.first(self.handles, [1, 2, 0]), *service(8)]
+        """Closes some regions, whose handles are mostly not used again."""
+        if self.dynamic and self.happens(0.5):
+            register = self.numbers.choice(self.dynamic)
+            if self.happens(0.85):
+                self.dynamic.remove(register)
+            return [moved(4, register), *service(8)]
+        if self.happens(0.03):
+            return number_in(4, self.numbers.choice([0, 1, 2, 77])) + service(self.numbers.choice([6, 8]))
+        mark = self.numbers.randint(0, self.opened)
+        if self.happens(0.85):
+            del self.lexical[len(self.lexical) - min(self.opened - mark, len(self.lexical)):]
+        self.opened = mark
+        return [*number_in(4, mark), *service(6)]
+
+    MAKERS = [open] * 2 + [make] * 5 + [use] * 4 + [free] * 2 + [close] * 2 + [rush]
 
 
 def given(numbers):
@@ -248,8 +302,10 @@ def given(numbers):
 
 
 def note(numbers):
-    """The limits of a note, at times one that is none."""
-    return numbers.choice([3, 4, 8, 65_536, 65_536, 2, 65_537][:5 if numbers.random() < 0.9 else 7]), numbers.choice([1, 2, 32, 4_096, 0, 4_097][:4 if numbers.random() < 0.9 else 6])
+    """The limits of a note, at times with one that is none."""
+    if numbers.random() < 0.1:
+        return numbers.choice([(2, 32), (65_537, 32), (8, 0), (8, 4_097)])
+    return numbers.choice([3, 4, 8, 65_536]), numbers.choice([1, 2, 32, 4_096])
 
 
 def of_words(numbers):
@@ -259,8 +315,8 @@ def of_words(numbers):
     if numbers.random() < 0.4:
         segments.append((machine.DATA, [numbers.choice(EDGES) for _ in range(numbers.randint(0, 40))], numbers.randint(0, 9)))
     limits = note(numbers) if numbers.random() < 0.2 else None
-    calls = numbers.choice([None, 1, 2, 4_096])
-    return Made("words", image(segments, note=limits), given(numbers), numbers.choice([None, 3, 4]), calls, numbers.choice([1, 20, STEPS, STEPS]))
+    pages, calls, steps = numbers.choice([None, 3, 4]), numbers.choice([None, 1, 2, 4_096]), numbers.choice([1, 20, STEPS, STEPS])
+    return Made("words", image(segments, note=limits), given(numbers), pages, calls, steps)
 
 
 def of_calls(numbers):
@@ -289,6 +345,12 @@ def of_changes(numbers):
     return Made("changes", bytes(file), given(numbers))
 
 
+# Where segments begin: at both ends of the two ranges and within them.
+ADDRESSES = [
+    machine.TEXT, machine.TEXT, machine.TEXT + 0x1000, machine.TEXT_END - 24, machine.DATA, machine.DATA + 0x1000, machine.DATA_END - 24,
+]
+
+
 def of_headers(numbers):
     """A file with a random table of program headers, most of which could stand."""
     count = numbers.randint(0, 6)
@@ -299,7 +361,7 @@ def of_headers(numbers):
         kind = numbers.choice([1] * 8 + [4] * 4 + [0, 2, 6, 0x70000003] + [3])
         size = 4 * numbers.randint(0, 6)
         more = numbers.choice([0, 0, 4, 1, 0x1000])
-        address = numbers.choice([machine.TEXT, machine.TEXT, machine.TEXT + 0x1000, machine.DATA, machine.DATA + 0x1000, machine.TEXT_END - 24, machine.DATA_END - 24])
+        address = numbers.choice(ADDRESSES)
         place, end = offset + 4 * numbers.randint(0, 4), size + more
         if kind == machine.NOTE and numbers.random() < 0.8:
             place, size, end = offset + len(content) - 28, 28, 28

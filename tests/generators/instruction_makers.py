@@ -9,7 +9,7 @@ import struct
 
 import image_makers
 import machine
-from image_makers import EDGES, NOP, SYSCALL, constant, moved, service, word_of
+from image_makers import EDGES, NOP, constant, moved, service, word_of
 
 IMMEDIATES = [0, 1, 2, 0xFF, 0x100, 0x7FFF, 0x8000, 0x8001, 0xFFFE, 0xFFFF]
 AMOUNTS = [0, 1, 2, 15, 16, 30, 31]
@@ -202,10 +202,17 @@ def ours(body):
     return body.words + constant(8, machine.DATA) + loop + service(3, moved(4, 0))
 
 
+def results(body):
+    """The results by the reference, as those ends print them."""
+    run = machine.Run(machine.Image(executable(body.words + service(3))))
+    run.end()
+    return image_makers.bytes_of([run.content(machine.DATA + 4 * number) for number in range(body.results)])
+
+
 def linux(body):
     """The end that writes the results by Linux's call."""
-    write = [word_of("addiu", 0, 4, i=1), *constant(5, machine.DATA), word_of("subu", RESULTS, 5, 6), word_of("addiu", 0, 2, i=WRITE), SYSCALL]
-    return body.words + write + [moved(4, 0), word_of("addiu", 0, 2, i=EXIT), SYSCALL]
+    write = service(WRITE, word_of("addiu", 0, 4, i=1), *constant(5, machine.DATA), word_of("subu", RESULTS, 5, 6))
+    return body.words + write + service(EXIT, moved(4, 0))
 
 
 def executable(words):

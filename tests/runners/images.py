@@ -8,8 +8,8 @@ Three parts, of which --part takes one alone:
 - spoiled: three small images, cut at each length, and with each byte set to 00, 7f and ff;
 - random: words of instructions, calls of a store of few pages, changed and random headers, with limits and without; `--count` of them,
   and the same seed gives the same images;
-- qemu: each instruction of the table with edge operands, and random programs of them, run by qemu-mips as Linux programs too. Where
-  there is no qemu-mips, a line says so, and none is tried.
+- instructions: each one of the table with edge operands, and random programs of them, run by qemu-mips as Linux programs too; where
+  there is no qemu-mips, a line says so.
 
 Each answer has to be one that the manual names, in its time, and no crash. Output, last line and status have to be the reference's,
 with just as many steps as the reference counts and with one less; and so each line of a listing. Where an answer hangs on what a store
@@ -73,7 +73,6 @@ def fault_of(command, wanted, got):
 
 def asked(words, given=b"", most=None):
     """The answer of a program, of which at most so many bytes are read; the status is None where it had to be ended."""
-    # a listing that is broken off has no more to say than its beginning
     with subprocess.Popen(words, stdin=subprocess.PIPE, stdout=subprocess.PIPE, stderr=subprocess.PIPE) as process:
         late = threading.Event()
         clock = threading.Timer(SECONDS, lambda: (late.set(), process.kill()))
@@ -124,8 +123,7 @@ class Tried:
         return fault or count > 1 and self.fault_with(count - 1, (wanted[0], "budget spent", 7)) or None
 
     def fault_with(self, steps, wanted):
-        limits = [("--pages", self.made.pages), ("--calls", self.made.calls), ("--steps", steps)]
-        options = [word for name, value in limits if value is not None for word in (name, str(value))]
+        options = self.made.options(steps)
         fault = fault_of("run", wanted, asked([self.program, "run", self.path, *options], self.made.given))
         return fault and f"{' '.join(options)} on {self.made.given}: {fault}"
 
@@ -174,34 +172,34 @@ def try_images(program, part, options, workers):
     return len(names), faults
 
 
-def try_program(program, name, body):
-    """What qemu-mips and the program print of a program of instructions, and its fault if they differ."""
+def try_program(program, has_qemu, name, body):
+    """A program of instructions by the reference, by qemu-mips and by the program, and its fault if they differ."""
+    output = instruction_makers.results(body)
     with tempfile.TemporaryDirectory(prefix="cyclone-image-") as folder:
         paths = [os.path.join(folder, end) for end in ("linux", "ours")]
         for path, words in zip(paths, (instruction_makers.linux(body), instruction_makers.ours(body))):
             with open(path, "wb") as file:
                 file.write(instruction_makers.executable(words))
             os.chmod(path, 0o755)
-        output, _, status = asked(["qemu-mips", paths[0]])
-        if (len(output), status) != (4 * body.results, 0):
-            return f"{name}: qemu-mips ends with status {status}, with {len(output)} of {4 * body.results} bytes"
+        by_qemu = asked(["qemu-mips", paths[0]]) if has_qemu else (output, "", 0)
+        if by_qemu != (output, "", 0):
+            return suite.difference(f"{name}: qemu-mips, beside the reference", (output, "", 0), by_qemu)
         run = [program, "run", paths[1], "--steps", str(INSTRUCTIONS_AT_MOST)]
         fault = fault_of("run", (output, "returned 0", 0), asked(run))
-        return fault and f"{name}, beside qemu-mips: {fault}"
+    return fault and f"{name}: {fault}"
 
 
 def try_instructions(program, workers):
-    """Tries each program of instructions beside qemu-mips."""
-    if not shutil.which("qemu-mips"):
-        print("qemu: none tried, as there is no qemu-mips here (Debian's package qemu-user)")
-        return 0, []
+    """Tries each program of instructions, beside qemu-mips where it is there."""
+    has_qemu = shutil.which("qemu-mips") is not None
     programs = list(instruction_makers.programs())
-    faults = list(workers.map(try_program, itertools.repeat(program), *zip(*programs)))
-    print(f"qemu, {len(programs)} programs, {sum(body.results for _, body in programs)} results")
+    faults = list(workers.map(try_program, itertools.repeat(program), itertools.repeat(has_qemu), *zip(*programs)))
+    beside = "" if has_qemu else "; not beside qemu-mips, which is not here (Debian's package qemu-user)"
+    print(f"instructions, {len(programs)} programs with {sum(body.results for _, body in programs)} results{beside}")
     return len(programs), [fault for fault in faults if fault]
 
 
-PARTS = ["spoiled", "random", "qemu"]
+PARTS = ["spoiled", "random", "instructions"]
 
 
 def main():
@@ -214,7 +212,8 @@ def main():
     tried, failed = 0, 0
     with concurrent.futures.ProcessPoolExecutor() as workers:
         for part in [options.part] if options.part else PARTS:
-            images, faults = try_instructions(program, workers) if part == "qemu" else try_images(program, part, options, workers)
+            is_of_images = part != "instructions"
+            images, faults = try_images(program, part, options, workers) if is_of_images else try_instructions(program, workers)
             tried, failed = tried + images, failed + len(faults)
             print("\n".join(f"FAILED {fault}" for fault in faults), end="\n" if faults else "")
     suite.end(tried - failed, failed)
