@@ -8,6 +8,8 @@ import struct
 import machine
 
 STEPS = 1000
+# An image that a compiler wrote is run so far, and each of so many with words changed.
+STEPS_OF_COMPILED, STEPS_OF_CHANGED, CHANGED = 30_000, 3_000, 5
 # One segment, which ends with 3 after five instructions; and the same with a note of 8 pages and 32 calls.
 PLAIN = bytes.fromhex("""
 7f454c46010201000000000000000000 0002000800000001 00400000 00000034 0000000000000000 0034002000010000 00000000
@@ -372,6 +374,19 @@ def of_headers(numbers):
     entry = numbers.choice([machine.TEXT, machine.TEXT + 4, machine.TEXT + 0x1000, machine.DATA, field(numbers)])
     rest = struct.pack(">HHIIIIIHHHHHH", 2, 8, 1, entry, machine.HEADER, 0, 0, machine.HEADER, machine.ENTRY_BYTES, count, 0, 0, 0)
     return Made("headers", machine.IDENT + bytes(9) + rest + table + content, given(numbers))
+
+
+def of_compiled(name, file, given, numbers):
+    """An image that the compiler wrote, and some that differ from it in up to three words of the text."""
+    yield Made(name, file, given, steps=STEPS_OF_COMPILED)
+    text = machine.Image(file).segments[0]
+    for _ in range(CHANGED):
+        changed = bytearray(file)
+        for _ in range(numbers.randint(1, 3)):
+            at = file.index(text.content) + 4 * numbers.randrange(len(text.words()))
+            word = int.from_bytes(changed[at:at + 4], "big") ^ 1 << numbers.randrange(32)
+            changed[at:at + 4] = struct.pack(">I", numbers.choice([word, word, NOP, SYSCALL, numbers.getrandbits(32)]))
+        yield Made(f"{name}, changed", bytes(changed), given, steps=STEPS_OF_CHANGED)
 
 
 FAMILIES = [of_words] * 4 + [of_calls] * 3 + [of_changes] * 2 + [of_headers]

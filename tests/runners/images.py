@@ -1,13 +1,14 @@
 #!/usr/bin/env python3
-"""Images that no compiler writes, run and listed, beside what tests/references/machine.py says of them; and instructions beside qemu-mips.
+"""Images that hardly a compiler writes, run and listed, beside what tests/references/machine.py says; and instructions beside qemu-mips.
 
     python3 tests/runners/images.py [--program PATH] [--count N] [--seed N] [--part NAME]
 
-Three parts, of which --part takes one alone:
+Four parts, of which --part takes one alone:
 
 - spoiled: three small images, cut at each length, and with each byte set to 00, 7f and ff;
 - random: words of instructions, calls of a store of few pages, changed and random headers, with limits and without; `--count` of them,
   and the same seed gives the same images;
+- compiled: the examples, as the program compiles them, and each with some of its words changed;
 - instructions: each one of the table with edge operands, and random programs of them, run by qemu-mips as Linux programs too; where
   there is no qemu-mips, a line says so.
 
@@ -35,6 +36,9 @@ import machine
 # A run of a thousand steps takes some milliseconds, a listing of LISTED_AT_MOST words too.
 SECONDS = 20
 LISTED_AT_MOST = 5_000
+# So many images are tried by a process in turn.
+SHARE = 25
+EXAMPLES = os.path.join(suite.ROOT, "examples")
 INSTRUCTIONS_AT_MOST = 10_000_000
 CAUSES = [
     "reserved instruction", "unpredictable", "misaligned", "no such address", "dead cell", "write to text", "break", "bad service",
@@ -140,10 +144,26 @@ class Tried:
         return None if wanted == got else suite.difference("disasm, broken off", wanted, got)
 
 
-def named(part, options):
+def compiled(program, seed):
+    """The examples that have an output beside them, with what they are run on there, and with words changed."""
+    with tempfile.TemporaryDirectory(prefix="cyclone-image-") as folder:
+        for name in sorted(name[:-4] for name in os.listdir(EXAMPLES) if name.endswith(".out")):
+            source, path = os.path.join(EXAMPLES, name), os.path.join(folder, "image.elf")
+            answer = suite.answer([program, "compile", source + ".cyc", "-o", path])
+            if answer != (b"", "done", 0):
+                raise SystemExit(f"{source}.cyc is not compiled: {answer}")
+            given = b""
+            if os.path.exists(source + ".in"):
+                with open(source + ".in", "rb") as file:
+                    given = file.read()
+            with open(path, "rb") as file:
+                yield from image_makers.of_compiled(name, file.read(), given, random.Random(f"{name} {seed}"))
+
+
+def named(program, part, options):
     """The images of a part, each with its name; those of `random` are made where they are tried."""
-    if part == "spoiled":
-        return [(made.family, made) for made in image_makers.spoiled()]
+    if part != "random":
+        return [(made.family, made) for made in (image_makers.spoiled() if part == "spoiled" else compiled(program, options.seed))]
     return [(f"image {number}, seed {options.seed}", None) for number in range(options.count)]
 
 
@@ -162,8 +182,8 @@ def try_some(program, seed, names):
 
 def try_images(program, part, options, workers):
     """Tries the images of a part side by side, and gives what fails."""
-    names = list(enumerate(named(part, options)))
-    shares = [names[start:start + 50] for start in range(0, len(names), 50)]
+    names = list(enumerate(named(program, part, options)))
+    shares = [names[start:start + SHARE] for start in range(0, len(names), SHARE)]
     ends, faults = collections.Counter(), []
     for tried in workers.map(try_some, itertools.repeat(program), itertools.repeat(options.seed), shares):
         ends.update(end for end, _ in tried)
@@ -199,7 +219,7 @@ def try_instructions(program, workers):
     return len(programs), [fault for fault in faults if fault]
 
 
-PARTS = ["spoiled", "random", "instructions"]
+PARTS = ["spoiled", "random", "compiled", "instructions"]
 
 
 def main():
