@@ -288,8 +288,10 @@ class Calls:
             if self.happens(0.85):
                 self.dynamic.remove(register)
             return [moved(4, register), *service(8)]
-        if self.happens(0.03):
+        if self.happens(0.06):
             return number_in(4, self.numbers.choice([0, 1, 2, 77])) + service(self.numbers.choice([6, 8]))
+        if self.lexical and self.happens(0.06):
+            return service(8, moved(4, self.numbers.choice(self.lexical)))
         mark = self.numbers.randint(0, self.opened)
         if self.happens(0.85):
             del self.lexical[len(self.lexical) - min(self.opened - mark, len(self.lexical)):]
