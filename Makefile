@@ -16,8 +16,8 @@ help:
 	@echo '              programs on that, in some minutes: for who changes something'
 	@echo 'make cases    builds it, and runs the command-line suite, the table of codes, the examples, and random programs, and refuses'
 	@echo '              its allocations in turn'
-	@echo 'make bench    builds it, and prints figures of its speed, its stack, and its code beside qemu-mips, tcc and gcc (Debian packages'
-	@echo '              qemu-user, tcc, gcc and gcc-mips-linux-gnu)'
+	@echo 'make bench    builds it, and prints figures of its speed and its stack beside qemu-mips, tcc and gcc, and of its code by pairs of'
+	@echo '              equal programs here and in C, in bench/pairs (Debian packages qemu-user, tcc, gcc and gcc-mips-linux-gnu)'
 	@echo 'make test     the gate: every proof, wrong body and test from nothing, and what `make cases` runs; hours. The last line'
 	@echo '              is `N passed, M failed`'
 	@echo 'make install  puts the program that was built and its manual page below PREFIX; make uninstall takes them away'
@@ -51,6 +51,7 @@ bench: build
 	@python3 bench/store.py
 	@python3 bench/checker.py
 	@python3 bench/compiler.py
+	@python3 bench/pairs.py
 	@python3 bench/stack.py
 
 test:

@@ -1,7 +1,8 @@
 #!/usr/bin/env python3
 """Tries the tests' own tools: the suite's runner, on a stand-in for the program, passes and fails what it should; the table of what
 the gate costs, on looks at processes that are written here, has the sums worked by hand; wrong bodies are tried together where they may
-be, and what the prover says of them is judged as it should be; and the reference answers the cases of the whole language, in tests/whole, and those of the program that
+be, and what the prover says of them is judged as it should be; pairs of programs that do not print the same have no figures, and the
+others the right ones; and the reference answers the cases of the whole language, in tests/whole, and those of the program that
 check texts, as they say.
 
     python3 tests/runners/self_test.py [TEXTS.json]
@@ -23,6 +24,7 @@ import run
 import wrong
 
 HERE = os.path.dirname(os.path.abspath(__file__))
+BENCH = os.path.join(HERE, "..", "..", "bench")
 # The cases of the program that only check texts, and take little time.
 TEXT_CASES = ["flow", "parsing", "texts", "types"]
 
@@ -384,6 +386,86 @@ def are_promises_told():
     return told
 
 
+# Stand-ins for the program and for gcc where bench/pairs.py compiles and runs pairs. An image is the number of its instructions, the
+# last line of its run, and what it prints; a source file in C has one for each level, behind the level's name.
+PAIRS_PROGRAM = """#!/bin/sh
+case "$1" in
+compile) cp "$2" "$4";;
+run)
+    exec < "$2"
+    read -r count
+    read -r last
+    if [ "$4" -lt "$count" ]; then last='budget spent'; else cat; fi
+    echo "$last" >&2;;
+esac
+"""
+PAIRS_GCC = """#!/bin/sh
+for word; do case "$word" in *.c) source=$word;; *.elf) image=$word;; esac; done
+sed -n "s/^$1 //p" "$source" > "$image"
+"""
+
+# The programs here, with -O0 and with -O1, of pairs that are equal, and of others. Each line of an image ends at a `|`.
+EQUAL_PAIRS = {
+    "one": ("9|returned 7|a|b|", "3|returned 7|a|b|", "1|returned 7|a|b|"),
+    "two": ("1001|returned 0|c|", "3003|returned 0|c|", "1001|returned 0|c|"),
+}
+UNEQUAL_PAIRS = {
+    "less_with_o1": ("8|returned 7|a|b|", "4|returned 7|a|b|", "2|returned 7|a|"),
+    "other_byte_here": ("8|returned 7|b|", "4|returned 7|a|", "2|returned 7|a|"),
+    "other_value_with_o0": ("8|returned 7|a|", "4|returned 8|a|", "2|returned 7|a|"),
+    "no_output_here": ("8|returned 7|", "4|returned 7|a|", "2|returned 7|a|"),
+    "uncaught_here": ("8|uncaught 1 0|a|", "4|returned 7|a|", "2|returned 7|a|"),
+    "traps": ("8|trap break|a|", "4|trap break|a|", "2|trap break|a|"),
+    "has_no_end": ("2000000000|returned 7|", "2000000000|returned 7|", "2000000000|returned 7|"),
+}
+
+# 9 / 3 is 3 and 1,001 / 3,003 a third, so their geometric mean is 1; that of 9 / 1 and 1,001 / 1,001 is the root of 9.
+PAIRS_TABLE = """\
+instructions that equal programs execute, compiled here and by gcc
+| Program | `cyclone compile` | `gcc -O0` | `gcc -O1` | To `-O0` | To `-O1` |
+|---|---|---|---|---|---|
+| `one` | 9 | 3 | 1 | 3.00 | 9.00 |
+| `two` | 1,001 | 3,003 | 1,001 | 0.33 | 1.00 |
+| geometric mean | | | | 1.000 | 3.000 |
+"""
+
+
+def write_pair(folder, name, images):
+    """Writes the two source files of a pair."""
+    here, *in_c = [image.replace("|", "\n") for image in images]
+    with open(os.path.join(folder, name + ".cyc"), "w", encoding="ascii") as file:
+        file.write(here)
+    with open(os.path.join(folder, name + ".c"), "w", encoding="ascii") as file:
+        for level, image in zip(("-O0", "-O1"), in_c):
+            file.writelines(f"{level} {line}" for line in image.splitlines(keepends=True))
+
+
+def are_pairs_right(folder):
+    """Whether pairs of equal programs have their figures, and others have none and fail."""
+    pairs = os.path.join(folder, "pairs")
+    os.mkdir(pairs)
+    words = [sys.executable, os.path.join(BENCH, "pairs.py"), "--pairs", pairs]
+    for option, script in (("program", PAIRS_PROGRAM), ("gcc", PAIRS_GCC)):
+        path = os.path.join(folder, option)
+        with open(path, "w", encoding="ascii") as file:
+            file.write(script)
+        os.chmod(path, 0o755)
+        words += ["--" + option, path]
+    for name, images in (EQUAL_PAIRS | UNEQUAL_PAIRS).items():
+        write_pair(pairs, name, images)
+    with open(os.path.join(pairs, "not_in_c.cyc"), "w", encoding="ascii") as file:
+        file.write("1\nreturned 0\n")
+    right = True
+    for names, faults in (list(EQUAL_PAIRS), []), ([], sorted([*UNEQUAL_PAIRS, "not_in_c"])):
+        done = subprocess.run(words + names, capture_output=True, text=True)
+        wanted = (PAIRS_TABLE, faults, 1 if faults else 0)
+        got = (done.stdout, [line.split(":")[0] for line in done.stderr.splitlines()], done.returncode)
+        if got != wanted:
+            print(suite.difference("figures of pairs", wanted, got))
+            right = False
+    return right
+
+
 def is_runner_right(folder):
     program = os.path.join(folder, "stand_in")
     with open(program, "w", encoding="utf-8") as file:
@@ -442,6 +524,7 @@ def main():
             texts = json.load(file)
     with tempfile.TemporaryDirectory() as folder:
         right = [is_runner_right(folder), is_table_right(), are_rounds_right(folder), is_judge_right(), are_promises_told()]
+        right.append(are_pairs_right(folder))
     right += reference.with_room(lambda: [is_case_right(case) for case in cases] + [is_text_right(case) for case in texts])
     right += reference.with_room(lambda: [is_program_right(*one) for name in ("accepted", "refused") for one in in_trees.programs_in(name)])
     suite.end(right.count(True), right.count(False))

@@ -2,12 +2,12 @@
 ghost use Rattle.std.specs.Prelude.{◌≡◌, ◌≤◌, Some, IfOk, IfSome, codes};
 ghost use Rattle.std.specs.Str.Parse.{digits_value};
 ghost use Rattle.clap.specs.Words.{first_value, found_of};
-ghost use Rattle.cyc_terminal.specs.Request.{IsNumberOf, IsRunRequest, IsWithinBudget};
+ghost use Rattle.cyc_terminal.specs.Request.{AreLimitsOf, IsCompileRequest, IsNumberIfGiven, IsNumberOf, IsRunRequest, IsWithinBudget};
 
+use crate::limits::GivenLimits;
 use crate::number;
 use clap::error::ErrorKind;
 use clap::{Arg, ArgAction, ArgMatches, Command, Error};
-use cyc_machine::Limits;
 use cyc_machine::constants::{MAX_CALLS, MAX_PAGES, MIN_CALLS, MIN_PAGES};
 use std::alloc::{AllocError, Global};
 
@@ -18,15 +18,16 @@ pub enum Request<'a> {
     Check {
         source: &'a str,
     },
-    /// `compile SOURCE -o IMAGE`: to compile the program in the file `source` to the file `image`.
+    /// `compile SOURCE -o IMAGE`: to compile the program in the file `source` to the file `image`, which carries the limits.
     Compile {
         source: &'a str,
         image: &'a str,
+        limits: GivenLimits,
     },
-    /// `run IMAGE`: to run an image with these limits, for at most `budget` instructions.
+    /// `run IMAGE`: to run an image with these limits, else its own, for at most `budget` instructions.
     Run {
         image: &'a str,
-        limits: Limits,
+        limits: GivenLimits,
         budget: u64,
     },
     /// `disasm IMAGE`: to list the instructions of an image.
@@ -56,16 +57,21 @@ const CHECK_HELP: &str = "Example:
 
 A message says what is wrong first in the source file, and where.";
 
-const COMPILE_HELP: &str = "Example:
+const COMPILE_HELP: &str = "Examples:
   cyclone compile hello.cyc -o hello.elf
+  cyclone compile hello.cyc -o hello.elf --pages 16 --calls 64
 
-Where the program is refused, no file is written: a message says what is wrong, and where.";
+Where the program is refused, no file is written: a message says what is wrong, and where.
+With --pages or --calls the image carries both limits, and each run without these options
+has them.";
 
 const RUN_HELP: &str = "Example:
   echo hello | cyclone run echo.elf --calls 64 --steps 5000000
 
 The program's input is the standard input, and its output the standard output. The exit
-status is the low 8 bits of what it returned.";
+status is the low 8 bits of what it returned. Each of the limits of pages and calls is that
+of its option; where that is left out, the one that the image carries; where it carries none,
+1024 pages and 4096 calls.";
 
 const DISASM_HELP: &str = "Example:
   cyclone disasm hello.elf
@@ -81,6 +87,8 @@ enum Form {
     Output,
     /// A number behind the option's name, or this one.
     Number(&'static str),
+    /// A number behind the option's name, where it is there.
+    Limit,
 }
 
 /// A file or an option of a command.
@@ -125,15 +133,29 @@ const IMAGE: Word = Word {
 const PAGES: Word = Word {
     id: "pages",
     shown: "N",
-    form: Form::Number("1024"),
-    help: "Memory for regions, in pages of 4096 bytes, from 3 to 65536",
+    form: Form::Limit,
+    help: "Memory for regions, in pages of 4096 bytes, from 3 to 65536 [default: the image's, or 1024]",
 };
 
 const CALLS: Word = Word {
     id: "calls",
     shown: "N",
-    form: Form::Number("4096"),
-    help: "Nested calls, from 1 to 4096",
+    form: Form::Limit,
+    help: "Nested calls, from 1 to 4096 [default: the image's, or 4096]",
+};
+
+const CARRIED_PAGES: Word = Word {
+    id: "pages",
+    shown: "N",
+    form: Form::Limit,
+    help: "The pages of the image's runs, from 3 to 65536 [default: 1024, if --calls is given]",
+};
+
+const CARRIED_CALLS: Word = Word {
+    id: "calls",
+    shown: "N",
+    form: Form::Limit,
+    help: "The calls of the image's runs, from 1 to 4096 [default: 4096, if --pages is given]",
 };
 
 const STEPS: Word = Word {
@@ -154,7 +176,7 @@ const COMMANDS: &[Plan] = &[
         name: "compile",
         about: "Compiles a program to an image",
         after_help: COMPILE_HELP,
-        words: &[SOURCE, OUTPUT],
+        words: &[SOURCE, OUTPUT, CARRIED_PAGES, CARRIED_CALLS],
     },
     Plan {
         name: "run",
@@ -179,6 +201,7 @@ fn argument<'a>(alloc: Global, word: &Word) -> Arg<'a> {
         Form::File => argument.required(true),
         Form::Output => argument.short('o').required(true),
         Form::Number(default) => argument.long(word.id).default_value(default),
+        Form::Limit => argument.long(word.id),
     }
 }
 
@@ -204,6 +227,29 @@ fn program<'a>(alloc: Global) -> Result<Command<'a>, AllocError> {
     Ok(program)
 }
 
+/// The number that the text of an option writes.
+fn number_in<'a>(
+    alloc: Global,
+    program: &mut Command<'a>,
+    option: &str,
+    text: &str,
+    low: u64,
+    high: u64,
+) -> Result<u64, Error>
+    ensures range { IfOk result (λ n. (low ≤ n) × (n ≤ high)) }
+    ensures value { IfOk result (λ n. n ≡ digits_value 10 text.now) }
+{
+    match number::within(text, low, high) {
+        Some(number) => Ok(number),
+        None => {
+            let message = format!(in alloc;
+                "--{option} takes a number from {low} to {high}, not {text:?}"
+            )?;
+            Err(program.error(ErrorKind::ValueValidation, message.as_str())?)
+        }
+    }
+}
+
 /// The number given for an option, or by its default.
 fn number_of<'a>(
     alloc: Global,
@@ -218,14 +264,34 @@ fn number_of<'a>(
         (λ text. n ≡ digits_value 10 text)) }
 {
     let text = matches.get_str(option).unwrap_or("");
-    match number::within(text, low, high) {
-        Some(number) => Ok(number),
-        None => {
-            let message = format!(in alloc;
-                "--{option} takes a number from {low} to {high}, not {text:?}"
+    number_in(alloc, program, option, text, low, high)
+}
+
+/// The number given for an option, where it is given.
+fn number_if_given<'a>(
+    alloc: Global,
+    program: &mut Command<'a>,
+    matches: &ArgMatches<'a>,
+    option: &str,
+    low: u32,
+    high: u32,
+) -> Result<Option<u32>, Error>
+    ensures range { IfOk result (λ given. IfSome given (λ n. (low ≤ n) × (n ≤ high))) }
+    ensures value { IfOk result (λ given. IsNumberIfGiven (first_value (found_of matches.now) option.now) given) }
+{
+    match matches.get_str(option) {
+        Some(text) => {
+            let number = number_in(
+                alloc,
+                program,
+                option,
+                text,
+                u64::from(low),
+                u64::from(high),
             )?;
-            Err(program.error(ErrorKind::ValueValidation, message.as_str())?)
+            Ok(Some(number as u32))
         }
+        None => Ok(None),
     }
 }
 
@@ -243,22 +309,34 @@ fn file_of<'a>(
     }
 }
 
-/// The limits of a run.
+/// The limits that the words give.
 fn limits_of<'a>(
     alloc: Global,
     program: &mut Command<'a>,
     matches: &ArgMatches<'a>,
-) -> Result<Limits, Error>
-    ensures pages { IfOk result
-        (λ limits. IsNumberOf (first_value (found_of matches.now)) (codes "pages") limits.pages) }
-    ensures calls { IfOk result
-        (λ limits. IsNumberOf (first_value (found_of matches.now)) (codes "calls") limits.calls) }
+) -> Result<GivenLimits, Error>
+    ensures { IfOk result (λ limits. AreLimitsOf (first_value (found_of matches.now)) limits) }
 {
-    let (least, most) = (u64::from(MIN_PAGES), u64::from(MAX_PAGES));
-    let pages = number_of(alloc, program, matches, "pages", least, most)?;
-    let (least, most) = (u64::from(MIN_CALLS), u64::from(MAX_CALLS));
-    let calls = number_of(alloc, program, matches, "calls", least, most)?;
-    Ok(Limits::new(pages as u32, calls as u32).unwrap())
+    let pages = number_if_given(alloc, program, matches, "pages", MIN_PAGES, MAX_PAGES)?;
+    let calls = number_if_given(alloc, program, matches, "calls", MIN_CALLS, MAX_CALLS)?;
+    Ok(GivenLimits { pages, calls })
+}
+
+fn compile_request<'a>(
+    alloc: Global,
+    program: &mut Command<'a>,
+    matches: &ArgMatches<'a>,
+) -> Result<Request<'a>, Error>
+    ensures { IfOk result (IsCompileRequest (first_value (found_of matches.now))) }
+{
+    let source = file_of(program, matches, "source")?;
+    let image = file_of(program, matches, "image")?;
+    let limits = limits_of(alloc, program, matches)?;
+    Ok(Request::Compile {
+        source,
+        image,
+        limits,
+    })
 }
 
 /// For how many instructions a run may go on.
@@ -303,11 +381,7 @@ pub fn read_request<'a>(alloc: Global, words: &'a [String]) -> Result<Request<'a
             let source = file_of(&mut program, matches, "source")?;
             Ok(Request::Check { source })
         }
-        Some(("compile", matches)) => {
-            let source = file_of(&mut program, matches, "source")?;
-            let image = file_of(&mut program, matches, "image")?;
-            Ok(Request::Compile { source, image })
-        }
+        Some(("compile", matches)) => compile_request(alloc, &mut program, matches),
         Some(("run", matches)) => run_request(alloc, &mut program, matches),
         Some(("disasm", matches)) => {
             let image = file_of(&mut program, matches, "image")?;

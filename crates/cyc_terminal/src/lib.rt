@@ -6,9 +6,11 @@ pub use advice::{exception, hint, image_fault, meaning};
 pub use arguments::{Request, read_request};
 pub use console::{Keyboard, Screen};
 pub use excerpt::{Excerpt, Shown, excerpt_at};
+pub use limits::GivenLimits;
 
 mod advice;
 mod arguments;
 mod console;
 mod excerpt;
+mod limits;
 mod number;

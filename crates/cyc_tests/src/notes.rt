@@ -1,7 +1,7 @@
 //! Images that carry limits, with the answers worked out by hand.
 
 use crate::rows::{bytes_of_words, decimal, expect, expect_text};
-use cyc_elf::{Image, Segment, read_image, write_image};
+use cyc_elf::{Image, Segment, read_image};
 use cyc_machine::Limits;
 use cyc_system::{compile, compile_with, note_of, run};
 use cyc_words::{Reader, Writer};
@@ -101,21 +101,19 @@ fn limited(alloc: Global) -> Option<Image> {
     })
 }
 
-/// The file that is written of the image, and the image that is read of the file.
-fn expect_same<A: Abort>(rt: &A, alloc: Global) -> Option<()> {
+/// The image that is read of the file.
+fn expect_read<A: Abort>(rt: &A, alloc: Global) -> Option<()> {
     let file = bytes_of_words(alloc, LIMITED)?;
     let image = limited(alloc)?;
-    let written = write_image(alloc, &image).ok()?;
-    expect(rt, written == file, "an image that is written");
     let read = read_image(alloc, &file).ok()?;
     expect(rt, read == image, "an image that is read");
     Some(())
 }
 
 #[test]
-fn notes_are_written_last(rt: HostRuntime) {
-    let made = expect_same(&rt, rt.alloc());
-    expect(&rt, made.is_some(), "an image with limits");
+fn limited_image_is_read(rt: HostRuntime) {
+    let read = expect_read(&rt, rt.alloc());
+    expect(&rt, read.is_some(), "an image with limits");
 }
 
 /// How a run of an image ends.
@@ -138,6 +136,11 @@ fn expect_runs<A: Abort>(rt: &A, alloc: Global) -> Option<()> {
     let without = compile(alloc, text.as_bytes()).ok()?;
     expect(rt, note_of(alloc, &without) == Ok(None), "compiled");
     expect(rt, with.len() == without.len() + 60, "compiled");
+    let note = bytes_of_words(
+        alloc,
+        "00000008 00000008 00000001 4379636c 6f6e6500 00000003 00000001",
+    )?;
+    expect(rt, with.ends_with(&note), "a note stands last");
     expect(
         rt,
         told(alloc, &with)? == told(alloc, &without)?,

@@ -3,6 +3,8 @@ use Rattle.std.specs.Prelude.{◌≡◌, ◌⊎◌, ℕ, true, List, Option, Res
 use Rattle.cyc_words.specs.declared.fault.Fault.{Fault}
 use Rattle.cyc_words.specs.Fault.{memory_fault}
 use Rattle.cyc_types.specs.TypedTrees.{Program}
+use Rattle.cyc_elf.specs.declared.fault.ElfFault.{ElfFault}
+use Rattle.cyc_elf.specs.Image.{ImageContents}
 use Rattle.cyc_elf.specs.Reading.{reading}
 use Rattle.cyc_machine.specs.Bounds.{Bounds}
 use Rattle.cyc_system.specs.Engine.{AnswersAnew, Devices}
@@ -10,9 +12,11 @@ use Rattle.cyc_system.specs.Front.{IsAcceptedText, IsRefusedText}
 use Rattle.cyc_system.specs.Listing.{Shows}
 use Rattle.cyc_system.specs.declared.report.Report.{Report}
 use Rattle.cyc_system.specs.declared.report.RunFault.{RunFault}
+use Rattle.cyc_system.specs.declared.report.RunFault.TheVariants.{Elf}
+use Rattle.cyc_terminal.specs.Limits.{Given, limits_by}
 use Rattle.cyclone.specs.Answer.{answer_of_stop, answer_of_run_fault}
 use Rattle.cyclone.specs.declared.answer.Answer.{Answer}
-use Rattle.cyclone.specs.declared.answer.Answer.TheVariants.{Done}
+use Rattle.cyclone.specs.declared.answer.Answer.TheVariants.{Done, NoMemory}
 
 -- THE ANSWER TO A CHECK: the text is accepted; or its fault is that of the first phase that refuses it, unless memory ran out
 abbrev pub AnswersCheck : List ℕ → Result (Unit {0}) Fault → Type 0
@@ -26,6 +30,14 @@ answer_of_run (Err fault) = answer_of_run_fault fault
 abbrev pub answer_of_listing : Result (Unit {0}) RunFault → Answer
 answer_of_listing (Ok done) = Done
 answer_of_listing (Err fault) = answer_of_run_fault fault
+
+-- The limits of a run of the image: each is the one that was given, else the one that the image carries, else the default.
+abbrev pub AreLimitsFor : List ℕ → Given → Bounds → Type 0
+AreLimitsFor image given limits = (read : ImageContents) × (reading image ≡ Ok read) × (limits ≡ limits_by given read.note)
+
+-- the answer to bytes that are no image, unless memory ran out
+abbrev pub AnswersNoImage : List ℕ → Answer → Type 0
+AnswersNoImage image answer = (answer ≡ NoMemory) ⊎ ((fault : ElfFault) × (reading image ≡ Err fault) × (answer ≡ answer_of_run_fault (Elf fault)))
 
 -- the image was run between the devices, and the answer is for what came of it
 pub record AnswersRun (image : List ℕ) (limits : Bounds) (budget : ℕ) (old new : Devices) (answer : Answer) : Type 0 where

@@ -7,11 +7,10 @@ use crate::files::{read_image, read_text, write_image};
 use crate::flow_cause::cause_of;
 use crate::message::Message;
 use crate::refusal::words_for;
-use crate::work::{check, list_image, run_image};
+use crate::work::{check, limits_of_run, list_image, run_image};
 use clap::error::ErrorKind;
-use cyc_machine::Limits;
-use cyc_system::compile;
-use cyc_terminal::{Keyboard, Request, Screen, Shown, read_request};
+use cyc_system::compile_with;
+use cyc_terminal::{GivenLimits, Keyboard, Request, Screen, Shown, read_request};
 use cyc_words::Fault;
 use std::cell::RefCell;
 use std::env::{Env, FillError};
@@ -50,10 +49,15 @@ fn check_file(rt: &HostRuntime, source: &str) -> Result<Answer, Answer> {
 }
 
 /// `compile SOURCE -o IMAGE`. The image's file is opened only where there is an image to write.
-fn compile_file(rt: &HostRuntime, source: &str, image: &str) -> Result<Answer, Answer> {
+fn compile_file(
+    rt: &HostRuntime,
+    source: &str,
+    image: &str,
+    limits: GivenLimits,
+) -> Result<Answer, Answer> {
     let text = read_text(rt, source)?;
     let text = text.as_slice();
-    match compile(rt.alloc(), text) {
+    match compile_with(rt.alloc(), text, limits.carried()) {
         Ok(bytes) => Ok(write_image(rt, image, bytes.as_slice())),
         Err(fault) => Err(report_refusal(rt, source, text, fault)),
     }
@@ -68,8 +72,14 @@ fn make_buffer(rt: &HostRuntime) -> Result<Buffer, Answer> {
 }
 
 /// `run IMAGE`, on the standard input.
-fn run_file(rt: &HostRuntime, image: &str, limits: Limits, budget: u64) -> Result<Answer, Answer> {
+fn run_file(
+    rt: &HostRuntime,
+    image: &str,
+    limits: GivenLimits,
+    budget: u64,
+) -> Result<Answer, Answer> {
     let image = read_image(rt, image)?;
+    let limits = limits_of_run(rt.alloc(), image.as_slice(), limits)?;
     let buffer = make_buffer(rt)?;
     let keyboard = Keyboard {
         input: rt.stdin(),
@@ -114,7 +124,11 @@ fn list_file(rt: &HostRuntime, image: &str) -> Result<Answer, Answer> {
 fn carry_out(rt: &HostRuntime, request: Request<'_>) -> Answer {
     let result = match request {
         Request::Check { source } => check_file(rt, source),
-        Request::Compile { source, image } => compile_file(rt, source, image),
+        Request::Compile {
+            source,
+            image,
+            limits,
+        } => compile_file(rt, source, image, limits),
         Request::Run {
             image,
             limits,

@@ -1,13 +1,14 @@
 //! The works of the program, over bytes, a reader and a writer.
-ghost use Rattle.std.specs.Prelude.{◌≡◌, ◌⊎◌, IfOk, IfSome, MatchResult, take};
+ghost use Rattle.std.specs.Prelude.{◌≡◌, ◌⊎◌, IfOk, IfErr, IfSome, MatchResult, take};
 ghost use Rattle.std.specs.Io.KnownBytes.{Keeps};
 ghost use Rattle.cyc_words.specs.Fault.{memory_fault};
 ghost use Rattle.cyc_system.specs.Front.{HasFault};
-ghost use Rattle.cyclone.specs.Work.{AnswersCheck, AnswersListing, AnswersRun};
+ghost use Rattle.cyclone.specs.Work.{AnswersCheck, AnswersListing, AnswersNoImage, AnswersRun, AreLimitsFor};
 
 use crate::answer::Answer;
 use cyc_machine::Limits;
-use cyc_system::{disassemble, run, run_phases};
+use cyc_system::{RunFault, disassemble, note_of, run, run_phases};
+use cyc_terminal::GivenLimits;
 use cyc_words::{ByteIn, ByteOut, Fault, Reader, Writer};
 use std::alloc::Global;
 use std::io;
@@ -43,6 +44,18 @@ fn flush_for<W: Write>(output: &mut W, answer: Answer) -> Answer
     match output.flush() {
         Ok(()) => answer,
         Err(_) => Answer::WriteFault,
+    }
+}
+
+/// The limits of a run of an image: each is the one that was given, else the one that the image carries, else the default. The answer
+/// to bytes that are no image is that of a run.
+pub fn limits_of_run(alloc: Global, image: &[u8], given: GivenLimits) -> Result<Limits, Answer>
+    ensures limits { IfOk result (λ limits. AreLimitsFor image.now given limits) }
+    ensures answer { IfErr result (AnswersNoImage image.now) }
+{
+    match note_of(alloc, image) {
+        Ok(note) => Ok(given.of_run(note)),
+        Err(fault) => Err(Answer::from(RunFault::from(fault))),
     }
 }
 

@@ -1,0 +1,148 @@
+#!/usr/bin/env python3
+"""How good the code is: instructions that equal programs execute, in this language and in C. Not a test, but it fails where a
+program does not print what the other one of its pair prints.
+
+    make bench        or        python3 bench/pairs.py [NAME ..]
+
+Each pair of bench/pairs/ is NAME.cyc and NAME.c, with the input NAME.in if they read one. `cyclone compile` makes an image of the
+one, and mips-linux-gnu-gcc two of the other, without optimisation (-O0) and with its first level (-O1), for the same machine: its
+services are in start.s, and machine.h declares them. All three have to print the same and to return the same. The machine counts:
+the least budget with which a run ends is the number of its instructions.
+"""
+import argparse
+import concurrent.futures
+import math
+import os
+import shutil
+import subprocess
+import sys
+import tempfile
+
+HERE = os.path.dirname(os.path.abspath(__file__))
+PROGRAM = os.path.join(HERE, "..", "crates", "cyclone", "out", "cyclone")
+PAIRS = os.path.join(HERE, "pairs")
+GCC = "mips-linux-gnu-gcc"
+LEVELS = ("-O0", "-O1")
+# Only instructions that the machine has: no traps on division by 0, no branch that skips its slot, no other registers than the table's.
+FLAGS = "-w -fwrapv -mips2 -mabi=32 -msoft-float -mno-abicalls -fno-pic -G0 -mno-check-zero-division -mno-branch-likely".split()
+FLAGS += "-ffreestanding -fno-builtin -nostdlib -static -Wl,--build-id=none".split()
+LINKED = [os.path.join(PAIRS, "start.s"), "-Wl,-T," + os.path.join(PAIRS, "layout.ld"), "-I", PAIRS]
+MOST = 1_000_000_000
+SHOWN = 40
+
+
+class Fault(Exception):
+    """Why there are no figures of a pair."""
+
+
+def compiled(words):
+    """Runs a compiler, which must not refuse its text."""
+    done = subprocess.run(words, capture_output=True, text=True, errors="replace")
+    if done.returncode != 0:
+        raise Fault(f"{os.path.basename(words[0])} refuses it: {done.stderr.strip()}")
+
+
+def run(program, image, given, steps):
+    """What an image prints within a budget of instructions, and its last line."""
+    done = subprocess.run([program, "run", image, "--steps", str(steps)], input=given, capture_output=True)
+    return done.stdout, done.stderr.decode("latin-1").rstrip("\n").split("\n")[-1]
+
+
+def count_of(program, image, given):
+    """The instructions of a run: the least budget with which it ends."""
+
+    def ends_within(steps):
+        return run(program, image, given, steps)[1] != "budget spent"
+
+    enough = 1
+    while not ends_within(enough):
+        enough *= 2
+    too_few = enough // 2
+    while enough - too_few > 1:
+        middle = (enough + too_few) // 2
+        if ends_within(middle):
+            enough = middle
+        else:
+            too_few = middle
+    return enough
+
+
+def difference(in_c, here):
+    """Where a run in C and one here are not the same."""
+    at = len(os.path.commonprefix([in_c[0], here[0]]))
+    texts = [f"{output[at:at + SHOWN]!r} and ends with `{last}`" for output, last in (in_c, here)]
+    return f"it prints, behind {at} bytes, {texts[0]}, and here {texts[1]}"
+
+
+def counts_of(name, options):
+    """The instructions of a pair: those of the program in this language, and those of the one in C, level by level."""
+    source, given = os.path.join(options.pairs, name), b""
+    if os.path.exists(source + ".in"):
+        with open(source + ".in", "rb") as file:
+            given = file.read()
+    with tempfile.TemporaryDirectory() as folder:
+        images = [os.path.join(folder, which + ".elf") for which in ("ours",) + LEVELS]
+        compiled([options.program, "compile", source + ".cyc", "-o", images[0]])
+        for level, image in zip(LEVELS, images[1:]):
+            compiled([options.gcc, level] + FLAGS + [source + ".c", "-o", image] + LINKED)
+        ends = [run(options.program, image, given, MOST) for image in images]
+        for level, end in zip(LEVELS, ends[1:]):
+            if not end[1].startswith("returned "):
+                raise Fault(f"with {level} it ends with: {end[1]}")
+            if end != ends[0]:
+                raise Fault(f"with {level} {difference(end, ends[0])}")
+        return [count_of(options.program, image, given) for image in images]
+
+
+def mean(ratios):
+    """The geometric mean: twice as many in one program and half as many in another are as many."""
+    return math.exp(sum(math.log(ratio) for ratio in ratios) / len(ratios))
+
+
+def table(counts):
+    """The lines of the table, for the counts by name."""
+    ratios = {name: [ours / theirs for theirs in others] for name, (ours, *others) in counts.items()}
+    means = [mean(column) for column in zip(*ratios.values())]
+    yield "| Program | `cyclone compile` | `gcc -O0` | `gcc -O1` | To `-O0` | To `-O1` |"
+    yield "|---|---|---|---|---|---|"
+    for name in counts:
+        numbers = [f"{count:,}" for count in counts[name]] + [f"{ratio:.2f}" for ratio in ratios[name]]
+        yield f"| `{name}` | {' | '.join(numbers)} |"
+    yield f"| geometric mean | | | | {' | '.join(f'{one:.3f}' for one in means)} |"
+
+
+def read_options():
+    reader = argparse.ArgumentParser(description="Counts the instructions of equal programs in this language and in C.")
+    reader.add_argument("names", nargs="*", metavar="NAME", help="a pair; all where none is named")
+    reader.add_argument("--program", default=PROGRAM, help="the compiler and the machine")
+    reader.add_argument("--gcc", default=GCC, help="the compiler of C")
+    reader.add_argument("--pairs", default=PAIRS, help="the folder of the pairs")
+    return reader.parse_args()
+
+
+def main():
+    options = read_options()
+    if not os.access(options.program, os.X_OK):
+        sys.exit(f"there is no program {options.program}: `make build` proves and builds it")
+    if not shutil.which(options.gcc):
+        print(f"{options.gcc} is not here (Debian's gcc-mips-linux-gnu has it)")
+        return
+    names = options.names or sorted(file[:-4] for file in os.listdir(options.pairs) if file.endswith(".cyc"))
+    counts, faults = {}, []
+    # The counts are exact, however many runs go on side by side.
+    with concurrent.futures.ThreadPoolExecutor(os.cpu_count()) as threads:
+        found = {name: threads.submit(counts_of, name, options) for name in names}
+        for name, future in found.items():
+            try:
+                counts[name] = future.result()
+            except Fault as fault:
+                faults.append(f"{name}: {fault}")
+    print("instructions that equal programs execute, compiled here and by gcc")
+    if counts:
+        print("\n".join(table(counts)))
+    if faults:
+        sys.exit("\n".join(faults))
+
+
+if __name__ == "__main__":
+    main()

@@ -1,0 +1,60 @@
+//! The limits that a command line gives, and what becomes of them.
+
+ghost use Rattle.std.specs.Prelude.{◌≡◌, IfSome};
+ghost use Rattle.cyc_machine.specs.Bounds.{AreAllowed};
+ghost use Rattle.cyc_terminal.specs.Limits.{carried_by, limits_by};
+
+use cyc_machine::Limits;
+use std::marker::Model;
+
+/// The pages of a run whose limits nobody names.
+pub const DEFAULT_PAGES: u32 = 1024;
+
+/// The calls of a run whose limits nobody names.
+pub const DEFAULT_CALLS: u32 = 4096;
+
+/// Pages and calls as a command line gives them: each in its range, or left out.
+#[derive(Clone, Copy)]
+pub struct GivenLimits {
+    pub(crate) pages: Option<u32>,
+    pub(crate) calls: Option<u32>,
+}
+
+// Clauses see both.
+impl Model for GivenLimits {
+    ghost use Rattle.cyc_terminal.specs.Limits.{Given, AreInRange};
+
+    ghost Value = { Given };
+
+    ghost view = { λ g. record { pages = g.pages; calls = g.calls } };
+
+    ghost invariant = { λ g. AreInRange g.pages g.calls };
+
+    ghost inverse = { λ g. record { pages = g.pages; calls = g.calls } };
+}
+
+impl GivenLimits {
+    /// What an image carries that is compiled with these: both limits, the one that is left out by its default; none where neither is
+    /// given.
+    pub fn carried(self) -> Option<(u32, u32)>
+        ensures value { result ≡ carried_by self.pages self.calls }
+        ensures allowed { IfSome result (λ limits. AreAllowed limits.0 limits.1) }
+    {
+        if self.pages.is_none() && self.calls.is_none() {
+            return None;
+        }
+        let pages = self.pages.unwrap_or(DEFAULT_PAGES);
+        Some((pages, self.calls.unwrap_or(DEFAULT_CALLS)))
+    }
+
+    /// The limits of a run of an image that carries `note`: each is the one that is given here, else the image's, else the default.
+    pub fn of_run(self, note: Option<(u32, u32)>) -> Limits
+        requires { IfSome note (λ limits. AreAllowed limits.0 limits.1) }
+        ensures { result ≡ limits_by self note }
+    {
+        let (pages, calls) = note.unwrap_or((DEFAULT_PAGES, DEFAULT_CALLS));
+        let pages = self.pages.unwrap_or(pages);
+        let calls = self.calls.unwrap_or(calls);
+        Limits::new(pages, calls).unwrap()
+    }
+}
