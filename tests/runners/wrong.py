@@ -196,8 +196,9 @@ TYPE = re.compile(r"(?:pub(?:\(\w+\))? )?(?:struct|enum|union) (\w+)")
 CYCLE = re.compile(r" *#\[cycle\((\w+)\)\]")
 
 # A function with a body: its path in the crate, the folder of its proof in `proofs`, its file, the numbers of the body's first line and of
-# the one behind it, the words in it, and the number of the line that says which cycle of calls it is in, or None.
-Body = collections.namedtuple("Body", "function proof path first behind words cycle")
+# the one behind it, the words in it, the number of the line that says which cycle of calls it is in, or None, and whether the path is
+# sure: that of a method of a trait with parameters may have them in it.
+Body = collections.namedtuple("Body", "function proof path first behind words cycle is_sure")
 
 
 def opening(lines, head, indent):
@@ -237,12 +238,13 @@ def bodies_in(path, text, types):
     modules."""
     lines, found = text.split("\n"), []
     types = types | types_in(path, text)
-    owner, cycle = [], None
+    owner, is_sure, cycle = [], True, None
     for at, line in enumerate(lines):
         it = OWNER.match(without_parameters(line))
         if it:
             home = types.get(it["type"], steps_to(path))
             owner = [*home, it["trait"] or it["type"] + (it["of"] or "").split("::")[-1]]
+            is_sure = "> for " not in line
         cycle = at if CYCLE.match(line) else cycle
         head = HEAD.match(line)
         if not head:
@@ -253,7 +255,8 @@ def bodies_in(path, text, types):
         if opens is not None:
             closes = lines.index(head[1] + "}", opens)
             words = frozenset(re.findall(r"\w+", "\n".join(lines[opens + 1:closes])))
-            found.append(Body("::".join([*above, head[2]]), proof, path, opens + 1, closes, words, cycle))
+            function = "::".join([*above, head[2]])
+            found.append(Body(function, proof, path, opens + 1, closes, words, cycle, is_sure or not head[1]))
         cycle = None
     return found
 
@@ -280,9 +283,9 @@ class Bodies:
         return body._replace(proof=own) if there[1] or not there[0] and name in body.words else body
 
     def beside(self, functions):
-        """All functions but these and those of their cycles."""
+        """All functions but these and those of their cycles, where their paths are sure."""
         proofs = {it.proof for it in self.all if it.function in functions}
-        return [it for it in self.all if it.proof not in proofs]
+        return [it for it in self.all if it.is_sure and it.proof not in proofs]
 
     def turned_by(self, case):
         """The function that must be refused, where a case changes its body and maybe its proof, and nothing else; or None."""
