@@ -368,7 +368,7 @@ def case_on(path):
 def is_judge_right():
     """Whether what the prover says of wrong bodies and definitions is judged as it should be."""
     right = True
-    body = wrong.Body("a::f", "a/f", "mid/src/a.rt", 1, 2, frozenset())
+    body = wrong.Body("a::f", "a/f", "mid/src/a.rt", 1, 2, frozenset(), None, True)
     for path, turned, answers in (("src/a.rt", body, ANSWERS_TO_BODIES), ("../low/specs/Rules.antt", None, ANSWERS_TO_DEFINITIONS)):
         for status, said, wanted in answers:
             answer = wrong.Answer(status, "\n".join(said), "mid", "/crates")

@@ -18,6 +18,7 @@ Before the last line, `N passed, M failed`, stands what it took.
 """
 import argparse
 import collections
+import itertools
 import os
 import re
 import shutil
@@ -110,14 +111,21 @@ class Case:
         return {it.path.split(os.sep)[0] for it in self.edits}
 
 
-def texts_with(cases, crates):
-    """The texts of files in a folder of crates where cases are in their places, by the files' paths. What a case replaces stands there
-    once, and no two replace the same."""
+def texts_with(cases, crates, left_out=()):
+    """The texts of files in a folder of crates where cases are in their places, and the bodies of these functions are left out, by the
+    files' paths. What a case replaces stands there once, and no two replace the same."""
     texts, places = {}, collections.defaultdict(list)
+    for path in {it.path for it in [*left_out, *(edit for case in cases for edit in case.edits)]}:
+        with open(os.path.join(crates, path), encoding="utf-8") as file:
+            texts[path] = file.read()
+    for body in left_out:
+        lines = texts[body.path].splitlines(keepends=True)
+        starts = [0, *itertools.accumulate(map(len, lines))]
+        indent = re.match(" *", lines[body.behind])[0]
+        places[body.path].append((starts[body.first], starts[body.behind], f"{indent}    loop {{}}\n"))
+        if body.cycle is not None:
+            places[body.path].append((starts[body.cycle], starts[body.cycle + 1], ""))
     for edit in (edit for case in cases for edit in case.edits):
-        if edit.path not in texts:
-            with open(os.path.join(crates, edit.path), encoding="utf-8") as file:
-                texts[edit.path] = file.read()
         old = "\n".join(edit.old)
         if texts[edit.path].count(old) != 1:
             raise ValueError(f"{edit.path} has {texts[edit.path].count(old)} times: {old}")
@@ -188,8 +196,9 @@ TYPE = re.compile(r"(?:pub(?:\(\w+\))? )?(?:struct|enum|union) (\w+)")
 CYCLE = re.compile(r" *#\[cycle\((\w+)\)\]")
 
 # A function with a body: its path in the crate, the folder of its proof in `proofs`, its file, the numbers of the body's first line and of
-# the one behind it, and the words in it.
-Body = collections.namedtuple("Body", "function proof path first behind words")
+# the one behind it, the words in it, the number of the line that says which cycle of calls it is in, or None, and whether the path is
+# sure: that of a method of a trait with parameters may have them in it.
+Body = collections.namedtuple("Body", "function proof path first behind words cycle is_sure")
 
 
 def opening(lines, head, indent):
@@ -229,23 +238,25 @@ def bodies_in(path, text, types):
     modules."""
     lines, found = text.split("\n"), []
     types = types | types_in(path, text)
-    owner, cycle = [], None
+    owner, is_sure, cycle = [], True, None
     for at, line in enumerate(lines):
         it = OWNER.match(without_parameters(line))
         if it:
             home = types.get(it["type"], steps_to(path))
             owner = [*home, it["trait"] or it["type"] + (it["of"] or "").split("::")[-1]]
-        cycle = CYCLE.match(line) or cycle
+            is_sure = "> for " not in line
+        cycle = at if CYCLE.match(line) else cycle
         head = HEAD.match(line)
         if not head:
             continue
         above = owner if head[1] else steps_to(path)
-        proof = os.path.join(*above, f"+{cycle[1]}" if cycle else head[2])
+        proof = os.path.join(*above, head[2] if cycle is None else f"+{CYCLE.match(lines[cycle])[1]}")
         opens = opening(lines, at, head[1])
         if opens is not None:
             closes = lines.index(head[1] + "}", opens)
             words = frozenset(re.findall(r"\w+", "\n".join(lines[opens + 1:closes])))
-            found.append(Body("::".join([*above, head[2]]), proof, path, opens + 1, closes, words))
+            function = "::".join([*above, head[2]])
+            found.append(Body(function, proof, path, opens + 1, closes, words, cycle, is_sure or not head[1]))
         cycle = None
     return found
 
@@ -271,9 +282,10 @@ class Bodies:
         there = [os.path.isdir(os.path.join(self.crates, crate, "proofs", it)) for it in (body.proof, own)]
         return body._replace(proof=own) if there[1] or not there[0] and name in body.words else body
 
-    def proofs_beside(self, functions):
-        """The folders in `proofs` of all functions but these and those of their cycles."""
-        return {it.proof for it in self.all} - {it.proof for it in self.all if it.function in functions}
+    def beside(self, functions):
+        """All functions but these and those of their cycles, where their paths are sure."""
+        proofs = {it.proof for it in self.all if it.function in functions}
+        return [it for it in self.all if it.is_sure and it.proof not in proofs]
 
     def turned_by(self, case):
         """The function that must be refused, where a case changes its body and maybe its proof, and nothing else; or None."""
@@ -449,23 +461,26 @@ class Group:
         folders = [os.path.join(self.settings.crates, name, part) for name in self.written for part in PARTS]
         return sum(os.path.getsize(os.path.join(at, name)) for folder in folders for at, _, names in os.walk(folder) for name in names)
 
-    def fill(self, folder, texts):
-        """Makes a folder of crates that has those which are taken as they are written, with these texts in place of theirs. The proofs of
-        functions that no case names are left out: a proof rests on what the others promise, and `rt ci` has proved that."""
+    def fill(self, folder, cases):
+        """Makes a folder of crates that has those which are taken as they are written, with cases in their places. The bodies and the
+        proofs of functions that no case names are left out: a proof rests on what they promise, and `rt ci` has proved that."""
         for name in self.written:
             for part in PARTS:
                 there = os.path.join(self.settings.crates, name, part)
                 if os.path.isdir(there):
                     shutil.copytree(there, os.path.join(folder, name, part))
-        for proof in self.bodies.proofs_beside({it for case in self.cases for it in case.refused}):
-            there = os.path.join(folder, self.crate, "proofs", proof)
-            os.makedirs(there, exist_ok=True)
-            for name in ("Answers.antt", "Invariants.antt"):
+        left_out = self.bodies.beside({it for case in self.cases for it in case.refused})
+        for body in left_out:
+            there = os.path.join(folder, self.crate, "proofs", body.proof)
+            for name in ("Answers.antt", "Invariants.antt", "Proof.antt"):
                 if os.path.exists(os.path.join(there, name)):
                     os.remove(os.path.join(there, name))
+            # A function whose body is left out is in no cycle of calls. Where there is no file for a proof, the prover looks for one.
+            there = os.path.join(os.path.dirname(there), body.function.split("::")[-1])
+            os.makedirs(there, exist_ok=True)
             with open(os.path.join(there, "Proof.antt"), "w", encoding="utf-8") as file:
                 file.write("-- It is left out.\n")
-        for path, text in texts.items():
+        for path, text in texts_with(cases, self.settings.crates, left_out).items():
             with open(os.path.join(folder, path), "w", encoding="utf-8") as file:
                 file.write(text)
 
@@ -489,11 +504,11 @@ class Group:
         # Files of proofs are read where the whole crate is asked for.
         return words if any(map(is_file, functions)) else words + [word for it in functions for word in ("--only", it)]
 
-    def ask(self, texts, functions, kept):
-        """The prover's answer for these functions, with these texts in place, and the seconds of processors that it took. In a folder the
+    def ask(self, cases, functions, kept):
+        """The prover's answer for these functions, with cases in their places, and the seconds of processors that it took. In a folder the
         prover keeps what it proves."""
         with tempfile.TemporaryDirectory(dir=self.settings.room) as crates:
-            self.fill(crates, texts)
+            self.fill(crates, cases)
             how = {"stdin": subprocess.DEVNULL, "stdout": subprocess.PIPE, "stderr": subprocess.STDOUT, "text": True, "errors": "replace"}
             with subprocess.Popen(self.words(crates, kept, functions), cwd=os.path.join(crates, self.crate), **how) as process:
                 RUNNING.add(process)
@@ -507,21 +522,21 @@ class Group:
         """Proves the functions of all cases as they stand, and says of each that is not proved why; and the seconds that it took."""
         self.seed = tempfile.mkdtemp(dir=self.settings.room)
         functions = sorted({it for case in self.cases for it in case.refused})
-        answer, spent = self.ask({}, functions, self.seed)
+        answer, spent = self.ask([], functions, self.seed)
         fault = answer.fault(())
         said = {it: answer.of(self.crate, it)[0] for it in functions}
         return {it: fault or f"{it} as it stands: {said[it]}" for it in functions if fault or not answer.holds(self.crate, it)}, spent
 
     def attempt(self, together):
         """Tries cases together: what is wrong with each, or None; and the seconds that it took."""
-        try:
-            texts = texts_with([case for case, _ in together], self.settings.crates)
-        except (OSError, ValueError) as error:
-            return [str(error)] * len(together), 0.0
+        cases = [case for case, _ in together]
         with tempfile.TemporaryDirectory(dir=self.settings.room) as folder:
             kept = os.path.join(folder, "kept")
             linked(self.seed, kept)
-            answer, spent = self.ask(texts, sorted({it for case, _ in together for it in case.refused}), kept)
+            try:
+                answer, spent = self.ask(cases, sorted({it for case in cases for it in case.refused}), kept)
+            except (OSError, ValueError) as error:
+                return [str(error)] * len(together), 0.0
         return [judged(case, turned, answer, self.written) for case, turned in together], spent
 
 
