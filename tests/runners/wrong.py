@@ -113,8 +113,8 @@ class Case:
 
 def texts_with(cases, crates, left_out=()):
     """The texts of files in a folder of crates where cases are in their places, and the bodies of these functions are left out, by the
-    files' paths. What a case replaces stands there once, and no two replace the same."""
-    texts, places = {}, collections.defaultdict(list)
+    files' paths. What a case replaces stands there once, and no two replace the same. In a body that is left out they replace nothing."""
+    texts, outs, places = {}, collections.defaultdict(list), collections.defaultdict(list)
     for path in {it.path for it in [*left_out, *(edit for case in cases for edit in case.edits)]}:
         with open(os.path.join(crates, path), encoding="utf-8") as file:
             texts[path] = file.read()
@@ -122,18 +122,19 @@ def texts_with(cases, crates, left_out=()):
         lines = texts[body.path].splitlines(keepends=True)
         starts = [0, *itertools.accumulate(map(len, lines))]
         indent = re.match(" *", lines[body.behind])[0]
-        places[body.path].append((starts[body.first], starts[body.behind], f"{indent}    loop {{}}\n"))
+        outs[body.path].append((starts[body.first], starts[body.behind], f"{indent}    loop {{}}\n"))
         if body.cycle is not None:
-            places[body.path].append((starts[body.cycle], starts[body.cycle + 1], ""))
+            outs[body.path].append((starts[body.cycle], starts[body.cycle + 1], ""))
     for edit in (edit for case in cases for edit in case.edits):
         old = "\n".join(edit.old)
         if texts[edit.path].count(old) != 1:
             raise ValueError(f"{edit.path} has {texts[edit.path].count(old)} times: {old}")
         start = texts[edit.path].index(old)
-        places[edit.path].append((start, start + len(old), "\n".join(edit.new)))
-    for path, found in places.items():
+        if not any(first <= start and start + len(old) <= last for first, last, _ in outs[edit.path]):
+            places[edit.path].append((start, start + len(old), "\n".join(edit.new)))
+    for path in texts:
         last = len(texts[path])
-        for start, end, new in sorted(found, reverse=True):
+        for start, end, new in sorted([*outs[path], *places[path]], reverse=True):
             if end > last:
                 raise ValueError(f"two cases replace the same in {path}")
             texts[path], last = texts[path][:start] + new + texts[path][end:], start
