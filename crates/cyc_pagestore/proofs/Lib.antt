@@ -1,0 +1,3 @@
+pub mod Rows
+pub mod Reaching
+pub mod Backing
