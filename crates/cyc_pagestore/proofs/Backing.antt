@@ -221,7 +221,7 @@ module _ (b : Backing) (next : ℕ) (row : ℕ → Row) (first : ℕ) (order : L
     | inr (root, which) ↦ absurd (rest-no_root (b.role (b.owner p)) (ap b.role owner ∙ rest) root)
   ]
 
-  root-away : (r : ℕ) → IsRoot (b.role r) → r ≡ page → ⊥
+  pub root-away : (r : ℕ) → IsRoot (b.role r) → r ≡ page → ⊥
   root-away r root e = rest-no_root (b.role r) (ap b.role e ∙ rest) root
 
   linked-away : (new : Row) → IsChain (λ (p : ℕ). (with_at row page new p).next) first order

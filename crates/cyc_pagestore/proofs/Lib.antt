@@ -2,3 +2,4 @@ pub mod Rows
 pub mod Reaching
 pub mod Backing
 pub mod Closing
+pub mod Pooled

@@ -1,2 +1,2 @@
 use Rattle.cyc_pagestore.proofs.serial.reach.Goals as goal
-use Rattle.cyc_pagestore.proofs.Closing.{closed-backs}
+use Rattle.cyc_pagestore.proofs.Pooled.{freed-in}
