@@ -3,3 +3,4 @@ pub mod Reaching
 pub mod Backing
 pub mod Closing
 pub mod Pooled
+pub mod Calls
