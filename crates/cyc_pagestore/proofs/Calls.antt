@@ -2,7 +2,7 @@
 use Rattle.std.proofs.Common.{◌≡◌, ℕ, zero, suc, ◌+◌, ◌-◌, ◌*◌, ◌^◌, ◌<◌, ◌≤◌, Bool, true, false, List, [], ◌∷◌, ◌++◌, length, set, replicate, refl, sym, ap, subst, ◌∙◌, inl, inr, arith}
 use Rattle.std.specs.Prelude.{◌⊎◌, slice_index, slice_index_or}
 use Rattle.std.proofs.lemmas.List.{get_or_default}
-use Rattle.cyc_store.specs.Table.{row_at, given_rows, given_free}
+use Rattle.cyc_store.specs.Table.{row_at, marked_between}
 use Rattle.cyc_store.specs.declared.row.Role.{Role}
 use Rattle.cyc_store.specs.declared.row.Role.TheVariants.{Rest, Slots}
 use Rattle.cyc_store.specs.declared.row.TheConstants.{NONE}
@@ -12,7 +12,7 @@ use Rattle.cyc_pagestore.specs.declared.step.Step.TheVariants.{Taken, Began, Add
 use Rattle.cyc_pagestore.specs.declared.table.Spot.{Spot}
 use Rattle.cyc_pagestore.specs.Links.{Links, removed, relinked, head_or_none, after}
 use Rattle.cyc_pagestore.specs.Live.{Readies}
-use Rattle.cyc_pagestore.specs.Table.{TableState, row_of, IsFull, IsRoot, Takes, Opens, Adds, Cuts, Fills, Closes, no_spot, spot_at, IsBacked}
+use Rattle.cyc_pagestore.specs.Table.{TableState, row_of, IsFull, IsRoot, Takes, Opens, Adds, Cuts, Fills, Closes, Marks, no_spot, spot_at, IsBacked}
 use Rattle.cyc_pagestore.proofs.Backing.{within}
 use Rattle.cyc_pagestore.proofs.Pooled.{none-first, page-inside, taken-backed, taken-not_free, taken-alone, taken-rest, ready-backed, begun-backed, cut-backed, added-backed, root-apart, newest-there, root-head, filled-backed, closed-backed}
 
@@ -149,6 +149,30 @@ module _ (p : PoolState) (pages : ℕ) (spots : List Spot) (next : ℕ) (l : Lin
       pub fill-gives : Fills x (view_of q m) (row_of x root).newest filled
       fill-gives = subst (λ n. Fills x (view_of q m) n filled) (sym newest-row)
           (subst (λ (t : TableState). Fills t (view_of q m) s.newest filled) view (λ j. view_of (made j) (noted j)))
+
+  -- ---- words are marked
+  module _ (bits : List Bool) (whole : length bits ≡ length p.bits) (q : PoolState) (made : q ≡ record p { bits = bits }) where
+    pub mark-keeps : IsBacked q pages spots next l
+    mark-keeps = subst (λ (t : PoolState). IsBacked t pages spots next l) (sym made) (record {
+      counted = is.counted;
+      whole = record { few = is.whole.few; fills = is.whole.fills; owners = is.whole.owners; serials = is.whole.serials; owned = is.whole.owned };
+      words = is.words;
+      bits = whole ∙ is.bits;
+      free = is.free;
+      chains = is.chains;
+      placed = is.placed;
+      rows = is.rows;
+      last = is.last;
+      backs = is.backs;
+    })
+
+    pub mark-gives : (first count : ℕ) (mark : Bool) → ((word : ℕ) → slice_index_or bits word false ≡ marked_between (λ (other : ℕ). slice_index_or p.bits other false) first count mark word)
+        → Marks x (view_of q l) first count mark
+    mark-gives first count mark live = subst (λ (t : TableState). Marks t (view_of q l) first count mark) view (record {
+      same = (λ j. view_of (made j) l) ∙ (λ j. record (view_of p l) { live = (sym made j).bits });
+      whole = ap (λ (t : PoolState). length t.bits) made ∙ whole;
+      live = λ word. ap (λ (t : PoolState). slice_index_or t.bits word false) made ∙ live word;
+    })
 
   -- ---- a region is closed
   module _ (root : ℕ) (there : root < x.most) (role : IsRoot (row_of x root).role) (r : PoolState) (s : ℕ) (ready : Readies p r s) where

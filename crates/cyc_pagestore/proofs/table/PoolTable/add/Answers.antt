@@ -19,10 +19,8 @@ chain_push-requires-clause-head c =
     let f = c.self.inside in let k = c.self.invariant in let x = c.args.self.now in let v = c.self.view_is in let page = c.in-Some.page.number in let got = c.in-Some.ensures in
     let below = there-in f.pool f.pages f.spots.items f.next f.roster.links k x v c.args.root c.requires.there in
     let role = root-in f.pool f.pages f.spots.items f.next f.roster.links k x v c.args.root c.requires.there c.requires.root in
-    let chains = ap (λ (t : PoolState). t.chains) (c.set_serial.ensures ∙ ap (λ (t : PoolState). record t { serials = c.set_serial.new.self.serials }) (c.set_fill.ensures ∙ ap (λ (t : PoolState). record t { fills = c.set_fill.new.self.fills }) (c.set_owner.ensures
-    ∙ ap (λ (t : PoolState). record t { owners = c.set_owner.new.self.owners }) got.2))) in
-    let pages = ap (λ (t : PoolState). t.pages) (c.set_serial.ensures ∙ ap (λ (t : PoolState). record t { serials = c.set_serial.new.self.serials }) (c.set_fill.ensures ∙ ap (λ (t : PoolState). record t { fills = c.set_fill.new.self.fills }) (c.set_owner.ensures
-    ∙ ap (λ (t : PoolState). record t { owners = c.set_owner.new.self.owners }) got.2))) in
+    let chains = ap (λ (t : PoolState). t.chains) c.set_serial.ensures ∙ ap (λ (t : PoolState). t.chains) c.set_fill.ensures ∙ ap (λ (t : PoolState). t.chains) c.set_owner.ensures ∙ ap (λ (t : PoolState). t.chains) got.2 in
+    let pages = ap (λ (t : PoolState). t.pages) c.set_serial.ensures ∙ ap (λ (t : PoolState). t.pages) c.set_fill.ensures ∙ ap (λ (t : PoolState). t.pages) c.set_owner.ensures ∙ ap (λ (t : PoolState). t.pages) got.2 in
     (subst (λ n. c.args.root < n) (sym pages) below,
     subst (λ (cs : List (List ℕ)). IsHead cs c.args.root) (sym chains) (add-head f.pool f.pages f.spots.items f.next f.roster.links k x v page got.0 got.1 c.args.root c.args.words below role))
 
