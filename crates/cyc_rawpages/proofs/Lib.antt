@@ -7,3 +7,4 @@ pub mod Links
 pub mod FreePages
 pub mod PoolLemmas
 pub mod Fresh
+pub mod Heads

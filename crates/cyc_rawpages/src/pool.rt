@@ -104,7 +104,8 @@ impl Pool {
         requires head { (head.number < self.old.pages) × IsHead self.old.chains head.number }
         requires page { (page.number < self.old.pages) × (chain_at self.old.chains page.number ≡ page.number ∷ []) }
         requires other { head.number ≢ page.number }
-        ensures { self.new ≡ record self.old { chains = set (set self.old.chains head.number (chain_at self.old.chains head.number ++ page.number ∷ [])) page.number [] } }
+        ensures head { IsHead self.new.chains head.number }
+        ensures pushed { self.new ≡ record self.old { chains = set (set self.old.chains head.number (chain_at self.old.chains head.number ++ page.number ∷ [])) page.number [] } }
     {
         let tail = self.block.get(header_at(self.pages, head.number, TAIL));
         self.block
@@ -116,7 +117,8 @@ impl Pool {
 
     /// Gives all pages of a chain back, by one splice, so in the same time for any number of them.
     pub fn give_chain(&mut self, chain: Chain)
-        requires { (chain.head.number < self.old.pages) × IsHead self.old.chains chain.head.number }
+        requires there { chain.head.number < self.old.pages }
+        requires head { IsHead self.old.chains chain.head.number }
         ensures { self.new ≡ record self.old { free = freed self.old.free (chain_at self.old.chains chain.head.number); chains = set self.old.chains chain.head.number [] } }
     {
         let head = chain.head.number;
