@@ -4,3 +4,4 @@ pub mod Backing
 pub mod Closing
 pub mod Pooled
 pub mod Calls
+pub mod Blank
