@@ -5,3 +5,5 @@ pub mod Closing
 pub mod Pooled
 pub mod Calls
 pub mod Blank
+pub mod Taking
+pub mod Storing
