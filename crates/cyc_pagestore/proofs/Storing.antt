@@ -32,7 +32,7 @@ given-length rows page zero free = refl
 given-length rows page (suc count) free = given-length (set rows page (free_row free)) (row_at rows page).next count page ∙ length-set rows page (free_row free)
 
 module _ (x : TableState) (lexicals : List ℕ) (classes : List ClassSlots) (b : Blocks) (s : IsStored x lexicals classes b) where
-  abbrev t : PageTable
+  abbrev pub t : PageTable
   t = s.table
 
   pub stored-held : store_of t.most t.words.items b ≡ store_of x.most x.words b
@@ -51,22 +51,22 @@ module _ (x : TableState) (lexicals : List ℕ) (classes : List ClassSlots) (b :
 
   -- ---- a region is opened
   module _ (y : TableState) (page : ℕ) (r : Role) (opens : Opens x y page r) where
-    abbrev m : TableState
+    abbrev pub m : TableState
     m = opens.middle
 
-    abbrev before : PageTable
+    abbrev pub before : PageTable
     before = v x lexicals classes b s page m opens.takes
 
-    abbrev taken : PageTable
+    abbrev pub taken : PageTable
     taken = u x lexicals classes b s page m opens.takes
 
-    middle-rows : length m.rows ≡ length x.rows
+    pub middle-rows : length m.rows ≡ length x.rows
     middle-rows = ap (λ (z : TableState). length z.rows) opens.takes.is ∙ relinked-length x.rows (page ∷ removed opens.takes.order page)
 
-    rows-size : length y.rows ≡ length x.rows
+    pub rows-size : length y.rows ≡ length x.rows
     rows-size = ap (λ (z : TableState). length z.rows) opens.is ∙ length-set m.rows page (first_of r page) ∙ middle-rows
 
-    after_table : (w : PageTable) × Reads w y
+    abbrev pub after_table : (w : PageTable) × Reads w y
     after_table = same-size x lexicals classes b s y
         (ap (λ (z : TableState). length z.words) opens.is ∙ ap (λ (z : TableState). length z.words) opens.takes.is)
         (ap (λ (z : TableState). length z.live) opens.is ∙ ap (λ (z : TableState). length z.live) opens.takes.is) rows-size
@@ -127,7 +127,7 @@ module _ (x : TableState) (lexicals : List ℕ) (classes : List ClassSlots) (b :
     counted : (row_of x root).count ≡ suc (length (rooted t lexicals classes b s.kept root r named).chain.older)
     counted = first-counted t lexicals classes b s.kept root r named (row_of x root) read
 
-    rows-given : length y.rows ≡ length x.rows
+    pub rows-given : length y.rows ≡ length x.rows
     rows-given = ap (λ (z : TableState). length z.rows) closes ∙ given-length x.rows (row_of x root).newest (row_of x root).count x.free
 
     pub closed-stored : (c : Blocks) → c ≡ record b { regions = without handle_of b.regions (handle_of_page root) } → (left : List ℕ) → left ≡ lexical_handles (without handle_of b.regions (handle_of_page root))
@@ -152,10 +152,10 @@ module _ (x : TableState) (lexicals : List ℕ) (classes : List ClassSlots) (b :
     pub page-there : word / 1024 < x.most
     page-there = let count = words-count x lexicals classes b s in let whole = s.whole in omega (arith, inside, count, whole)
 
-    abbrev IsAnswer : Bool → Type 0
+    abbrev pub IsAnswer : Bool → Type 0
     IsAnswer answer = answer ≡ is_some (holder (homes (store_of x.most x.words b)) (STORE_BASE + 4 * word))
 
-    abbrev r : Row
+    abbrev pub r : Row
     r = row_of x (word / 1024)
 
     pub live-below : word % 1024 < r.filled → IsAnswer true

@@ -33,7 +33,7 @@ with_items v items small = record { ptr = v.ptr; len = length items; cap = lengt
     le : (n : ℕ) → n ≤ n
     le n = omega arith
 
-pub made : (t : PageTable) (y : TableState) → length y.words < 2 ^ 63 → length y.live < 2 ^ 63 → length y.rows < 2 ^ 63 → (v : PageTable) × Reads v y
+abbrev pub made : (t : PageTable) (y : TableState) → length y.words < 2 ^ 63 → length y.live < 2 ^ 63 → length y.rows < 2 ^ 63 → (v : PageTable) × Reads v y
 made t y words live rows = (
   record { most = y.most; words = with_items t.words y.words words; live = with_items t.live y.live live; rows = with_items t.rows y.rows rows; free = y.free },
   record { most = refl; words = refl; live = refl; rows = refl; free = refl },
@@ -78,7 +78,7 @@ module _ (x : TableState) (lexicals : List ℕ) (classes : List ClassSlots) (b :
   live-count = ap length (sym s.reads.live) ∙ s.kept.whole.live ∙ ap (λ rs. PAGE_WORDS * length rs) s.reads.rows
 
   -- a table with as many words, marks and rows is read from one in memory
-  pub same-size : (y : TableState) → length y.words ≡ length x.words → length y.live ≡ length x.live → length y.rows ≡ length x.rows → (v : PageTable) × Reads v y
+  abbrev pub same-size : (y : TableState) → length y.words ≡ length x.words → length y.live ≡ length x.live → length y.rows ≡ length x.rows → (v : PageTable) × Reads v y
   same-size y words live rows =
       made s.table y
           (let few = stored-few in let count = words-count in omega (arith, few, count, words))
@@ -88,19 +88,19 @@ module _ (x : TableState) (lexicals : List ℕ) (classes : List ClassSlots) (b :
 -- ---- the free pages are linked anew
 
 module _ (x : TableState) (lexicals : List ℕ) (classes : List ClassSlots) (b : Blocks) (s : IsStored x lexicals classes b) (page : ℕ) (m : TableState) (takes : Takes x m page) where
-  abbrev t : PageTable
+  abbrev pub t : PageTable
   t = s.table
 
-  abbrev l : Layout
+  abbrev pub l : Layout
   l = s.kept.layout
 
-  abbrev slots : ℕ → ClassSlots
+  abbrev pub slots : ℕ → ClassSlots
   slots = λ (class : ℕ). slice_index_or classes class no_slots
 
-  abbrev front : List ℕ
+  abbrev pub front : List ℕ
   front = page ∷ removed takes.order page
 
-  abbrev also : TableState
+  abbrev pub also : TableState
   also = record x { rows = relinked x.rows front; free = page }
 
   count-is : length t.rows.items ≡ t.most
@@ -129,7 +129,7 @@ module _ (x : TableState) (lexicals : List ℕ) (classes : List ClassSlots) (b :
   free-is : l.free ≡ takes.order
   free-is = s.kept.tied.free ∙ ap (λ xs. s.kept.tied.given ++ xs) (none-left (length t.rows.items) t.most count-is) ∙ append-nil s.kept.tied.given ∙ given-is
 
-  abbrev layout : Layout
+  abbrev pub layout : Layout
   layout = record l { free = front }
 
   unowned : AllByRecursion (IsFree t.most l.pages) takes.order
@@ -217,10 +217,10 @@ module _ (x : TableState) (lexicals : List ℕ) (classes : List ClassSlots) (b :
   }
 
   -- ---- the table with this page first
-  abbrev first_table : (v : PageTable) × Reads v also
+  abbrev pub first_table : (v : PageTable) × Reads v also
   first_table = same-size x lexicals classes b s also refl refl (relinked-length x.rows front)
 
-  abbrev v : PageTable
+  abbrev pub v : PageTable
   v = first_table.0
 
   pub v-count : length v.rows.items ≡ length t.rows.items
@@ -251,10 +251,10 @@ module _ (x : TableState) (lexicals : List ℕ) (classes : List ClassSlots) (b :
   }
 
   -- ---- and after it was taken
-  abbrev taken_table : (u : PageTable) × Reads u m
+  abbrev pub taken_table : (u : PageTable) × Reads u m
   taken_table = same-size x lexicals classes b s m (ap (λ (y : TableState). length y.words) takes.is) (ap (λ (y : TableState). length y.live) takes.is) (ap (λ (y : TableState). length y.rows) takes.is ∙ relinked-length x.rows front)
 
-  abbrev u : PageTable
+  abbrev pub u : PageTable
   u = taken_table.0
 
   pub room : (length v.rows.items ≤ v.free) × (v.most ≤ length v.rows.items) → ⊥

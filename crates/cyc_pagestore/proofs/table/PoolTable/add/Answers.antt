@@ -34,7 +34,7 @@ invariant_of-self-2 c =
     (add-keeps f.pool f.pages f.spots.items f.next f.roster.links k x v page got.0 got.1 root words below role c.chain_push.new.self
     (c.chain_push.ensures.pushed
     ∙ ap (λ (t : PoolState). record t { chains = set (set t.chains root (chain_at t.chains root ++ page ∷ [])) page [] })
-    (c.set_serial.ensures ∙ ap (λ n. record c.set_fill.new.self { serials = set c.set_fill.new.self.serials page n }) (c.serial.ensures ∙ ap (λ (t : PoolState). slice_index t.serials root) got.2)
+    (c.set_serial.ensures ∙ ap (λ n. record c.set_fill.new.self { serials = set c.set_fill.new.self.serials page n }) (c.serial-serial.ensures ∙ ap (λ (t : PoolState). slice_index t.serials root) got.2)
     ∙ ap (λ (t : PoolState). record t { serials = set t.serials page (slice_index f.pool.serials root) })
     (c.set_fill.ensures ∙ ap (λ (t : PoolState). record t { fills = set t.fills page words })
     (c.set_owner.ensures ∙ ap (λ (t : PoolState). record t { owners = set t.owners page root }) got.2))))
@@ -48,7 +48,7 @@ returns c =
     add-gives f.pool f.pages f.spots.items f.next f.roster.links k x v page got.0 got.1 root words below role c.chain_push.new.self
     (c.chain_push.ensures.pushed
     ∙ ap (λ (t : PoolState). record t { chains = set (set t.chains root (chain_at t.chains root ++ page ∷ [])) page [] })
-    (c.set_serial.ensures ∙ ap (λ n. record c.set_fill.new.self { serials = set c.set_fill.new.self.serials page n }) (c.serial.ensures ∙ ap (λ (t : PoolState). slice_index t.serials root) got.2)
+    (c.set_serial.ensures ∙ ap (λ n. record c.set_fill.new.self { serials = set c.set_fill.new.self.serials page n }) (c.serial-serial.ensures ∙ ap (λ (t : PoolState). slice_index t.serials root) got.2)
     ∙ ap (λ (t : PoolState). record t { serials = set t.serials page (slice_index f.pool.serials root) })
     (c.set_fill.ensures ∙ ap (λ (t : PoolState). record t { fills = set t.fills page words })
     (c.set_owner.ensures ∙ ap (λ (t : PoolState). record t { owners = set t.owners page root }) got.2))))
