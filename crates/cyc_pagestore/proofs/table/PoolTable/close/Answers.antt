@@ -1,4 +1,3 @@
-use Rattle.cyc_pagestore.proofs.Storing.{row-read}
 use Rattle.std.proofs.Common.{[], set, ap, ◌∙◌}
 use Rattle.cyc_rawpages.specs.Lists.{chain_at, freed}
 use Rattle.cyc_rawpages.specs.Pool.{PoolState}

@@ -1,0 +1,23 @@
+use Rattle.std.proofs.Common.{◌≡◌, sym, ap, subst, ◌∙◌}
+use Rattle.cyc_store.specs.Ledger.{Stored, held_of, store_of}
+use Rattle.cyc_store.specs.Services.{OpenDynamic, Opened, Refused, Full, Serves}
+use Rattle.cyc_store.specs.State.{StoreState}
+use Rattle.cyc_store.specs.Kept.{handle_of_page}
+use Rattle.cyc_store.proofs.Responses.{dynamic-full}
+use Rattle.cyc_pagestore.specs.Table.{TableState}
+use Rattle.cyc_pagestore.proofs.Storing.{stored-held, stored-full, dynamic-stored, dynamic-served}
+use Rattle.cyc_pagestore.proofs.paged.PageStoreStore.open_dynamic.Goals as goal
+
+pub returns-in_default : goal.returns-in_default
+returns-in_default c =
+    let f = c.self.inside in let s = c.self.invariant.stored in
+    subst (λ (y : TableState). Serves (held_of c.args.self.now) OpenDynamic (Refused Full) (store_of y.most y.words f.ledger.blocks)) (sym c.in_default.ensures.1)
+    (subst (λ (v : Stored). Serves (held_of v) OpenDynamic (Refused Full) (store_of f.table.most f.table.words f.ledger.blocks)) c.self.view_is
+    (subst (λ (h : StoreState). Serves h OpenDynamic (Refused Full) h) (stored-held f.table f.lexicals.items f.classes f.ledger.blocks s)
+    (dynamic-full (store_of s.table.most s.table.words.items f.ledger.blocks) s.kept.layout s.kept.laid (stored-full f.table f.lexicals.items f.classes f.ledger.blocks s c.in_default.ensures.0))))
+
+pub returns : goal.returns
+returns c =
+    let f = c.self.inside in let s = c.self.invariant.stored in
+    subst (λ (v : Stored). Serves (held_of v) OpenDynamic (Opened (handle_of_page c.in-Some.page)) (store_of c.open.new.self.most c.open.new.self.words c.with-self-inside.result.blocks)) c.self.view_is
+    (dynamic-served f.table f.lexicals.items f.classes f.ledger.blocks s c.open.new.self c.in-Some.page c.in-Some.ensures c.with-self-inside.result.blocks c.with-self-inside.ensures)
