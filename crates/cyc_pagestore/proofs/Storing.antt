@@ -21,11 +21,11 @@ use Rattle.cyc_store.proofs.KeptClosing.{close-kept}
 use Rattle.cyc_store.proofs.KeptMaking.{rooted, first-counted, root-there}
 use Rattle.cyc_store.proofs.KeptWords.{kept-below, kept-marks}
 use Rattle.cyc_store.proofs.TieOpening.{first_row}
-use Rattle.cyc_pagestore.specs.Table.{TableState, row_of, IsFull, Opens, Closes}
+use Rattle.cyc_pagestore.specs.Table.{TableState, row_of, IsFull, Takes, Opens, Closes}
 use Rattle.cyc_pagestore.specs.Stored.{Reads, IsStored}
 use Rattle.cyc_pagestore.specs.Links.{removed, first_of}
-use Rattle.cyc_pagestore.proofs.Rows.{relinked-length}
-use Rattle.cyc_pagestore.proofs.Taking.{words-count, same-size, v, u, v-kept, draws, room}
+use Rattle.cyc_pagestore.proofs.Rows.{one-all, relinked-length}
+use Rattle.cyc_pagestore.proofs.Taking.{stored-few, words-count, same-size, v, u, v-kept, draws, room}
 
 given-length : (rows : List Row) (page count free : ℕ) → length (given_rows rows page count free) ≡ length rows
 given-length rows page zero free = refl
@@ -48,6 +48,10 @@ module _ (x : TableState) (lexicals : List ℕ) (classes : List ClassSlots) (b :
   stored-full full = kept-full t lexicals classes b s.kept
       (subst (λ (p : (List Row) × ℕ). length p.0 ≤ p.1) (λ j. (sym s.reads.rows j, sym s.reads.free j)) full.past)
       (subst (λ (p : (List Row) × ℕ). p.1 ≤ length p.0) (λ j. (sym s.reads.rows j, sym s.reads.most j)) full.all)
+
+  -- ---- a page is taken
+  pub taken-small : (m : TableState) (page : ℕ) → Takes x m page → page < 65536
+  taken-small m page takes = let there = one-all (λ q. q < length x.rows) takes.order page takes.within takes.inside in let few = stored-few x lexicals classes b s in omega (arith, there, few)
 
   -- ---- a region is opened
   module _ (y : TableState) (page : ℕ) (r : Role) (opens : Opens x y page r) where
@@ -73,6 +77,9 @@ module _ (x : TableState) (lexicals : List ℕ) (classes : List ClassSlots) (b :
 
     pub opened-whole : length y.rows ≡ y.most
     opened-whole = rows-size ∙ s.whole ∙ sym (ap (λ (z : TableState). z.most) opens.is ∙ ap (λ (z : TableState). z.most) opens.takes.is)
+
+    pub opened-most : y.most ≡ x.most
+    opened-most = ap (λ (z : TableState). z.most) opens.is ∙ ap (λ (z : TableState). z.most) opens.takes.is
 
     pub opened-rewrites : Rewrites taken after_table.0 page (first_of r page)
     opened-rewrites = record {

@@ -11,3 +11,9 @@ returns-then-word-filled c =
     let f = c.self.inside in let inside = subst (λ (v : Stored). c.args.word < length v.words) (sym c.self.view_is) c.requires in
     subst (λ (v : Stored). true ≡ is_some (holder (homes (held_of v)) (STORE_BASE + 4 * c.args.word))) c.self.view_is
     (live-below f.table f.lexicals.items f.classes f.ledger.blocks c.self.invariant.stored c.args.word inside (subst (λ n. c.args.word % 1024 < n) c.filled.ensures c.if-word-filled.true))
+
+pub returns : goal.returns
+returns c =
+    let f = c.self.inside in let inside = subst (λ (v : Stored). c.args.word < length v.words) (sym c.self.view_is) c.requires in
+    subst (λ (v : Stored). c.is_marked.result ≡ is_some (holder (homes (held_of v)) (STORE_BASE + 4 * c.args.word))) c.self.view_is
+    (live-marked f.table f.lexicals.items f.classes f.ledger.blocks c.self.invariant.stored c.args.word inside c.is_marked.result (subst (λ n. n ≤ c.args.word % 1024) c.filled.ensures c.if-word-filled.false) c.is_marked.ensures)
