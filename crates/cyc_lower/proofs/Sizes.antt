@@ -33,7 +33,7 @@ use Rattle.cyc_lower.specs.Slots.{with_counter, slot_of, Starts, global_of}
 use Rattle.cyc_store.specs.declared.range.TheConstants.{HEAP, UNIQUE}
 use Rattle.cyc_meaning.specs.Values.{kind_of, words_of_kind, is_thin}
 use Rattle.cyc_lower.proofs.Widths.{kind_few, type_words}
-use Rattle.cyc_lower.specs.Lowering.{begun_code, filled_code, ended_code, elements_code, converts_there, passed_words, all_passed, source_of, source_slot, converted_by, moved_by, move_of, unary_operator, binary_operator, operand_of, operand_or, code_unless, slot_or, code_unless_slot, left_of, value_slot, next_slot, left_slot, value_operand, converted_operand, printed_operand, conversion_code, divisor_code, checked_code, operator_code, truth_code, load_code, low_byte, test_code, is_in, copy_code, expression_code, arguments_code, converted_code, converted_operand_code, printed_code, initial_code, assignment_code, operations_code, discarded_code, failing_comparison, compared_or, left_with, slot_with, first_code, second_code, pair_code, condition_code, condition_of, failing_jump, break_target, continue_target, return_code, declaration_code, statement_code, items_code, first_temporary, jump_if_zero, jump_if_nonzero, lower_function, behind_left, pointer_code, outside_loops, inside_loop, pointer_operator, index_of, first_two, pointer_instructions, stores_code, object_code, made_code, place_operand, place_offset, place_code, address_code, store_address_code, blocks, free_code, right_slot, side_code, read_side, write_side, exchange_code, swap_code, leave_code, tag_operand, other_jump, clause_code, caught_code, clauses_code, element_by, count_code, span_of, tested_code, widened_code, conversion_by, tested_by, check_code, are_as_wide, saved_code, loaded_code, bounds_code, stepped_code, bounded_code, past_bounded, thinned_code, reached_code, followed_code, followed_operand, followed_by, span_in, pointer_of, pointer_slot, reached_operand, word_by_word, load_word, store_word, global_code, starts_with, raises_of, load_at, opened_code, closed_code, named_code, dynamic_code, closing_code, scopes_code, scopes_code_in, handlers_code, marks_code, kept_code, kept_code_in, restored_code, restored_code_in, behind_record, inside_try, inside_region}
+use Rattle.cyc_lower.specs.Lowering.{begun_code, filled_code, ended_code, elements_code, converts_there, passed_words, all_passed, source_of, source_slot, converted_by, moved_by, move_of, unary_operator, binary_operator, operand_of, operand_or, code_unless, slot_or, code_unless_slot, left_of, value_slot, next_slot, left_slot, value_operand, converted_operand, printed_operand, conversion_code, divisor_code, checked_code, operator_code, truth_code, load_code, low_byte, test_code, is_in, copy_code, expression_code, arguments_code, converted_code, converted_operand_code, printed_code, initial_code, assignment_code, operations_code, discarded_code, failing_comparison, compared_or, left_with, slot_with, first_code, second_code, pair_code, condition_code, condition_of, failing_jump, break_target, continue_target, return_code, declaration_code, statement_code, items_code, first_temporary, jump_if_zero, jump_if_nonzero, lower_function, behind_left, pointer_code, outside_loops, inside_loop, pointer_operator, index_of, first_two, pointer_instructions, stores_code, object_code, made_code, place_operand, place_offset, place_code, address_code, store_address_code, blocks, free_code, right_slot, side_code, read_side, write_side, exchange_code, swap_code, leave_code, tag_operand, other_jump, clause_code, caught_code, clauses_code, element_by, count_code, span_of, tested_code, widened_code, conversion_by, tested_by, check_code, are_as_wide, saved_code, loaded_code, bounds_code, stepped_code, bounded_code, past_bounded, thinned_code, reached_code, followed_code, followed_operand, followed_by, span_in, pointer_of, pointer_slot, reached_operand, word_by_word, load_word, store_word, global_code, starts_with, raises_of, load_at, opened_code, closed_code, named_code, dynamic_code, closing_code, handlers_code, marks_code, kept_code, kept_code_in, restored_code, restored_code_in, behind_record, inside_try, inside_region}
 use Rattle.cyc_meaning.specs.Operators.{null_exception}
 use Rattle.cyc_lower.specs.Lowered.{size_per_weight}
 use Rattle.cyc_lower.specs.declared.statements.Opened.{Opened}
@@ -264,27 +264,14 @@ filled_size kinds.Key head t = omega arith
 
 -- ---- regions and handlers
 
-scopes_size : (scopes : Option ℕ) (o : Operand) → code_size (scopes_code_in scopes o) ≤ 5
-scopes_size None o = omega arith
-scopes_size (Some global) o = omega arith
-
 closed_size : (starts : Starts) (m : ℕ) → code_size (closed_code starts m) ≤ 10
-closed_size starts m = omega (arith, cons (instructions.Ask (requests.CloseTo (operands.Slot m))) (scopes_code starts (operands.Slot m)), scopes_size starts.scopes (operands.Slot m))
+closed_size starts m = omega arith
 
 opened_size : (starts : Starts) (n t : ℕ) → code_size (opened_code starts n t) ≤ 36
 opened_size starts n t =
-    let count = scopes_code starts (operands.Slot (t + 2)) in
     let name = named_code starts 1 n (operands.Slot (t + 1)) in
-    let add = instructions.Binary plain_binary.Add (t + 2) (operands.Slot t) (operands.Word 1) in
     let keep = instructions.Move t (operands.Slot (t + 2)) in
-    omega (
-      arith,
-      cons (instructions.Ask (requests.OpenLexical (t + 1))) (keep ∷ add ∷ count ++ name),
-      cons keep (add ∷ count ++ name),
-      cons add (count ++ name),
-      both count name,
-      scopes_size starts.scopes (operands.Slot (t + 2)),
-    )
+    omega (arith, cons (instructions.Ask (requests.OpenLexical (t + 1))) (keep ∷ name), cons keep name)
 
 handlers_size : (first : Option ℕ) → code_size (handlers_code first) ≤ 5
 handlers_size None = omega arith

@@ -31,7 +31,7 @@ use Rattle.cyc_meaning.specs.Values.{Int, Null, Operand as Kinded, kind_of, word
 use Rattle.cyc_meaning.specs.State.{World, Environment, no_locals, constant_value, global_object, first_world, Entry, Main, Focus, Evaluating, Locating, Given, GivenPlace, Executing, Proceeding, Calling, Entering, Binding, Writing, Beginning, Repeating, Breaking, Continuing, Returning, Throwing, State, Running, Ended, Dead, Wrong, output_of, input_of, status_of, Swapping, Naming, Catching}
 use Rattle.cyc_meaning.specs.Step.{wrong, called, step}
 use Rattle.cyc_meaning.specs.Run.{start, is_within, limited_step}
-use Rattle.cyc_lower.specs.Lowering.{initial_word, lower_global, lower_program, lower_globals, scopes_of, scopes_if, scopes_words, may_open}
+use Rattle.cyc_lower.specs.Lowering.{initial_word, lower_global, lower_program, lower_globals, scopes_of, scopes_if, may_open}
 use Rattle.cyc_lower.specs.Lowered.{FollowsSource}
 use Rattle.cyc_lower.specs.Words.{IsOfWordsProgram}
 use Rattle.cyc_meaning.specs.SourceMachine.{status_in}
@@ -42,7 +42,7 @@ use Rattle.cyc_meaning.proofs.VariableRuns.{NestsAndNames, both_kept, names_star
 use Rattle.cyc_objects.specs.Tables.{Tables, first_tables}
 use Rattle.cyc_objects.specs.Related as objects
 use Rattle.cyc_objects.proofs.Start.{start-related}
-use Rattle.cyc_lower.proofs.Relation.{IsWord, silent, call_slots, callers, contents, Related, Matches, types_at, starts_at, IsTold}
+use Rattle.cyc_lower.proofs.Relation.{IsWord, silent, call_slots, callers, contents, Related, Matches, types_at, starts_at, MayBeOpen}
 use Rattle.cyc_lower.proofs.Fitting.{IsFitting}
 use Rattle.cyc_lower.proofs.Data.{no_locals_hold, IsWord-is}
 use Rattle.cyc_lower.proofs.Accesses.{IsWell}
@@ -109,18 +109,11 @@ globals_start t (g ∷ gs) (suc number) v (well, rest) has =
     ∙ ap (λ (n : ℕ). slice_index (lower_globals gs) n) (let e : words_of g.of_type + behind - words_of g.of_type ≡ behind = omega arith in e) in
     (subst (IsWord t v.kind v.value) (sym next) is, room)
 
--- The same in all words of the program, of which one may stand behind those of the globals. That tells that no lexical region is open.
-globals_there : (source : Program) (n : ℕ) → n < words_of_all (global_types source.globals) → slice_index (lower_program source).globals n ≡ slice_index (lower_globals source.globals) n
-globals_there source n few = get_or_append_left (lower_globals source.globals) (scopes_words (scopes_of source)) 0 n (omega (arith, few, globals_counted source.globals))
-
-none_open : (source : Program) → IsTold (scopes_of source) (λ global. slice_index (lower_program source).globals global) 0
+none_open : (source : Program) → MayBeOpen (scopes_of source) 0
 none_open source = by (list_any may_open source.functions)
   where
-    xs : List ℕ
-    xs = lower_globals source.globals
-
-    by : (may : Bool) → IsTold (scopes_if may (length xs)) (λ global. slice_index (xs ++ scopes_words (scopes_if may (length xs))) global) 0
-    by true = get_or-append_right xs (0 ∷ []) (length xs) (length xs) 0 refl (omega arith) ∙ ap (slice_index (0 ∷ [])) (let e : length xs - length xs ≡ 0 = omega arith in e)
+    by : (may : Bool) → MayBeOpen (scopes_if may) 0
+    by true = tt
     by false = refl
 
 globals_many : (gs : List GlobalVariable) → length (global_types gs) ≤ length (map global_object gs)
@@ -128,7 +121,7 @@ globals_many [] = omega arith
 globals_many (g ∷ gs) = omega (arith, globals_many gs)
 
 module _ (source : Program) (pages calls : ℕ) (well_typed : AreWellTypedGlobals source.globals) (few_globals : words_of_all (global_types source.globals) ≤ MOST_GLOBALS) (stand : FunctionsStand source pages calls) (of_words : HasWords (lower_program source))
-    (fitting : IsFitting source) (typed_words : IsOfWordsProgram source) (rise : FunctionsRise source) (room : words_of_all (global_types source.globals) < MOST_GLOBALS) where
+    (fitting : IsFitting source) (typed_words : IsOfWordsProgram source) (rise : FunctionsRise source) (room : words_of_all (global_types source.globals) ≤ MOST_GLOBALS) where
   -- ---- all steps
 
   stepping : (focus : Focus) (k : List Entry) (e : Environment) (w : World) (c : Configuration) → IsWell (step source (Running focus k e w)) → IsNested k e w → plain.HoldsWords (plain.Running c) → AreNamed source e.locals (callers k) w c.active.function c.active.base c.frames c.store → Related source pages calls focus k e w c
@@ -136,7 +129,7 @@ module _ (source : Program) (pages calls : ℕ) (well_typed : AreWellTypedGlobal
   stepping (Evaluating a) k e w c well nested words names related = evaluating source pages calls a k e w c names well related
   stepping (Locating x) k e w c well nested words names related = locating source pages calls x k e w c well related
   stepping (Given v) k e w c well nested words names related = given source pages calls v k e w c of_words words names well related
-  stepping (Executing s) k e w c well nested words names related = executing source pages calls s k e w c well related
+  stepping (Executing s) k e w c well nested words names related = executing source pages calls s k e w c nested well related
   stepping Proceeding k e w c well nested words names related = proceeding source pages calls k e w c nested well related
   stepping (Calling f before) k e w c well nested words names related = calling source pages calls stand f before k e w c well related
   stepping (Entering h arguments) k e w c well nested words names related = entering source pages calls h arguments k e w c well related
@@ -231,8 +224,7 @@ module _ (source : Program) (pages calls : ℕ) (well_typed : AreWellTypedGlobal
                 let (is, room) = globals_start t source.globals number v well_typed has in
                 let first = global_of (starts_at source source.main) number in
                 let first_is = globals-are (types_at source source.main) number few in
-                let there = globals_there source first (omega (arith, room, kind_positive v.kind, global-room (types_at source source.main) number few)) in
-                (IsWord-is t v.kind v.value (slice_index (lower_globals source.globals) (slot_in (global_types source.globals) number)) words first (there ∙ ap (slice_index (lower_globals source.globals)) first_is) is, room),
+                (IsWord-is t v.kind v.value (slice_index (lower_globals source.globals) (slot_in (global_types source.globals) number)) words first (ap (slice_index (lower_globals source.globals)) first_is) is, room),
           ),
         ),
         (refl, tt),
@@ -272,7 +264,7 @@ module _ (source : Program) (pages calls : ℕ) (well_typed : AreWellTypedGlobal
       )
 
 -- The lowered program of one that fits does what that does.
-pub follows : (source : Program) → IsFitting source → IsOfWordsProgram source → FunctionsRise source → words_of_all (global_types source.globals) < MOST_GLOBALS → HasWords (lower_program source) → (pages calls base : ℕ) (store : StoreState) (input : List ℕ)
+pub follows : (source : Program) → IsFitting source → IsOfWordsProgram source → FunctionsRise source → words_of_all (global_types source.globals) ≤ MOST_GLOBALS → HasWords (lower_program source) → (pages calls base : ℕ) (store : StoreState) (input : List ℕ)
     → IsNew pages store → 1 ≤ pages → pages ≤ MOST_PAGES → 1 ≤ calls → AllByRecursion (λ b. b < 256) input → IsBelow (lower_program source) (lower_program source).main base slots_end → FollowsSource source (lower_program source) pages calls base store input
 follows source fitting typed_words rise room of_words pages calls base store input new some_page few_pages some_call bytes lies =
     follows_source source pages calls fitting.globals (omega (arith, room)) (functions_stand source pages calls fitting) of_words fitting typed_words rise room base store input new some_page few_pages some_call bytes lies

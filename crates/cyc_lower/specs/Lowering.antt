@@ -590,14 +590,6 @@ while_code condition jump body p =
 
 -- ---- regions
 
--- how many lexical regions are open now is kept in the global for it
-abbrev pub scopes_code_in : Option ℕ → (count : Operand) → List Instruction
-scopes_code_in None count = []
-scopes_code_in (Some global) count = instructions.StoreGlobal global count ∷ []
-
-abbrev pub scopes_code : Starts → (count : Operand) → List Instruction
-scopes_code starts count = scopes_code_in starts.scopes count
-
 -- a local that is declared gets a value of so many words, which stands in an operand
 abbrev pub named_code : Starts → (words number : ℕ) → Operand → List Instruction
 named_code starts words n o = move_of words (slot_of starts n) o ∷ []
@@ -607,13 +599,11 @@ abbrev pub opened_code : Starts → (number t : ℕ) → List Instruction
 opened_code starts n t =
     instructions.Ask (requests.OpenLexical (t + 1))
     ∷ instructions.Move t (operands.Slot (t + 2))
-    ∷ instructions.Binary plain_binary.Add (t + 2) (operands.Slot t) (operands.Word 1)
-    ∷ scopes_code starts (operands.Slot (t + 2))
-    ++ named_code starts 1 n (operands.Slot (t + 1))
+    ∷ named_code starts 1 n (operands.Slot (t + 1))
 
 -- the newest lexical regions are closed, down to the mark in slot m
 abbrev pub closed_code : Starts → (m : ℕ) → List Instruction
-closed_code starts m = instructions.Ask (requests.CloseTo (operands.Slot m)) ∷ scopes_code starts (operands.Slot m)
+closed_code starts m = instructions.Ask (requests.CloseTo (operands.Slot m)) ∷ []
 
 -- a dynamic region is opened, and a local becomes its key
 abbrev pub dynamic_code : Starts → (number t : ℕ) → List Instruction
@@ -655,18 +645,18 @@ leave_code starts opened = handlers_code opened.handler ++ marks_code starts ope
 
 -- ---- handlers
 
--- A `try` has the record of its handler in the slots from t on. Behind it it keeps how many lexical regions are open, where a program has
--- any.
+-- A `try` has the record of its handler in the slots from t on. Behind it it keeps how many lexical regions are open, where a program may
+-- open some.
 abbrev pub behind_record_in : Option ℕ → (t : ℕ) → ℕ
 behind_record_in None t = t + RECORD_WORDS
-behind_record_in (Some global) t = t + RECORD_WORDS + 1
+behind_record_in (Some place) t = t + RECORD_WORDS + 1
 
 abbrev pub behind_record : Starts → (t : ℕ) → ℕ
 behind_record starts t = behind_record_in starts.scopes t
 
 abbrev pub kept_code_in : Option ℕ → (t : ℕ) → List Instruction
 kept_code_in None t = []
-kept_code_in (Some global) t = instructions.LoadGlobal (t + RECORD_WORDS) global ∷ []
+kept_code_in (Some place) t = instructions.CountLexical (t + RECORD_WORDS) ∷ []
 
 abbrev pub kept_code : Starts → (t : ℕ) → List Instruction
 kept_code starts t = kept_code_in starts.scopes t
@@ -674,7 +664,7 @@ kept_code starts t = kept_code_in starts.scopes t
 -- where an exception comes to it, the lexical regions are closed that were opened in it
 abbrev pub restored_code_in : Starts → Option ℕ → (t : ℕ) → List Instruction
 restored_code_in starts None t = []
-restored_code_in starts (Some global) t = closed_code starts (t + RECORD_WORDS)
+restored_code_in starts (Some place) t = closed_code starts (t + RECORD_WORDS)
 
 abbrev pub restored_code : Starts → (t : ℕ) → List Instruction
 restored_code starts t = restored_code_in starts starts.scopes t
@@ -1153,22 +1143,18 @@ is_handle t = false
 abbrev pub may_open : Function → Bool
 may_open h = list_any is_handle h.parameters || list_any is_handle h.locals
 
--- Behind all globals stands the word that tells how many lexical regions are open, where a program may open some.
-abbrev pub scopes_if : Bool → (globals : ℕ) → Option ℕ
-scopes_if true globals = Some globals
-scopes_if false globals = None
+-- How many words behind the first of its handler's record a `try` keeps how many lexical regions are open, where a program may open some.
+abbrev pub scopes_if : Bool → Option ℕ
+scopes_if true = Some RECORD_WORDS
+scopes_if false = None
 
 abbrev pub scopes_of : Program → Option ℕ
-scopes_of p = scopes_if (list_any may_open p.functions) (length (lower_globals p.globals))
-
-abbrev pub scopes_words : Option ℕ → List ℕ
-scopes_words None = []
-scopes_words (Some global) = 0 ∷ []
+scopes_of p = scopes_if (list_any may_open p.functions)
 
 -- each function keeps its number
 abbrev pub lower_program : Program → PlainProgram
 lower_program p = record {
   functions = map (lower_function p.structs (globals_of p) (scopes_of p)) p.functions;
-  globals = lower_globals p.globals ++ scopes_words (scopes_of p);
+  globals = lower_globals p.globals;
   main = p.main;
 }

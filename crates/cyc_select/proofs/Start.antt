@@ -276,6 +276,7 @@ module _ (program : Program) (well : IsWellFormed program) (words : HasWords pro
     input = bytes_words input bytes;
     store = refl;
     laid = new_laid pages store new (omega (arith, allowed.enough_pages)) allowed.few_pages;
+    counted = sym (new_counted pages store new);
   }
     where
       left_one : (n : ℕ) → n ≡ calls - 1 → n + 1 ≡ calls
