@@ -1,23 +1,29 @@
-# make build    proves and builds the program, crates/cyclone/out/cyclone
-# make demo     builds it, and shows it at work on the texts in examples/
-# make try      compiles and runs the program in SOURCE with no proof: make try SOURCE=hello.cyc
-# make cases    builds it, and runs the command-line suite, the table of codes, the examples, and random programs, and refuses
-#               its allocations in turn
-# make bench    builds it, and prints figures of its speed, its stack, and its code beside qemu-mips, tcc and gcc (Debian's
-#               qemu-user, tcc, gcc and gcc-mips-linux-gnu)
-# make test     the gate: every proof, must-fail edit and test from nothing, and what `make cases` runs; the last line
-#               is `N passed, M failed`
-# make install  puts the program that was built and its manual page below PREFIX; make uninstall takes them away
-.PHONY: build demo try cases bench test install uninstall
+# `make` lists the targets, and proves nothing.
+.PHONY: help build demo try quick cases bench test install uninstall
 
 PREFIX = /usr/local
 PROGRAM = crates/cyclone/out/cyclone
+UNPROVED = out/unproved/cyclone
 SOURCE = examples/hello.cyc
 BIN = $(DESTDIR)$(PREFIX)/bin
 MAN = $(DESTDIR)$(PREFIX)/share/man/man1
 
+help:
+	@echo 'make build    proves and builds the program, $(PROGRAM), crate by crate: half an hour to an hour the first time'
+	@echo 'make demo     builds it, and shows it at work on the texts in examples/'
+	@echo 'make try      compiles and runs the program in SOURCE with no proof: make try SOURCE=hello.cyc'
+	@echo 'make quick    builds it with no proof, and runs the command-line suite, the whole-language cases, the examples and random'
+	@echo '              programs on that, in some minutes: for who changes something'
+	@echo 'make cases    builds it, and runs the command-line suite, the table of codes, the examples, and random programs, and refuses'
+	@echo '              its allocations in turn'
+	@echo 'make bench    builds it, and prints figures of its speed, its stack, and its code beside qemu-mips, tcc and gcc (Debian packages'
+	@echo '              qemu-user, tcc, gcc and gcc-mips-linux-gnu)'
+	@echo 'make test     the gate: every proof, wrong body and test from nothing, and what `make cases` runs; hours. The last line'
+	@echo '              is `N passed, M failed`'
+	@echo 'make install  puts the program that was built and its manual page below PREFIX; make uninstall takes them away'
+
 build:
-	@cd crates/cyclone && rt run -- --help >/dev/null
+	@tools/build
 
 demo: build
 	@sh examples/demo.sh
@@ -25,15 +31,20 @@ demo: build
 try:
 	@sh examples/try.sh "$(SOURCE)"
 
+quick:
+	@sh tests/tools.sh
+	@sh tests/quick.sh "$(UNPROVED)"
+
 cases: build
 	@sh tests/tools.sh
-	@python3 tests/run.py
-	@python3 tests/run.py --whole
-	@python3 tests/codes.py
-	@python3 tests/documents.py
-	@python3 tests/examples.py
-	@python3 tests/refused.py
-	@python3 tests/differential.py
+	@python3 tests/runners/run.py
+	@python3 tests/runners/run.py --whole
+	@python3 tests/runners/codes.py
+	@python3 tests/runners/documents.py
+	@python3 tests/runners/examples.py
+	@python3 tests/runners/editors.py
+	@python3 tests/runners/refused.py
+	@python3 tests/runners/differential.py
 
 bench: build
 	@python3 bench/machine.py

@@ -1,5 +1,5 @@
 #!/usr/bin/env python3
-"""The table of crates in docs/FIGURES.md: the lines of each crate's code, definitions and proofs, and its must-fail edits.
+"""The table of crates in docs/FIGURES.md: the lines of each crate's code, definitions and proofs, and its wrong bodies.
 
     python3 bench/crates.py
 """
@@ -20,9 +20,13 @@ def lines_in(crate, folder, ending):
     return count
 
 
-def edits_of(crate):
-    folder = os.path.join(ROOT, "crates", crate, "must-fail")
-    return sum(name.endswith(".edit") for name in os.listdir(folder)) if os.path.isdir(folder) else 0
+def wrong_bodies_of(crate):
+    """How many wrong bodies its proofs must refuse."""
+    path = os.path.join(ROOT, "tests", "wrong", crate + ".cases")
+    if not os.path.exists(path):
+        return 0
+    with open(path, encoding="utf-8") as file:
+        return sum(line.startswith("== ") for line in file)
 
 
 def crates():
@@ -32,10 +36,10 @@ def crates():
 
 
 def main():
-    print("| Crate | Code | Definitions | Proofs | Must-fail edits |\n|---|---|---|---|---|")
+    print("| Crate | Code | Definitions | Proofs | Wrong bodies |\n|---|---|---|---|---|")
     total = [0, 0, 0, 0]
     for crate in crates():
-        row = [lines_in(crate, folder, ending) for folder, ending in FOLDERS] + [edits_of(crate)]
+        row = [lines_in(crate, folder, ending) for folder, ending in FOLDERS] + [wrong_bodies_of(crate)]
         total = [one + other for one, other in zip(total, row)]
         print(f"| `{crate}` | " + " | ".join(f"{number:,}" for number in row) + " |")
     print("| all | " + " | ".join(f"{number:,}" for number in total) + " |")

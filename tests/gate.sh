@@ -1,8 +1,8 @@
 #!/usr/bin/env bash
-# The gate: every proof, must-fail edit and test of the crates (rt ci), then the command-line suite, the examples and random
+# The gate: every proof and test of the crates (rt ci), their wrong bodies, then the command-line suite, the examples and random
 # programs on the program that this has just proved and built. Before the last line stands what it cost, by crate and part, which
 # is in out/gate.md too, as far as it came also where the gate is stopped, and then what failed, in short: who sees only the end of
-# a long log sees that. (rt ci says which edits were refused at its end alone.) The last line is `N passed, M failed` over all of it.
+# a long log sees that. The last line is `N passed, M failed` over all of it.
 set -u
 cd "$(dirname "$0")/.."
 log=$(mktemp)
@@ -18,7 +18,7 @@ add() {
   local name=$1 status count good bad
   shift
   echo "== $name"
-  python3 tests/gate_table.py measure "$costs" out/gate.md "$name" "$@" 2>&1 | tee "$log" | sed -u "s/^\([0-9]* passed, [0-9]* failed\)\$/$name: \1/"
+  python3 tests/runners/gate_table.py measure "$costs" out/gate.md "$name" "$@" 2>&1 | tee "$log" | sed -u "s/^\([0-9]* passed, [0-9]* failed\)\$/$name: \1/"
   status=${PIPESTATUS[0]}
   count=$(grep -E '^[0-9]+ passed, [0-9]+ failed$' "$log" | tail -n 1)
   good=0
@@ -42,23 +42,25 @@ add() {
 # The lines of a log that say what failed, and those before a crate that is not proved, which say why: at most 24.
 faults_in() {
   grep -E -B 6 '^rt: [a-z_]+(: its tests are)? NOT PROVED$' "$1" | grep -v ': proved$' | head -n 14
-  grep -E '^FAILED |^rt: FAILED|^rt: must-fail .*: (NOT REFUSED|BAD EDIT)|^there is no program' "$1" | head -n 10
+  grep -E '^FAILED |^rt: FAILED|^there is no program' "$1" | head -n 10
 }
 
 sh tests/tools.sh || echo "tests/tools.sh: a tool of the suite could not be installed"
 add "proofs" rt ci
-add "self tests" python3 tests/self_test.py
-add "wrong rules" python3 tests/rules.py
-add "command line" python3 tests/run.py
-add "whole language" python3 tests/run.py --whole
-add "codes" python3 tests/codes.py
-add "documents" python3 tests/documents.py
-add "examples" python3 tests/examples.py
-add "refused allocations" python3 tests/refused.py
-add "random programs" python3 tests/differential.py
+add "self tests" python3 tests/runners/self_test.py
+add "wrong bodies" python3 tests/runners/wrong.py
+add "wrong rules" python3 tests/runners/rules.py
+add "command line" python3 tests/runners/run.py
+add "whole language" python3 tests/runners/run.py --whole
+add "codes" python3 tests/runners/codes.py
+add "documents" python3 tests/runners/documents.py
+add "examples" python3 tests/runners/examples.py
+add "editors" python3 tests/runners/editors.py
+add "refused allocations" python3 tests/runners/refused.py
+add "random programs" python3 tests/runners/differential.py
 echo "== costs"
 mkdir -p out
-python3 tests/gate_table.py show "$costs" | tee out/gate.md
+python3 tests/runners/gate_table.py show "$costs" | tee out/gate.md
 if [ -s "$faults" ]; then
   echo "== what failed"
   cat "$faults"

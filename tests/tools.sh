@@ -1,11 +1,12 @@
 #!/bin/sh
-# Installs the tools of the suite that are missing: readelf, man and a C compiler, which are in Debian's packages binutils, man-db and
-# gcc.
+# Installs the tools of the suite that are missing: readelf, man, a C compiler and vim, which are in Debian's packages binutils, man-db,
+# gcc and vim.
 set -eu
 missing=""
 command -v readelf >/dev/null || missing="$missing binutils"
 command -v man >/dev/null || missing="$missing man-db"
 command -v cc >/dev/null || missing="$missing gcc libc6-dev"
+command -v vim >/dev/null || missing="$missing vim"
 [ -n "$missing" ] || exit 0
 as_root=""
 [ "$(id -u)" -eq 0 ] || as_root="sudo"

@@ -1,6 +1,7 @@
 //! Words for the demands that a fault can be of.
 use crate::homes::{Home, Origin, find_home};
 use crate::position::{is_fault, is_from};
+use crate::wanted::Wanted;
 use crate::words::{Named, say, say_place};
 use cyc_forms::types::is_struct;
 use cyc_forms::{Given, convert};
@@ -42,7 +43,7 @@ impl Walk<'_, '_> {
     }
 
     /// The words for a value of another type than what is wanted.
-    pub(crate) fn found_instead(&self, wanted: &str, given: Given<'_>) -> Option<Vec<u8>> {
+    fn found_instead(&self, wanted: &str, given: Given<'_>) -> Option<Vec<u8>> {
         let mut words = self.words();
         say(&mut words, "expected ").ok()?;
         say(&mut words, wanted).ok()?;
@@ -51,18 +52,12 @@ impl Walk<'_, '_> {
         Some(words)
     }
 
-    /// The same where the fault is that a value at this place is not what is wanted.
-    pub(crate) fn unless(
-        &self,
-        is_kept: bool,
-        span: Span,
-        wanted: &str,
-        given: Given<'_>,
-    ) -> Option<Vec<u8>> {
-        if is_kept || !self.is_fault(Code::TypeMismatch, span) {
-            return None;
+    /// What is asked of a value at this place: that it is what is wanted, and that its region is live where that is asked.
+    pub(crate) fn asked(&self, wanted: Wanted, given: Given<'_>, span: Span) -> Option<Vec<u8>> {
+        if self.is_fault(Code::TypeMismatch, span) && !wanted.allows(given) {
+            return self.found_instead(wanted.text(), given);
         }
-        self.found_instead(wanted, given)
+        self.closed(given, span)
     }
 
     /// What is said about a name.
@@ -202,9 +197,9 @@ impl Walk<'_, '_> {
     }
 
     /// The words for a pointer or a handle at this place, where the fault is that its region is not live.
-    pub(crate) fn closed(&self, given: Given<'_>, span: Span) -> Option<Vec<u8>> {
+    fn closed(&self, given: Given<'_>, span: Span) -> Option<Vec<u8>> {
         let region = given.region();
-        if self.scope.is_live(region) || !self.is_fault(Code::RegionNotLive, span) {
+        if !self.is_fault(Code::RegionNotLive, span) || self.scope.is_live(region) {
             return None;
         }
         let mut words = self.words();

@@ -30,11 +30,20 @@ pub fn explain(alloc: Global, tree: &Tree) -> Option<Explained>
     ensures { IfSome result (λ e. (e.fault ≡ memory_fault)
         ⊎ IsRefusedProgram tree.now.names (map view_declaration tree.now.declarations.items) e.fault) }
 {
+    let mut explained = refusal(alloc, tree)?;
+    explained.words = words_for(alloc, tree, explained.fault);
+    Some(explained)
+}
+
+/// The refusal of a tree, before there are words for it.
+fn refusal(alloc: Global, tree: &Tree) -> Option<Explained>
+    ensures { IfSome result (λ e. (e.fault ≡ memory_fault)
+        ⊎ IsRefusedProgram tree.now.names (map view_declaration tree.now.declarations.items) e.fault) }
+{
     let Err(fault) = check(alloc, tree) else {
         return None;
     };
-    let words = words_for(alloc, tree, fault);
-    Some(Explained { fault, words })
+    Some(Explained { fault, words: None })
 }
 
 /// The words for a fault in a declaration.

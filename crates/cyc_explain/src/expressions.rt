@@ -1,7 +1,8 @@
 //! The walk down an expression to where a fault stands: the innermost form with a demand that is broken there.
 use crate::demands::Walk;
-use crate::forms::{explain_content, explain_fields, explain_int, explain_own};
+use crate::forms::{explain_fields, explain_own, explain_value};
 use crate::position::is_from;
+use crate::wanted::Wanted;
 use cyc_forms::span_of;
 use cyc_syntax::{Expr, Initial, Operation, Postfix};
 
@@ -108,7 +109,7 @@ fn explain_initial(walk: &mut Walk<'_, '_>, initial: &Initial) -> Option<Vec<u8>
             if let Some(words) = explain_expression(walk, value) {
                 return Some(words);
             }
-            explain_content(walk, value)
+            explain_value(walk, value, Wanted::Content)
         }
         Initial::Fields {
             name,
@@ -131,12 +132,12 @@ fn explain_initial(walk: &mut Walk<'_, '_>, initial: &Initial) -> Option<Vec<u8>
                 if let Some(words) = explain_expression(walk, element) {
                     return Some(words);
                 }
-                return explain_content(walk, element);
+                return explain_value(walk, element, Wanted::Content);
             }
             if let Some(words) = explain_expression(walk, length) {
                 return Some(words);
             }
-            explain_int(walk, length)
+            explain_value(walk, length, Wanted::Int)
         }
     }
 }

@@ -2,19 +2,16 @@
 use crate::callees::{explain_constraint, explain_effect};
 use crate::demands::Walk;
 use crate::instance::at_call;
-use cyc_expressions::{check_expression, check_looked, check_place};
-use cyc_forms::types::is_struct;
-use cyc_forms::{
-    Given, Left, indexed, is_looking, join, loaded, pointed, selected, span_of, type_of_place,
-    type_of_side,
-};
-use cyc_scope::Meaning;
-use cyc_syntax::{BinaryOperator, Expr, Ident, Operation, PointerKind, Postfix, PrefixOperator};
+use crate::values::{given, place_of, value_of};
+use crate::wanted::{Wanted, wanted_by};
+use cyc_forms::{Given, is_looking, span_of};
+use cyc_scope::{Field, Meaning};
+use cyc_syntax::{BinaryOperator, Expr, Ident, Operation, Postfix, PrefixOperator};
+use cyc_types::Ty;
 use cyc_types::formation::arguments_or;
-use cyc_types::{Ty, typed};
+use cyc_types::typed::ValueType;
 use cyc_words::{Code, Span};
-
-const INT_OR_POINTER: &str = "int or a pointer";
+use std::alloc::AllocError;
 
 const COMPARED: &str = "two ints, two thin pointers to one type, or a pointer and NULL";
 
@@ -27,57 +24,22 @@ pub(crate) fn explain_own(walk: &mut Walk<'_, '_>, expression: &Expr) -> Option<
             function,
             arguments,
         } => explain_call(walk, *function, arguments),
-        Expr::NumberOfElements { pointer, .. } => {
-            let value = check_looked(&mut walk.scope, pointer).ok()?;
-            let given = Given::by(&value);
-            walk.unless(is_fat(given), span_of(pointer), "a ? pointer", given)
-        }
-        Expr::FreeUnique { pointer, .. } => {
-            let value = check_expression(&mut walk.scope, pointer).ok()?;
-            let given = Given::by(&value);
-            walk.unless(!given.is_void(), span_of(pointer), "a pointer of `U", given)
-        }
+        Expr::NumberOfElements { pointer, .. } => explain_value(walk, pointer, Wanted::Fat),
+        Expr::FreeUnique { pointer, .. } => explain_value(walk, pointer, Wanted::Freed),
         Expr::Chained { base, postfixes } => explain_chain(walk, base, postfixes),
         Expr::Prefixed {
             span,
             operator,
             operand,
         } => explain_prefixed(walk, *operator, *span, operand),
-        Expr::RegionNew { region, .. } => {
-            let value = check_expression(&mut walk.scope, region).ok()?;
-            let (given, span) = (Given::by(&value), span_of(region));
-            match walk.unless(given.is_handle(), span, "the handle of a region", given) {
-                Some(words) => Some(words),
-                None => walk.closed(given, span),
-            }
-        }
+        Expr::RegionNew { region, .. } => explain_value(walk, region, Wanted::Handle),
         Expr::Binary { first, rest } => explain_binary(walk, first, rest),
         Expr::Assign { target, value } => {
-            let found = check_place(&mut walk.scope, target, span_of(target)).ok()?;
-            let node = check_expression(&mut walk.scope, value).ok()?;
-            walk.conversion(Given::by(&node), type_of_side(&found.side), span_of(value))
+            let wanted = place_of(&mut walk.scope, target)?;
+            let found = value_of(&mut walk.scope, value, false)?;
+            walk.conversion(given(&found), &wanted, span_of(value))
         }
         _ => None,
-    }
-}
-
-fn is_fat(given: Given<'_>) -> bool {
-    matches!(
-        given,
-        Given::Value(Ty::Pointer {
-            kind: PointerKind::Fat,
-            ..
-        })
-    )
-}
-
-/// Whether it is a thin pointer to a struct.
-fn has_members(given: Given<'_>) -> bool {
-    match given {
-        Given::Value(Ty::Pointer { kind, target, .. }) => {
-            *kind != PointerKind::Fat && is_struct(target)
-        }
-        _ => false,
     }
 }
 
@@ -92,22 +54,16 @@ pub(crate) fn explain_name(walk: &Walk<'_, '_>, name: Ident) -> Option<Vec<u8>> 
     walk.about(name, " is a function, and no value")
 }
 
-pub(crate) fn explain_int(walk: &mut Walk<'_, '_>, expression: &Expr) -> Option<Vec<u8>> {
-    let value = check_expression(&mut walk.scope, expression).ok()?;
-    let given = Given::by(&value);
-    walk.unless(given.is_int(), span_of(expression), "int", given)
-}
+// ---- one operand
 
-/// What is put into a new object has to be a value.
-pub(crate) fn explain_content(walk: &mut Walk<'_, '_>, expression: &Expr) -> Option<Vec<u8>> {
-    let value = check_expression(&mut walk.scope, expression).ok()?;
-    let given = Given::by(&value);
-    walk.unless(
-        given.is_value(),
-        span_of(expression),
-        "a value with a type",
-        given,
-    )
+/// What is asked of a value.
+pub(crate) fn explain_value(
+    walk: &mut Walk<'_, '_>,
+    expression: &Expr,
+    wanted: Wanted,
+) -> Option<Vec<u8>> {
+    let value = value_of(&mut walk.scope, expression, wanted.is_looked_at())?;
+    walk.asked(wanted, given(&value), span_of(expression))
 }
 
 /// What a prefix operator asks of its operand.
@@ -118,40 +74,29 @@ fn explain_prefixed(
     operand: &Expr,
 ) -> Option<Vec<u8>> {
     match operator {
-        PrefixOperator::Negate | PrefixOperator::Complement => explain_int(walk, operand),
-        PrefixOperator::Not => explain_test(walk, operand),
+        PrefixOperator::Negate | PrefixOperator::Complement => {
+            explain_value(walk, operand, Wanted::Int)
+        }
+        PrefixOperator::Not => explain_value(walk, operand, Wanted::Tested),
         PrefixOperator::Dereference => {
-            let value = check_looked(&mut walk.scope, operand).ok()?;
-            let start = span_of(operand);
-            if let Some(words) = explain_pointer(walk, start, &value) {
-                return Some(words);
+            let value = value_of(&mut walk.scope, operand, true)?;
+            match walk.asked(Wanted::Pointer, given(&value), span_of(operand)) {
+                Some(words) => Some(words),
+                None => walk.whole_struct(target_of(&value)?, span),
             }
-            let cell = pointed(&walk.scope, start, value).ok()?;
-            walk.whole_struct(type_of_place(&cell.cell), span)
         }
         PrefixOperator::AddressOf => None,
     }
 }
 
-/// What `*` asks of its pointer.
-fn explain_pointer(walk: &Walk<'_, '_>, start: Span, value: &typed::Expr) -> Option<Vec<u8>> {
-    let given = Given::by(value);
-    match walk.unless(given.is_pointer(), start, "a pointer", given) {
-        Some(words) => Some(words),
-        None => walk.closed(given, start),
+/// What a pointer leads to.
+fn target_of(value: &ValueType) -> Option<&Ty> {
+    match value {
+        ValueType::Value {
+            of_type: Ty::Pointer { target, .. },
+        } => Some(target),
+        _ => None,
     }
-}
-
-/// What a condition asks.
-pub(crate) fn explain_test(walk: &mut Walk<'_, '_>, expression: &Expr) -> Option<Vec<u8>> {
-    let value = check_looked(&mut walk.scope, expression).ok()?;
-    let given = Given::by(&value);
-    walk.unless(
-        given.is_tested(),
-        span_of(expression),
-        INT_OR_POINTER,
-        given,
-    )
 }
 
 // ---- postfixes
@@ -159,106 +104,84 @@ pub(crate) fn explain_test(walk: &mut Walk<'_, '_>, expression: &Expr) -> Option
 /// What the postfixes behind an operand ask, one after the other.
 fn explain_chain(walk: &mut Walk<'_, '_>, base: &Expr, postfixes: &[Postfix]) -> Option<Vec<u8>> {
     let start = span_of(base);
-    let mut value = check_looked(&mut walk.scope, base).ok()?;
+    let mut value = value_of(&mut walk.scope, base, true)?;
     for postfix in postfixes {
-        let cell = match postfix {
-            Postfix::Index { index } => {
-                let given = Given::by(&value);
-                if let Some(words) = walk.unless(is_fat(given), start, "a ? pointer", given) {
-                    return Some(words);
-                }
-                if let Some(words) = explain_int(walk, index) {
-                    return Some(words);
-                }
-                if let Some(words) = walk.closed(Given::by(&value), start) {
-                    return Some(words);
-                }
-                let number = check_expression(&mut walk.scope, index).ok()?;
-                indexed(&walk.scope, start, value, span_of(index), number).ok()?
-            }
-            Postfix::Field { name } => {
-                if let Some(words) = explain_selected(walk, start, &value) {
-                    return Some(words);
-                }
-                selected(&walk.scope, start, value, *name).ok()?
-            }
-        };
-        if let Some(words) = walk.whole_struct(type_of_place(&cell.cell), start) {
+        if let Some(words) = explain_postfix(walk, start, &value, postfix) {
             return Some(words);
         }
-        value = loaded(walk.scope.alloc(), start, cell).ok()?;
+        let of_type = type_behind(walk, &value, postfix)?;
+        if let Some(words) = walk.whole_struct(&of_type, start) {
+            return Some(words);
+        }
+        value = ValueType::Value { of_type };
     }
     None
 }
 
-/// What `->` asks of its pointer.
-fn explain_selected(walk: &Walk<'_, '_>, start: Span, value: &typed::Expr) -> Option<Vec<u8>> {
-    let given = Given::by(value);
-    match walk.unless(
-        has_members(given),
-        start,
-        "a * or @ pointer to a struct",
-        given,
-    ) {
-        Some(words) => Some(words),
-        None => walk.closed(given, start),
+/// What a postfix asks of the pointer, which begins at this place, and of its index.
+fn explain_postfix(
+    walk: &mut Walk<'_, '_>,
+    start: Span,
+    pointer: &ValueType,
+    postfix: &Postfix,
+) -> Option<Vec<u8>> {
+    match postfix {
+        Postfix::Field { .. } => walk.asked(Wanted::Members, given(pointer), start),
+        Postfix::Index { index } => match walk.asked(Wanted::Fat, given(pointer), start) {
+            Some(words) => Some(words),
+            None => explain_value(walk, index, Wanted::Int),
+        },
     }
+}
+
+/// The type of what a postfix leads to.
+fn type_behind(walk: &Walk<'_, '_>, pointer: &ValueType, postfix: &Postfix) -> Option<Ty> {
+    let target = target_of(pointer)?;
+    let Postfix::Field { name } = postfix else {
+        return target.share().ok();
+    };
+    let Ty::Struct { number, regions } = target else {
+        return None;
+    };
+    for field in walk.scope.fields(*number) {
+        if field.name == name.name.number {
+            return field.of_type.substituted(walk.scope.alloc(), regions).ok();
+        }
+    }
+    None
 }
 
 // ---- operators of two operands
 
-/// An operand that is only looked at, or one whose value is used.
-fn value_of(
-    walk: &mut Walk<'_, '_>,
-    expression: &Expr,
-    is_looked: bool,
-) -> Option<Box<typed::Expr>> {
-    if is_looked {
-        check_looked(&mut walk.scope, expression).ok()
-    } else {
-        check_expression(&mut walk.scope, expression).ok()
-    }
-}
-
-/// What the operators of a chain ask, one after the other.
+/// What the operators of a chain ask, one after the other. All but sums of pointers give ints.
 fn explain_binary(
     walk: &mut Walk<'_, '_>,
     first: &Expr,
     operations: &[Operation],
 ) -> Option<Vec<u8>> {
     let span = span_of(first);
-    let is_looked = match operations.first() {
-        Some(operation) => is_looking(operation.operator),
-        None => false,
-    };
-    let node = value_of(walk, first, is_looked)?;
-    let mut of_type: Option<Ty> = None;
+    let mut left = value_of(
+        &mut walk.scope,
+        first,
+        is_looking(operations.first()?.operator),
+    )?;
     for operation in operations {
-        let given = match &of_type {
-            None => Given::by(&node),
-            Some(of_type) => Given::Value(of_type),
-        };
-        let left = Left {
-            span,
-            peeked: None,
-            given,
-        };
-        let right = value_of(walk, &operation.operand, is_looking(operation.operator))?;
+        let operator = operation.operator;
+        let right = value_of(&mut walk.scope, &operation.operand, is_looking(operator))?;
         let right_span = span_of(&operation.operand);
-        let other = Given::by(&right);
-        if let Some(words) = explain_operator(walk, operation.operator, left, other, right_span) {
+        if let Some(words) = explain_operator(
+            walk,
+            operator,
+            given(&left),
+            span,
+            given(&right),
+            right_span,
+        ) {
             return Some(words);
         }
-        let mut joined = Vec::new(walk.scope.alloc());
-        let result = join(
-            &walk.scope,
-            &mut joined,
-            left,
-            operation.operator,
-            right_span,
-            right,
-        );
-        of_type = Some(result.ok()?);
+        if !matches!(operator, BinaryOperator::Add | BinaryOperator::Subtract) {
+            left = ValueType::Value { of_type: Ty::Int };
+        }
     }
     None
 }
@@ -267,63 +190,31 @@ fn explain_binary(
 fn explain_operator(
     walk: &Walk<'_, '_>,
     operator: BinaryOperator,
-    left: Left<'_>,
-    right: Given<'_>,
-    right_span: Span,
-) -> Option<Vec<u8>> {
-    let (given, span) = (left.given, left.span);
-    match operator {
-        BinaryOperator::OrElse | BinaryOperator::AndThen => walk
-            .unless(given.is_tested(), span, INT_OR_POINTER, given)
-            .or(walk.unless(right.is_tested(), right_span, INT_OR_POINTER, right)),
-        BinaryOperator::Equal | BinaryOperator::NotEqual => {
-            explain_equality(walk, given, span, right, right_span)
-        }
-        BinaryOperator::Add | BinaryOperator::Subtract => {
-            let is_moved = given.is_int() || is_fat(given) && !given.is_unique();
-            walk.unless(is_moved, span, "int or a ? pointer", given)
-                .or(walk.unless(right.is_int(), right_span, "int", right))
-        }
-        _ => walk
-            .unless(given.is_int(), span, "int", given)
-            .or(walk.unless(right.is_int(), right_span, "int", right)),
-    }
-}
-
-/// Whether a value can be compared with any.
-fn is_comparable(given: Given<'_>) -> bool {
-    given.is_int() || given.is_pointer() || matches!(given, Given::Null)
-}
-
-/// What `==` and `!=` ask of their two operands.
-fn explain_equality(
-    walk: &Walk<'_, '_>,
-    given: Given<'_>,
+    left: Given<'_>,
     span: Span,
     right: Given<'_>,
     right_span: Span,
 ) -> Option<Vec<u8>> {
-    if let Some(words) = walk
-        .unless(is_comparable(given), span, INT_OR_POINTER, given)
-        .or(walk.unless(is_comparable(right), right_span, INT_OR_POINTER, right))
-    {
+    let (first, second) = wanted_by(operator);
+    if let Some(words) = walk.asked(first, left, span) {
         return Some(words);
     }
-    if walk.is_fault(Code::TypeMismatch, span) {
-        return walk.found_both(COMPARED, given, right);
+    if let Some(words) = walk.asked(second, right, right_span) {
+        return Some(words);
     }
-    if !given.is_pointer() || !right.is_pointer() {
-        return None;
+    match operator {
+        BinaryOperator::Equal | BinaryOperator::NotEqual
+            if walk.is_fault(Code::TypeMismatch, span) => { walk.found_both(COMPARED, left, right) }
+        _ => None,
     }
-    walk.closed(given, span).or(walk.closed(right, right_span))
 }
 
 // ---- calls and new structs
 
-fn values_of(walk: &mut Walk<'_, '_>, expressions: &[Expr]) -> Option<Vec<Box<typed::Expr>>> {
+fn values_of(walk: &mut Walk<'_, '_>, expressions: &[Expr]) -> Option<Vec<ValueType>> {
     let mut values = Vec::new(walk.scope.alloc());
     for expression in expressions {
-        let value = check_expression(&mut walk.scope, expression).ok()?;
+        let value = value_of(&mut walk.scope, expression, false)?;
         values.push(value).ok()?;
     }
     Some(values)
@@ -348,7 +239,7 @@ fn explain_count(
 fn explain_passed(
     walk: &Walk<'_, '_>,
     expressions: &[Expr],
-    values: &[Box<typed::Expr>],
+    values: &[ValueType],
     types: &[Ty],
 ) -> Option<Vec<u8>> {
     for i in 0..expressions.len() {
@@ -356,7 +247,7 @@ fn explain_passed(
             return None;
         };
         let span = span_of(&expressions[i]);
-        if let Some(words) = walk.conversion(Given::by(value), wanted, span) {
+        if let Some(words) = walk.conversion(given(value), wanted, span) {
             return Some(words);
         }
     }
@@ -366,25 +257,34 @@ fn explain_passed(
 /// What a call asks.
 fn explain_call(walk: &mut Walk<'_, '_>, function: Ident, arguments: &[Expr]) -> Option<Vec<u8>> {
     let values = values_of(walk, arguments)?;
-    let walk = &*walk;
+    explain_called(walk, function, arguments, &values)
+}
+
+/// What a call with these values asks.
+fn explain_called(
+    walk: &Walk<'_, '_>,
+    function: Ident,
+    arguments: &[Expr],
+    values: &[ValueType],
+) -> Option<Vec<u8>> {
+    let span = function.span;
     let Meaning::Routine { signature, .. } = walk.scope.meaning(function) else {
-        if !walk.is_fault(Code::TypeMismatch, function.span) {
+        if !walk.is_fault(Code::TypeMismatch, span) {
             return None;
         }
         return walk.about(function, " is a variable, and no function");
     };
     let wanted = signature.parameters.len();
-    let span = function.span;
     if let Some(words) = explain_count(walk, span, wanted, values.len(), "argument", "arguments") {
         return Some(words);
     }
-    let here = at_call(walk.scope.alloc(), signature, &values).ok()?;
-    explain_passed(walk, arguments, &values, &here.parameters)
+    let here = at_call(walk.scope.alloc(), signature, values).ok()?;
+    explain_passed(walk, arguments, values, &here.parameters)
         .or(explain_constraint(walk, function, signature, &here))
         .or(explain_effect(walk, function, signature, &here))
 }
 
-/// What a new struct of these values asks.
+/// What a new struct asks.
 pub(crate) fn explain_fields(
     walk: &mut Walk<'_, '_>,
     name: Ident,
@@ -392,7 +292,17 @@ pub(crate) fn explain_fields(
     expressions: &[Expr],
 ) -> Option<Vec<u8>> {
     let values = values_of(walk, expressions)?;
-    let walk = &*walk;
+    explain_made(walk, name, regions, expressions, &values)
+}
+
+/// What a new struct of these values asks.
+fn explain_made(
+    walk: &Walk<'_, '_>,
+    name: Ident,
+    regions: &[Ident],
+    expressions: &[Expr],
+    values: &[ValueType],
+) -> Option<Vec<u8>> {
     let structs = walk.scope.structs();
     let count = structs.parameters(name.name.number)?;
     if let Some(words) = explain_regions(walk, name.span, count, regions) {
@@ -409,15 +319,24 @@ pub(crate) fn explain_fields(
     ) {
         return Some(words);
     }
+    let types = field_types(walk, fields, count, regions).ok()?;
+    explain_passed(walk, expressions, values, &types)
+}
+
+/// The types of fields in a struct with so many regions, which are these.
+fn field_types(
+    walk: &Walk<'_, '_>,
+    fields: &[Field],
+    count: usize,
+    regions: &[Ident],
+) -> Result<Vec<Ty>, AllocError> {
     let alloc = walk.scope.alloc();
-    let given = arguments_or(alloc, walk.scope.names(), count, regions).ok()?;
+    let arguments = arguments_or(alloc, walk.scope.names(), count, regions)?;
     let mut types = Vec::new(alloc);
     for field in fields {
-        types
-            .push(field.of_type.substituted(alloc, &given).ok()?)
-            .ok()?;
+        types.push(field.of_type.substituted(alloc, &arguments)?)?;
     }
-    explain_passed(walk, expressions, &values, &types)
+    Ok(types)
 }
 
 /// The words for too many or too few region arguments.

@@ -1,6 +1,6 @@
 //! What the region variables of a signature are at a call, to be named: the region at the first place of each.
-use cyc_forms::Given;
-use cyc_types::{Region, Signature, Ty, typed};
+use cyc_types::typed::ValueType;
+use cyc_types::{Region, Signature, Ty};
 use std::alloc::{AllocError, Global};
 
 fn note(table: &mut Vec<Option<Region>>, variable: Region, region: Region) {
@@ -54,23 +54,11 @@ fn note_type(table: &mut Vec<Option<Region>>, parameter: &Ty, given: &Ty) {
     }
 }
 
-fn note_given(table: &mut Vec<Option<Region>>, parameter: &Ty, given: Given<'_>) {
-    match given {
-        Given::Void | Given::Null | Given::Int => {}
-        Given::HeapHandle => {
-            if let Ty::Handle { region } = parameter {
-                note(table, *region, Region::Heap);
-            }
-        }
-        Given::Value(of_type) => note_type(table, parameter, of_type),
-    }
-}
-
 /// The signature as it is at a call with these arguments.
 pub(crate) fn at_call(
     alloc: Global,
     signature: &Signature,
-    values: &[Box<typed::Expr>],
+    values: &[ValueType],
 ) -> Result<Signature, AllocError> {
     let mut table = Vec::new(alloc);
     table.push(Some(Region::Heap))?;
@@ -78,9 +66,13 @@ pub(crate) fn at_call(
         table.push(None)?;
     }
     for i in 0..values.len() {
-        if let Some(parameter) = signature.parameters.get(i) {
-            note_given(&mut table, parameter, Given::by(&values[i]));
-        }
+        let (Some(parameter), ValueType::Value { of_type }) = (
+            signature.parameters.get(i),
+            &values[i],
+        ) else {
+            continue;
+        };
+        note_type(&mut table, parameter, of_type);
     }
     let mut instance = Vec::with_capacity(alloc, table.len())?;
     for region in &table {

@@ -14,4 +14,6 @@ mod homes;
 mod instance;
 mod position;
 mod statements;
+mod values;
+mod wanted;
 mod words;

@@ -2,15 +2,17 @@
 use crate::declarations::explain_type;
 use crate::demands::Walk;
 use crate::expressions::explain_expression;
-use crate::forms::{explain_name, explain_test};
+use crate::forms::{explain_name, explain_value};
 use crate::homes::{Home, Origin};
 use crate::position::{is_from, start_of, start_of_item};
-use cyc_expressions::{check_expression, check_place};
+use crate::values::{given, place_of, value_of};
+use crate::wanted::Wanted;
 use cyc_forms::types::region_of as region_of_type;
-use cyc_forms::{Given, span_of, type_of_side};
+use cyc_forms::{Given, span_of};
 use cyc_scope::Meaning;
 use cyc_syntax::{Clause, Expr, Ident, Item, Stmt, WrittenType};
 use cyc_types::formation::{region_of, type_written};
+use cyc_types::typed::ValueType;
 use cyc_types::{Kind, Region, Ty};
 use cyc_words::{Code, Span};
 
@@ -123,7 +125,7 @@ fn explain_condition(walk: &mut Walk<'_, '_>, condition: &Expr) -> Option<Vec<u8
     if let Some(words) = explain_expression(walk, condition) {
         return Some(words);
     }
-    explain_test(walk, condition)
+    explain_value(walk, condition, Wanted::Tested)
 }
 
 /// The words for a fault in a default clause, whose place is not known where it has no items.
@@ -190,9 +192,7 @@ fn explain_throw(
     if let Some(words) = explain_expression(walk, written) {
         return Some(words);
     }
-    let node = check_expression(&mut walk.scope, written).ok()?;
-    let given = Given::by(&node);
-    walk.unless(given.is_int(), span_of(written), "int", given)
+    explain_value(walk, written, Wanted::Int)
 }
 
 fn explain_return(walk: &mut Walk<'_, '_>, span: Span, value: &Option<Expr>) -> Option<Vec<u8>> {
@@ -205,10 +205,9 @@ fn explain_return(walk: &mut Walk<'_, '_>, span: Span, value: &Option<Expr>) -> 
     if let Some(words) = explain_expression(walk, written) {
         return Some(words);
     }
-    let node = check_expression(&mut walk.scope, written).ok()?;
-    let given = Given::by(&node);
+    let value = value_of(&mut walk.scope, written, false)?;
     match walk.scope.result_type() {
-        Some(of_type) => walk.conversion(given, of_type, span_of(written)),
+        Some(of_type) => walk.conversion(given(&value), of_type, span_of(written)),
         None if walk.is_fault(Code::TypeMismatch, span) => {
             walk.about(walk.function, " returns no value")
         }
@@ -220,43 +219,41 @@ fn explain_swap(walk: &mut Walk<'_, '_>, left: &Expr, right: &Expr) -> Option<Ve
     if is_from(walk.fault, span_of(right)) {
         return explain_expression(walk, right);
     }
-    let first = check_place(&mut walk.scope, left, span_of(left));
-    let second = check_place(&mut walk.scope, right, span_of(right));
-    let (Ok(first), Ok(second)) = (first, second) else {
+    let first = place_of(&mut walk.scope, left);
+    let second = place_of(&mut walk.scope, right);
+    let (Some(first), Some(second)) = (first, second) else {
         return explain_expression(walk, left);
     };
     if !walk.is_fault(Code::TypeMismatch, span_of(left)) {
         return None;
     }
-    let (left_type, right_type) = (type_of_side(&first.side), type_of_side(&second.side));
-    if let Some(words) = walk.whole_struct(left_type, span_of(left)) {
+    if let Some(words) = walk.whole_struct(&first, span_of(left)) {
         return Some(words);
     }
-    let (left, right) = (Given::Value(left_type), Given::Value(right_type));
+    let (left, right) = (Given::Value(&first), Given::Value(&second));
     walk.found_both("the same type, with the same regions", left, right)
 }
 
 // ---- locals
 
 /// What is left out of the type of a local with this initial value.
-fn left_out_of(value: Given<'_>) -> Region {
+fn left_out_of(value: &ValueType) -> Region {
     match value {
-        Given::Value(of_type) => match of_type {
-            Ty::Pointer { region, .. } => *region,
-            _ => Region::Heap,
-        },
+        ValueType::Value {
+            of_type: Ty::Pointer { region, .. },
+        } => *region,
         _ => Region::Heap,
     }
 }
 
-/// The type of a local, with its region by this initial value.
-fn local_type(walk: &Walk<'_, '_>, written: &WrittenType, value: Given<'_>) -> Option<Ty> {
+/// A written type in which this is left out.
+fn type_here(walk: &Walk<'_, '_>, written: &WrittenType, left_out: Region) -> Option<Ty> {
     let scope = &walk.scope;
     type_written(
         scope.alloc(),
         scope.structs(),
         scope.names(),
-        left_out_of(value),
+        left_out,
         written,
     )
     .ok()
@@ -270,10 +267,9 @@ fn explain_initial_value(
     if let Some(words) = explain_expression(walk, value) {
         return Some(words);
     }
-    let node = check_expression(&mut walk.scope, value).ok()?;
-    let given = Given::by(&node);
-    let of_type = local_type(walk, written, given)?;
-    walk.conversion(given, &of_type, span_of(value))
+    let found = value_of(&mut walk.scope, value, false)?;
+    let of_type = type_here(walk, written, left_out_of(&found))?;
+    walk.conversion(given(&found), &of_type, span_of(value))
 }
 
 /// The type of the local that an alias is of.
@@ -309,20 +305,8 @@ fn explain_alias(
         target,
         region: own,
     };
-    let found = alias_type(walk, written, Region::Unique)?;
+    let found = type_here(walk, written, Region::Unique)?;
     walk.conversion_words(Given::Value(&found), &wanted)
-}
-
-fn alias_type(walk: &Walk<'_, '_>, written: &WrittenType, left_out: Region) -> Option<Ty> {
-    let scope = &walk.scope;
-    type_written(
-        scope.alloc(),
-        scope.structs(),
-        scope.names(),
-        left_out,
-        written,
-    )
-    .ok()
 }
 
 // ---- what comes into scope
@@ -369,13 +353,11 @@ fn pass_local(
     name: Ident,
     value: &Option<Expr>,
 ) -> Option<()> {
-    let of_type = match value {
-        None => local_type(walk, written, Given::Void)?,
-        Some(value) => {
-            let node = check_expression(&mut walk.scope, value).ok()?;
-            local_type(walk, written, Given::by(&node))?
-        }
+    let left_out = match value {
+        None => Region::Heap,
+        Some(value) => left_out_of(&value_of(&mut walk.scope, value, false)?),
     };
+    let of_type = type_here(walk, written, left_out)?;
     walk.scope.declare_local(name, of_type).ok()
 }
 
@@ -413,7 +395,7 @@ fn pass_item(walk: &mut Walk<'_, '_>, item: &Item) -> Option<()> {
         } => {
             open_region(walk, Kind::Alias, *region)?;
             let left_out = region_of_type(&source_type(walk, *source)?);
-            let written = alias_type(walk, of_type, left_out)?;
+            let written = type_here(walk, of_type, left_out)?;
             walk.scope.declare_local(*name, written).ok()
         }
         Item::DynamicRegion { region, key } => {

@@ -13,6 +13,8 @@ mod lex;
 #[cfg(test)]
 mod machine;
 #[cfg(test)]
+mod pool;
+#[cfg(test)]
 mod rows;
 #[cfg(test)]
 mod store;

@@ -2,6 +2,3 @@
 pub mod Answer
 pub mod Work
 pub mod Refusal
--- what the functions inside the program promise each other
-pub mod Request
-pub mod Excerpt

@@ -5,6 +5,7 @@ ghost use Rattle.cyclone.specs.Answer.{last_line, status_of, cause_words};
 use cyc_elf::ElfFault;
 use cyc_machine::{Cause, End, LoadFault};
 use cyc_system::{RunFault, Stop};
+use cyc_terminal::{exception, image_fault};
 use cyc_words::{Code, Fault};
 use std::fmt;
 
@@ -144,5 +145,19 @@ impl From<RunFault> for Answer {
             RunFault::Read => Answer::ReadFault,
             RunFault::Write => Answer::WriteFault,
         }
+    }
+}
+
+/// What there is to say about an answer to a person, beside its last line and what was said when it
+/// arose.
+pub fn explanation(answer: &Answer) -> Option<&'static str> {
+    match *answer {
+        Answer::BadImage(number) => Some(image_fault(number)),
+        Answer::Uncaught(number, _) => Some(exception(number)),
+        Answer::Full => Some("more nested calls than --calls, or more memory than --pages"),
+        Answer::Trapped(_) => Some("the machine refused an instruction of the image"),
+        Answer::Spent => Some("more instructions than --steps"),
+        Answer::NoMemory => Some("out of memory"),
+        _ => None,
     }
 }

@@ -1,7 +1,7 @@
 //! The files that a command line names.
 use crate::answer::Answer;
-use crate::excerpt::Shown;
 use crate::work::read_up_to;
+use cyc_terminal::Shown;
 use std::fs::OpenFile;
 use std::io::Write;
 use std::rt::Files;

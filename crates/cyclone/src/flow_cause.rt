@@ -1,8 +1,8 @@
 //! What a person reads of a variable that is empty or locked where it is used: where it came to be so.
-use crate::excerpt::{Shown, excerpt_at};
 use crate::refusal::tree_of;
 use cyc_check::check;
 use cyc_flow::{Cause, Change, explain};
+use cyc_terminal::{Shown, excerpt_at};
 use cyc_words::{Code, Fault, Span};
 use std::alloc::Global;
 use std::fmt;

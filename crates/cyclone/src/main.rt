@@ -1,15 +1,10 @@
 //! The program `cyclone`: checks a program, compiles one to an image, runs an image, and disassembles one.
 #![tactic(auto)]
 
-mod advice;
 mod answer;
-mod arguments;
-mod console;
-mod excerpt;
 mod files;
 mod flow_cause;
 mod message;
-mod number;
 mod refusal;
 mod session;
 mod work;

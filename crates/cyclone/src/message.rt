@@ -1,8 +1,7 @@
 //! The message for a person who reads why a text was refused.
-use crate::advice::{hint, meaning};
-use crate::excerpt::{Shown, excerpt_at};
 use crate::flow_cause::Note;
 use cyc_flow::Cause;
+use cyc_terminal::{Shown, excerpt_at, hint, meaning};
 use cyc_words::Fault;
 use std::fmt;
 

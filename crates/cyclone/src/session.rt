@@ -2,12 +2,7 @@
 ghost use Rattle.std.specs.Prelude.{◌≡◌};
 ghost use Rattle.cyclone.specs.Answer.{answer_of_fault};
 
-use crate::advice::explanation;
-use crate::answer::Answer;
-use crate::arguments;
-use crate::arguments::Request;
-use crate::console::{Keyboard, Screen};
-use crate::excerpt::Shown;
+use crate::answer::{Answer, explanation};
 use crate::files::{read_image, read_text, write_image};
 use crate::flow_cause::cause_of;
 use crate::message::Message;
@@ -16,6 +11,7 @@ use crate::work::{check, list_image, run_image};
 use clap::error::ErrorKind;
 use cyc_machine::Limits;
 use cyc_system::compile;
+use cyc_terminal::{Keyboard, Request, Screen, Shown, read_request};
 use cyc_words::Fault;
 use std::cell::RefCell;
 use std::env::{Env, FillError};
@@ -184,7 +180,7 @@ fn read_words(rt: &HostRuntime) -> Result<Vec<String>, Answer> {
 /// The answer to what the words of the command line ask for. What there is to say about it to a
 /// person stands on standard error.
 fn answer_words(rt: &HostRuntime, words: &[String]) -> Option<Answer> {
-    match arguments::read(rt.alloc(), words) {
+    match read_request(rt.alloc(), words) {
         Ok(request) => Some(carry_out(rt, request)),
         Err(error) => print_usage(rt, &error),
     }

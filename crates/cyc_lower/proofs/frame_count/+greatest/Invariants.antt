@@ -1,4 +1,4 @@
-use Rattle.cyc_lower.proofs.NeedsFound.{ItemsLeft, ClausesLeft}
+use Rattle.cyc_lower.proofs.emission.NeedsFound.{ItemsLeft, ClausesLeft}
 use Rattle.cyc_lower.proofs.frame_count.+greatest.Given as goal
 
 abbrev pub invariant-items_need-loop-item : goal.invariant-items_need-loop-item

@@ -1,4 +1,4 @@
-use Rattle.cyc_lower.proofs.NeedsFound.{ItemsKeptLeft, ClausesKeptLeft}
+use Rattle.cyc_lower.proofs.emission.NeedsFound.{ItemsKeptLeft, ClausesKeptLeft}
 use Rattle.cyc_lower.proofs.frame_count.+kept.Given as goal
 
 abbrev pub invariant-kept_by_items-loop-item : goal.invariant-kept_by_items-loop-item

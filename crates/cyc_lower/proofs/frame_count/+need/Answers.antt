@@ -7,7 +7,7 @@ use Rattle.cyc_types.specs.TypeView.{view_ty}
 use Rattle.cyc_types.specs.TypedTreeView.{view_expression, arguments_of, operations_of}
 use Rattle.cyc_meaning.specs.FrameCount.{expression_need, operations_need}
 use Rattle.cyc_lower.specs.Emission.{operands_need}
-use Rattle.cyc_lower.proofs.NeedsFound.{call_needs, fields_need, binary_needs}
+use Rattle.cyc_lower.proofs.emission.NeedsFound.{call_needs, fields_need, binary_needs}
 use Rattle.cyc_lower.proofs.frame_count.+need.Goals as goal
 
 pub expression_need-operands_need-requires : goal.expression_need-operands_need-requires

@@ -1,5 +1,5 @@
 use Rattle.cyc_types.specs.TypeView.{view_ty}
-use Rattle.cyc_lower.proofs.NeedsFound.{ArgumentsLeft, OperationsLeft}
+use Rattle.cyc_lower.proofs.emission.NeedsFound.{ArgumentsLeft, OperationsLeft}
 use Rattle.cyc_lower.proofs.frame_count.+need.Given as goal
 
 abbrev pub invariant-operands_need-loop-operand : goal.invariant-operands_need-loop-operand

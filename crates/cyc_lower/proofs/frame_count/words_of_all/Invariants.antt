@@ -1,4 +1,4 @@
-use Rattle.cyc_lower.proofs.NeedsFound.{WordsLeft}
+use Rattle.cyc_lower.proofs.emission.NeedsFound.{WordsLeft}
 use Rattle.cyc_lower.proofs.frame_count.words_of_all.Given as goal
 
 abbrev pub invariant-loop-of_type : goal.invariant-loop-of_type

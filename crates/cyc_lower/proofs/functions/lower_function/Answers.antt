@@ -5,7 +5,7 @@ use Rattle.cyc_types.specs.TypedTreeView.{view_struct, view_function, items_of}
 use Rattle.cyc_types.specs.declared.ty.Ty.{Ty}
 use Rattle.cyc_meaning.specs.FrameCount.{items_need, kept_by_items, words_of_all}
 use Rattle.cyc_lower.specs.Lowering.{first_temporary, function_code, items_code, outside_loops, span_of_place}
-use Rattle.cyc_lower.proofs.Routines.{few_locals, function_made}
+use Rattle.cyc_lower.proofs.sizes.Routines.{few_locals, function_made}
 use Rattle.cyc_lower.proofs.functions.lower_function.Goals as goal
 
 pub lower_body-requires : goal.lower_body-requires

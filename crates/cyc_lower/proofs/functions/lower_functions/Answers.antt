@@ -2,7 +2,7 @@ use Rattle.std.specs.Prelude.{map}
 use Rattle.cyc_types.specs.TypedTreeView.{view_struct, view_function}
 use Rattle.cyc_plain.specs.Program.{routine_of}
 use Rattle.cyc_lower.specs.Lowering.{lower_function}
-use Rattle.cyc_lower.proofs.Routines.{numbered_at, one_more}
+use Rattle.cyc_lower.proofs.sizes.Routines.{numbered_at, one_more}
 use Rattle.cyc_lower.proofs.functions.lower_functions.Goals as goal
 
 pub lower_function-requires : goal.lower_function-requires

@@ -9,7 +9,7 @@ use Rattle.cyc_plain.specs.WellFormed.{IsPlain}
 use Rattle.cyc_meaning.specs.FrameCount.{words_of_all}
 use Rattle.cyc_lower.specs.Slots.{starts_from, global_types}
 use Rattle.cyc_lower.specs.Lowering.{lower_function, lower_globals, globals_of, lower_program, may_open, scopes_if, scopes_of}
-use Rattle.cyc_lower.proofs.Lowerings.{is_plain}
+use Rattle.cyc_lower.proofs.sizes.Lowerings.{is_plain}
 use Rattle.cyc_lower.proofs.functions.lower_tree.Goals as goal
 
 pub starts_of_globals-requires : goal.starts_of_globals-requires

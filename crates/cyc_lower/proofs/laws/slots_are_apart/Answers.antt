@@ -1,5 +1,5 @@
 -- Slots of locals.
-use Rattle.cyc_lower.proofs.Slots.{slot-below, slots-apart, slot-behind, slot-append, slot-number}
+use Rattle.cyc_lower.proofs.slots.Slots.{slot-below, slots-apart, slot-behind, slot-append, slot-number}
 use Rattle.cyc_lower.proofs.laws.slots_are_apart.Goals as goal
 
 pub returns-clause-below : goal.returns-clause-below

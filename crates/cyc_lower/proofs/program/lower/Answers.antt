@@ -2,9 +2,9 @@ use Rattle.std.proofs.Common.{◌<◌, ◌≤◌, inr, length, arith}
 use Rattle.std.proofs.lemmas.List.{length-map}
 use Rattle.cyc_types.specs.TypedTreeView.{view_function, view_program}
 use Rattle.cyc_lower.specs.declared.limits.TheConstants.{MOST_FUNCTIONS}
-use Rattle.cyc_lower.proofs.Lowerings.{lowered, refused}
-use Rattle.cyc_lower.proofs.NeedBounds.{small_frames}
-use Rattle.cyc_lower.proofs.Routines.{too_many}
+use Rattle.cyc_lower.proofs.sizes.Lowerings.{lowered, refused}
+use Rattle.cyc_lower.proofs.sizes.NeedBounds.{small_frames}
+use Rattle.cyc_lower.proofs.sizes.Routines.{too_many}
 use Rattle.cyc_lower.proofs.program.lower.Goals as goal
 
 pub returns-then-len-gt-MOST_FUNCTIONS : goal.returns-then-len-gt-MOST_FUNCTIONS

@@ -3,7 +3,7 @@ use Rattle.std.specs.Prelude.{IfOk}
 use Rattle.std.proofs.lemmas.Result.{err_from_is_err_and}
 use Rattle.cyc_types.specs.TypedTreeView.{view_program}
 use Rattle.cyc_types.proofs.typing.ProgramLemmas.{program_well}
-use Rattle.cyc_lower.proofs.Accepted.{accepted_can_be_lowered}
+use Rattle.cyc_lower.proofs.acceptance.Accepted.{accepted_can_be_lowered}
 use Rattle.cyc_system.specs.Front.{names_in, IsAcceptedText}
 use Rattle.cyc_system.specs.FullPreservation.{IsImageOf}
 use Rattle.cyc_system.proofs.Amounts.{accepted_light, accepted_sound}

@@ -4,9 +4,9 @@ use Rattle.cyc_types.specs.TypedTrees.{Clauses, NoClauses}
 use Rattle.cyc_meaning.specs.FrameCount.{kept_by_clauses}
 use Rattle.cyc_lower.specs.Lowering.{items_code}
 use Rattle.cyc_lower.specs.Emission.{most_locals, view_starts}
-use Rattle.cyc_lower.proofs.Emitting.{Remains}
-use Rattle.cyc_lower.proofs.Branching.{ItemsRemain, ClosesLeft}
-use Rattle.cyc_lower.proofs.Handlers.{all_clauses}
+use Rattle.cyc_lower.proofs.emission.Emitting.{Remains}
+use Rattle.cyc_lower.proofs.emission.Branching.{ItemsRemain, ClosesLeft}
+use Rattle.cyc_lower.proofs.emission.Handlers.{all_clauses}
 use Rattle.cyc_lower.proofs.emitter.Emitter.+statement.Given as goal
 
 abbrev pub invariant-lower_items-loop-item : goal.invariant-lower_items-loop-item

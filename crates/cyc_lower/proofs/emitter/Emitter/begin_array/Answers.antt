@@ -1,7 +1,7 @@
 use Rattle.std.proofs.lemmas.Result.{on_ok_weaker}
 use Rattle.cyc_meaning.specs.Values.{words_of_kind}
 use Rattle.cyc_lower.specs.Emission.{view_starts}
-use Rattle.cyc_lower.proofs.Emitting.{made_begun}
+use Rattle.cyc_lower.proofs.emission.Emitting.{made_begun}
 use Rattle.cyc_lower.proofs.emitter.Emitter.begin_array.Goals as goal
 
 pub returns : goal.returns

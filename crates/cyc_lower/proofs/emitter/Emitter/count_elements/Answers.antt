@@ -1,7 +1,7 @@
 use Rattle.std.proofs.Common.{◌≡◌, ap}
 use Rattle.std.proofs.lemmas.Result.{on_ok_weaker}
 use borrow.Author.Rules.{rules}
-use Rattle.cyc_lower.proofs.Emitting.{made_count}
+use Rattle.cyc_lower.proofs.emission.Emitting.{made_count}
 use Rattle.cyc_lower.proofs.emitter.Emitter.count_elements.Goals as goal
 use Rattle.cyc_lower.proofs.emitter.Emitter.count_elements.Goals.{in-Slot+in_ok-behind+in_ok-emit+in_ok-emit-2+in_ok-emit-3+in_ok-emit-4, in_default}
 

@@ -1,5 +1,5 @@
 use Rattle.cyc_lower.specs.Lowering.{load_word}
-use Rattle.cyc_lower.proofs.Emitting.{WordsLeft}
+use Rattle.cyc_lower.proofs.emission.Emitting.{WordsLeft}
 use Rattle.cyc_lower.proofs.emitter.Emitter.load_global.Given as goal
 
 abbrev pub invariant-loop-index : goal.invariant-loop-index

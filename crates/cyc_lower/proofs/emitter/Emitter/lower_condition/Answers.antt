@@ -1,5 +1,5 @@
 use Rattle.cyc_types.specs.TypeView.{view_ty}
-use Rattle.cyc_lower.proofs.Emitting.{binary_viewed}
+use Rattle.cyc_lower.proofs.emission.Emitting.{binary_viewed}
 use Rattle.cyc_lower.proofs.emitter.Emitter.lower_condition.Goals as goal
 
 pub compare_chain-requires-clause-chain : goal.compare_chain-requires-clause-chain

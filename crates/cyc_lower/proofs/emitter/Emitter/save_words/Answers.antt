@@ -1,5 +1,5 @@
 use Rattle.cyc_lower.specs.Lowering.{store_word}
-use Rattle.cyc_lower.proofs.Emitting.{words_begin, words_next, words_end}
+use Rattle.cyc_lower.proofs.emission.Emitting.{words_begin, words_next, words_end}
 use Rattle.cyc_lower.proofs.emitter.Emitter.save_words.Goals as goal
 
 pub loop-index-init : goal.loop-index-init

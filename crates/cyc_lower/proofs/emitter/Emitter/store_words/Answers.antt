@@ -1,4 +1,4 @@
-use Rattle.cyc_lower.proofs.Emitting.{stores_begin, stores_next, stores_end}
+use Rattle.cyc_lower.proofs.emission.Emitting.{stores_begin, stores_next, stores_end}
 use Rattle.cyc_lower.proofs.emitter.Emitter.store_words.Goals as goal
 
 pub loop-index-init : goal.loop-index-init

@@ -1,4 +1,4 @@
-use Rattle.cyc_lower.proofs.Emitting.{StoresLeft}
+use Rattle.cyc_lower.proofs.emission.Emitting.{StoresLeft}
 use Rattle.cyc_lower.proofs.emitter.Emitter.store_words.Given as goal
 
 abbrev pub invariant-loop-index : goal.invariant-loop-index

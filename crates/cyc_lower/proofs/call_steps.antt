@@ -1,0 +1,3 @@
+-- the steps of calls and statements
+pub mod Calls
+pub mod StatementSteps

@@ -1,0 +1,527 @@
+-- The steps of statements, and those that leave entries.
+use Rattle.std.proofs.Common.{◌≡◌, ℕ, zero, suc, ◌≤◌, ◌<◌, Bool, true, false, List, [], ◌∷◌, length, map, slice_index_or, Option, None, Some, slice_get, refl, sym, ap, subst, ◌∙◌, arith, inr}
+use Rattle.std.specs.Prelude.{if◌then◌else◌}
+use Rattle.std.proofs.lemmas.Option.{same_Some, none-some}
+use Rattle.cyc_words.specs.Word.{signed}
+use Rattle.cyc_words.specs.Ending.{Returned}
+use Rattle.cyc_types.specs.declared.typed.Kind.{Kind}
+use Rattle.cyc_types.specs.Types.{Ty}
+use Rattle.cyc_types.specs.TypedTrees.{Counter, Local, Expression, Copy, Move, Peek, Convert, Statement, Block, Empty, Evaluate, If, While, Break, Continue, Items, NoItems, MoreItems, Execute, Declare, Function, Program, Swap, NullPointer, DeclareRegion, OpenRegion, DeclareAlias, DeclareKey}
+use Rattle.cyc_types.specs.TypedTrees as typed
+use Rattle.cyc_plain.specs.declared.instruction.Operand.{Operand}
+use Rattle.cyc_plain.specs.declared.instruction.Operand.TheVariants as operands
+use Rattle.cyc_plain.specs.declared.instruction.Instruction.{Instruction}
+use Rattle.cyc_plain.specs.declared.instruction.Instruction.TheVariants as instructions
+use Rattle.cyc_plain.specs.Program.{no_routine, routine_at}
+use Rattle.cyc_store.specs.State.{StoreState}
+use Rattle.cyc_plain.specs.State as plain
+use Rattle.cyc_plain.specs.State.{Words, copied, Activation, Frame, Configuration}
+use Rattle.cyc_plain.specs.Step.{Choice, at, performed}
+use Rattle.cyc_plain.specs.Step as plain_step
+use Rattle.cyc_plain.proofs.SlotLaws.{copied-below}
+use Rattle.cyc_plain.specs.Straight.{At}
+use Rattle.cyc_meaning.specs.Values.{Value, Int, kind_of, Operand as Kinded, words_of_kind}
+use Rattle.cyc_meaning.specs.State.{Access, Region, World, Environment, variable, made, opened, closed, with_local, region_at, ConvertTo, Initialise, Choose, Return, Entry, Needs, NeedsPlace, Discard, Rest, Join, Loop, CloseRegion, CloseLexical, EndLoan, Handler, Caller, Main, Focus, Evaluating, Given, Executing, Proceeding, Breaking, Continuing, Returning, Running, Ended, State}
+use Rattle.cyc_meaning.specs.Nesting.{IsNested}
+use Rattle.cyc_meaning.specs.Regions.{closing_lexical}
+use Rattle.cyc_meaning.specs.Step.{target_by, inside, region_end, step}
+use Rattle.cyc_lower.specs.declared.statements.Exits.{Exits}
+use Rattle.cyc_lower.specs.Slots.{slot_of}
+use Rattle.cyc_lower.proofs.slots.Slots.{slot-room, room-inside}
+use Rattle.cyc_lower.proofs.slots.Widths.{HasRoom, Outside}
+use Rattle.cyc_lower.proofs.relation.Moves.{copied_is, copied_elsewhere}
+use Rattle.cyc_lower.specs.Lowering.{counter_operand, operand_of, are_as_wide, converts_there, break_target, continue_target, scopes_of, inside_loop, results_of, lower_function, lower_program, globals_of, null_of}
+use Rattle.cyc_lower.proofs.relation.Stands.{OperandBy, ExpressionAt, InitialAt, InitialBy, ReturnedAt, ItemsAt}
+use Rattle.cyc_objects.specs.Tables.{Tables, with_row, with_handle}
+use Rattle.cyc_objects.specs.Related.{scopes}
+use Rattle.cyc_objects.specs.Words.{Is}
+use Rattle.cyc_objects.proofs.Values.{Grows-row, Grows-handle}
+use Rattle.cyc_lower.proofs.relation.Sharing.{shared_declared, row_declared, shared_opened, shared_closed}
+use Rattle.cyc_lower.proofs.relation.Relation.{kept, counters_of, CountsBy, opened_by, types_on, starts_on, types_at, starts_at, given_at, returned_at, Holds, held, callers, homes, Shared, DataAt, SharedAt, in_temporary, in_local, ValueStack, AheadStack, StatementStack, LandsStack, Related, EvaluatingAt, as_operand, into_slot, for_effect, as_condition, in_operand, ahead, behind_statement, behind_call, behind_wrong, Below, IsLast, Arrives, in_place, by_jump, code_of, bounds_in, bounds_at, top, behind_records, by_jumps, HandlersStand, DataIn, Matches, floor, row_of, call_slots}
+use Rattle.cyc_lower.proofs.relation.Data.{height-least, Holds-same, Holds-above, data_declared, data_returned, data_grows, held_by_caller, floor-least, handlers_same, calls_counted}
+use Rattle.cyc_lower.proofs.value_steps.Values.{int_at}
+use Rattle.cyc_lower.proofs.relation.Accesses.{IsWell, is_declared, is_closed, home_there}
+use Rattle.cyc_lower.proofs.place_steps.SwapSteps.{begins_swap}
+use Rattle.cyc_lower.proofs.relation.Weights.{weight}
+use Rattle.cyc_lower.proofs.object_steps.Handles.{kept_holds}
+use Rattle.cyc_lower.proofs.handler_steps.Handling.{leaving, shared_leaving, record_left}
+use Rattle.cyc_lower.proofs.region_steps.WaysOut.{leaves_region}
+use Rattle.cyc_lower.proofs.relation.Matched.{IsMatched, silently, by_one, by_two}
+use Rattle.cyc_lower.proofs.handler_steps.ExceptionSteps.{begins, ends, throws_none, throws_some}
+use Rattle.cyc_lower.proofs.value_steps.Evaluations.{IsStep, sources}
+use Rattle.cyc_lower.proofs.region_steps.RegionSteps.{local_there, opens_region, opens_by, aliases_local, declares_key, closes_region, ends_loan}
+use Rattle.cyc_lower.proofs.relation.Rows.{row-fits, row-variable}
+
+module _ (source : Program) (pages calls : ℕ) where
+  -- ---- calls
+
+  -- one call less waits
+  abbrev pub shared_returned : (w : World) (regions : List ℕ) (counting : Type 0) (output input : List ℕ) (store : StoreState) (home waiting : ℕ) → Shared pages calls w (home ∷ regions) counting output input store (suc waiting)
+      → Shared pages calls w regions counting output input store waiting
+  shared_returned w regions counting output input store home waiting s = record {
+    tables = s.tables;
+    same_output = s.same_output;
+    same_input = s.same_input;
+    same_pages = s.same_pages;
+    related = s.related;
+    globals = s.globals;
+    variables = s.variables.1;
+    few_pages = s.few_pages;
+    fits = omega (arith, s.fits);
+    counters = s.counters;
+  }
+
+  -- ---- statements
+
+  -- a value that is returned comes to a slot, or is in that of a local
+  returned : (tables : Tables) (a : Expression) (same : Bool) (locals : ℕ → Option ℕ) (g p : ℕ) (slots : Words) (frames : List Frame) (k : List Entry) (s m : ℕ)
+      → ReturnedAt (code_of source g) (bounds_at source g) (types_on source g k) (if same then operand_of (starts_on source g k) a else null_of a)
+      (ExpressionAt (code_of source g) (bounds_at source g) (types_on source g k) a (top source g k) (top source g k) p m) (top source g k) s p m
+      → Holds tables slots (floor source g k) (held k) → ValueStack source g locals (given_at source g a) (operands.Slot s) m frames k → EvaluatingAt source tables a locals g p slots frames k
+  returned tables NullPointer false locals g p slots frames k s m (is, at) holds stack =
+      into_slot (top source g k) m at holds (in_temporary (omega arith) (subst (λ x. ValueStack source g locals (given_at source g NullPointer) (operands.Slot x) m frames k) is stack))
+  returned tables a false locals g p slots frames k s m (is, at) holds stack =
+      into_slot (top source g k) m at holds (in_temporary (omega arith) (subst (λ x. ValueStack source g locals (given_at source g a) (operands.Slot x) m frames k) is stack))
+  returned tables (Copy (Local w n) t) true locals g p slots frames k s m (is, end) holds stack = as_operand (operands.Slot s) m (ap operands.Slot is, end) holds stack
+  returned tables (Move w n t) true locals g p slots frames k s m (is, end) holds stack = as_operand (operands.Slot s) m (ap operands.Slot is, end) holds stack
+  returned tables (Peek w n t) true locals g p slots frames k s m (is, end) holds stack = as_operand (operands.Slot s) m (ap operands.Slot is, end) holds stack
+  returned tables (Counter l) true locals g p slots frames k s m at holds stack = by (slice_get (counters_of (floor source g k) k) l) refl at
+    where
+      by : (slot : Option ℕ) → slice_get (counters_of (floor source g k) k) l ≡ slot
+          → ReturnedAt (code_of source g) (bounds_at source g) (types_on source g k) (counter_operand slot)
+          (ExpressionAt (code_of source g) (bounds_at source g) (types_on source g k) (Counter l) (top source g k) (top source g k) p m) (top source g k) s p m
+          → EvaluatingAt source tables (Counter l) locals g p slots frames k
+      by None none (is, at) = into_slot (top source g k) m at holds (in_temporary (omega arith) (subst (λ x. ValueStack source g locals (given_at source g (Counter l)) (operands.Slot x) m frames k) is stack))
+      by (Some n) there (is, end) =
+          as_operand (operands.Slot s) m
+          (subst (λ x. OperandBy (code_of source g) (bounds_at source g) (types_on source g k) (counter_operand x)
+          (ExpressionAt (code_of source g) (bounds_at source g) (types_on source g k) (Counter l) (top source g k) (top source g k) p m) (top source g k) (operands.Slot s) p m) (sym there) (ap operands.Slot is, end)) holds stack
+  returned tables a true locals g p slots frames k s m (is, at) holds stack =
+      into_slot (top source g k) m at holds (in_temporary (omega arith) (subst (λ x. ValueStack source g locals (given_at source g a) (operands.Slot x) m frames k) is stack))
+
+  pub executing : (s : Statement) (k : List Entry) (e : Environment) (w : World) (c : Configuration) → IsNested k e w → IsStep source pages calls (Executing s) k e w c
+  executing (Block r js) k e w c nested well (shared, facts, (exits, q, items, stack)) =
+      silently source pages calls (Running (Executing (Block r js)) k e w) (Running Proceeding (Rest js ∷ region_end e w ∷ k) (inside e w) (opened w)) (plain.Running c) refl (
+        shared_opened source pages calls k e w c shared,
+        behind_statement exits
+            (data_grows shared.tables (with_handle shared.tables None) (Grows-handle shared.tables None) source c.active.function c.active.base w.objects e.locals (callers k) c.active.slots c.globals c.frames facts.0, facts.1)
+            (q, items, (q, in_place refl, stack)),
+      )
+      (omega arith)
+  executing Empty k e w c nested well (shared, facts, (exits, q, end, stack)) =
+      silently source pages calls (Running (Executing Empty) k e w) (Running Proceeding k e w) (plain.Running c) refl
+      (shared, behind_statement exits facts (subst (λ r. StatementStack source c.active.function exits r c.frames k) (sym end) stack))
+      (omega arith)
+  executing (Evaluate a) k e w c nested well (shared, facts, (exits, q, here, stack)) =
+      silently source pages calls (Running (Executing (Evaluate a)) k e w) (Running (Evaluating a) (Discard ∷ k) e w) (plain.Running c) refl
+      (shared, facts, for_effect q here tt (exits, stack))
+      (omega arith)
+  executing (Swap a b) k e w c nested well related = begins_swap source pages calls a b k e w c well related
+  executing (If a s t) k e w c nested well (shared, facts, (exits, q, (x, y, m, r, at_a, jump, at_s, over, at_t), stack)) =
+      silently source pages calls (Running (Executing (If a s t)) k e w) (Running (Evaluating a) (Needs (Choose s t) ∷ k) e w) (plain.Running c) refl
+      (shared, facts, as_condition x y m at_a tt (exits, r, q, jump, at_s, over, at_t, stack))
+      (omega arith)
+  executing (While p a s) k e w c nested well (shared, facts, (exits, q, (x, y, m, r, enter, leave, at_a, jump, at_s, back, end, after), stack)) =
+      by_one source pages calls refl shared enter
+      (λ choice. (shared, facts, as_condition x y m at_a tt (inside_loop c.active.next exits, exits, q, (refl, refl, x, y, m, r, leave, at_a, jump, at_s, back, after), r, jump, at_s, back, stack)))
+  executing (typed.Return None) k e w c nested well (shared, facts, (exits, q, (s, m, (r, closing, marks), here), stack)) =
+      leaving source pages calls false (Executing (typed.Return None)) (Returning None) k k e w c exits.in_function r m refl shared (omega arith) (record_left source c.active.function exits q c.frames k stack).1 closing marks facts.1
+      (λ handlers stand marks_there marked. (shared_leaving source pages calls false k e w c shared, (facts.0, stand), m, marks_there, marked, (exits, q, s, here, stack)))
+  executing (typed.Return (Some (Convert from to a))) k e w c nested well (shared, facts, (exits, q, (s, m, r, u, at_a, at_to, leave, here, wide, kind_is), stack)) =
+      silently source pages calls (Running (Executing (typed.Return (Some (Convert from to a)))) k e w) (Running (Evaluating a) (Needs (ConvertTo from to (target_by a)) ∷ Needs Return ∷ k) e w) (plain.Running c) refl
+      (shared, facts, returned shared.tables a (are_as_wide from to) e.locals c.active.function c.active.next c.active.slots c.frames (Needs (ConvertTo from to (target_by a)) ∷ Needs Return ∷ k) s m at_a tt (r, at_to, (exits, q, s, u, refl, leave, here, (wide, kind_is), stack)))
+      (omega arith)
+  executing Break k e w c nested well (shared, facts, (exits, q, (m, (r, closing, marks), here), stack)) =
+      leaving source pages calls true (Executing Break) Breaking k k e w c exits.in_loop r m refl shared (omega arith) (record_left source c.active.function exits q c.frames k stack).0 closing marks facts.1
+      (λ handlers stand marks_there marked. (shared_leaving source pages calls true k e w c shared, (facts.0, stand), m, marks_there, marked, (exits, q, here, stack)))
+  executing Continue k e w c nested well (shared, facts, (exits, q, (m, (r, closing, marks), here), stack)) =
+      leaving source pages calls true (Executing Continue) Continuing k k e w c exits.in_loop r m refl shared (omega arith) (record_left source c.active.function exits q c.frames k stack).0 closing marks facts.1
+      (λ handlers stand marks_there marked. (shared_leaving source pages calls true k e w c shared, (facts.0, stand), m, marks_there, marked, (exits, q, here, stack)))
+  executing (typed.Throw tag None) k e w c nested well related = throws_none source pages calls tag k e w c well related
+  executing (typed.Throw tag (Some a)) k e w c nested well related = throws_some source pages calls tag a k e w c well related
+  executing (typed.Try s handler) k e w c nested well related = begins source pages calls s handler k e w c nested well related
+
+  -- ---- the end of a call
+
+  -- what a caller has waits behind the call
+  abbrev pub Waits : Kind → Environment → List Entry → Frame → List Frame → Type 0
+  Waits kind outer k f rest = LandsStack source f.caller.function outer.locals kind f.result f.caller.next rest k
+
+  -- the caller goes on behind the call, with a temporary written
+  comes_back : (t : Tables) (g from value results : ℕ) (slots globals : Words) (f : Frame) (frames : List Frame) (k : List Entry) (locals : ℕ → Option ℕ) (outer : Environment) (w : World)
+      → DataAt source t g from w.objects locals (callers (Caller outer ∷ k)) slots globals (f ∷ frames)
+      → HandlersStand source f.caller.function f.caller.slots f.caller.handlers frames k
+      → top source f.caller.function k ≤ f.result
+      → (DataAt source t f.caller.function f.caller.base w.objects outer.locals (callers k) (copied slots value results f.caller.slots f.result) globals frames
+      × HandlersStand source f.caller.function (copied slots value results f.caller.slots f.result) f.caller.handlers frames k)
+      × Holds t (copied slots value results f.caller.slots f.result) (floor source f.caller.function k) (held k)
+  comes_back t g from value results slots globals f frames k locals outer w facts stand least =
+      let now = copied slots value results f.caller.slots f.result in
+      let base = floor source f.caller.function k in
+      let holds = held_by_caller t source g from w.objects locals (record { locals = outer.locals; temporaries = behind_records k; values = held k }) (callers k) slots globals f frames facts in (
+        (
+          data_returned t source g from w.objects locals (record { locals = outer.locals; temporaries = behind_records k; values = held k }) (callers k) slots now globals f frames
+              (λ n less. copied-below slots f.caller.slots value results f.result n (omega (arith, less, least, height-least base (held k), floor-least source f.caller.function k))) facts,
+          handlers_same source f.caller.function f.caller.slots now f.caller.handlers frames k
+              (λ n from less. copied-below slots f.caller.slots value results f.result n (omega (arith, less, least, height-least base (held k)))) stand,
+        ),
+        Holds-same t f.caller.slots (copied slots value results f.caller.slots f.result) base (held k)
+            (λ n less. copied-below slots f.caller.slots value results f.result n (omega (arith, less, least))) holds,
+      )
+
+  -- no handler of the call is open then
+  finished : (next : State) (c : Configuration) (s : ℕ) (choice : Choice) → c.active.handlers ≡ []
+      → Matches source pages calls next (plain_step.returns c s (routine_at (lower_program source) c.active.function).results c.frames)
+      → Matches source pages calls next (performed (lower_program source) choice c (instructions.Finish s))
+  finished next c s choice none m =
+      subst (λ (handlers : List plain.Handler). Matches source pages calls next (plain_step.finishes c s (routine_at (lower_program source) c.active.function).results handlers)) (sym none) m
+
+  -- without a value
+  leaves_call : (focus : Focus) (active : Activation) (frames : List Frame) (globals : Words) (store : StoreState) (output input : List ℕ) (k : List Entry) (e outer : Environment) (w : World) (s : ℕ)
+      → step source (Running focus (Caller outer ∷ k) e w) ≡ Running Proceeding k outer w
+      → (shared : SharedAt source pages calls (Caller outer ∷ k) e w (record { active = active; frames = frames; globals = globals; store = store; output = output; input = input }))
+      → DataAt source shared.tables active.function active.base w.objects e.locals (callers (Caller outer ∷ k)) active.slots globals frames × HandlersStand source active.function active.slots active.handlers frames (Caller outer ∷ k)
+      → At (code_of source active.function) active.next (instructions.Finish s)
+      → Below source frames (Waits (returned_at source active.function) outer k)
+      → IsMatched source pages calls (Running focus (Caller outer ∷ k) e w) (plain.Running (record { active = active; frames = frames; globals = globals; store = store; output = output; input = input }))
+  leaves_call focus active [] globals store output input k e outer w s does shared facts here below = absurd below
+  leaves_call focus active (f ∷ frames) globals store output input k e outer w s does shared (facts, (none, stand)) here (in_temporary least stack) =
+      let c : Configuration = record { active = active; frames = f ∷ frames; globals = globals; store = store; output = output; input = input } in
+      let results = (routine_at (lower_program source) active.function).results in
+      let back = comes_back shared.tables active.function active.base s results active.slots globals f frames k e.locals outer w facts stand least in
+      by_one source pages calls does shared here
+      (λ choice. finished (Running Proceeding k outer w) c s choice none
+      (shared_returned w (outer.home ∷ homes k) (CountsBy source None outer k store (scopes w.regions)) output input store e.home (length frames) shared, behind_call (returned_at source active.function) (operands.Slot f.result) back.0 stack))
+  leaves_call focus active (f ∷ frames) globals store output input k e outer w s does shared (facts, (none, stand)) here (in_local below stack) =
+      let c : Configuration = record { active = active; frames = f ∷ frames; globals = globals; store = store; output = output; input = input } in
+      by_one source pages calls does shared here
+      (λ choice. finished (Running Proceeding k outer w) c s choice none
+      (shared_returned w (outer.home ∷ homes k) (CountsBy source None outer k store (scopes w.regions)) output input store e.home (length frames) shared, behind_wrong (returned_at source active.function) f.result (calls_counted source f.caller.function f.caller.slots f.caller.handlers frames k stand) stack))
+
+  -- with a value
+  hands_back : (v : Kinded) (active : Activation) (frames : List Frame) (globals : Words) (store : StoreState) (output input : List ℕ) (k : List Entry) (e outer : Environment) (w : World) (s : ℕ)
+      → (shared : SharedAt source pages calls (Caller outer ∷ k) e w (record { active = active; frames = frames; globals = globals; store = store; output = output; input = input }))
+      → DataAt source shared.tables active.function active.base w.objects e.locals (callers (Caller outer ∷ k)) active.slots globals frames × HandlersStand source active.function active.slots active.handlers frames (Caller outer ∷ k)
+      → At (code_of source active.function) active.next (instructions.Finish s) → Is shared.tables v.kind v.value active.slots s → (routine_at (lower_program source) active.function).results ≡ words_of_kind v.kind
+      → Below source frames (Waits v.kind outer k)
+      → IsMatched source pages calls (Running (Returning (Some v)) (Caller outer ∷ k) e w) (plain.Running (record { active = active; frames = frames; globals = globals; store = store; output = output; input = input }))
+  hands_back v active [] globals store output input k e outer w s shared facts here is wide below = absurd below
+  hands_back v active (f ∷ frames) globals store output input k e outer w s shared (facts, (none, stand)) here is wide (in_temporary least stack) =
+      let c : Configuration = record { active = active; frames = f ∷ frames; globals = globals; store = store; output = output; input = input } in
+      let results = (routine_at (lower_program source) active.function).results in
+      let back = comes_back shared.tables active.function active.base s results active.slots globals f frames k e.locals outer w facts stand least in
+      by_one source pages calls refl shared here
+      (λ choice. finished (Running (Given v) k outer w) c s choice none (
+        shared_returned w (outer.home ∷ homes k) (CountsBy source None outer k store (scopes w.regions)) output input store e.home (length frames) shared,
+        in_operand (operands.Slot f.result) back.0 (copied_is shared.tables v active.slots f.caller.slots s results f.result (omega (arith, wide)) is) (kept_holds _ _ _ k back.1) stack,
+      ))
+  hands_back v active (f ∷ frames) globals store output input k e outer w s shared (facts, (none, stand)) here is wide (in_local below stack) =
+      let c : Configuration = record { active = active; frames = f ∷ frames; globals = globals; store = store; output = output; input = input } in
+      let results = (routine_at (lower_program source) active.function).results in
+      let base = floor source f.caller.function k in
+      let d = f.result in
+      let holds = held_by_caller shared.tables source active.function active.base w.objects e.locals (record { locals = outer.locals; temporaries = behind_records k; values = held k }) (callers k) active.slots globals f frames facts in
+      let now = copied active.slots s results f.caller.slots d in
+      let elsewhere : (n : ℕ) → Outside d (words_of_kind v.kind) n → now n ≡ f.caller.slots n =
+      λ n out. copied_elsewhere active.slots f.caller.slots s results d n (subst (λ many. Outside d many n) (sym wide) out) in
+      by_one source pages calls refl shared here
+      (λ choice. finished (Running (Given v) k outer w) c s choice none (
+        shared_returned w (outer.home ∷ homes k) (CountsBy source None outer k store (scopes w.regions)) output input store e.home (length frames) shared,
+        ahead d (
+          f.caller.slots,
+          λ n out. sym (elsewhere n out),
+          (
+            data_returned shared.tables source active.function active.base w.objects e.locals (record { locals = outer.locals; temporaries = behind_records k; values = held k }) (callers k) active.slots f.caller.slots globals f frames (λ n less. refl) facts,
+            stand,
+          ),
+        )
+            (copied_is shared.tables v active.slots f.caller.slots s results d (omega (arith, wide)) is)
+            (Holds-above shared.tables f.caller.slots now base (kept k) (λ n from. elsewhere n (inr (omega (arith, from, below, floor-least source f.caller.function k)))) (kept_holds _ _ _ k holds))
+            stack,
+      ))
+
+  -- ---- what goes on when something is done
+
+  -- what the instructions of a function return is what its bounds say
+  results_in : (hs : List Function) (g : ℕ) → (slice_index_or (map (lower_function source.structs (globals_of source) (scopes_of source)) hs) g no_routine).results ≡ results_of (bounds_in source (slice_get hs g)).result
+  results_in [] g = refl
+  results_in (h ∷ hs) zero = refl
+  results_in (h ∷ hs) (suc g) = results_in hs g
+
+  results_at : (g : ℕ) → (routine_at (lower_program source) g).results ≡ results_of (bounds_at source g).result
+  results_at g = results_in source.functions g
+
+  declares : (n : ℕ) (t : Ty) (js : Items) (k : List Entry) (e : Environment) (w : World) (c : Configuration) (exits : Exits) (m q : ℕ)
+      → IsWell (step source (Running Proceeding (Rest (MoreItems (Declare n t None) js) ∷ k) e w))
+      → (shared : SharedAt source pages calls k e w c) → DataIn source shared.tables c.active.slots k e w c
+      → n < length (types_at source c.active.function).locals → HasRoom (types_at source c.active.function) n (kind_of t) → c.active.next ≡ m
+      → ItemsAt (code_of source c.active.function) (bounds_at source c.active.function) (types_at source c.active.function) js exits (floor source c.active.function k) m q
+      → StatementStack source c.active.function exits q c.frames k
+      → IsMatched source pages calls (Running Proceeding (Rest (MoreItems (Declare n t None) js) ∷ k) e w) (plain.Running c)
+  declares n t js k e w c exits m q well shared facts few room end items stack =
+      let g = c.active.function in
+      let x = variable e.home (kind_of t) None in
+      let (r, home) = home_there Proceeding n (kind_of t) None (Rest js ∷ k) e w well in
+      let row = row_of (call_slots source g c.active.base) (slot_of (starts_at source g) n) (kind_of t) in
+      let grown = with_row shared.tables row in
+      let more = data_grows shared.tables grown (Grows-row shared.tables row) source g c.active.base w.objects e.locals (callers k) c.active.slots c.globals c.frames facts.0 in
+      silently source pages calls (Running Proceeding (Rest (MoreItems (Declare n t None) js) ∷ k) e w)
+      (Running Proceeding (Rest js ∷ k) (with_local e n (length w.objects)) (made w x)) (plain.Running c)
+      (is_declared (region_at w e.home) Proceeding n (kind_of t) None (Rest js ∷ k) e w well) (
+        shared_declared source pages calls k e w c shared n r (kind_of t) None row home (row-fits (call_slots source g c.active.base) (slot_of (starts_at source g) n) (kind_of t) e.home None) (row-variable (call_slots source g c.active.base) (slot_of (starts_at source g) n) (kind_of t)),
+        behind_statement exits
+            (data_declared grown source g c.active.base w.objects e (callers k) c.active.slots c.active.slots c.globals c.frames n 0 x few (omega arith) (record { kind = kind_of t; room = room; row = row_declared source pages calls k e w c shared row }) (λ m out. refl) (λ v has. absurd (none-some v has)) more, facts.1)
+            (q, subst (λ p. ItemsAt (code_of source g) (bounds_at source g) (types_at source g) js exits (floor source g k) p q) (sym end) items, stack),
+      )
+      (omega arith)
+
+  -- code comes to where another statement goes on
+  arrives : (old k : List Entry) (e e0 : Environment) (w w0 : World) (c : Configuration) (exits : Exits) (q : ℕ)
+      → step source (Running Proceeding old e0 w0) ≡ Running Proceeding k e w → SharedAt source pages calls old e0 w0 c → weight (Running Proceeding k e w) < weight (Running Proceeding old e0 w0)
+      → (shared : SharedAt source pages calls k e w c) → DataIn source shared.tables c.active.slots k e w c
+      → Arrives source (code_of source c.active.function) c.active.next q → StatementStack source c.active.function exits q c.frames k
+      → IsMatched source pages calls (Running Proceeding old e0 w0) (plain.Running c)
+  arrives old k e e0 w w0 c exits q does before lighter shared facts (in_place end) stack =
+      silently source pages calls (Running Proceeding old e0 w0) (Running Proceeding k e w) (plain.Running c) does
+      (shared, behind_statement exits facts (subst (λ r. StatementStack source c.active.function exits r c.frames k) (sym end) stack))
+      lighter
+  arrives old k e e0 w w0 c exits q does before lighter shared facts (by_jump jump) stack =
+      by_one source pages calls does before jump (λ choice. (shared, behind_statement exits facts stack))
+  arrives old k e e0 w w0 c exits q does before lighter shared facts (by_jumps m less first second) stack =
+      by_two source pages calls (at c m) does before before first (λ choice. refl) second (λ same. omega (arith, less, same)) (λ choice. (shared, behind_statement exits facts stack))
+
+  -- a local gets its initial value: it comes to its slots at once, or is moved there once it is converted
+  initial_by : (there : Bool) (n : ℕ) (ty : Ty) (from to : Kind) (a : Expression) (js : Items) (k : List Entry) (e : Environment) (w : World) (c : Configuration) (exits : Exits) (m q : ℕ)
+      → converts_there from to ≡ there
+      → (shared : SharedAt source pages calls k e w c) → DataIn source shared.tables c.active.slots k e w c
+      → HasRoom (types_at source c.active.function) n to
+      → InitialBy (code_of source c.active.function) (bounds_at source c.active.function) (types_at source c.active.function) there from to a (slot_of (starts_at source c.active.function) n) (floor source c.active.function k) c.active.next m
+      → ItemsAt (code_of source c.active.function) (bounds_at source c.active.function) (types_at source c.active.function) js exits (floor source c.active.function k) m q
+      → StatementStack source c.active.function exits q c.frames k
+      → Related source pages calls (Evaluating a) (Needs (ConvertTo from to (target_by a)) ∷ Needs (Initialise n (kind_of ty) js) ∷ k) e w c
+  initial_by true n ty from to a js k e w c exits m q lands shared facts room (wide, at_a) items stack =
+      let g = c.active.function in
+      let inside = slot-room (types_at source g) n (room-inside (types_at source g) n to room) in
+      (shared, facts, into_slot (slot_of (starts_at source g) n) m at_a tt (in_local (omega (arith, inside, room, wide)) (lands, wide, (exits, q, refl, room, items, stack))))
+  initial_by false n ty from to a js k e w c exits m q lands shared facts room (o, s, r, at_a, at_to, move, end) items stack =
+      let g = c.active.function in
+      let rest = subst (λ p. ItemsAt (code_of source g) (bounds_at source g) (types_at source g) js exits (floor source g k) p q) (sym end) items in
+      (shared, facts, sources source pages calls shared.tables from to a (Needs (ConvertTo from to (target_by a)) ∷ Needs (Initialise n (kind_of ty) js) ∷ k) e w c o s at_a tt (r, at_to, (exits, q, move, room, rest, stack)))
+
+  initial : (n : ℕ) (ty : Ty) (from to : Kind) (a : Expression) (js : Items) (k : List Entry) (e : Environment) (w : World) (c : Configuration) (exits : Exits) (m q : ℕ)
+      → (shared : SharedAt source pages calls k e w c) → DataIn source shared.tables c.active.slots k e w c
+      → HasRoom (types_at source c.active.function) n to
+      → InitialAt (code_of source c.active.function) (bounds_at source c.active.function) (types_at source c.active.function) (Convert from to a) (slot_of (starts_at source c.active.function) n) (floor source c.active.function k) c.active.next m
+      → ItemsAt (code_of source c.active.function) (bounds_at source c.active.function) (types_at source c.active.function) js exits (floor source c.active.function k) m q
+      → StatementStack source c.active.function exits q c.frames k
+      → IsMatched source pages calls (Running Proceeding (Rest (MoreItems (Declare n ty (Some (Convert from to a))) js) ∷ k) e w) (plain.Running c)
+  initial n ty from to a js k e w c exits m q shared facts room at items stack =
+      silently source pages calls (Running Proceeding (Rest (MoreItems (Declare n ty (Some (Convert from to a))) js) ∷ k) e w)
+      (Running (Evaluating a) (Needs (ConvertTo from to (target_by a)) ∷ Needs (Initialise n (kind_of ty) js) ∷ k) e w) (plain.Running c) refl
+      (initial_by (converts_there from to) n ty from to a js k e w c exits m q refl shared facts room at items stack)
+      (omega arith)
+
+  after_statement : (k : List Entry) (e : Environment) (w : World) (c : Configuration) (exits : Exits) → IsNested k e w → IsWell (step source (Running Proceeding k e w))
+      → (shared : SharedAt source pages calls k e w c) → DataIn source shared.tables c.active.slots k e w c
+      → StatementStack source c.active.function exits c.active.next c.frames k → IsMatched source pages calls (Running Proceeding k e w) (plain.Running c)
+  after_statement (Rest NoItems ∷ k) e w c exits nested well shared facts (q, end, stack) =
+      silently source pages calls (Running Proceeding (Rest NoItems ∷ k) e w) (Running Proceeding k e w) (plain.Running c) refl
+      (shared, behind_statement exits facts (subst (λ r. StatementStack source c.active.function exits r c.frames k) (sym end) stack))
+      (omega arith)
+  after_statement (Rest (MoreItems (Execute s) js) ∷ k) e w c exits nested well shared facts (q, (m, at_s, items), stack) =
+      silently source pages calls (Running Proceeding (Rest (MoreItems (Execute s) js) ∷ k) e w) (Running (Executing s) (Rest js ∷ k) e w) (plain.Running c) refl
+      (shared, facts, (exits, m, at_s, (q, items, stack)))
+      (omega arith)
+  after_statement (Rest (MoreItems (Declare n t None) js) ∷ k) e w c exits nested well shared facts (q, (m, room, (few, end), items), stack) =
+      declares n t js k e w c exits m q well shared facts (local_there source pages calls c.active.function n few) room end items stack
+  after_statement (Rest (MoreItems (Declare n t (Some (Convert from to a))) js) ∷ k) e w c exits nested well shared facts (q, (m, there, (few, room, at), items), stack) =
+      initial n t from to a js k e w c exits m q shared facts room at items stack
+  after_statement (Rest (MoreItems (DeclareRegion r n) js) ∷ k) e w c exits nested well shared facts (q, items, stack) =
+      opens_region source pages calls r n js k e w c exits q shared facts nested items stack
+  after_statement (Rest (MoreItems (OpenRegion r n p key) js) ∷ k) e w c exits nested well shared facts (q, items, stack) =
+      opens_by source pages calls r n key p js k e w c exits q well shared facts items stack
+  after_statement (Rest (MoreItems (DeclareAlias r n t p lent) js) ∷ k) e w c exits nested well shared facts (q, items, stack) =
+      aliases_local source pages calls r n lent t p js k e w c exits q well shared facts items stack
+  after_statement (Rest (MoreItems (DeclareKey r n) js) ∷ k) e w c exits nested well shared facts (q, items, stack) =
+      declares_key source pages calls r n js k e w c exits q shared facts items stack
+  after_statement (Join ∷ k) e w c exits nested well shared facts (q, comes, stack) = arrives (Join ∷ k) k e e w w c exits q refl shared (omega arith) shared facts comes stack
+  after_statement (Loop a s ∷ k) e w c exits nested well shared facts (outer, q, (loop_is, function_is, x, y, m, r, leave, at_a, jump, at_s, back, after), here, stack) =
+      by_one source pages calls refl shared here
+      (λ choice. (shared, facts, as_condition x y m at_a tt (exits, outer, q, (loop_is, function_is, x, y, m, r, leave, at_a, jump, at_s, back, after), r, jump, at_s, back, stack)))
+  after_statement (CloseRegion region home ∷ k) e w c exits nested well shared facts (q, comes, stack) =
+      let found = is_closed Proceeding region home k e w well in
+      arrives (CloseRegion region home ∷ k) k (record e { home = home }) e (closed w region found.region) w c exits q found.gives shared (omega arith)
+      (shared_closed source None pages calls k e w c region home found.region found.there shared) facts comes stack
+  after_statement (Handler handler ∷ k) e w c exits nested well shared facts stack = ends source pages calls handler k e w c exits shared facts stack
+  after_statement (Caller outer ∷ k) e w c exits nested well shared facts (s, here, outside, below) =
+      leaves_call Proceeding c.active c.frames c.globals c.store c.output c.input k e outer w s refl shared facts here below
+  after_statement (CloseLexical region ∷ k) e w c exits nested well shared facts stack = closes_region source pages calls region k e w c exits shared facts nested stack
+  after_statement (EndLoan lent ∷ k) e w c exits nested well shared facts stack = ends_loan source pages calls lent k e w c exits shared facts stack
+  after_statement (Main ∷ k) e w c exits nested well shared facts stack = absurd (well refl)
+  after_statement k e w c exits nested well shared facts stack = absurd stack
+
+  after_call : (k : List Entry) (e : Environment) (w : World) (c : Configuration) (kind : Kind) (o : Operand) → IsWell (step source (Running Proceeding k e w))
+      → (shared : SharedAt source pages calls k e w c) → DataIn source shared.tables c.active.slots k e w c
+      → ValueStack source c.active.function e.locals kind o c.active.next c.frames k → IsMatched source pages calls (Running Proceeding k e w) (plain.Running c)
+  after_call (Needs a ∷ k) e w c kind o well shared facts stack = absurd (well refl)
+  after_call (Discard ∷ k) e w c kind o well shared facts (exits, stack) =
+      silently source pages calls (Running Proceeding (Discard ∷ k) e w) (Running Proceeding k e w) (plain.Running c) refl
+      (shared, behind_statement exits facts stack)
+      (omega arith)
+  after_call k e w c kind o well shared facts stack = absurd stack
+
+  after_wrong : (k : List Entry) (e : Environment) (w : World) (c : Configuration) (kind : Kind) (n : ℕ) → IsWell (step source (Running Proceeding k e w))
+      → AheadStack source c.active.function e.locals kind n c.active.next c.frames k → IsMatched source pages calls (Running Proceeding k e w) (plain.Running c)
+  after_wrong (Needs a ∷ k) e w c kind n well stack = absurd (well refl)
+  after_wrong k e w c kind n well stack = absurd stack
+
+  pub proceeding : (k : List Entry) (e : Environment) (w : World) (c : Configuration) → IsNested k e w → IsStep source pages calls Proceeding k e w c
+  proceeding k e w c nested well (shared, behind_statement exits facts stack) = after_statement k e w c exits nested well shared facts stack
+  proceeding k e w c nested well (shared, behind_call kind o facts stack) = after_call k e w c kind o well shared facts stack
+  proceeding k e w c nested well (shared, behind_wrong kind n counted stack) = after_wrong k e w c kind n well stack
+
+  -- ---- breaks
+
+  pub breaking : (k : List Entry) (e : Environment) (w : World) (c : Configuration) → IsNested k e w → IsStep source pages calls Breaking k e w c
+  breaking [] e w c nested well related = absurd (well refl)
+  breaking (Needs a ∷ k) e w c nested well (shared, facts, r, marks, marked, (exits, q, here, stack)) = absurd stack
+  breaking (Discard ∷ k) e w c nested well (shared, facts, r, marks, marked, (exits, q, here, stack)) = absurd stack
+  breaking (Rest js ∷ k) e w c nested well (shared, facts, r, marks, marked, (exits, q, here, (u, items, stack))) =
+      silently source pages calls (Running Breaking (Rest js ∷ k) e w) (Running Breaking k e w) (plain.Running c) refl (shared, facts, r, marks, marked, (exits, u, here, stack)) (omega arith)
+  breaking (Join ∷ k) e w c nested well (shared, facts, r, marks, marked, (exits, q, here, (u, arrives, stack))) =
+      silently source pages calls (Running Breaking (Join ∷ k) e w) (Running Breaking k e w) (plain.Running c) refl (shared, facts, r, marks, marked, (exits, u, here, stack)) (omega arith)
+  breaking (Loop a s ∷ k) e w c nested well (shared, facts, r, end, marked, (exits, q, jumps, (outer, u, (loop_is, function_is, x, y, m, n, leave, at_a, jump, at_s, back, after), again, stack))) =
+      let here : At (code_of source c.active.function) c.active.next (instructions.Jump (break_target exits.head)) = subst (λ n. At (code_of source c.active.function) n (instructions.Jump (break_target exits.head))) (sym end) jumps in
+      by_two source pages calls (at c (break_target exits.head)) refl shared shared here (λ choice. refl) leave
+      (λ same.
+      let jumps : u ≡ break_target exits.head = ap (λ (i : Instruction). target_of i) (same_Some (instructions.Jump u) (instructions.Jump (break_target exits.head)) (sym leave ∙ ap (slice_get (code_of source c.active.function)) (sym same) ∙ here)) in
+      absurd (omega (arith, jumps, after)))
+      (λ choice. (shared, behind_statement outer facts stack))
+    where
+      target_of : Instruction → ℕ
+      target_of (instructions.Jump t) = t
+      target_of i = 0
+  breaking (CloseRegion region home ∷ k) e w c nested well (shared, facts, r, marks, marked, (exits, q, here, (u, comes, stack))) =
+      let found = is_closed Breaking region home k e w well in
+      silently source pages calls (Running Breaking (CloseRegion region home ∷ k) e w) (Running Breaking k (record e { home = home }) (closed w region found.region)) (plain.Running c) found.gives
+      (shared_closed source (opened_by source true c.active.function k).mark pages calls k e w c region home found.region found.there shared, facts, r, marks, marked, (exits, u, here, stack))
+      (omega arith)
+  breaking (Caller outer ∷ k) e w c nested well related = absurd (well refl)
+  breaking (NeedsPlace a ∷ k) e w c nested well (shared, facts, r, marks, marked, (exits, q, here, stack)) = absurd stack
+  breaking (CloseLexical region ∷ k) e w c nested well (shared, facts, r, marks, marked, (exits, q, here, (outer, u, is, closing, stack))) =
+      leaves_region source pages calls true Breaking region k e w c (λ r found. ap (λ (a : Access Region). closing_lexical a Breaking region k e w) found) (λ v. omega arith) (λ v d leaves. leaves) nested shared facts r marks marked
+      (outer, u, subst (λ n. At (code_of source c.active.function) r (instructions.Jump n)) (ap (λ (x : Exits). break_target x.head) is) here, stack)
+  breaking (EndLoan lent ∷ k) e w c nested well (shared, facts, r, marks, marked, (exits, q, here, stack)) =
+      silently source pages calls (Running Breaking (EndLoan lent ∷ k) e w) (Running Breaking k e w) (plain.Running c) refl (shared, facts, r, marks, marked, (exits, q, here, stack)) (omega arith)
+  breaking (Handler handler ∷ k) e w c nested well (shared, facts, r, marks, marked, (exits, q, here, (outer, u, is, leave, over, stack))) =
+      silently source pages calls (Running Breaking (Handler handler ∷ k) e w) (Running Breaking k e w) (plain.Running c) refl
+      (shared, facts, r, marks, marked, (outer, u, subst (λ n. At (code_of source c.active.function) r (instructions.Jump n)) (ap (λ (x : Exits). break_target x.head) is) here, stack))
+      (omega arith)
+  breaking (Main ∷ k) e w c nested well related = absurd (well refl)
+
+  pub continuing : (k : List Entry) (e : Environment) (w : World) (c : Configuration) → IsNested k e w → IsStep source pages calls Continuing k e w c
+  continuing [] e w c nested well related = absurd (well refl)
+  continuing (Needs a ∷ k) e w c nested well (shared, facts, r, marks, marked, (exits, q, here, stack)) = absurd stack
+  continuing (Discard ∷ k) e w c nested well (shared, facts, r, marks, marked, (exits, q, here, stack)) = absurd stack
+  continuing (Rest js ∷ k) e w c nested well (shared, facts, r, marks, marked, (exits, q, here, (u, items, stack))) =
+      silently source pages calls (Running Continuing (Rest js ∷ k) e w) (Running Continuing k e w) (plain.Running c) refl (shared, facts, r, marks, marked, (exits, u, here, stack)) (omega arith)
+  continuing (Join ∷ k) e w c nested well (shared, facts, r, marks, marked, (exits, q, here, (u, arrives, stack))) =
+      silently source pages calls (Running Continuing (Join ∷ k) e w) (Running Continuing k e w) (plain.Running c) refl (shared, facts, r, marks, marked, (exits, u, here, stack)) (omega arith)
+  continuing (Loop a s ∷ k) e w c nested well (shared, facts, r, end, marked, (exits, q, here, (outer, u, (loop_is, function_is, x, y, m, n, leave, at_a, jump, at_s, back, after), again, stack))) =
+      by_one source pages calls refl shared (subst (λ n. At (code_of source c.active.function) n (instructions.Jump (continue_target exits.head))) (sym end) here)
+      (λ choice. (shared, facts, as_condition x y m at_a tt (exits, outer, u, (loop_is, function_is, x, y, m, n, leave, at_a, jump, at_s, back, after), n, jump, at_s, back, stack)))
+  continuing (CloseRegion region home ∷ k) e w c nested well (shared, facts, r, marks, marked, (exits, q, here, (u, comes, stack))) =
+      let found = is_closed Continuing region home k e w well in
+      silently source pages calls (Running Continuing (CloseRegion region home ∷ k) e w) (Running Continuing k (record e { home = home }) (closed w region found.region)) (plain.Running c) found.gives
+      (shared_closed source (opened_by source true c.active.function k).mark pages calls k e w c region home found.region found.there shared, facts, r, marks, marked, (exits, u, here, stack))
+      (omega arith)
+  continuing (Caller outer ∷ k) e w c nested well related = absurd (well refl)
+  continuing (NeedsPlace a ∷ k) e w c nested well (shared, facts, r, marks, marked, (exits, q, here, stack)) = absurd stack
+  continuing (CloseLexical region ∷ k) e w c nested well (shared, facts, r, marks, marked, (exits, q, here, (outer, u, is, closing, stack))) =
+      leaves_region source pages calls true Continuing region k e w c (λ r found. ap (λ (a : Access Region). closing_lexical a Continuing region k e w) found) (λ v. omega arith) (λ v d leaves. leaves) nested shared facts r marks marked
+      (outer, u, subst (λ n. At (code_of source c.active.function) r (instructions.Jump n)) (ap (λ (x : Exits). continue_target x.head) is) here, stack)
+  continuing (EndLoan lent ∷ k) e w c nested well (shared, facts, r, marks, marked, (exits, q, here, stack)) =
+      silently source pages calls (Running Continuing (EndLoan lent ∷ k) e w) (Running Continuing k e w) (plain.Running c) refl (shared, facts, r, marks, marked, (exits, q, here, stack)) (omega arith)
+  continuing (Handler handler ∷ k) e w c nested well (shared, facts, r, marks, marked, (exits, q, here, (outer, u, is, leave, over, stack))) =
+      silently source pages calls (Running Continuing (Handler handler ∷ k) e w) (Running Continuing k e w) (plain.Running c) refl
+      (shared, facts, r, marks, marked, (outer, u, subst (λ n. At (code_of source c.active.function) r (instructions.Jump n)) (ap (λ (x : Exits). continue_target x.head) is) here, stack))
+      (omega arith)
+  continuing (Main ∷ k) e w c nested well related = absurd (well refl)
+
+  -- ---- returns
+
+  -- `main` returns, and no call waits
+  ends_main : (i : Kind) (v : Value) (active : Activation) (frames : List Frame) (globals : Words) (store : StoreState) (output input : List ℕ) (k : List Entry) (e : Environment) (w : World) (s : ℕ)
+      → IsWell (step source (Running (Returning (Some (record { kind = i; value = v }))) (Main ∷ k) e w))
+      → (shared : SharedAt source pages calls (Main ∷ k) e w (record { active = active; frames = frames; globals = globals; store = store; output = output; input = input }))
+      → active.handlers ≡ [] → At (code_of source active.function) active.next (instructions.Finish s) → Is shared.tables i v active.slots s → IsLast source frames k
+      → IsMatched source pages calls (Running (Returning (Some (record { kind = i; value = v }))) (Main ∷ k) e w) (plain.Running (record { active = active; frames = frames; globals = globals; store = store; output = output; input = input }))
+  ends_main i (Int a) active [] globals store output input [] e w s well shared closed here is last =
+      by_one source pages calls refl shared here
+      (λ choice. finished (Ended (Returned (signed a)) w.output w.input) (record { active = active; frames = []; globals = globals; store = store; output = output; input = input }) s choice closed
+      (ap (λ x. Returned (signed x)) (int_at shared.tables i a active.slots s is), shared.same_output))
+  ends_main i (Int a) active [] globals store output input (entry ∷ k) e w s well shared closed here is last = absurd last
+  ends_main i (Int a) active (f ∷ frames) globals store output input k e w s well shared closed here is last = absurd last
+  ends_main i v active frames globals store output input k e w s well shared closed here is last = absurd (well refl)
+
+  returning_none : (k : List Entry) (e : Environment) (w : World) (c : Configuration) → IsNested k e w → IsStep source pages calls (Returning None) k e w c
+  returning_none [] e w c nested well related = absurd (well refl)
+  returning_none (Needs a ∷ k) e w c nested well (shared, facts, r, marks, marked, (exits, q, s, here, stack)) = absurd stack
+  returning_none (Discard ∷ k) e w c nested well (shared, facts, r, marks, marked, (exits, q, s, here, stack)) = absurd stack
+  returning_none (Rest js ∷ k) e w c nested well (shared, facts, r, marks, marked, (exits, q, s, here, (u, items, stack))) =
+      silently source pages calls (Running (Returning None) (Rest js ∷ k) e w) (Running (Returning None) k e w) (plain.Running c) refl (shared, facts, r, marks, marked, (exits, u, s, here, stack)) (omega arith)
+  returning_none (Join ∷ k) e w c nested well (shared, facts, r, marks, marked, (exits, q, s, here, (u, arrives, stack))) =
+      silently source pages calls (Running (Returning None) (Join ∷ k) e w) (Running (Returning None) k e w) (plain.Running c) refl (shared, facts, r, marks, marked, (exits, u, s, here, stack)) (omega arith)
+  returning_none (Loop a b ∷ k) e w c nested well (shared, facts, r, marks, marked, (exits, q, s, here, (outer, u, around, again, stack))) =
+      silently source pages calls (Running (Returning None) (Loop a b ∷ k) e w) (Running (Returning None) k e w) (plain.Running c) refl (shared, facts, r, marks, marked, (outer, u, s, here, stack)) (omega arith)
+  returning_none (CloseRegion region home ∷ k) e w c nested well (shared, facts, r, marks, marked, (exits, q, s, here, (u, comes, stack))) =
+      let found = is_closed (Returning None) region home k e w well in
+      silently source pages calls (Running (Returning None) (CloseRegion region home ∷ k) e w) (Running (Returning None) k (record e { home = home }) (closed w region found.region)) (plain.Running c) found.gives
+      (shared_closed source (opened_by source false c.active.function k).mark pages calls k e w c region home found.region found.there shared, facts, r, marks, marked, (exits, u, s, here, stack))
+      (omega arith)
+  returning_none (Caller outer ∷ k) e w c nested well (shared, facts, r, end, marked, (exits, q, s, here, (u, last, outside, below))) =
+      leaves_call (Returning None) c.active c.frames c.globals c.store c.output c.input k e outer w s refl shared facts
+      (subst (λ n. At (code_of source c.active.function) n (instructions.Finish s)) (sym end) here) below
+  returning_none (NeedsPlace a ∷ k) e w c nested well (shared, facts, r, marks, marked, (exits, q, s, here, stack)) = absurd stack
+  returning_none (CloseLexical region ∷ k) e w c nested well (shared, facts, r, marks, marked, (exits, q, s, here, (outer, u, is_inside, closing, stack))) =
+      leaves_region source pages calls false (Returning None) region k e w c (λ r found. ap (λ (a : Access Region). closing_lexical a (Returning None) region k e w) found) (λ v. omega arith) (λ v d leaves. leaves) nested shared facts r marks marked
+      (outer, u, s, here, stack)
+  returning_none (EndLoan lent ∷ k) e w c nested well (shared, facts, r, marks, marked, (exits, q, s, here, stack)) =
+      silently source pages calls (Running (Returning None) (EndLoan lent ∷ k) e w) (Running (Returning None) k e w) (plain.Running c) refl (shared, facts, r, marks, marked, (exits, q, s, here, stack)) (omega arith)
+  returning_none (Handler handler ∷ k) e w c nested well (shared, facts, r, marks, marked, (exits, q, s, here, (outer, u, is_inside, leave, over, stack))) =
+      silently source pages calls (Running (Returning None) (Handler handler ∷ k) e w) (Running (Returning None) k e w) (plain.Running c) refl (shared, facts, r, marks, marked, (outer, u, s, here, stack)) (omega arith)
+  returning_none (Main ∷ k) e w c nested well related = absurd (well refl)
+
+  returning_some : (v : Kinded) (k : List Entry) (e : Environment) (w : World) (c : Configuration) → IsNested k e w → IsStep source pages calls (Returning (Some v)) k e w c
+  returning_some v [] e w c nested well related = absurd (well refl)
+  returning_some v (Needs a ∷ k) e w c nested well (shared, facts, r, marks, marked, (exits, q, s, here, is, single, stack)) = absurd stack
+  returning_some v (Discard ∷ k) e w c nested well (shared, facts, r, marks, marked, (exits, q, s, here, is, single, stack)) = absurd stack
+  returning_some v (Rest js ∷ k) e w c nested well (shared, facts, r, marks, marked, (exits, q, s, here, is, single, (u, items, stack))) =
+      silently source pages calls (Running (Returning (Some v)) (Rest js ∷ k) e w) (Running (Returning (Some v)) k e w) (plain.Running c) refl (shared, facts, r, marks, marked, (exits, u, s, here, is, single, stack)) (omega arith)
+  returning_some v (Join ∷ k) e w c nested well (shared, facts, r, marks, marked, (exits, q, s, here, is, single, (u, arrives, stack))) =
+      silently source pages calls (Running (Returning (Some v)) (Join ∷ k) e w) (Running (Returning (Some v)) k e w) (plain.Running c) refl (shared, facts, r, marks, marked, (exits, u, s, here, is, single, stack)) (omega arith)
+  returning_some v (Loop a b ∷ k) e w c nested well (shared, facts, r, marks, marked, (exits, q, s, here, is, single, (outer, u, around, again, stack))) =
+      silently source pages calls (Running (Returning (Some v)) (Loop a b ∷ k) e w) (Running (Returning (Some v)) k e w) (plain.Running c) refl (shared, facts, r, marks, marked, (outer, u, s, here, is, single, stack)) (omega arith)
+  returning_some v (CloseRegion region home ∷ k) e w c nested well (shared, facts, r, marks, marked, (exits, q, s, here, is, single, (u, comes, stack))) =
+      let found = is_closed (Returning (Some v)) region home k e w well in
+      silently source pages calls (Running (Returning (Some v)) (CloseRegion region home ∷ k) e w) (Running (Returning (Some v)) k (record e { home = home }) (closed w region found.region)) (plain.Running c) found.gives
+      (shared_closed source (opened_by source false c.active.function k).mark pages calls k e w c region home found.region found.there shared, facts, r, marks, marked, (exits, u, s, here, is, single, stack))
+      (omega arith)
+  returning_some v (Caller outer ∷ k) e w c nested well (shared, facts, r, end, marked, (exits, q, s, here, is, single, (u, last, outside, below))) =
+      hands_back v c.active c.frames c.globals c.store c.output c.input k e outer w s shared facts (subst (λ n. At (code_of source c.active.function) n (instructions.Finish s)) (sym end) here) is
+      (results_at c.active.function ∙ single.0) (subst (λ i. Below source c.frames (Waits i outer k)) (sym single.1) below)
+  returning_some v (NeedsPlace a ∷ k) e w c nested well (shared, facts, r, marks, marked, (exits, q, s, here, is, single, stack)) = absurd stack
+  returning_some v (CloseLexical region ∷ k) e w c nested well (shared, facts, r, marks, marked, (exits, q, s, here, is, single, (outer, u, is_inside, closing, stack))) =
+      leaves_region source pages calls false (Returning (Some v)) region k e w c (λ r found. ap (λ (a : Access Region). closing_lexical a (Returning (Some v)) region k e w) found) (λ v. omega arith) (λ v d leaves. leaves) nested shared facts r marks marked
+      (outer, u, s, here, is, single, stack)
+  returning_some v (EndLoan lent ∷ k) e w c nested well (shared, facts, r, marks, marked, (exits, q, s, here, is, single, stack)) =
+      silently source pages calls (Running (Returning (Some v)) (EndLoan lent ∷ k) e w) (Running (Returning (Some v)) k e w) (plain.Running c) refl (shared, facts, r, marks, marked, (exits, q, s, here, is, single, stack)) (omega arith)
+  returning_some v (Handler handler ∷ k) e w c nested well (shared, facts, r, marks, marked, (exits, q, s, here, is, single, (outer, u, is_inside, leave, over, stack))) =
+      silently source pages calls (Running (Returning (Some v)) (Handler handler ∷ k) e w) (Running (Returning (Some v)) k e w) (plain.Running c) refl (shared, facts, r, marks, marked, (outer, u, s, here, is, single, stack)) (omega arith)
+  returning_some v (Main ∷ k) e w c nested well (shared, facts, r, end, marked, (exits, q, s, here, is, single, (u, last, outside, none))) =
+      ends_main v.kind v.value c.active c.frames c.globals c.store c.output c.input k e w s well shared facts.1.0
+      (subst (λ n. At (code_of source c.active.function) n (instructions.Finish s)) (sym end) here) is none
+
+  pub returning : (v : Option Kinded) (k : List Entry) (e : Environment) (w : World) (c : Configuration) → IsNested k e w → IsStep source pages calls (Returning v) k e w c
+  returning None k e w c nested well related = returning_none k e w c nested well related
+  returning (Some v) k e w c nested well related = returning_some v k e w c nested well related

@@ -1,0 +1,8 @@
+-- the code that emits, and that counts
+pub mod Emitting
+pub mod Branching
+pub mod Conditions
+pub mod Handlers
+pub mod NeedsFound
+pub mod Lengths
+pub mod Bridge

@@ -1,0 +1,274 @@
+-- Code of statements that is made piece by piece: blocks, with the regions that they open, and branches and loops whose jumps are written back.
+use Rattle.std.proofs.Common.{◌≡◌, ℕ, zero, suc, ◌+◌, ◌-◌, ◌<◌, ◌≤◌, List, [], ◌∷◌, ◌++◌, length, get_or, drop, set, refl, sym, ap, ◌∙◌, arith, append_assoc, append-nil}
+use Rattle.std.proofs.lemmas.List.{drop_all, drop_more, length-append}
+use Rattle.std.specs.declared.vec.Vec.{Vec}
+use Rattle.std.specs.declared.boxed.Box.{Box}
+use Rattle.std.specs.declared.alloc.Global.{Global as Heap}
+use Rattle.cyc_types.specs.declared.typed.Expr.{Expr}
+use Rattle.cyc_types.specs.declared.typed.Stmt.{Stmt}
+use Rattle.cyc_types.specs.declared.typed.Stmt.TheVariants as stmt
+use Rattle.cyc_types.specs.declared.typed.Item.{Item as ItemCode}
+use Rattle.cyc_types.specs.declared.typed.Item.TheVariants as item
+use Rattle.cyc_types.specs.TypedTrees.{Expression, Statement, Block, If}
+use Rattle.cyc_types.specs.TypedTreeView.{view_expression, view_statement, items_of}
+use Rattle.cyc_types.proofs.TypedTreeViewLemmas.{view_block}
+use Rattle.cyc_meaning.specs.FrameCount.{kept_by_items}
+use Rattle.cyc_plain.specs.declared.instruction.Instruction.{Instruction}
+use Rattle.cyc_plain.specs.declared.instruction.Instruction.TheVariants as instructions
+use Rattle.cyc_lower.specs.declared.operands.Condition.{Condition}
+use Rattle.cyc_lower.specs.declared.statements.Exits.{Exits}
+use Rattle.cyc_lower.specs.Slots.{Starts}
+use Rattle.cyc_lower.specs.Lowering.{condition_code, condition_of, failing_jump, statement_code, items_code, break_target, continue_target, inside_loop, inside_region, opened_code, closed_code}
+use Rattle.cyc_lower.specs.Emission.{most_locals, loop_code, item_code, exits_behind, free_behind, kept_by_item}
+use Rattle.cyc_lower.proofs.emission.Emitting.{Remains, goes_on_by, no_shorter_than, written_back}
+
+-- ---- blocks
+
+-- The code of items, but for what closes their regions at the end. What an item stands in are the ways out and the first slot for temporaries.
+abbrev pub one_item : Starts → ItemCode → List ItemCode → (p : ℕ) → Exits × ℕ → List Instruction
+one_item starts j js p s = item_code starts j p s.0 s.1
+
+abbrev pub next_item : ItemCode → List ItemCode → Exits × ℕ → Exits × ℕ
+next_item j js s = (exits_behind j s.0 s.1, free_behind j s.1)
+
+abbrev pub opened_items : Starts → List ItemCode → (p : ℕ) → Exits × ℕ → List Instruction
+opened_items starts [] p s = []
+opened_items starts (j ∷ js) p s = one_item starts j js p s ++ opened_items starts js (p + length (one_item starts j js p s)) (next_item j js s)
+
+-- so many regions are closed, the newest first, whose marks stand in the slots from t on
+abbrev pub closed_items : Starts → (many t : ℕ) → List Instruction
+closed_items starts zero t = []
+closed_items starts (suc many) t = closed_items starts many (t + 1) ++ closed_code starts t
+
+abbrev pub regions_in : List ItemCode → ℕ
+regions_in [] = 0
+regions_in (item.Region r n ∷ js) = suc (regions_in js)
+regions_in (j ∷ js) = regions_in js
+
+behind_one : (starts : Starts) (j : ItemCode) (js : List ItemCode) (p : ℕ) (exits : Exits) (t : ℕ) → items_code starts (items_of js) (p + length (item_code starts j p exits t)) exits t ≡ opened_items starts js (p + length (item_code starts j p exits t)) (exits, t) ++ closed_items starts (regions_in js) t
+    → item_code starts j p exits t ++ items_code starts (items_of js) (p + length (item_code starts j p exits t)) exits t ≡ (item_code starts j p exits t ++ opened_items starts js (p + length (item_code starts j p exits t)) (exits, t)) ++ closed_items starts (regions_in js) t
+behind_one starts j js p exits t rest =
+    let one = item_code starts j p exits t in
+    ap (λ (l : List Instruction). one ++ l) rest ∙ sym (append_assoc one (opened_items starts js (p + length one) (exits, t)) (closed_items starts (regions_in js) t))
+
+items_opened : (starts : Starts) (js : List ItemCode) (p : ℕ) (exits : Exits) (t : ℕ) → items_code starts (items_of js) p exits t ≡ opened_items starts js p (exits, t) ++ closed_items starts (regions_in js) t
+items_opened starts [] p exits t = refl
+items_opened starts (item.Region r n ∷ js) p exits t =
+    let first = opened_code starts n t in
+    let front = opened_items starts js (p + length first) (inside_region exits t, t + 1) in
+    let back = closed_items starts (regions_in js) (t + 1) in
+    ap (λ (l : List Instruction). first ++ (l ++ closed_code starts t)) (items_opened starts js (p + length first) (inside_region exits t) (t + 1))
+    ∙ ap (λ (l : List Instruction). first ++ l) (append_assoc front back (closed_code starts t))
+    ∙ sym (append_assoc first front (back ++ closed_code starts t))
+items_opened starts (item.Execute s ∷ js) p exits t = behind_one starts (item.Execute s) js p exits t (items_opened starts js _ exits t)
+items_opened starts (item.Local n ty v ∷ js) p exits t = behind_one starts (item.Local n ty v) js p exits t (items_opened starts js _ exits t)
+items_opened starts (item.Open r n w k ∷ js) p exits t = behind_one starts (item.Open r n w k) js p exits t (items_opened starts js _ exits t)
+items_opened starts (item.Alias r n ty w s ∷ js) p exits t = behind_one starts (item.Alias r n ty w s) js p exits t (items_opened starts js _ exits t)
+items_opened starts (item.DynamicRegion r n ∷ js) p exits t = behind_one starts (item.DynamicRegion r n) js p exits t (items_opened starts js _ exits t)
+
+-- the newest region is the first that is closed
+closed_first : (starts : Starts) (many t : ℕ) → closed_items starts (suc many) t ≡ closed_code starts (t + many) ++ closed_items starts many t
+closed_first starts zero t = let e : t + 0 ≡ t = omega arith in sym (append-nil _ ∙ ap (closed_code starts) e)
+closed_first starts (suc many) t =
+    let e : t + 1 + many ≡ t + suc many = omega arith in
+    ap (λ (l : List Instruction). l ++ closed_code starts t) (closed_first starts many (t + 1))
+    ∙ append_assoc (closed_code starts (t + 1 + many)) (closed_items starts many (t + 1)) (closed_code starts t)
+    ∙ ap (λ (n : ℕ). closed_code starts n ++ closed_items starts (suc many) t) e
+
+-- The items of a block that are made so far, with those that are still to come: the ways out and the first slot for temporaries are those
+-- behind them, and there is room for what the others keep.
+abbrev pub ItemsRemain : Starts → (old : List Instruction) → List ItemCode → (first : Exits) → (free i : ℕ) → (code : List Instruction) → (inside : Exits) → (behind : ℕ) → Type 0
+ItemsRemain starts old js first free i code inside behind =
+    Remains (opened_items starts) old js (first, free) i code (inside, behind)
+    × (behind + regions_in (drop i js) ≡ free + regions_in js)
+    × (behind + kept_by_items (items_of (drop i js)) ≤ most_locals)
+    × (inside.head ≤ length code)
+
+items_kept : (j : ItemCode) (js : List ItemCode) → kept_by_items (items_of (j ∷ js)) ≡ kept_by_item j + kept_by_items (items_of js)
+items_kept (item.Execute s) js = refl
+items_kept (item.Region r n) js = refl
+items_kept j js = omega arith
+
+-- a region takes a slot for its mark
+one_region : (j : ItemCode) (js : List ItemCode) (t : ℕ) → free_behind j t + regions_in js ≡ t + regions_in (j ∷ js)
+one_region (item.Region r n) js t = omega arith
+one_region j js t = refl
+
+region_kept : (j : ItemCode) (t : ℕ) → free_behind j t ≤ t + kept_by_item j
+region_kept (item.Region r n) t = omega arith
+region_kept j t = omega arith
+
+same_head : (j : ItemCode) (exits : Exits) (t : ℕ) → (exits_behind j exits t).head ≡ exits.head
+same_head (item.Region r n) exits t = refl
+same_head j exits t = refl
+
+module _ (starts : Starts) (old : List Instruction) (js : List ItemCode) (first : Exits) (free i : ℕ) (code : List Instruction) (inside : Exits) (behind : ℕ) where
+  pub item_room : (x : ItemCode) → i < length js → x ≡ get_or js i x → ItemsRemain starts old js first free i code inside behind → behind + kept_by_item x ≤ most_locals
+  item_room x within at (made, regions, kept, begun) =
+      let here : drop i js ≡ x ∷ drop (i + 1) js = drop_more js i x within ∙ ap (λ (y : ItemCode). y ∷ drop (i + 1) js) (sym at) in
+      let all = ap (λ (l : List ItemCode). kept_by_items (items_of l)) here ∙ items_kept x (drop (i + 1) js) in
+      omega (arith, kept, all)
+
+  pub more_items : (x : ItemCode) (new : List Instruction) (exits : Exits) (t : ℕ) → i < length js → x ≡ get_or js i x → new ≡ code ++ item_code starts x (length code) inside behind
+      → exits ≡ exits_behind x inside behind → t ≡ free_behind x behind → ItemsRemain starts old js first free i code inside behind → ItemsRemain starts old js first free (i + 1) new exits t
+  more_items x new exits t within at is exits_is t_is (made, regions, kept, begun) =
+      let rest = drop (i + 1) js in
+      let here : drop i js ≡ x ∷ rest = drop_more js i x within ∙ ap (λ (y : ItemCode). y ∷ rest) (sym at) in
+      let all = ap (λ (l : List ItemCode). kept_by_items (items_of l)) here ∙ items_kept x rest in
+      let opens = ap regions_in here in
+      let longer = no_shorter_than code _ new is in
+      let head = ap (λ (e : Exits). e.head) exits_is ∙ same_head x inside behind in (
+        ap (λ (e : Exits). new ++ opened_items starts rest (length new) (e, t)) exits_is
+            ∙ ap (λ (n : ℕ). new ++ opened_items starts rest (length new) (exits_behind x inside behind, n)) t_is
+            ∙ goes_on_by (opened_items starts) (one_item starts) next_item (λ j l p s. refl) old js (first, free) i code new (inside, behind) x within at is made,
+        omega (arith, regions, opens, one_region x rest behind, t_is),
+        omega (arith, kept, all, region_kept x behind, t_is),
+        omega (arith, begun, longer, head),
+      )
+
+-- the regions from slot `behind` down to slot `free` are still to be closed, and then all is made
+abbrev pub ClosesLeft : Starts → (whole code : List Instruction) → (free behind : ℕ) → Type 0
+ClosesLeft starts whole code free behind = (many : ℕ) × (behind ≡ free + many) × (code ++ closed_items starts many free ≡ whole)
+
+pub closes_begin : (starts : Starts) (old : List Instruction) (js : List ItemCode) (first : Exits) (free i : ℕ) (code : List Instruction) (inside : Exits) (behind : ℕ) → length js ≤ i
+    → ItemsRemain starts old js first free i code inside behind → ClosesLeft starts (old ++ items_code starts (items_of js) (length old) first free) code free behind
+closes_begin starts old js first free i code inside behind done (made, regions, kept, begun) =
+    let none = drop_all i js done in
+    let front = opened_items starts js (length old) (first, free) in
+    let whole : code ≡ old ++ front
+    = sym (append-nil code) ∙ ap (λ (l : List ItemCode). code ++ opened_items starts l (length code) (inside, behind)) (sym none) ∙ made in (
+      regions_in js,
+      let e = ap regions_in none in omega (arith, regions, e),
+      ap (λ (l : List Instruction). l ++ closed_items starts (regions_in js) free) whole
+          ∙ append_assoc old front (closed_items starts (regions_in js) free)
+          ∙ ap (λ (l : List Instruction). old ++ l) (sym (items_opened starts js (length old) first free)),
+    )
+
+pub closes_next : (starts : Starts) (whole code new : List Instruction) (free behind next : ℕ) → free < behind → next ≡ behind - 1 → new ≡ code ++ closed_code starts next → ClosesLeft starts whole code free behind → ClosesLeft starts whole new free next
+closes_next starts whole code new free behind next more next_is is (zero, many_is, made) = absurd (omega (arith, more, many_is))
+closes_next starts whole code new free behind next more next_is is (suc many, many_is, made) =
+    let e : next ≡ free + many = omega (arith, next_is, many_is) in (
+      many,
+      e,
+      ap (λ (l : List Instruction). l ++ closed_items starts many free) (is ∙ ap (λ (n : ℕ). code ++ closed_code starts n) e)
+          ∙ append_assoc code (closed_code starts (free + many)) (closed_items starts many free)
+          ∙ ap (λ (l : List Instruction). code ++ l) (sym (closed_first starts many free))
+          ∙ made,
+    )
+
+pub closes_end : (starts : Starts) (whole code : List Instruction) (free behind : ℕ) → behind ≤ free → ClosesLeft starts whole code free behind → code ≡ whole
+closes_end starts whole code free behind done (zero, many_is, made) = sym (append-nil code) ∙ made
+closes_end starts whole code free behind done (suc many, many_is, made) = absurd (omega (arith, done, many_is))
+
+module _ (starts : Starts) (value : Stmt) (region : ℕ) (v : Vec ItemCode Heap) (is : value ≡ stmt.Block region v) (items : List ItemCode) (same : items ≡ v.items) (old new : List Instruction) (exits : Exits) (d : ℕ) where
+  pub made_block : new ≡ old ++ items_code starts (items_of items) (length old) exits d → new ≡ old ++ statement_code starts (view_statement value) (length old) exits d
+  made_block h =
+      let e : view_statement value ≡ Block region (items_of items)
+      = ap view_statement is ∙ view_block region v ∙ ap (λ (js : List ItemCode). Block region (items_of js)) (sym same) in
+      h ∙ ap (λ (s : Statement). old ++ statement_code starts s (length old) exits d) (sym e)
+
+-- ---- branches
+
+-- Behind a condition stand two pieces, each behind a jump whose target is written back. The first jump goes behind the second.
+module _ (old condition : List Instruction) (x y : Instruction) (first second : ℕ → List Instruction) (over : ℕ → Instruction) (out : ℕ → Instruction) (m0 m1 m2 m3 m4 m5 m6 : List Instruction) where
+  pub branched : m0 ≡ old ++ condition → m1 ≡ m0 ++ x ∷ [] → m2 ≡ m1 ++ first (length m1) → m3 ≡ m2 ++ y ∷ [] → m4 ≡ set m3 (length m0) (over (length m3))
+      → m5 ≡ m4 ++ second (length m4) → m6 ≡ set m5 (length m2) (out (length m5)) → (p : ℕ) → p ≡ length old + length condition + 1 → (q : ℕ) → q ≡ p + length (first p) + 1
+      → m6 ≡ old ++ (condition ++ (over q ∷ (first p ++ (out (q + length (second q)) ∷ second q))))
+  branched e0 e1 e2 e3 e4 e5 e6 p at_first q at_second =
+      let l0 : length m0 + 1 ≡ p = let a : length m0 ≡ length old + length condition = ap length e0 ∙ length-append old condition in omega (arith, a, at_first) in
+      let l1 : length m1 ≡ p = ap length e1 ∙ length-append m0 (x ∷ []) ∙ l0 in
+      let t = first p in
+      let long : p + length (t ++ y ∷ []) ≡ q = let a : length (t ++ y ∷ []) ≡ length t + 1 = length-append t (y ∷ []) in omega (arith, a, at_second) in
+      let b2 : m2 ≡ m1 ++ t = e2 ∙ ap (λ (n : ℕ). m1 ++ first n) l1 in
+      let b3 : m3 ≡ m1 ++ (first (length m1) ++ y ∷ []) = e3 ∙ ap (λ (l : List Instruction). l ++ y ∷ []) e2 ∙ append_assoc m1 (first (length m1)) (y ∷ []) in
+      let before = m0 ++ over q ∷ t in
+      let b4 : m4 ≡ before ++ y ∷ []
+      = written_back m0 x (λ (n : ℕ). first n ++ y ∷ []) over m1 m3 m4 e1 b3 e4
+      ∙ ap (λ (n : ℕ). m0 ++ over (n + length (first n ++ y ∷ [])) ∷ (first n ++ y ∷ [])) l0
+      ∙ ap (λ (n : ℕ). m0 ++ over n ∷ (t ++ y ∷ [])) long
+      ∙ sym (append_assoc m0 (over q ∷ t) (y ∷ [])) in
+      let l2 : length m2 ≡ p + length t = ap length b2 ∙ length-append m1 t ∙ ap (λ (n : ℕ). n + length t) l1 in
+      let lb : length before + 1 ≡ q = let a : length before ≡ length m0 + length (over q ∷ t) = length-append m0 (over q ∷ t) in omega (arith, a, l0, at_second) in
+      let here : length m2 ≡ length before = omega (arith, l2, lb, at_second) in
+      let rest = out (q + length (second q)) ∷ second q in
+      written_back before y second out m4 m5 m6 b4 e5 (e6 ∙ ap (λ (n : ℕ). set m5 n (out (length m5))) here)
+      ∙ ap (λ (n : ℕ). before ++ out (n + length (second n)) ∷ second n) lb
+      ∙ append_assoc m0 (over q ∷ t) rest
+      ∙ ap (λ (l : List Instruction). l ++ (over q ∷ (t ++ rest))) e0
+      ∙ append_assoc old condition (over q ∷ (t ++ rest))
+
+module _ (starts : Starts) (value : Stmt) (e : Expr) (b b' : Box Stmt Heap) (is : value ≡ stmt.If e b b') (s t : Stmt) (at : s ≡ b.value) (at' : t ≡ b'.value) (exits : Exits) (d : ℕ) (o : Condition) (o_is : o ≡ condition_of starts (view_expression e) d) (old : List Instruction) (x y : Instruction) (m0 m1 m2 m3 m4 m5 m6 : List Instruction) (p1 p2 : ℕ) where
+  pub made_if : m0 ≡ old ++ condition_code starts (view_expression e) (length old) d → p1 ≡ length m0 → m1 ≡ m0 ++ x ∷ [] → m2 ≡ m1 ++ statement_code starts (view_statement s) (length m1) exits d → p2 ≡ length m2 → m3 ≡ m2 ++ y ∷ []
+      → m4 ≡ set m3 p1 (failing_jump o (length m3)) → m5 ≡ m4 ++ statement_code starts (view_statement t) (length m4) exits d → m6 ≡ set m5 p2 (instructions.Jump (length m5))
+      → m6 ≡ old ++ statement_code starts (view_statement value) (length old) exits d
+  made_if e0 h1 e1 e2 h2 e3 e4 e5 e6 =
+      let condition = condition_code starts (view_expression e) (length old) d in
+      let jump : ℕ → Instruction = λ n. failing_jump (condition_of starts (view_expression e) d) n in
+      let first : ℕ → List Instruction = λ p. statement_code starts (view_statement s) p exits d in
+      let second : ℕ → List Instruction = λ p. statement_code starts (view_statement t) p exits d in
+      let p = length old + length condition + 1 in
+      let q = p + length (first p) + 1 in
+      let tree : view_statement value ≡ If (view_expression e) (view_statement s) (view_statement t)
+      = ap view_statement is ∙ ap (λ (z : Stmt). If (view_expression e) (view_statement z) (view_statement b'.value)) (sym at) ∙ ap (λ (z : Stmt). If (view_expression e) (view_statement s) (view_statement z)) (sym at') in
+      branched old condition x y first second jump (λ (n : ℕ). instructions.Jump n) m0 m1 m2 m3 m4 m5 m6
+      e0 e1 e2 e3
+      (e4 ∙ ap (λ (n : ℕ). set m3 n (failing_jump o (length m3))) h1 ∙ ap (λ (r : Condition). set m3 (length m0) (failing_jump r (length m3))) o_is)
+      e5 (e6 ∙ ap (λ (n : ℕ). set m5 n (instructions.Jump (length m5))) h2)
+      p refl q refl
+      ∙ ap (λ (l : List Instruction). old ++ l) (sym (append_assoc condition (jump q ∷ first p) (instructions.Jump (q + length (second q)) ∷ second q)))
+      ∙ ap (λ (z : Statement). old ++ statement_code starts z (length old) exits d) (sym tree)
+
+-- ---- loops
+
+-- Behind a jump stand another, whose target is written back, and two pieces with a jump behind each.
+module _ (old : List Instruction) (into x test back : Instruction) (first second : ℕ → List Instruction) (out : ℕ → Instruction) (m1 m2 m3 m4 m5 m6 m7 : List Instruction) where
+  pub looped : m1 ≡ old ++ into ∷ [] → m2 ≡ m1 ++ x ∷ [] → m3 ≡ m2 ++ first (length m2) → m4 ≡ m3 ++ test ∷ [] → m5 ≡ m4 ++ second (length m4) → m6 ≡ m5 ++ back ∷ []
+      → m7 ≡ set m6 (length old + 1) (out (length m6)) → (p : ℕ) → p ≡ length old + 2 → (q : ℕ) → q ≡ p + length (first p) + 1
+      → m7 ≡ old ++ (into ∷ (out (q + length (second q) + 1) ∷ (first p ++ (test ∷ (second q ++ back ∷ [])))))
+  looped e1 e2 e3 e4 e5 e6 e7 p at_first q at_second =
+      let l1 : length m1 ≡ length old + 1 = ap length e1 ∙ length-append old (into ∷ []) in
+      let body : ℕ → List Instruction = λ n. first n ++ (test ∷ (second (n + length (first n) + 1) ++ back ∷ [])) in
+      let n2 = length m2 in
+      let l4 : length m4 ≡ n2 + length (first n2) + 1
+      = ap length e4 ∙ length-append m3 (test ∷ []) ∙ ap (λ (l : List Instruction). length l + 1) e3 ∙ ap (λ (n : ℕ). n + 1) (length-append m2 (first n2)) in
+      let tail = second (n2 + length (first n2) + 1) ++ back ∷ [] in
+      let b6 : m6 ≡ m2 ++ body n2
+      = e6 ∙ ap (λ (l : List Instruction). l ++ back ∷ []) e5 ∙ append_assoc m4 (second (length m4)) (back ∷ [])
+      ∙ ap (λ (n : ℕ). m4 ++ (second n ++ back ∷ [])) l4
+      ∙ ap (λ (l : List Instruction). l ++ tail) e4 ∙ append_assoc m3 (test ∷ []) tail
+      ∙ ap (λ (l : List Instruction). l ++ (test ∷ tail)) e3 ∙ append_assoc m2 (first n2) (test ∷ tail) in
+      let lp : length m1 + 1 ≡ p = omega (arith, l1, at_first) in
+      let lq : p + length (first p) + 1 ≡ q = sym at_second in
+      let whole = first p ++ (test ∷ (second q ++ back ∷ [])) in
+      let long : p + length whole ≡ q + length (second q) + 1
+      = let a : length whole ≡ length (first p) + length (test ∷ (second q ++ back ∷ [])) = length-append (first p) (test ∷ (second q ++ back ∷ [])) in
+      let b : length (second q ++ back ∷ []) ≡ length (second q) + 1 = length-append (second q) (back ∷ []) in
+      omega (arith, a, b, at_second) in
+      written_back m1 x body out m2 m6 m7 e2 b6 (e7 ∙ ap (λ (n : ℕ). set m6 n (out (length m6))) (sym l1))
+      ∙ ap (λ (n : ℕ). m1 ++ out (n + length (body n)) ∷ body n) lp
+      ∙ ap (λ (n : ℕ). m1 ++ out (p + length (first p ++ (test ∷ (second n ++ back ∷ [])))) ∷ (first p ++ (test ∷ (second n ++ back ∷ [])))) lq
+      ∙ ap (λ (n : ℕ). m1 ++ out n ∷ whole) long
+      ∙ ap (λ (l : List Instruction). l ++ (out (q + length (second q) + 1) ∷ whole)) e1
+      ∙ append_assoc old (into ∷ []) (out (q + length (second q) + 1) ∷ whole)
+
+module _ (starts : Starts) (a : Expression) (s : Statement) (exits : Exits) (d : ℕ) (o : Condition) (o_is : o ≡ condition_of starts a d) (old : List Instruction) (x : Instruction) (m1 m2 m3 m4 m5 m6 m7 : List Instruction) (head leaving : ℕ) (here : head ≡ length old) where
+  pub made_loop : m1 ≡ old ++ instructions.Jump (continue_target head) ∷ [] → leaving ≡ length m1 → m2 ≡ m1 ++ x ∷ [] → m3 ≡ m2 ++ condition_code starts a (length m2) d → m4 ≡ m3 ++ failing_jump o leaving ∷ []
+      → m5 ≡ m4 ++ statement_code starts s (length m4) (inside_loop head exits) d → m6 ≡ m5 ++ instructions.Jump (continue_target head) ∷ [] → m7 ≡ set m6 leaving (instructions.Jump (length m6))
+      → m7 ≡ old ++ loop_code starts a s (length old) exits d
+  made_loop e1 k e2 e3 e4 e5 e6 e7 =
+      let begin = length old in
+      let first : ℕ → List Instruction = λ p. condition_code starts a p d in
+      let second : ℕ → List Instruction = λ p. statement_code starts s p (inside_loop begin exits) d in
+      let test = failing_jump (condition_of starts a d) (break_target begin) in
+      let p = begin + 2 in
+      let q = p + length (first p) + 1 in
+      let left : leaving ≡ begin + 1 = k ∙ ap length e1 ∙ length-append old (instructions.Jump (continue_target head) ∷ []) in
+      looped old (instructions.Jump (continue_target begin)) x test (instructions.Jump (continue_target begin)) first second (λ (n : ℕ). instructions.Jump n) m1 m2 m3 m4 m5 m6 m7
+      (e1 ∙ ap (λ (n : ℕ). old ++ instructions.Jump (continue_target n) ∷ []) here) e2 e3
+      (e4 ∙ ap (λ (n : ℕ). m3 ++ failing_jump o n ∷ []) left ∙ ap (λ (r : Condition). m3 ++ failing_jump r (break_target begin) ∷ []) o_is)
+      (e5 ∙ ap (λ (n : ℕ). m4 ++ statement_code starts s (length m4) (inside_loop n exits) d) here)
+      (e6 ∙ ap (λ (n : ℕ). m5 ++ instructions.Jump (continue_target n) ∷ []) here)
+      (e7 ∙ ap (λ (n : ℕ). set m6 n (instructions.Jump (length m6))) left)
+      p refl q refl
+      ∙ ap (λ (l : List Instruction). old ++ instructions.Jump (continue_target begin) ∷ instructions.Jump (q + length (second q) + 1) ∷ l)
+      (sym (append_assoc (first p) (test ∷ second q) (instructions.Jump (continue_target begin) ∷ [])))

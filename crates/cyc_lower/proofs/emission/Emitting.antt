@@ -1,0 +1,765 @@
+-- Code that is made piece by piece: lists of nodes, nodes with lists, and jumps whose targets are written back.
+use Rattle.std.proofs.Common.{◌≡◌, ℕ, zero, suc, ◌+◌, ◌-◌, ◌*◌, ◌<◌, ◌≤◌, Bool, true, false, List, [], ◌∷◌, ◌++◌, length, get_or, drop, set, Option, Some, None, refl, sym, ap, ◌∙◌, arith, append_assoc, append-nil}
+use Rattle.std.specs.Prelude.{◌==◌, is_some, if◌then◌else◌}
+use Rattle.std.proofs.lemmas.Bool.{eqb-true, eq-eqb}
+use Rattle.std.proofs.lemmas.List.{drop_all, drop_more, length-append, length-drop}
+use Rattle.std.proofs.Math.Seq.{set-append_seam}
+use Rattle.std.specs.declared.vec.Vec.{Vec}
+use Rattle.std.specs.declared.boxed.Box.{Box}
+use Rattle.std.specs.declared.alloc.Global.{Global as Heap}
+use Rattle.cyc_types.specs.declared.ty.Ty.{Ty as TyCode}
+use Rattle.cyc_types.specs.declared.typed.ValueType.{ValueType as ValueTypeCode}
+use Rattle.cyc_types.specs.declared.typed.Lvalue.{Lvalue as LvalueCode}
+use Rattle.cyc_types.specs.declared.typed.Callee.{Callee}
+use Rattle.cyc_types.specs.declared.typed.Callee.TheVariants as callees
+use Rattle.cyc_types.specs.declared.typed.Operator.{Operator}
+use Rattle.cyc_types.specs.declared.typed.Operator.TheVariants as operators
+use Rattle.cyc_types.specs.declared.typed.PointerOperator.{PointerOperator}
+use Rattle.cyc_types.specs.declared.typed.PointerOperator.TheVariants as pointers
+use Rattle.cyc_types.specs.declared.typed.LogicalOperator.{LogicalOperator}
+use Rattle.cyc_types.specs.declared.typed.Expr.{Expr}
+use Rattle.cyc_types.specs.declared.typed.Expr.TheVariants as expr
+use Rattle.cyc_types.specs.declared.typed.Initial.{Initial as InitialCode}
+use Rattle.cyc_types.specs.declared.typed.Initial.TheVariants as initial
+use Rattle.cyc_types.specs.declared.typed.Dereference.{Dereference as DereferenceCode}
+use Rattle.cyc_types.specs.declared.typed.Converted.{Converted as ConvertedCode}
+use Rattle.cyc_types.specs.declared.typed.Operation.{Operation}
+use Rattle.cyc_types.specs.declared.typed.Operation.TheVariants as operation
+use Rattle.cyc_types.specs.Numbered.{argument_count}
+use Rattle.cyc_store.specs.declared.range.TheConstants.{HEAP, UNIQUE}
+use Rattle.cyc_types.specs.Types.{ValueType, Void, words_of}
+use Rattle.cyc_types.specs.TypeView.{view_ty, view_value_type}
+use Rattle.cyc_types.specs.TypedTrees.{Load, New, OnHeap, AsUnique, ByHandle, FreeKey, Initial, Plain, Fields, Array, Dereference, Target, Lvalue, Local, Global, Expression, Number, Copy, Call, Unary, Binary, Assign, Converted, Convert, Arguments, Operations, NoOperations, ThenCompute, ThenTest, Move, Peek, AddressOfCell, Store, Member, Element, FreeUnique, NumberOfElements, type_of_place, AddressOf}
+use Rattle.cyc_types.specs.TypedTreeView.{view_lvalue, view_initial, view_expression, view_converted, arguments_of, operations_of, view_dereference}
+use Rattle.cyc_types.specs.declared.typed.Kind.{Kind}
+use Rattle.cyc_meaning.specs.Values.{words_of_kind, is_thin}
+use Rattle.cyc_types.proofs.TypedTreeViewLemmas.{view_call, view_binary, view_fields}
+use Rattle.cyc_plain.specs.declared.instruction.BinaryOperator.TheVariants as plain_binary
+use Rattle.cyc_plain.specs.declared.instruction.Comparison.TheVariants as comparisons
+use Rattle.cyc_plain.specs.declared.instruction.Operand.{Operand}
+use Rattle.cyc_plain.specs.declared.instruction.Operand.TheVariants as operands
+use Rattle.cyc_plain.specs.declared.instruction.Instruction.{Instruction}
+use Rattle.cyc_plain.specs.declared.instruction.Instruction.TheVariants as instructions
+use Rattle.cyc_lower.specs.Slots.{with_counter, slot_of, Starts, global_of}
+use Rattle.cyc_lower.specs.declared.operands.Condition.{Condition}
+use Rattle.cyc_lower.specs.Lowering.{measured_code, asked_code, begun_code, written_code, filled_code, restarted_code, ended_code, elements_code, last_element, failing_jump, passed_words, all_passed, converts_there, source_of, source_slot, converted_by, moved_by, move_of, operand_of, operand_or, code_unless, left_with, left_of, slot_with, left_slot, low_byte, value_operand, next_slot, converted_operand, printed_operand, operator_code, load_code, compute_code, test_jump, truth_code, test_code, copy_code, expression_code, value_slot, arguments_code, converted_code, converted_operand_code, printed_code, initial_code, assignment_code, assigned_operand, operations_code, discarded_code, binary_operator, behind_left, pointer_instructions, stores_code, object_code, made_code, address_code, addressed_by, place_operand, place_offset, place_code, store_address_code, store_code, jump_if_zero, reached_code, count_code, span_of, saved_code, followed_code, span_in, pointer_of, code_unless_slot, global_code, word_by_word}
+use Rattle.cyc_lower.specs.Emission.{most_locals, value_code, print_code, left_code, takes_operand, HasRoom, operation_code}
+use Rattle.cyc_lower.proofs.slots.Widths.{kind_positive}
+use Rattle.cyc_lower.proofs.slots.Slots.{words_positive}
+
+behind : (xs ys : List Instruction) → 0 < length ys → 0 < length (xs ++ ys)
+behind xs ys some = omega (arith, length-append xs ys)
+
+before : (xs ys : List Instruction) → 0 < length xs → 0 < length (xs ++ ys)
+before xs ys some = omega (arith, length-append xs ys)
+
+loaded_some : (narrow : Bool) (o : Operand) (bytes d t : ℕ)
+    → 0 < length (if narrow then instructions.Load d o bytes ∷ [] else address_code o bytes t ++ (instructions.Load (d + 2) (operands.Slot t) 8 ∷ instructions.Load (d + 1) (operands.Slot t) 4 ∷ instructions.Load d (operands.Slot t) 0 ∷ []))
+loaded_some true o bytes d t = omega arith
+loaded_some false o bytes d t = behind (address_code o bytes t) _ (omega arith)
+
+counted_some : (o : Operand) (p d : ℕ) → 0 < length (count_code o p d)
+counted_some (operands.Slot n) p d = omega arith
+counted_some (operands.Word n) p d = omega arith
+
+operates : (starts : Starts) (o : Operator) (l r : Operand) (d : ℕ) → 0 < length (operator_code starts o l r d)
+operates starts operators.Divide l r d = behind _ (instructions.Binary (binary_operator operators.Divide) d l r ∷ []) (omega arith)
+operates starts operators.Remainder l r d = behind _ (instructions.Binary (binary_operator operators.Remainder) d l r ∷ []) (omega arith)
+operates starts o l r d = omega arith
+
+-- what was added makes the code longer
+pub grown : (old more new : List Instruction) → new ≡ old ++ more → 0 < length more → length old < length new
+grown old more new is some = let e : length new ≡ length (old ++ more) = ap length is in omega (arith, e, length-append old more)
+
+-- ---- lists
+
+-- A list is lowered one node after the other. Each has a place and a state, such as the next slot; what it gives may depend on
+-- what is left of the list.
+pub record Lowers {X S : Type 0} (all : List X → ℕ → S → List Instruction) (one : X → List X → ℕ → S → List Instruction) (next : X → List X → S → S) : Type 0 where
+  pub none : (p : ℕ) (s : S) → all [] p s ≡ []
+  pub more : (x : X) (xs : List X) (p : ℕ) (s : S) → all (x ∷ xs) p s ≡ one x xs p s ++ all xs (p + length (one x xs p s)) (next x xs s)
+
+-- what is made, with what the rest of the list adds, is what the whole list adds to what there was
+abbrev pub Remains : {X S : Type 0} → (all : List X → ℕ → S → List Instruction) → (old : List Instruction) → (xs : List X) → (first : S) → (i : ℕ) → (code : List Instruction) → S → Type 0
+Remains all old xs first i code s = code ++ all (drop i xs) (length code) s ≡ old ++ all xs (length old) first
+
+module _ {X S : Type 0} (all : List X → ℕ → S → List Instruction) (one : X → List X → ℕ → S → List Instruction) (next : X → List X → S → S) (more : (x : X) (xs : List X) (p : ℕ) (s : S) → all (x ∷ xs) p s ≡ one x xs p s ++ all xs (p + length (one x xs p s)) (next x xs s)) where
+  pub goes_on_by : (old : List Instruction) (xs : List X) (first : S) (i : ℕ) (code new : List Instruction) (s : S) (x : X) → i < length xs → x ≡ get_or xs i x
+      → new ≡ code ++ one x (drop (i + 1) xs) (length code) s → Remains all old xs first i code s → Remains all old xs first (i + 1) new (next x (drop (i + 1) xs) s)
+  goes_on_by old xs first i code new s x inside at is r =
+      let rest = drop (i + 1) xs in
+      let here : drop i xs ≡ x ∷ rest = drop_more xs i x inside ∙ ap (λ (y : X). y ∷ rest) (sym at) in
+      let added = one x rest (length code) s in
+      let after = next x rest s in
+      let long : length new ≡ length code + length added = ap length is ∙ length-append code added in
+      ap (λ (n : ℕ). new ++ all rest n after) long
+      ∙ ap (λ (l : List Instruction). l ++ all rest (length code + length added) after) is
+      ∙ append_assoc code added (all rest (length code + length added) after)
+      ∙ ap (λ (l : List Instruction). code ++ l) (sym (more x rest (length code) s))
+      ∙ ap (λ (ys : List X). code ++ all ys (length code) s) (sym here)
+      ∙ r
+
+module _ {X S : Type 0} (all : List X → ℕ → S → List Instruction) (one : X → List X → ℕ → S → List Instruction) (next : X → List X → S → S) (lowers : Lowers all one next) where
+  pub goes_on : (old : List Instruction) (xs : List X) (first : S) (i : ℕ) (code new : List Instruction) (s : S) (x : X) → i < length xs → x ≡ get_or xs i x
+      → new ≡ code ++ one x (drop (i + 1) xs) (length code) s → Remains all old xs first i code s → Remains all old xs first (i + 1) new (next x (drop (i + 1) xs) s)
+  goes_on = goes_on_by all one next lowers.more
+
+  pub all_made : (old : List Instruction) (xs : List X) (first : S) (i : ℕ) (code : List Instruction) (s : S) → length xs ≤ i → Remains all old xs first i code s → code ≡ old ++ all xs (length old) first
+  all_made old xs first i code s done r =
+      sym (append-nil code)
+      ∙ ap (λ (l : List Instruction). code ++ l) (sym (lowers.none (length code) s))
+      ∙ ap (λ (ys : List X). code ++ all ys (length code) s) (sym (drop_all i xs done))
+      ∙ r
+
+-- the last operator gives to d, and any other to t
+next_slot_some : (o : Operation) (os : List Operation) (d t : ℕ) → next_slot (operations_of (o ∷ os)) d t ≡ t
+next_slot_some (operation.Compute o e) os d t = refl
+next_slot_some (operation.Test o e) os d t = refl
+next_slot_some (operation.Pointer o e) os d t = refl
+next_slot_some (operation.PointerPeek n o e) os d t = refl
+
+pub slot_behind : (os : List Operation) (d t : ℕ) → 0 < length os → next_slot (operations_of os) d t ≡ t
+slot_behind [] d t some = absurd (omega (arith, some))
+slot_behind (o ∷ os) d t some = next_slot_some o os d t
+
+pub slot_at_end : (os : List Operation) (d t : ℕ) → length os ≡ 0 → next_slot (operations_of os) d t ≡ d
+slot_at_end [] d t none = refl
+slot_at_end (o ∷ os) d t none = absurd (omega (arith, none))
+
+-- the words that are passed so far, with those that are still to come
+pub passed_on : (cs : List ConvertedCode) (i slot first : ℕ) (c : ConvertedCode) → i < length cs → c ≡ get_or cs i c → slot + all_passed (arguments_of (drop i cs)) ≡ first + all_passed (arguments_of cs)
+    → slot + words_of_kind c.to + all_passed (arguments_of (drop (i + 1) cs)) ≡ first + all_passed (arguments_of cs)
+passed_on cs i slot first c inside at left =
+    let here : drop i cs ≡ c ∷ drop (i + 1) cs = drop_more cs i c inside ∙ ap (λ (y : ConvertedCode). y ∷ drop (i + 1) cs) (sym at) in
+    let words : all_passed (arguments_of (drop i cs)) ≡ words_of_kind c.to + all_passed (arguments_of (drop (i + 1) cs)) = ap (λ (l : List ConvertedCode). all_passed (arguments_of l)) here in
+    omega (arith, left, words)
+
+pub passed_done : (cs : List ConvertedCode) (i slot first : ℕ) → length cs ≤ i → slot + all_passed (arguments_of (drop i cs)) ≡ first + all_passed (arguments_of cs) → slot ≡ first + all_passed (arguments_of cs)
+passed_done cs i slot first done left =
+    let none : all_passed (arguments_of (drop i cs)) ≡ 0 = ap (λ (l : List ConvertedCode). all_passed (arguments_of l)) (drop_all i cs done) in
+    omega (arith, left, none)
+
+pub call_viewed : (value : Expr) (f : Callee) (v : Vec ConvertedCode Heap) (t : ValueTypeCode) → value ≡ expr.Call f v t → (items : List ConvertedCode) → items ≡ v.items
+    → view_expression value ≡ Call f (arguments_of items) (view_value_type t)
+call_viewed value f v t is items same =
+    ap view_expression is ∙ view_call f v t ∙ ap (λ (cs : List ConvertedCode). Call f (arguments_of cs) (view_value_type t)) (sym same)
+
+pub binary_viewed : (value : Expr) (b : Box Expr Heap) (v : Vec Operation Heap) (t : TyCode) → value ≡ expr.Binary b v t → (first : Expr) → first ≡ b.value → (items : List Operation) → items ≡ v.items
+    → view_expression value ≡ Binary (view_expression first) (operations_of items) (view_ty t)
+binary_viewed value b v t is first at items same =
+    ap view_expression is ∙ view_binary b v t ∙ ap (λ (a : Expr). Binary (view_expression a) (operations_of v.items) (view_ty t)) (sym at)
+    ∙ ap (λ (os : List Operation). Binary (view_expression first) (operations_of os) (view_ty t)) (sym same)
+
+-- ---- targets that are written back
+
+-- The instruction behind `old`, whose target is the place behind the body that follows it.
+module _ (old : List Instruction) (x : Instruction) (body : ℕ → List Instruction) (jump : ℕ → Instruction) (begun made patched : List Instruction) where
+  pub written_back : begun ≡ old ++ x ∷ [] → made ≡ begun ++ body (length begun) → patched ≡ set made (length old) (jump (length made))
+      → patched ≡ old ++ jump (length old + 1 + length (body (length old + 1))) ∷ body (length old + 1)
+  written_back b m p =
+      let first : length begun ≡ length old + 1 = ap length b ∙ length-append old (x ∷ []) in
+      let inside : made ≡ old ++ x ∷ body (length old + 1)
+      = m ∙ ap (λ (n : ℕ). begun ++ body n) first ∙ ap (λ (l : List Instruction). l ++ body (length old + 1)) b ∙ append_assoc old (x ∷ []) (body (length old + 1)) in
+      let last : length made ≡ length old + 1 + length (body (length old + 1))
+      = ap length inside ∙ length-append old (x ∷ body (length old + 1)) ∙ omega arith in
+      p
+      ∙ ap (λ (n : ℕ). set made (length old) (jump n)) last
+      ∙ ap (λ (l : List Instruction). set l (length old) (jump (length old + 1 + length (body (length old + 1))))) inside
+      ∙ set-append_seam old x (body (length old + 1)) (jump (length old + 1 + length (body (length old + 1))))
+
+-- a test: the jump, the operand, the jump's target, and the truth of what the operand gave
+module _ (old : List Instruction) (x : Instruction) (body : ℕ → List Instruction) (jump : ℕ → Instruction) (begun made patched new last : List Instruction) (place : ℕ) (here : place ≡ length old) (target : ℕ) where
+  pub tested : begun ≡ old ++ x ∷ [] → made ≡ begun ++ body (length begun) → target ≡ length made → patched ≡ set made place (jump target) → new ≡ patched ++ last
+      → new ≡ old ++ (jump (length old + 1 + length (body (length old + 1))) ∷ (body (length old + 1) ++ last))
+  tested b m t p n =
+      let all = jump (length old + 1 + length (body (length old + 1))) ∷ body (length old + 1) in
+      n
+      ∙ ap (λ (l : List Instruction). l ++ last)
+      (written_back old x body jump begun made patched b m (p ∙ ap (λ (k : ℕ). set made k (jump target)) here ∙ ap (λ (k : ℕ). set made (length old) (jump k)) t))
+      ∙ append_assoc old all last
+
+-- the second is made for the place behind the first
+pub joined : (old x : List Instruction) (y : ℕ → List Instruction) (m1 m2 : List Instruction) → m1 ≡ old ++ x → m2 ≡ m1 ++ y (length m1) → m2 ≡ old ++ (x ++ y (length old + length x))
+joined old x y m1 m2 e1 e2 =
+    let place = length old + length x in
+    e2 ∙ ap (λ (n : ℕ). m1 ++ y n) (ap length e1 ∙ length-append old x) ∙ ap (λ (l : List Instruction). l ++ y place) e1 ∙ append_assoc old x (y place)
+
+-- what was added makes the code no shorter
+pub no_shorter_than : (old more new : List Instruction) → new ≡ old ++ more → length old ≤ length new
+no_shorter_than old more new is = let e : length new ≡ length (old ++ more) = ap length is in omega (arith, e, length-append old more)
+
+-- the slot for what an operator gives, by how many follow
+pub slot_by_count : (xs : List Operation) (i many to d t : ℕ) → many + (i + 1) ≡ length xs → (many ≡ 0 → to ≡ d) → (0 < many → to ≡ t) → to ≡ next_slot (operations_of (drop (i + 1) xs)) d t
+slot_by_count xs i zero to d t counted none some = none refl ∙ sym (slot_at_end (drop (i + 1) xs) d t (omega (arith, length-drop (i + 1) xs, counted)))
+slot_by_count xs i (suc many) to d t counted none some = some (omega arith) ∙ sym (slot_behind (drop (i + 1) xs) d t (omega (arith, length-drop (i + 1) xs, counted)))
+
+-- ---- new objects
+
+-- how many elements a fat pointer in a slot has
+pub made_count : (pointer : Operand) (j : Instruction) (n behind here d : ℕ) (old m1 m2 m3 m4 m5 m6 : List Instruction)
+    → pointer ≡ operands.Slot n
+    → behind ≡ n + 3
+    → here ≡ length old
+    → j ≡ jump_if_zero (operands.Slot n) (here + 4)
+    → m1 ≡ old ++ j ∷ []
+    → m2 ≡ m1 ++ instructions.Branch comparisons.LessUnsigned (operands.Slot (behind - 2)) (operands.Slot (behind - 1)) (here + 4) ∷ []
+    → m3 ≡ m2 ++ instructions.Binary plain_binary.Subtract d (operands.Slot (behind - 2)) (operands.Slot (behind - 1)) ∷ []
+    → m4 ≡ m3 ++ instructions.Jump (here + 4 + 1) ∷ []
+    → m5 ≡ m4
+    → m6 ≡ m5 ++ instructions.Move d (operands.Word 0) ∷ []
+    → m6 ≡ old ++ count_code pointer (length old) d
+made_count pointer j n behind here d old m1 m2 m3 m4 m5 m6 pointer_is behind_is here_is j_is e1 e2 e3 e4 e5 e6 =
+    let first : behind - 2 ≡ n + 1 = omega (arith, behind_is) in
+    let second : behind - 1 ≡ n + 2 = omega (arith, behind_is) in
+    let target = length old + 4 in
+    let there : here + 4 ≡ target = omega (arith, here_is) in
+    let past : here + 4 + 1 ≡ length old + 5 = omega (arith, here_is) in
+    let a = jump_if_zero (operands.Slot n) target in
+    let b = instructions.Branch comparisons.LessUnsigned (operands.Slot (n + 1)) (operands.Slot (n + 2)) target in
+    let less = instructions.Binary plain_binary.Subtract d (operands.Slot (n + 1)) (operands.Slot (n + 2)) in
+    let jump = instructions.Jump (length old + 5) in
+    let none = instructions.Move d (operands.Word 0) in
+    let s1 : m1 ≡ old ++ a ∷ [] =
+    e1 ∙ ap (λ (x : Instruction). old ++ x ∷ []) (j_is ∙ ap (λ (x : ℕ). jump_if_zero (operands.Slot n) x) there) in
+    let s2 : m2 ≡ m1 ++ b ∷ [] =
+    e2
+    ∙ ap (λ (x : ℕ). m1 ++ instructions.Branch comparisons.LessUnsigned (operands.Slot x) (operands.Slot (behind - 1)) (here + 4) ∷ []) first
+    ∙ ap (λ (x : ℕ). m1 ++ instructions.Branch comparisons.LessUnsigned (operands.Slot (n + 1)) (operands.Slot x) (here + 4) ∷ []) second
+    ∙ ap (λ (x : ℕ). m1 ++ instructions.Branch comparisons.LessUnsigned (operands.Slot (n + 1)) (operands.Slot (n + 2)) x ∷ []) there in
+    let s3 : m3 ≡ m2 ++ less ∷ [] =
+    e3
+    ∙ ap (λ (x : ℕ). m2 ++ instructions.Binary plain_binary.Subtract d (operands.Slot x) (operands.Slot (behind - 1)) ∷ []) first
+    ∙ ap (λ (x : ℕ). m2 ++ instructions.Binary plain_binary.Subtract d (operands.Slot (n + 1)) (operands.Slot x) ∷ []) second in
+    let s4 : m4 ≡ m3 ++ jump ∷ [] = e4 ∙ ap (λ (x : ℕ). m3 ++ instructions.Jump x ∷ []) past in
+    let s5 : m6 ≡ m4 ++ none ∷ [] = e6 ∙ ap (λ (l : List Instruction). l ++ none ∷ []) e5 in
+    let two = joined old (a ∷ []) (λ p. b ∷ []) m1 m2 s1 s2 in
+    let three = joined old (a ∷ b ∷ []) (λ p. less ∷ []) m2 m3 two s3 in
+    let four = joined old (a ∷ b ∷ less ∷ []) (λ p. jump ∷ []) m3 m4 three s4 in
+    joined old (a ∷ b ∷ less ∷ jump ∷ []) (λ p. none ∷ []) m4 m6 four s5
+    ∙ ap (λ (o : Operand). old ++ count_code o (length old) d) (sym pointer_is)
+
+-- words that come to memory one after the other: from the word of this number on they are left
+abbrev pub StoresLeft : (old code : List Instruction) → (many address first i : ℕ) → Type 0
+StoresLeft old code many address first i =
+    (left : ℕ) × (i + left ≡ many) × (code ++ stores_code left address (4 * i) (first + i) ≡ old ++ stores_code many address 0 first)
+
+pub stores_begin : (old : List Instruction) (many address first : ℕ) → StoresLeft old old many address first 0
+stores_begin old many address first = (many, omega arith, ap (λ (n : ℕ). old ++ stores_code many address 0 n) (let e : first + 0 ≡ first = omega arith in e))
+
+pub stores_next : (old code new : List Instruction) (many address first i : ℕ) → i < many → new ≡ code ++ instructions.Store (operands.Slot address) (4 * i) (operands.Slot (first + i)) ∷ []
+    → StoresLeft old code many address first i → StoresLeft old new many address first (i + 1)
+stores_next old code new many address first i below added (zero, count, made) = absurd (omega (arith, count, below))
+stores_next old code new many address first i below added (suc left, count, made) =
+    let store = instructions.Store (operands.Slot address) (4 * i) (operands.Slot (first + i)) in
+    let offset : 4 * (i + 1) ≡ 4 * i + 4 = omega arith in
+    let slot : first + (i + 1) ≡ suc (first + i) = omega arith in (
+      left,
+      omega (arith, count),
+      ap (λ (n : ℕ). new ++ stores_code left address n (first + (i + 1))) offset
+          ∙ ap (λ (n : ℕ). new ++ stores_code left address (4 * i + 4) n) slot
+          ∙ ap (λ (l : List Instruction). l ++ stores_code left address (4 * i + 4) (suc (first + i))) added
+          ∙ append_assoc code (store ∷ []) (stores_code left address (4 * i + 4) (suc (first + i)))
+          ∙ made,
+    )
+
+pub stores_end : (old code : List Instruction) (many address first i : ℕ) → many ≤ i → StoresLeft old code many address first i → code ≡ old ++ stores_code many address 0 first
+stores_end old code many address first i done (zero, count, made) = sym (append-nil code) ∙ made
+stores_end old code many address first i done (suc left, count, made) = absurd (omega (arith, count, done))
+
+-- ---- arrays
+
+pub made_begun : (starts : Starts) (old m1 m2 : List Instruction) (handle : Operand) (words behind t : ℕ) → behind ≡ t + 3 → m1 ≡ old ++ measured_code starts words (behind - 2) (behind - 1) t
+    → m2 ≡ m1 ++ asked_code handle words behind t → m2 ≡ old ++ begun_code starts handle words t
+made_begun starts old m1 m2 handle words behind t is e1 e2 =
+    let x : behind - 2 ≡ t + 1 = omega (arith, is) in
+    let y : behind - 1 ≡ t + 2 = omega (arith, is) in
+    e2
+    ∙ ap (λ (s : ℕ). m1 ++ asked_code handle words s t) is
+    ∙ ap (λ (l : List Instruction). l ++ asked_code handle words (t + 3) t) (e1 ∙ ap (λ (n : ℕ). old ++ measured_code starts words n (behind - 1) t) x ∙ ap (λ (n : ℕ). old ++ measured_code starts words (t + 1) n t) y)
+    ∙ append_assoc old (measured_code starts words (t + 1) (t + 2) t) (asked_code handle words (t + 3) t)
+
+-- the elements, whose loop begins at place head
+pub made_elements : (starts : Starts) (counters : List ℕ) (a : Expression) (old begun made filled patched new : List Instruction) (x : Instruction) (last : Condition) (words head behind d t : ℕ) → behind ≡ t + 3
+    → counters ≡ starts.counters ++ (behind - 1) ∷ [] → head ≡ length old → begun ≡ old ++ x ∷ []
+    → made ≡ begun ++ expression_code (record { locals = starts.locals; structs = starts.structs; raises = starts.raises; counters = counters; globals = starts.globals; scopes = starts.scopes }) a (length begun) behind behind
+    → filled ≡ made ++ written_code words head (behind - 1) behind (behind + words) t → last ≡ last_element (behind - 2) (behind - 1)
+    → patched ≡ set filled head (failing_jump last (length filled)) → new ≡ patched ++ restarted_code d (behind - 1) t
+    → new ≡ old ++ elements_code words (expression_code (with_counter starts (t + 2)) a (length old + 1) (t + 3) (t + 3)) (length old) d t
+made_elements starts counters a old begun made filled patched new i last words head behind d t is counters_are here e0 e1 e2 last_is e3 e4 =
+    let x : behind - 2 ≡ t + 1 = omega (arith, is) in
+    let y : behind - 1 ≡ t + 2 = omega (arith, is) in
+    let z : behind + words ≡ t + 3 + words = omega (arith, is) in
+    let first : made ≡ begun ++ expression_code (with_counter starts (t + 2)) a (length begun) (t + 3) (t + 3)
+    = e1
+    ∙ ap (λ (cs : List ℕ). begun ++ expression_code (record { locals = starts.locals; structs = starts.structs; raises = starts.raises; counters = cs; globals = starts.globals; scopes = starts.scopes }) a (length begun) behind behind) (counters_are ∙ ap (λ (n : ℕ). starts.counters ++ n ∷ []) y)
+    ∙ ap (λ (n : ℕ). begun ++ expression_code (with_counter starts (t + 2)) a (length begun) n n) is in
+    let second : filled ≡ made ++ filled_code words (length old) t
+    = e2
+    ∙ ap (λ (n : ℕ). made ++ written_code words n (behind - 1) behind (behind + words) t) here
+    ∙ ap (λ (n : ℕ). made ++ written_code words (length old) n behind (behind + words) t) y
+    ∙ ap (λ (n : ℕ). made ++ written_code words (length old) (t + 2) n (behind + words) t) is
+    ∙ ap (λ (n : ℕ). made ++ written_code words (length old) (t + 2) (t + 3) n t) z in
+    let element = λ (p : ℕ). expression_code (with_counter starts (t + 2)) a p (t + 3) (t + 3) in
+    let third : patched ≡ set filled head (failing_jump (last_element (t + 1) (t + 2)) (length filled))
+    = e3
+    ∙ ap (λ (c : Condition). set filled head (failing_jump c (length filled))) (last_is ∙ ap (λ (n : ℕ). last_element n (behind - 1)) x ∙ ap (λ (n : ℕ). last_element (t + 1) n) y) in
+    tested old i (λ (p : ℕ). element p ++ filled_code words (length old) t) (λ (q : ℕ). failing_jump (last_element (t + 1) (t + 2)) q) begun filled patched new (ended_code d t) head here (length filled)
+    e0
+    (second ∙ ap (λ (l : List Instruction). l ++ filled_code words (length old) t) first ∙ append_assoc begun (element (length begun)) (filled_code words (length old) t))
+    refl third (e4 ∙ ap (λ (n : ℕ). patched ++ restarted_code d n t) y)
+
+-- ---- words of globals
+
+-- the instructions for words that are emitted so far, with those still to come
+abbrev pub WordsLeft : (each : (global slot : ℕ) → Instruction) → (old code : List Instruction) → (words first slot i : ℕ) → Type 0
+WordsLeft each old code words first slot i =
+    (left : ℕ) × (i + left ≡ words) × (code ++ word_by_word each left (first + i) (slot + i) ≡ old ++ word_by_word each words first slot)
+
+pub words_begin : (each : (global slot : ℕ) → Instruction) (old : List Instruction) (words first slot : ℕ) → WordsLeft each old old words first slot 0
+words_begin each old words first slot = (
+  words,
+  omega arith,
+  ap (λ (n : ℕ). old ++ word_by_word each words n (slot + 0)) (let e : first + 0 ≡ first = omega arith in e)
+      ∙ ap (λ (n : ℕ). old ++ word_by_word each words first n) (let e : slot + 0 ≡ slot = omega arith in e),
+)
+
+pub words_next : (each : (global slot : ℕ) → Instruction) (old code new : List Instruction) (words first slot i : ℕ) → i < words → new ≡ code ++ each (first + i) (slot + i) ∷ []
+    → WordsLeft each old code words first slot i → WordsLeft each old new words first slot (i + 1)
+words_next each old code new words first slot i below added (zero, count, made) = absurd (omega (arith, count, below))
+words_next each old code new words first slot i below added (suc left, count, made) = (
+  left,
+  omega (arith, count),
+  ap (λ (n : ℕ). new ++ word_by_word each left n (slot + (i + 1))) (let e : first + (i + 1) ≡ suc (first + i) = omega arith in e)
+      ∙ ap (λ (n : ℕ). new ++ word_by_word each left (suc (first + i)) n) (let e : slot + (i + 1) ≡ suc (slot + i) = omega arith in e)
+      ∙ ap (λ (l : List Instruction). l ++ word_by_word each left (suc (first + i)) (suc (slot + i))) added
+      ∙ append_assoc code (each (first + i) (slot + i) ∷ []) (word_by_word each left (suc (first + i)) (suc (slot + i)))
+      ∙ made,
+)
+
+pub words_end : (each : (global slot : ℕ) → Instruction) (old code : List Instruction) (words first slot i : ℕ) → words ≤ i → WordsLeft each old code words first slot i → code ≡ old ++ word_by_word each words first slot
+words_end each old code words first slot i done (zero, count, made) = sym (append-nil code) ∙ made
+words_end each old code words first slot i done (suc left, count, made) = absurd (omega (arith, count, done))
+
+-- a list of fields has as many as it is long
+fields_counted : (cs : List ConvertedCode) → argument_count (arguments_of cs) ≡ length cs
+fields_counted [] = refl
+fields_counted (c ∷ cs) = ap suc (fields_counted cs)
+
+-- ---- locals that have these first slots
+
+module _ (starts : Starts) where
+  -- ---- no expression is without code
+
+  loads : (words : ℕ) (l : Lvalue) (d : ℕ) → 1 ≤ words → 0 < length (load_code starts words l d)
+  loads words (Local p n) d some = omega arith
+  loads zero (Global n) d some = absurd (omega (arith, some))
+  loads (suc words) (Global n) d some = omega arith
+
+  saves : (words first : ℕ) (o : Operand) → 1 ≤ words → 0 < length (global_code words first o)
+  saves zero first (operands.Slot n) some = absurd (omega (arith, some))
+  saves (suc words) first (operands.Slot n) some = omega arith
+  saves words first (operands.Word n) some = omega arith
+
+  passed_some : (c : Converted) → 1 ≤ passed_words c
+  passed_some (Convert from to a) = kind_positive to
+
+  computes : (o : Operator) (b : Expression) (os : Operations) (p : ℕ) (l : Operand) (d t : ℕ) → 0 < length (operations_code starts (ThenCompute o b os) p l d t)
+  computes o b os p l d t =
+      before (compute_code starts o l (value_operand starts b (suc t)) (value_code starts b p (suc t)) (next_slot os d t)) _
+      (behind (value_code starts b p (suc t)) _ (operates starts o l (value_operand starts b (suc t)) (next_slot os d t)))
+
+  tests : (o : LogicalOperator) (b : Expression) (os : Operations) (p : ℕ) (l : Operand) (d t : ℕ) → 0 < length (operations_code starts (ThenTest o b os) p l d t)
+  tests o b os p l d t = before (test_code o (expression_code starts b (p + 1) t t) p (next_slot os d t) t) _ (omega arith)
+
+  initial_by : (there : Bool) (known : Option Operand) (at_once inner : List Instruction) (from to : Kind) (span : Option ℕ) (o : Operand) (p d : ℕ) → 0 < length at_once
+      → 0 < length (if there then at_once else moved_by starts known inner from to span o p d)
+  initial_by true known at_once inner from to span o p d some = some
+  initial_by false known at_once inner from to span o p d some = behind (converted_by starts known inner from to span o p) (move_of (words_of_kind to) d o ∷ []) (omega arith)
+
+  followed_some : (thin : Bool) (span : Option ℕ) (o : Operand) (t : ℕ) → 0 < length (followed_code starts thin span o t)
+  followed_some true span o t = omega arith
+  followed_some false span (operands.Slot n) t = omega arith
+  followed_some false span (operands.Word w) t = omega arith
+
+  place_some : (x : Dereference) (p t : ℕ) → 0 < length (place_code starts x p t)
+  place_some (Target k a ty) p t =
+      behind (code_unless (operand_of starts a) (expression_code starts a p (value_slot starts a t) t)) _ (followed_some (is_thin k) (span_in ty) (value_operand starts a t) t)
+  place_some (Member k a s f ty) p t = behind (code_unless (operand_of starts a) (expression_code starts a p (value_slot starts a t) t)) _ (omega arith)
+  place_some (Element a i ty) p t =
+      let front = code_unless_slot (pointer_of starts a i) (expression_code starts a p t t) in
+      behind front _ (behind (code_unless (operand_of starts i) (expression_code starts i (p + length front) (value_slot starts i (t + 3)) (t + 3))) _ (omega arith))
+
+  mutual
+    pub expression_some : (a : Expression) (p d t : ℕ) → 0 < length (expression_code starts a p d t)
+    expression_some (Number n) p d t = omega arith
+    expression_some (Copy l ty) p d t = loads (words_of ty) l d (words_positive ty)
+    expression_some (Move w n ty) p d t = loads (words_of ty) (Local w n) d (words_positive ty)
+    expression_some (Peek w n ty) p d t = loads (words_of ty) (Local w n) d (words_positive ty)
+    expression_some (Call callees.Putchar cs ty) p d t = behind (printed_code starts cs p t) _ (omega arith)
+    expression_some (Call callees.Getchar cs ty) p d t = behind (arguments_code starts cs p t) _ (omega arith)
+    expression_some (Call (callees.Function n) cs ty) p d t = behind (arguments_code starts cs p t) _ (omega arith)
+    expression_some (NumberOfElements a) p d t = behind (value_code starts a p t) _ (counted_some (value_operand starts a t) (p + length (value_code starts a p t)) d)
+    expression_some (Unary o a) p d t = behind (value_code starts a p t) _ (omega arith)
+    expression_some (Binary a NoOperations ty) p d t = before (expression_code starts a p d t) _ (expression_some a p d t)
+    expression_some (Binary a (ThenCompute o b os) ty) p d t =
+        let front = left_code starts a (ThenCompute o b os) p d t in
+        behind front _ (computes o b os (p + length front) (operand_or (left_of starts a (ThenCompute o b os)) (left_slot starts a (ThenCompute o b os) d t)) d t)
+    expression_some (Binary a (ThenTest o b os) ty) p d t =
+        let front = left_code starts a (ThenTest o b os) p d t in
+        behind front _ (tests o b os (p + length front) (operands.Slot t) d t)
+    expression_some (Binary a os ty) p d t = before (expression_code starts a p t t) _ (expression_some a p t t)
+    expression_some (Assign (Local w n) c ty) p d t = before (initial_code starts c p (slot_of starts n) t) _ (initial_some c p (slot_of starts n) t)
+    expression_some (Assign (Global n) c ty) p d t =
+        before (converted_operand_code starts c p t ++ _) (copy_code (passed_words c) (converted_operand starts c t) d) (behind (converted_operand_code starts c p t) _ (saves (passed_words c) (global_of starts n) (converted_operand starts c t) (passed_some c)))
+    expression_some (Load x) p d t = behind (place_code starts x p t) _ (loaded_some (words_of (type_of_place x) == 1) (place_operand starts x t) (place_offset starts x) d t)
+    expression_some (AddressOf (Local w n) ty) p d t = omega arith
+    expression_some (AddressOf (Global n) ty) p d t = omega arith
+    expression_some (AddressOfCell x ty) p d t = before (place_code starts x p t) _ (place_some x p t)
+    expression_some (Store x c ty) p d t = before (store_code starts x c p t) _ (before (store_address_code starts x p t) _ (before (place_code starts x p t) _ (place_some x p t)))
+    expression_some (FreeUnique a) p d t = behind (value_code starts a p t) _ (omega arith)
+    expression_some (FreeKey a) p d t = behind (value_code starts a p t) _ (omega arith)
+    expression_some (New OnHeap i ty) p d t = made_some i (operands.Word HEAP) p d t
+    expression_some (New AsUnique i ty) p d t = made_some i (operands.Word UNIQUE) p d t
+    expression_some (New (ByHandle a) i ty) p d t = before (expression_code starts a p t t) _ (expression_some a p t t)
+    expression_some a p d t = omega arith
+
+    made_some : (i : Initial) (handle : Operand) (p d t : ℕ) → 0 < length (made_code starts i handle p d t)
+    made_some (Plain kind a) handle p d t = behind (expression_code starts a p t t) (object_code handle (words_of_kind kind) d t) (omega arith)
+    made_some (Fields cs) handle p d t = behind (arguments_code starts cs p t) (object_code handle (all_passed cs) d t) (omega arith)
+    made_some (Array w level n kind a) handle p d t = behind (expression_code starts n p t t) _ (omega arith)
+
+    initial_some : (c : Converted) (p d t : ℕ) → 0 < length (initial_code starts c p d t)
+    initial_some (Convert from to a) p d t =
+        let slot = source_slot starts (Convert from to a) t in
+        initial_by (converts_there from to) (source_of starts (Convert from to a)) (expression_code starts a p d t) (expression_code starts a p slot t) from to (span_of a) (converted_operand starts (Convert from to a) t) p d (expression_some a p d t)
+
+  -- arguments: the state is the slot of the next
+  abbrev pub all_arguments : List ConvertedCode → (p t : ℕ) → List Instruction
+  all_arguments cs p t = arguments_code starts (arguments_of cs) p t
+
+  abbrev pub one_argument : ConvertedCode → List ConvertedCode → (p t : ℕ) → List Instruction
+  one_argument c cs p t = converted_code starts (view_converted c) p t
+
+  abbrev pub next_argument : ConvertedCode → List ConvertedCode → ℕ → ℕ
+  next_argument c cs t = t + words_of_kind c.to
+
+  pub arguments_lower : Lowers all_arguments one_argument next_argument
+  arguments_lower = record { none = λ p t. refl; more = λ x xs p t. refl }
+
+  -- the argument of `putchar`: the state is where its value stands
+  abbrev pub all_printed : ℕ → List ConvertedCode → ℕ → Operand → List Instruction
+  all_printed t cs p o = printed_code starts (arguments_of cs) p t
+
+  abbrev pub one_printed : ℕ → ConvertedCode → List ConvertedCode → ℕ → Operand → List Instruction
+  one_printed t c cs p o = converted_operand_code starts (view_converted c) p t
+
+  abbrev pub next_printed : ℕ → ConvertedCode → List ConvertedCode → Operand → Operand
+  next_printed t c cs o = converted_operand starts (view_converted c) t
+
+  pub printed_lower : (t : ℕ) → Lowers (all_printed t) (one_printed t) (next_printed t)
+  printed_lower t = record { none = λ p o. refl; more = λ x xs p o. refl }
+
+  -- where the value stands in the end
+  abbrev pub PrintedLeft : List ConvertedCode → (i : ℕ) → Operand → ℕ → Type 0
+  PrintedLeft cs i o t = printed_operand starts (arguments_of (drop i cs)) o t ≡ printed_operand starts (arguments_of cs) (operands.Slot t) t
+
+  pub printed_done : (cs : List ConvertedCode) (i : ℕ) (o : Operand) (t : ℕ) → length cs ≤ i → PrintedLeft cs i o t → o ≡ printed_operand starts (arguments_of cs) (operands.Slot t) t
+  printed_done cs i o t done left = sym (ap (λ (ys : List ConvertedCode). printed_operand starts (arguments_of ys) o t) (drop_all i cs done)) ∙ left
+
+  -- a chain: the state is the left operand
+  abbrev pub all_operations : (d t : ℕ) → List Operation → ℕ → Operand → List Instruction
+  all_operations d t os p l = operations_code starts (operations_of os) p l d t
+
+  abbrev pub one_operation : (d t : ℕ) → Operation → List Operation → ℕ → Operand → List Instruction
+  one_operation d t o os p l = operation_code starts o p l (next_slot (operations_of os) d t) t
+
+  abbrev pub next_operation : (d t : ℕ) → Operation → List Operation → Operand → Operand
+  next_operation d t o os l = operands.Slot (next_slot (operations_of os) d t)
+
+  one_operation_more : (d t : ℕ) (o : Operation) (os : List Operation) (p : ℕ) (l : Operand)
+      → all_operations d t (o ∷ os) p l ≡ one_operation d t o os p l ++ all_operations d t os (p + length (one_operation d t o os p l)) (next_operation d t o os l)
+  one_operation_more d t (operation.Compute o e) os p l = refl
+  one_operation_more d t (operation.Test o e) os p l = refl
+  one_operation_more d t (operation.Pointer o e) os p l = refl
+  one_operation_more d t (operation.PointerPeek n o e) os p l = refl
+
+  pub operations_lower : (d t : ℕ) → Lowers (all_operations d t) (one_operation d t) (next_operation d t)
+  operations_lower d t = record { none = λ p l. refl; more = one_operation_more d t }
+
+  -- ---- nodes with lists
+
+  -- the type of what a call gives changes no code
+  pub call_alike : (f : Callee) (cs : Arguments) (ty other : ValueType) (p d t : ℕ) → expression_code starts (Call f cs ty) p d t ≡ expression_code starts (Call f cs other) p d t
+  call_alike callees.Putchar cs ty other p d t = refl
+  call_alike callees.Getchar cs ty other p d t = refl
+  call_alike (callees.Function n) cs ty other p d t = refl
+
+  module _ (value : Operation) (o : LogicalOperator) (e : Expr) (is : value ≡ operation.Test o e) (old : List Instruction) (x : Instruction) (begun made patched new : List Instruction) (l : Operand) (d t place target : ℕ) where
+    pub made_test : place ≡ length old → begun ≡ old ++ x ∷ [] → made ≡ begun ++ expression_code starts (view_expression e) (length begun) t t → target ≡ length made
+        → patched ≡ set made place (test_jump o t target) → new ≡ patched ++ truth_code t d → new ≡ old ++ operation_code starts value (length old) l d t
+    made_test here b m k p n =
+        tested old x (λ (q : ℕ). expression_code starts (view_expression e) q t t) (λ (q : ℕ). test_jump o t q) begun made patched new (truth_code t d) place here target b m k p n
+        ∙ ap (λ (y : Operation). old ++ operation_code starts y (length old) l d t) (sym is)
+
+  -- ---- pieces one behind the other
+
+  -- ---- calls
+
+  module _ (f : Callee) (items : List ConvertedCode) (old m1 m2 : List Instruction) (d t : ℕ) where
+    pub made_putchar : (byte : Operand) → f ≡ callees.Putchar → byte ≡ printed_operand starts (arguments_of items) (operands.Slot t) t → m1 ≡ old ++ print_code starts (arguments_of items) (length old) t
+        → m2 ≡ m1 ++ low_byte byte d ∷ [] → m2 ≡ old ++ expression_code starts (Call f (arguments_of items) Void) (length old) d t
+    made_putchar byte is byte_is e1 e2 =
+        let o = printed_operand starts (arguments_of items) (operands.Slot t) t in
+        let front = printed_code starts (arguments_of items) (length old) t in
+        joined old (print_code starts (arguments_of items) (length old) t) (λ n. low_byte o d ∷ []) m1 m2 e1 (e2 ∙ ap (λ b. m1 ++ low_byte b d ∷ []) byte_is)
+        ∙ ap (λ (l : List Instruction). old ++ l) (append_assoc front (instructions.WriteByte o ∷ []) (low_byte o d ∷ []))
+        ∙ ap (λ (g : Callee). old ++ expression_code starts (Call g (arguments_of items) Void) (length old) d t) (sym is)
+
+    pub made_call : (n many : ℕ) → f ≡ callees.Function n → many ≡ all_passed (arguments_of items) → m1 ≡ old ++ arguments_code starts (arguments_of items) (length old) t
+        → m2 ≡ m1 ++ instructions.Call n t many d ∷ [] → m2 ≡ old ++ expression_code starts (Call f (arguments_of items) Void) (length old) d t
+    made_call n many is counted e1 e2 =
+        let all = all_passed (arguments_of items) in
+        joined old (arguments_code starts (arguments_of items) (length old) t) (λ p. instructions.Call n t all d ∷ []) m1 m2 e1 (e2 ∙ ap (λ k. m1 ++ instructions.Call n t k d ∷ []) counted)
+        ∙ ap (λ (g : Callee). old ++ expression_code starts (Call g (arguments_of items) Void) (length old) d t) (sym is)
+
+  -- a call, as the expression that it is
+  pub made_called : (value : Expr) (f : Callee) (v : Vec ConvertedCode Heap) (ty : ValueTypeCode) (items : List ConvertedCode) (old new : List Instruction) (d t : ℕ) → value ≡ expr.Call f v ty → items ≡ v.items
+      → new ≡ old ++ expression_code starts (Call f (arguments_of items) Void) (length old) d t → new ≡ old ++ expression_code starts (view_expression value) (length old) d t
+  made_called value f v ty items old new d t is same made =
+      made ∙ ap (λ (l : List Instruction). old ++ l) (call_alike f (arguments_of items) Void (view_value_type ty) (length old) d t)
+      ∙ ap (λ (a : Expression). old ++ expression_code starts a (length old) d t) (sym (call_viewed value f v ty is items same))
+
+  -- a new struct, of its fields
+  pub made_fields : (value : InitialCode) (v : Vec ConvertedCode Heap) (items : List ConvertedCode) (old m1 m2 : List Instruction) (handle : Operand) (many d t : ℕ) → value ≡ initial.Fields v → items ≡ v.items → many ≡ all_passed (arguments_of items)
+      → m1 ≡ old ++ arguments_code starts (arguments_of items) (length old) t → m2 ≡ m1 ++ object_code handle many d t → m2 ≡ old ++ made_code starts (view_initial value) handle (length old) d t
+  made_fields value v items old m1 m2 handle many d t is same count first second =
+      let cs = arguments_of v.items in
+      let counted : many ≡ all_passed cs = count ∙ ap (λ (l : List ConvertedCode). all_passed (arguments_of l)) same in
+      second
+      ∙ ap (λ (l : List Instruction). l ++ object_code handle many d t) (first ∙ ap (λ (l : List ConvertedCode). old ++ arguments_code starts (arguments_of l) (length old) t) same)
+      ∙ append_assoc old (arguments_code starts cs (length old) t) (object_code handle many d t)
+      ∙ ap (λ (n : ℕ). old ++ (arguments_code starts cs (length old) t ++ object_code handle n d t)) counted
+      ∙ ap (λ (i : Initial). old ++ made_code starts i handle (length old) d t) (sym (ap view_initial is ∙ view_fields v))
+
+  -- ---- chains
+
+  pub made_binary : (value : Expr) (b : Box Expr Heap) (v : Vec Operation Heap) (ty : TyCode) (first : Expr) (items others : List Operation) (old m1 m2 : List Instruction) (l : Operand) (d t : ℕ)
+      → value ≡ expr.Binary b v ty → first ≡ b.value → items ≡ v.items → others ≡ v.items
+      → (l ≡ operand_or (left_of starts (view_expression first) (operations_of items)) (left_slot starts (view_expression first) (operations_of items) d t))
+      → m1 ≡ old ++ left_code starts (view_expression first) (operations_of items) (length old) d t
+      → m2 ≡ m1 ++ operations_code starts (operations_of others) (length m1) l d t → m2 ≡ old ++ expression_code starts (view_expression value) (length old) d t
+  made_binary value b v ty first items others old m1 m2 l d t is at same same_others l_is e1 e2 =
+      let a = view_expression first in
+      let os = operations_of items in
+      let left = operand_or (left_of starts a os) (left_slot starts a os d t) in
+      joined old (left_code starts a os (length old) d t) (λ p. operations_code starts os p left d t) m1 m2 e1
+      (e2 ∙ ap (λ (os' : List Operation). m1 ++ operations_code starts (operations_of os') (length m1) l d t) (same_others ∙ sym same) ∙ ap (λ (o : Operand). m1 ++ operations_code starts os (length m1) o d t) l_is)
+      ∙ ap (λ (x : Expression). old ++ expression_code starts x (length old) d t) (sym (binary_viewed value b v ty is first at items same))
+
+  -- behind a left operand there is room for the chain
+  pub room_behind : (a : Expression) (os : Operations) (old new : List Instruction) (d t : ℕ) → t ≤ most_locals + length old → new ≡ old ++ left_code starts a os (length old) d t
+      → (t ≤ most_locals + length new) × HasRoom starts os t (length new)
+  room_behind a NoOperations old new d t low is = let more = no_shorter_than old _ new is in (omega (arith, low, more), omega (arith, low, more))
+  room_behind a (ThenCompute o b os) old new d t low is =
+      let more = no_shorter_than old _ new is in (
+        omega (arith, low, more),
+        λ none.
+            let code : left_code starts a (ThenCompute o b os) (length old) d t ≡ expression_code starts a (length old) t t =
+            ap (λ (k : Option Operand). code_unless (left_with k (operand_of starts a)) (expression_code starts a (length old) (slot_with starts k a t) t)) none in
+            let longer = grown old (expression_code starts a (length old) t t) new (is ∙ ap (λ (l : List Instruction). old ++ l) code) (expression_some a (length old) t t) in
+            omega (arith, low, longer),
+      )
+  room_behind a os old new d t low is = let more = no_shorter_than old _ new is in (omega (arith, low, more), omega (arith, low, more))
+
+  -- a left operand that is not one without code
+  left_plain : (a : Expression) (os : List Operation) (d t to : ℕ) → takes_operand starts (operations_of os) ≡ false → (length os ≡ 0 → to ≡ d) → (0 < length os → to ≡ t)
+      → (left_of starts a (operations_of os) ≡ None) × (to ≡ left_slot starts a (operations_of os) d t)
+  left_plain a [] d t to plain none some = (refl, none refl)
+  left_plain a (operation.Test o e ∷ os) d t to plain none some = (refl, some (omega arith))
+  left_plain a (operation.Pointer o e ∷ os) d t to plain none some = (refl, some (omega arith))
+  left_plain a (operation.PointerPeek n o e ∷ os) d t to plain none some = (refl, some (omega arith))
+  left_plain a (operation.Compute o e ∷ os) d t to plain none some = by (operand_of starts (view_expression e)) plain
+    where
+      by : (k : Option Operand) → is_some k ≡ false → (left_with k (operand_of starts a) ≡ None) × (to ≡ slot_with starts k a t)
+      by (Some k) plain = absurd (let f : true ≡ false = plain in cc)
+      by None plain = (refl, some (omega arith))
+
+  made_left : (a : Expression) (os : List Operation) (old new : List Instruction) (d t to : ℕ) → takes_operand starts (operations_of os) ≡ false → (length os ≡ 0 → to ≡ d) → (0 < length os → to ≡ t)
+      → new ≡ old ++ expression_code starts a (length old) to t
+      → (operands.Slot to ≡ operand_or (left_of starts a (operations_of os)) (left_slot starts a (operations_of os) d t)) × (new ≡ old ++ left_code starts a (operations_of os) (length old) d t)
+  made_left a os old new d t to plain none some is =
+      let (unknown, slot) = left_plain a os d t to plain none some in
+      let there = left_slot starts a (operations_of os) d t in (
+        ap operands.Slot slot ∙ sym (ap (λ (k : Option Operand). operand_or k there) unknown),
+        is ∙ ap (λ (n : ℕ). old ++ expression_code starts a (length old) n t) slot ∙ sym (ap (λ (k : Option Operand). old ++ code_unless k (expression_code starts a (length old) there t)) unknown),
+      )
+
+  -- a left operand that is taken without code
+  pub made_left_operand : (a : Expression) (os : Operations) (old : List Instruction) (d t : ℕ) → takes_operand starts os ≡ true
+      → (value_operand starts a t ≡ operand_or (left_of starts a os) (left_slot starts a os d t)) × (value_code starts a (length old) t ≡ left_code starts a os (length old) d t)
+  made_left_operand a (ThenCompute o b os) old d t takes = by (operand_of starts b) takes
+    where
+      by : (k : Option Operand) → is_some k ≡ true
+          → (value_operand starts a t ≡ operand_or (left_with k (operand_of starts a)) (slot_with starts k a t))
+          × (value_code starts a (length old) t ≡ code_unless (left_with k (operand_of starts a)) (expression_code starts a (length old) (slot_with starts k a t) t))
+      by (Some k) takes = (refl, refl)
+      by None takes = absurd (let f : false ≡ true = takes in cc)
+  made_left_operand a os old d t takes = absurd (let f : false ≡ true = takes in cc)
+
+  pub made_left_alone : (a : Expression) (os : List Operation) (old new : List Instruction) (d t to : ℕ) → takes_operand starts (operations_of os) ≡ false → (length os == 0) ≡ true → to ≡ d
+      → new ≡ old ++ expression_code starts a (length old) to t
+      → (operands.Slot to ≡ operand_or (left_of starts a (operations_of os)) (left_slot starts a (operations_of os) d t)) × (new ≡ old ++ left_code starts a (operations_of os) (length old) d t)
+  made_left_alone a os old new d t to plain empty there is =
+      made_left a os old new d t to plain (λ none. there) (λ some. absurd (let none : length os ≡ 0 = eqb-true (length os) 0 empty in omega (arith, some, none))) is
+
+  pub made_left_first : (a : Expression) (os : List Operation) (old new : List Instruction) (d t to : ℕ) → takes_operand starts (operations_of os) ≡ false → (length os == 0) ≡ false → to ≡ t
+      → new ≡ old ++ expression_code starts a (length old) to t
+      → (operands.Slot to ≡ operand_or (left_of starts a (operations_of os)) (left_slot starts a (operations_of os) d t)) × (new ≡ old ++ left_code starts a (operations_of os) (length old) d t)
+  made_left_first a os old new d t to plain more there is =
+      made_left a os old new d t to plain (λ none. absurd (let f : false ≡ true = sym more ∙ eq-eqb (length os) 0 none in cc)) (λ some. there) is
+
+  pub made_compute : (value : Operation) (o : Operator) (e : Expr) (old m1 m2 : List Instruction) (l r : Operand) (d t : ℕ) → value ≡ operation.Compute o e
+      → r ≡ value_operand starts (view_expression e) (t + 1) → m1 ≡ old ++ value_code starts (view_expression e) (length old) (t + 1) → m2 ≡ m1 ++ operator_code starts o l r d
+      → m2 ≡ old ++ operation_code starts value (length old) l d t
+  made_compute value o e old m1 m2 l r d t is r_is e1 e2 =
+      let a = view_expression e in
+      let next : t + 1 ≡ suc t = omega arith in
+      let right = value_operand starts a (suc t) in
+      joined old (value_code starts a (length old) (suc t)) (λ p. operator_code starts o l right d) m1 m2 (e1 ∙ ap (λ (n : ℕ). old ++ value_code starts a (length old) n) next)
+      (e2 ∙ ap (λ (x : Operand). m1 ++ operator_code starts o l x d) (r_is ∙ ap (value_operand starts a) next))
+      ∙ ap (λ (x : Operation). old ++ operation_code starts x (length old) l d t) (sym is)
+
+  pointed : (o : PointerOperator) (l r : Operand) (d : ℕ) → 0 < length (pointer_instructions o l r d)
+  pointed pointers.AddFat l r d = omega arith
+  pointed pointers.SubtractFat l r d = omega arith
+  pointed pointers.ThinIsNull l r d = omega arith
+  pointed pointers.ThinIsNotNull l r d = omega arith
+  pointed pointers.FatIsNull l r d = omega arith
+  pointed pointers.FatIsNotNull l r d = omega arith
+  pointed pointers.NullIs l r d = omega arith
+  pointed pointers.NullIsNot l r d = omega arith
+  pointed pointers.EqualThin l r d = omega arith
+  pointed pointers.NotEqualThin l r d = omega arith
+
+  -- where one operator is made, more may follow
+  operates_longer : (x : Operation) (p : ℕ) (l : Operand) (d t : ℕ) → 0 < length (operation_code starts x p l d t)
+  operates_longer (operation.Compute o e) p l d t = behind (value_code starts (view_expression e) p (suc t)) _ (operates starts o l (value_operand starts (view_expression e) (suc t)) d)
+  operates_longer (operation.Test o e) p l d t = omega arith
+  operates_longer (operation.Pointer o e) p l d t = behind (value_code starts (view_expression e) p (behind_left o t)) _ (pointed o l (value_operand starts (view_expression e) (behind_left o t)) d)
+  operates_longer (operation.PointerPeek n o e) p l d t = behind (value_code starts (view_expression e) p (behind_left o t)) _ (pointed o l (value_operand starts (view_expression e) (behind_left o t)) d)
+
+  room_everywhere : (os : Operations) (t many : ℕ) → t < most_locals + many → HasRoom starts os t many
+  room_everywhere NoOperations t many low = omega (arith, low)
+  room_everywhere (ThenCompute o b os) t many low = λ none. low
+  room_everywhere os t many low = omega (arith, low)
+
+  pub room_after : (x : Operation) (os : Operations) (old new : List Instruction) (l : Operand) (d t : ℕ) → t ≤ most_locals + length old → new ≡ old ++ operation_code starts x (length old) l d t
+      → (t ≤ most_locals + length new) × HasRoom starts os t (length new)
+  room_after x os old new l d t low is =
+      let longer = grown old (operation_code starts x (length old) l d t) new is (operates_longer x (length old) l d t) in
+      (omega (arith, low, longer), room_everywhere os t (length new) (omega (arith, low, longer)))
+
+  -- the byte that `putchar` prints
+  pub made_print : (items : List ConvertedCode) (old code new : List Instruction) (i : ℕ) (byte : Operand) (t : ℕ) → length items ≤ i
+      → Remains (all_printed t) old items (operands.Slot t) i code byte → PrintedLeft items i byte t → new ≡ code ++ instructions.WriteByte byte ∷ []
+      → (byte ≡ printed_operand starts (arguments_of items) (operands.Slot t) t) × (new ≡ old ++ print_code starts (arguments_of items) (length old) t)
+  made_print items old code new i byte t done r left is =
+      let o = printed_operand starts (arguments_of items) (operands.Slot t) t in
+      let byte_is : byte ≡ o = printed_done items i byte t done left in
+      let made = all_made (all_printed t) (one_printed t) (next_printed t) (printed_lower t) old items (operands.Slot t) i code byte done r in (
+        byte_is,
+        joined old (printed_code starts (arguments_of items) (length old) t) (λ p. instructions.WriteByte o ∷ []) code new made (is ∙ ap (λ (b : Operand). code ++ instructions.WriteByte b ∷ []) byte_is),
+      )
+
+  -- a call whose value is dropped, as the expression that it is
+  discarded_alike : (f : Callee) (cs : Arguments) (ty other : ValueType) (p t : ℕ) → discarded_code starts (Call f cs ty) p t ≡ discarded_code starts (Call f cs other) p t
+  discarded_alike callees.Putchar cs ty other p t = refl
+  discarded_alike callees.Getchar cs ty other p t = refl
+  discarded_alike (callees.Function n) cs ty other p t = refl
+
+  pub made_discarded : (value : Expr) (f : Callee) (v : Vec ConvertedCode Heap) (ty : ValueTypeCode) (items : List ConvertedCode) (old new : List Instruction) (t : ℕ) → value ≡ expr.Call f v ty → items ≡ v.items
+      → new ≡ old ++ discarded_code starts (Call f (arguments_of items) Void) (length old) t → new ≡ old ++ discarded_code starts (view_expression value) (length old) t
+  made_discarded value f v ty items old new t is same made =
+      made ∙ ap (λ (l : List Instruction). old ++ l) (discarded_alike f (arguments_of items) Void (view_value_type ty) (length old) t)
+      ∙ ap (λ (a : Expression). old ++ discarded_code starts a (length old) t) (sym (call_viewed value f v ty is items same))
+
+  -- ---- assignments
+
+  assigned_code : (l : Lvalue) (c : Converted) (ty : ValueType) (p d t : ℕ) → assignment_code starts l c p t ++ copy_code (passed_words c) (assigned_operand starts l c t) d ≡ expression_code starts (Assign l c ty) p d t
+  assigned_code (Local w n) c ty p d t = refl
+  assigned_code (Global n) c ty p d t = refl
+
+  -- an assignment, whose value comes to a slot then
+  pub made_assigned : (value : Expr) (l : LvalueCode) (b : Box ConvertedCode Heap) (ty : ValueTypeCode) → value ≡ expr.Assign l b ty → (x : ConvertedCode) → x ≡ b.value → (old m1 m2 : List Instruction) (o : Operand) (d t : ℕ)
+      → o ≡ assigned_operand starts (view_lvalue l) (view_converted x) t → m1 ≡ old ++ assignment_code starts (view_lvalue l) (view_converted x) (length old) t → m2 ≡ m1 ++ copy_code (words_of_kind x.to) o d
+      → m2 ≡ old ++ expression_code starts (view_expression value) (length old) d t
+  made_assigned value l b ty is x at old m1 m2 o d t o_is e1 e2 =
+      let c = view_converted x in
+      let front = assignment_code starts (view_lvalue l) c (length old) t in
+      let tree : view_expression value ≡ Assign (view_lvalue l) c (view_value_type ty)
+      = ap view_expression is ∙ ap (λ (z : ConvertedCode). Assign (view_lvalue l) (view_converted z) (view_value_type ty)) (sym at) in
+      joined old front (λ p. copy_code (words_of_kind x.to) o d) m1 m2 e1 e2
+      ∙ ap (λ (q : Operand). old ++ (front ++ copy_code (words_of_kind x.to) q d)) o_is
+      ∙ ap (λ (k : List Instruction). old ++ k) (assigned_code (view_lvalue l) c (view_value_type ty) (length old) d t)
+      ∙ ap (λ (y : Expression). old ++ expression_code starts y (length old) d t) (sym tree)
+
+  -- ---- cells that are written
+
+  -- the address of a place waits in a slot, so there are as many instructions as slots
+  pub room_for_right : (x : Dereference) (old new : List Instruction) (t : ℕ) → t ≤ most_locals + length old
+      → new ≡ old ++ addressed_by (place_code starts x (length old) t) (place_operand starts x t) (place_offset starts x) t → t < most_locals + length new
+  room_for_right x old new t low made =
+      let front = place_code starts x (length old) t in
+      let address = address_code (place_operand starts x t) (place_offset starts x) t in
+      omega (arith, low, place_some x (length old) t, length-append front address, length-append old (front ++ address), ap (λ (l : List Instruction). length l) made)
+
+  stored_viewed : (value : Expr) (b : Box DereferenceCode Heap) (b' : Box ConvertedCode Heap) (ty : ValueTypeCode) → value ≡ expr.Store b b' ty → (x : DereferenceCode) → x ≡ b.value → (y : ConvertedCode) → y ≡ b'.value
+      → view_expression value ≡ Store (view_dereference x) (view_converted y) (view_value_type ty)
+  stored_viewed value b b' ty is x x_at y y_at =
+      ap view_expression is
+      ∙ ap (λ (z : DereferenceCode). Store (view_dereference z) (view_converted b'.value) (view_value_type ty)) (sym x_at)
+      ∙ ap (λ (z : ConvertedCode). Store (view_dereference x) (view_converted z) (view_value_type ty)) (sym y_at)
+
+  -- the third word of a fat pointer moves, and behind that stands the access
+  pub made_element : (span : Option ℕ) (old m1 m2 : List Instruction) (o : Operand) (n past behind t : ℕ) → past ≡ n + 3 → behind ≡ t + 3
+      → m1 ≡ old ++ instructions.Binary plain_binary.Add (behind - 1) (operands.Slot (past - 1)) o ∷ []
+      → m2 ≡ m1 ++ reached_code starts span n (behind - 1) t
+      → m2 ≡ old ++ (instructions.Binary plain_binary.Add (t + 2) (operands.Slot (n + 2)) o ∷ reached_code starts span n (t + 2) t)
+  made_element span old m1 m2 o n past behind t past_is behind_is e1 e2 =
+      let less : behind - 1 ≡ t + 2 = omega (arith, behind_is) in
+      let third : past - 1 ≡ n + 2 = omega (arith, past_is) in
+      let sum = instructions.Binary plain_binary.Add (t + 2) (operands.Slot (n + 2)) o in
+      let summed : m1 ≡ old ++ sum ∷ [] =
+      e1
+      ∙ ap (λ (x : ℕ). old ++ instructions.Binary plain_binary.Add x (operands.Slot (past - 1)) o ∷ []) less
+      ∙ ap (λ (x : ℕ). old ++ instructions.Binary plain_binary.Add (t + 2) (operands.Slot x) o ∷ []) third in
+      joined old (sum ∷ []) (λ p. reached_code starts span n (t + 2) t) m1 m2 summed (e2 ∙ ap (λ (x : ℕ). m1 ++ reached_code starts span n x t) less)
+
+  -- the address, and behind it what is stored there
+  made_store : (x : Dereference) (c : Converted) (old m1 m2 : List Instruction) (t : ℕ)
+      → m1 ≡ old ++ addressed_by (place_code starts x (length old) t) (place_operand starts x t) (place_offset starts x) t
+      → m2 ≡ m1 ++ (converted_operand_code starts c (length m1) (t + 1) ++ saved_code (passed_words c) t (converted_operand starts c (t + 1))) → m2 ≡ old ++ store_code starts x c (length old) t
+  made_store x c old m1 m2 t e1 e2 =
+      joined old (store_address_code starts x (length old) t) (λ p. converted_operand_code starts c p (t + 1) ++ saved_code (passed_words c) t (converted_operand starts c (t + 1))) m1 m2 e1 e2
+
+  -- a value that is stored in a cell comes to a slot then
+  pub made_stored : (value : Expr) (b : Box DereferenceCode Heap) (b' : Box ConvertedCode Heap) (ty : ValueTypeCode) → value ≡ expr.Store b b' ty → (x : DereferenceCode) → x ≡ b.value → (y : ConvertedCode) → y ≡ b'.value
+      → (old m1 m2 m3 : List Instruction) (o : Operand) (d t : ℕ) → o ≡ converted_operand starts (view_converted y) (t + 1)
+      → m1 ≡ old ++ addressed_by (place_code starts (view_dereference x) (length old) t) (place_operand starts (view_dereference x) t) (place_offset starts (view_dereference x)) t
+      → m2 ≡ m1 ++ (converted_operand_code starts (view_converted y) (length m1) (t + 1) ++ saved_code (words_of_kind y.to) t (converted_operand starts (view_converted y) (t + 1)))
+      → m3 ≡ m2 ++ copy_code (words_of_kind y.to) o d → m3 ≡ old ++ expression_code starts (view_expression value) (length old) d t
+  made_stored value b b' ty is x x_at y y_at old m1 m2 m3 o d t o_is e1 e2 e3 =
+      let front = store_code starts (view_dereference x) (view_converted y) (length old) t in
+      joined old front (λ p. copy_code (words_of_kind y.to) o d) m2 m3 (made_store (view_dereference x) (view_converted y) old m1 m2 t e1 e2) e3
+      ∙ ap (λ (q : Operand). old ++ (front ++ copy_code (words_of_kind y.to) q d)) o_is
+      ∙ ap (λ (z : Expression). old ++ expression_code starts z (length old) d t) (sym (stored_viewed value b b' ty is x x_at y y_at))
+
+  -- one that nobody wants then
+  pub made_stored_only : (value : Expr) (b : Box DereferenceCode Heap) (b' : Box ConvertedCode Heap) (ty : ValueTypeCode) → value ≡ expr.Store b b' ty → (x : DereferenceCode) → x ≡ b.value → (y : ConvertedCode) → y ≡ b'.value
+      → (old m1 m2 : List Instruction) (t : ℕ)
+      → m1 ≡ old ++ addressed_by (place_code starts (view_dereference x) (length old) t) (place_operand starts (view_dereference x) t) (place_offset starts (view_dereference x)) t
+      → m2 ≡ m1 ++ (converted_operand_code starts (view_converted y) (length m1) (t + 1) ++ saved_code (words_of_kind y.to) t (converted_operand starts (view_converted y) (t + 1)))
+      → m2 ≡ old ++ discarded_code starts (view_expression value) (length old) t
+  made_stored_only value b b' ty is x x_at y y_at old m1 m2 t e1 e2 =
+      made_store (view_dereference x) (view_converted y) old m1 m2 t e1 e2
+      ∙ ap (λ (z : Expression). old ++ discarded_code starts z (length old) t) (sym (stored_viewed value b b' ty is x x_at y y_at))

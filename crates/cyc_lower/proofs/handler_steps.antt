@@ -1,0 +1,3 @@
+-- the steps of exceptions and their handlers
+pub mod Handling
+pub mod ExceptionSteps

@@ -1,0 +1,6 @@
+-- the steps that make objects, and that give them back
+pub mod Handles
+pub mod Asking
+pub mod Allocations
+pub mod Arrays
+pub mod UniqueBlocks

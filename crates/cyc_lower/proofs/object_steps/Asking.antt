@@ -1,0 +1,98 @@
+-- Steps of the source that call the store by their first instruction.
+use Rattle.std.proofs.Common.{◌≡◌, ◌≢◌, ℕ, zero, suc, ◌+◌, ◌<◌, Bool, true, false, List, [], ◌∷◌, None, Some, refl, sym, ap, subst, ◌∙◌, arith}
+use Rattle.std.specs.Prelude.{Contains, nat_le, nat_lt, ◌&&◌, if◌then◌else◌}
+use Rattle.std.specs.List.{AllByRecursion}
+use Rattle.std.proofs.lemmas.Bool.{leb-true, ltb-true, false_from_ne_true}
+use Rattle.cyc_words.specs.Ending.{Full}
+use Rattle.cyc_words.specs.Simulation.{IsDistinct}
+use Rattle.cyc_types.specs.TypedTrees.{Program}
+use Rattle.cyc_store.specs.Services as services
+use Rattle.cyc_store.specs.Services.{refusal}
+use Rattle.cyc_plain.specs.declared.instruction.Instruction.TheVariants as instructions
+use Rattle.cyc_plain.specs.declared.instruction.Request.{Request}
+use Rattle.cyc_plain.specs.Program.{CodePlace, places_of}
+use Rattle.cyc_plain.specs.Requests as plain_requests
+use Rattle.cyc_plain.specs.State as plain
+use Rattle.cyc_plain.specs.State.{Configuration}
+use Rattle.cyc_plain.specs.Step.{served_to}
+use Rattle.cyc_plain.specs.Step as plain_step
+use Rattle.cyc_plain.specs.Straight.{At, places_behind}
+use Rattle.cyc_plain.proofs.Steps.{step_serves, step_full}
+use Rattle.cyc_meaning.specs.State.{World, Environment, Entry, Focus, State, Running, Ended}
+use Rattle.cyc_meaning.specs.Step.{step}
+use Rattle.cyc_meaning.specs.Run.{is_within, limited_step}
+use Rattle.cyc_lower.specs.Lowering.{lower_program}
+use Rattle.cyc_lower.proofs.relation.Relation.{SharedAt, Matches, code_of}
+use Rattle.cyc_lower.proofs.relation.Matched.{IsMatched, Executes, by_places, shared_way, output_way, place_in, known}
+
+-- ---- places that follow one another
+
+later : (function p first count : ℕ) → p < first → AllByRecursion (λ (q : CodePlace). let here : CodePlace = record { function = function; index = p } in here ≢ q) (places_behind function first count)
+later function p first zero less = tt
+later function p first (suc count) less = (λ same. absurd (omega (arith, less, ap (λ (q : CodePlace). q.index) same)), later function p (first + 1) count (omega (arith, less)))
+
+pub in_order : (function first count : ℕ) → IsDistinct (places_behind function first count)
+in_order function first zero = tt
+in_order function first (suc count) = (later function first (first + 1) count (omega arith), in_order function (first + 1) count)
+
+-- what is more than all pages is not within them
+pub past_pages : (pages n : ℕ) (b : Bool) → nat_lt pages n ≡ true → (nat_le n pages && b) ≡ false
+past_pages pages n b over = ap (λ x. x && b) (false_from_ne_true (nat_le n pages) (λ h. absurd (omega (arith, leb-true n pages h, ltb-true pages n over))))
+
+module _ (source : Program) (pages calls : ℕ) where
+  -- The store is called, which serves the call, and then come instructions that stand behind.
+  pub asks_then : (focus : Focus) (k : List Entry) (e : Environment) (w : World) (c : Configuration) (next : State) (request : Request) (count : ℕ)
+      → step source (Running focus k e w) ≡ next → c.output ≡ w.output
+      → At (code_of source c.active.function) c.active.next (instructions.Ask request)
+      → AllByRecursion (Contains (places_of (lower_program source))) (places_behind c.active.function (c.active.next + 1) count)
+      → refusal c.store (plain_step.call_in c.active.slots request) ≡ None
+      → ((choice : services.Choice) → plain_step.IsServed c.store (plain_step.call_in c.active.slots request) choice
+      → Executes source pages calls (Running focus k e w) next (places_behind c.active.function (c.active.next + 1) count) (plain.Running (served_to choice c (plain_requests.destination_of request) (plain_step.call_in c.active.slots request)))
+      × (plain_step.is_within pages calls (plain.Running (served_to choice c (plain_requests.destination_of request) (plain_step.call_in c.active.slots request))) ≡ true))
+      → IsMatched source pages calls (Running focus k e w) (plain.Running c)
+  asks_then focus k e w c next request count does same here inside free goes =
+      let rest = places_behind c.active.function (c.active.next + 1) count in
+      by_places source pages calls (Running focus k e w) next (place_in source pages calls c) rest (plain.Running c) does
+      (in_order c.active.function c.active.next (suc count)) (known source pages calls c (instructions.Ask request) here, inside) (
+        refl,
+        output_way source pages calls focus k e w c same,
+        λ u stepped.
+            let (choice, served, is) = step_serves (lower_program source) pages calls c request u here stepped free (λ choice served. (goes choice served).1) in
+            subst (Executes source pages calls (Running focus k e w) next rest) (sym is) (goes choice served).0,
+      )
+
+  -- the store is called, and that is all
+  pub by_asking : (focus : Focus) (k : List Entry) (e : Environment) (w : World) (c : Configuration) (next : State) (request : Request)
+      → step source (Running focus k e w) ≡ next → SharedAt source pages calls k e w c
+      → At (code_of source c.active.function) c.active.next (instructions.Ask request)
+      → refusal c.store (plain_step.call_in c.active.slots request) ≡ None
+      → ((choice : services.Choice) → plain_step.IsServed c.store (plain_step.call_in c.active.slots request) choice
+      → Matches source pages calls next (plain.Running (served_to choice c (plain_requests.destination_of request) (plain_step.call_in c.active.slots request)))
+      × (plain_step.is_within pages calls (plain.Running (served_to choice c (plain_requests.destination_of request) (plain_step.call_in c.active.slots request))) ≡ true))
+      → IsMatched source pages calls (Running focus k e w) (plain.Running c)
+  by_asking focus k e w c next request does shared here free goes = asks_then focus k e w c next request 0 does shared.same_output here tt free goes
+
+  -- There is no room: both runs are full.
+  pub by_full : (focus : Focus) (k : List Entry) (e : Environment) (w : World) (c : Configuration) (next : State) (request : Request)
+      → step source (Running focus k e w) ≡ next → is_within pages calls next ≡ false → SharedAt source pages calls k e w c
+      → At (code_of source c.active.function) c.active.next (instructions.Ask request)
+      → refusal c.store (plain_step.call_in c.active.slots request) ≡ Some services.Full
+      → IsMatched source pages calls (Running focus k e w) (plain.Running c)
+  by_full focus k e w c next request does over shared here full =
+      let source_full : limited_step source pages calls (Running focus k e w) ≡ Ended Full w.output w.input =
+      ap (λ (b : Bool). if b then step source (Running focus k e w) else Ended Full w.output w.input) (ap (is_within pages calls) does ∙ over) in
+      record {
+        places = place_in source pages calls c ∷ [];
+        distinct = (tt, tt);
+        inside = (known source pages calls c (instructions.Ask request) here, tt);
+        comes = (
+          refl,
+          shared_way source pages calls focus k e w c shared,
+          λ u stepped. record {
+            next = Ended Full w.output w.input;
+            step = sym source_full;
+            matches = subst (Matches source pages calls (Ended Full w.output w.input)) (sym (step_full (lower_program source) pages calls c request u here stepped full)) (refl, shared.same_output);
+            lighter = λ none. absurd (omega (arith, none));
+          },
+        );
+      }

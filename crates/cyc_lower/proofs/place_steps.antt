@@ -1,0 +1,11 @@
+-- the steps that find places, and that read and write them
+pub mod PlaceWords
+pub mod StoredWords
+pub mod Sources
+pub mod CellLoads
+pub mod CellReads
+pub mod CellWrites
+pub mod WideCells
+pub mod AddressSteps
+pub mod SwapSteps
+pub mod PlaceSteps

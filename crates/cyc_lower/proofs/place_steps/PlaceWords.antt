@@ -1,0 +1,210 @@
+-- The words of a place that a pointer leads to: what the code of an address computes is the address of the cell, which never wraps, and
+-- each word of a cell that the source finds is there. It speaks of tables of objects and of words alone.
+use Rattle.std.proofs.Common.{◌≡◌, ℕ, zero, suc, ◌+◌, ◌*◌, ◌^◌, ◌%◌, ◌<◌, ◌≤◌, List, [], ◌∷◌, length, map, Option, Some, None, refl, sym, ap, subst, ◌∙◌, arith, add-zero, inl, inr}
+use Rattle.std.specs.Prelude.{◌≢◌, ◌==◌, if◌then◌else◌, slice_get}
+use Rattle.std.proofs.Math.Nat.{mod-eq_of_lt}
+use Rattle.std.proofs.lemmas.Bool.{cases_eq}
+use Rattle.cyc_words.specs.Word.{IsWord, add_of, mul_of, shl_of}
+use Rattle.cyc_types.specs.declared.typed.Kind.{Kind}
+use Rattle.cyc_types.specs.declared.typed.Kind.TheVariants as kinds
+use Rattle.cyc_types.specs.Types.{Ty, words_of}
+use Rattle.cyc_store.specs.State.{Memory, put, AreWords, StoreState, homes, Holder, holder, word_in, word_at}
+use Rattle.cyc_store.proofs.LookupLemmas.{when_equal, when_other, not_both}
+use Rattle.cyc_store.proofs.WordLemmas.{words-put}
+use Rattle.cyc_meaning.specs.Values.{Value, words_of_kind, Cell, kind_of, kinds_of}
+use Rattle.cyc_meaning.specs.State.{Object, World, Found, Located, cell_at}
+use Rattle.cyc_meaning.proofs.WorldLaws.{cell_found}
+use Rattle.cyc_objects.proofs.NumberLemmas.{slice_get-map}
+use Rattle.cyc_objects.specs.Tables.{Tables}
+use Rattle.cyc_objects.specs.Words.{words_of_kinds, before, words_from, Points, IsPartOf, Is}
+use Rattle.cyc_objects.proofs.Values.{Is-same, before-inside}
+use Rattle.cyc_objects.specs.Related.{Related}
+use Rattle.cyc_lower.specs.Slots.{bytes_from}
+use Rattle.cyc_lower.proofs.slots.Widths.{type_words}
+use Rattle.cyc_objects.proofs.Pointers.{thinned, member-points, pointer-word}
+use Rattle.cyc_plain.proofs.MemoryLaws.{store_word_in, store_word}
+use Rattle.cyc_plain.specs.Memory.{Range, OfGlobals, OfStore, OfSlots, range_of}
+
+-- ---- what does not wrap
+
+below_wrap : (n : ℕ) → n < 4294967296 → n % 2 ^ 32 ≡ n
+below_wrap n below = mod-eq_of_lt below
+
+pub add_is : (a b : ℕ) → a + b < 4294967296 → add_of a b ≡ a + b
+add_is a b below = below_wrap (a + b) below
+
+-- an index of cells of one word becomes a number of bytes by a shift, and one of cells of three words by a product
+pub shifted_is : (i : ℕ) → 4 * i < 4294967296 → shl_of i 2 ≡ 4 * (i * 1)
+shifted_is i below = below_wrap (i * 4) (omega (arith, below)) ∙ omega arith
+
+pub multiplied_is : (i : ℕ) → 12 * i < 4294967296 → mul_of i 12 ≡ 4 * (i * 3)
+multiplied_is i below = below_wrap (i * 12) (omega (arith, below)) ∙ omega arith
+
+-- the bytes before a field are those of the cells before it, where they are a word
+bytes_before : (ts : List Ty) (field bytes : ℕ) → bytes + 4 * before field (map kind_of ts) < 4294967296 → bytes_from bytes ts field ≡ bytes + 4 * before field (map kind_of ts)
+bytes_before [] zero bytes below = omega arith
+bytes_before [] (suc field) bytes below = omega arith
+bytes_before (t ∷ ts) zero bytes below = omega arith
+bytes_before (t ∷ ts) (suc field) bytes below =
+    let words = type_words t in
+    let next : add_of bytes (4 * words_of t) ≡ bytes + 4 * words_of t = add_is bytes (4 * words_of t) (omega (arith, below, words)) in
+    let rest : bytes_from (bytes + 4 * words_of t) ts field ≡ bytes + 4 * words_of t + 4 * before field (map kind_of ts) = bytes_before ts field (bytes + 4 * words_of t) (omega (arith, below, words)) in
+    ap (λ (n : ℕ). bytes_from n ts field) next ∙ rest ∙ omega (arith, words)
+
+pub field_bytes : (ts : List Ty) (field : ℕ) → 4 * before field (map kind_of ts) < 4294967296 → bytes_from 0 ts field ≡ 4 * before field (map kind_of ts)
+field_bytes ts field below = bytes_before ts field 0 (omega (arith, below)) ∙ omega arith
+
+module _ {t : Tables} where
+  -- the address of a cell with nothing added
+  pub stays : {o k w : ℕ} → Points t o k w → Points t o k (add_of w 0)
+  stays {o} {k} {w} p =
+      let word : w < 4294967296 = pointer-word p in
+      subst (Points t o k) (sym (add_is w 0 (omega (arith, word)) ∙ last w)) p
+    where
+      last : (w : ℕ) → w + 0 ≡ w
+      last w = omega arith
+
+  -- the address of a word of a cell of this kind
+  pub word_is : {o k w : ℕ} (p : Points t o k w) (kind : Kind) (j : ℕ) → slice_get p.kinds k ≡ Some kind → j < words_of_kind kind
+      → add_of w (4 * j) ≡ w + 4 * j
+  word_is {o} {k} {w} p kind j there below =
+      let high : p.address + 4 * words_of_kinds p.kinds < 4294967296 = p.range.high in
+      let at : w ≡ p.address + 4 * before k p.kinds = p.at in
+      let inside : before k p.kinds + words_of_kind kind ≤ words_of_kinds p.kinds = before-inside p.kinds k kind there in
+      add_is w (4 * j) (omega (arith, high, at, inside, below))
+
+  -- ---- members
+
+  -- the address of a field, from that of the object
+  pub member_is : {o w : ℕ} (p : Points t o 0 w) (field : ℕ) → field < length p.kinds → Points t o field (add_of w (4 * before field p.kinds))
+  member_is {o} {w} p field inside = subst (Points t o field) (sym (add_is w (4 * before field p.kinds) below)) (member-points p field inside)
+    where
+      below : w + 4 * before field p.kinds < 4294967296
+      below = pointer-word (member-points p field inside)
+
+  -- the same where the fields have these kinds
+  pub field_is : {o w : ℕ} (p : Points t o 0 w) (fields : List Kind) (field : ℕ) → p.kinds ≡ fields → field < length fields
+      → Points t o field (add_of w (4 * before field fields))
+  field_is {o} {w} p fields field same inside =
+      subst (λ ks. Points t o field (add_of w (4 * before field ks))) same
+      (member_is p field (subst (λ ks. field < length ks) (sym same) inside))
+
+  -- ---- elements
+
+  -- an index that is in bounds makes a number of bytes that does not wrap, and its sum with the address does not either
+  element_below : {o start n w : ℕ} (i : ℕ) (part : IsPartOf t o start n w) → i < n → w + 4 * (i * words_of_kind part.kind) < 4294967296
+  element_below i part below = pointer-word (thinned i part below)
+
+  -- the address of the cell at the index, by the words that the code computes: cells of one word, and cells of three
+  pub narrow_element : {o start n w : ℕ} (i : ℕ) (part : IsPartOf t o start n w) → i < n → words_of_kind part.kind ≡ 1
+      → Points t o (start + i) (add_of w (shl_of i 2))
+  narrow_element {o} {start} {n} {w} i part below one =
+      let short : w + 4 * (i * 1) < 4294967296 = subst (λ q. w + 4 * (i * q) < 4294967296) one (element_below i part below) in
+      let scaled : shl_of i 2 ≡ 4 * (i * 1) = shifted_is i (omega (arith, short)) in
+      subst (Points t o (start + i))
+      (sym (ap (add_of w) scaled ∙ (add_is w (4 * (i * 1)) short ∙ ap (λ q. w + 4 * (i * q)) (sym one)))) (thinned i part below)
+
+  pub wide_element : {o start n w : ℕ} (i : ℕ) (part : IsPartOf t o start n w) → i < n → words_of_kind part.kind ≡ 3
+      → Points t o (start + i) (add_of w (mul_of i 12))
+  wide_element {o} {start} {n} {w} i part below three =
+      let short : w + 4 * (i * 3) < 4294967296 = subst (λ q. w + 4 * (i * q) < 4294967296) three (element_below i part below) in
+      let scaled : mul_of i 12 ≡ 4 * (i * 3) = multiplied_is i (omega (arith, short)) in
+      subst (Points t o (start + i))
+      (sym (ap (add_of w) scaled ∙ (add_is w (4 * (i * 3)) short ∙ ap (λ q. w + 4 * (i * q)) (sym three)))) (thinned i part below)
+
+  -- a fat pointer at index 0 stands at its first cell: that of a struct is its address as it is
+  pub first_is : {o start n w : ℕ} (part : IsPartOf t o start n w) → 0 < n → Points t o (start + 0) (add_of w 0)
+  first_is {o} {start} {n} {w} part some = stays (subst (Points t o (start + 0)) (none w (words_of_kind part.kind)) (thinned 0 part some))
+    where
+      none : (w q : ℕ) → w + 4 * (0 * q) ≡ w
+      none w q = omega arith
+
+-- ---- words of a cell, read and written
+
+-- A word of a live block is there whatever the memory holds.
+pub there_still : (s : StoreState) (m : Memory) (x old : ℕ) → word_at s x ≡ Some old → word_at (record s { memory = m }) x ≡ Some (m x)
+there_still s m x old found = elim (cases_eq (x % 4) 0) [
+  | inl even ↦
+      when_equal (x % 4) 0 (word_in (holder (homes s) x) m x) None even
+      ∙ still (holder (homes s) x) (sym (when_equal (x % 4) 0 (word_in (holder (homes s) x) s.memory x) None even) ∙ found)
+  | inr odd ↦ absurd (not_both (when_other (x % 4) 0 (word_in (holder (homes s) x) s.memory x) None odd) found)
+]
+  where
+    still : (o : Option Holder) → word_in o s.memory x ≡ Some old → word_in o m x ≡ Some (m x)
+    still None e = absurd (let f : None ≡ Some old = e in cc)
+    still (Some h) e = refl
+
+pub stored_still : (s : StoreState) (m : Memory) (x old : ℕ) → store_word s x ≡ Some old → store_word (record s { memory = m }) x ≡ Some (m x)
+stored_still s m x old found = go (range_of x) found
+  where
+    go : (range : Range) → store_word_in s x range ≡ Some old → store_word_in (record s { memory = m }) x range ≡ Some (m x)
+    go OfGlobals e = absurd (let f : None ≡ Some old = e in cc)
+    go OfStore e = there_still s m x old e
+    go OfSlots e = absurd (let f : None ≡ Some old = e in cc)
+
+-- the memory after the three words of a cell at w are written, in this order
+abbrev pub three_put : Memory → (w a b c : ℕ) → Memory
+three_put m w a b c = put (put (put m (w + 4 * 0) a) (w + 4 * 1) b) (w + 4 * 2) c
+
+pub three_words : (m : Memory) (w a b c : ℕ) → AreWords m → IsWord a → IsWord b → IsWord c → AreWords (three_put m w a b c)
+three_words m w a b c words first second third =
+    words-put (put (put m (w + 4 * 0) a) (w + 4 * 1) b) (w + 4 * 2) c
+    (words-put (put m (w + 4 * 0) a) (w + 4 * 1) b (words-put m (w + 4 * 0) a words first) second) third
+
+-- all else is as it was
+pub three_elsewhere : (m : Memory) (w a b c y : ℕ) → ((j : ℕ) → j < 3 → y ≢ w + 4 * j) → three_put m w a b c y ≡ m y
+three_elsewhere m w a b c y other =
+    when_other y (w + 4 * 2) c (put (put m (w + 4 * 0) a) (w + 4 * 1) b y) (other 2 (omega arith))
+    ∙ (when_other y (w + 4 * 1) b (put m (w + 4 * 0) a y) (other 1 (omega arith)) ∙ when_other y (w + 4 * 0) a (m y) (other 0 (omega arith)))
+
+-- and the cell holds the value whose words they are
+pub three_written : (t : Tables) (v : Value) (m : Memory) (w a b c : ℕ) → Is t kinds.Fat v (λ j. if j == 0 then a else if j == 1 then b else c) 0
+    → Is t kinds.Fat v (words_from (three_put m w a b c) w) 0
+three_written t v m w a b c is = Is-same t kinds.Fat v (λ j. if j == 0 then a else if j == 1 then b else c) (words_from (three_put m w a b c) w) 0 0 each is
+  where
+    each : (j : ℕ) → j < 3 → three_put m w a b c (w + 4 * (0 + j)) ≡ (if 0 + j == 0 then a else if 0 + j == 1 then b else c)
+    each zero below =
+        when_other (w + 4 * (0 + 0)) (w + 4 * 2) c (put (put m (w + 4 * 0) a) (w + 4 * 1) b (w + 4 * (0 + 0))) (λ e. omega (arith, e))
+        ∙ (when_other (w + 4 * (0 + 0)) (w + 4 * 1) b (put m (w + 4 * 0) a (w + 4 * (0 + 0))) (λ e. omega (arith, e))
+        ∙ when_equal (w + 4 * (0 + 0)) (w + 4 * 0) a (m (w + 4 * (0 + 0))) refl)
+    each (suc zero) below =
+        when_other (w + 4 * (0 + 1)) (w + 4 * 2) c (put (put m (w + 4 * 0) a) (w + 4 * 1) b (w + 4 * (0 + 1))) (λ e. omega (arith, e))
+        ∙ when_equal (w + 4 * (0 + 1)) (w + 4 * 1) b (put m (w + 4 * 0) a (w + 4 * (0 + 1))) refl
+    each (suc (suc zero)) below = when_equal (w + 4 * (0 + 2)) (w + 4 * 2) c (put (put m (w + 4 * 0) a) (w + 4 * 1) b (w + 4 * (0 + 2))) refl
+    each (suc (suc (suc j))) below = absurd (omega (arith, below))
+
+-- the words of a fat value, one by one
+pub three_of : (t : Tables) (v : Value) (words : ℕ → ℕ) (p : ℕ) → Is t kinds.Fat v words p
+    → Is t kinds.Fat v (λ j. if j == 0 then words p else if j == 1 then words (p + 1) else words (p + 2)) 0
+three_of t v words p is = Is-same t kinds.Fat v words (λ j. if j == 0 then words p else if j == 1 then words (p + 1) else words (p + 2)) p 0 each is
+  where
+    each : (j : ℕ) → j < 3 → (if 0 + j == 0 then words p else if 0 + j == 1 then words (p + 1) else words (p + 2)) ≡ words (p + j)
+    each zero below = ap words (sym (add-zero p))
+    each (suc zero) below = refl
+    each (suc (suc zero)) below = refl
+    each (suc (suc (suc j))) below = absurd (omega (arith, below))
+
+-- ---- cells that the source finds
+
+module _ {t : Tables} {w : World} {s : StoreState} (related : Related t w s) where
+  -- the kind of a cell is that of its object's row
+  pub cell_kind : {o k a : ℕ} (at : Located) (p : Points t o k a) → cell_at w o k ≡ Found at → slice_get p.kinds k ≡ Some at.cell.kind
+  cell_kind {o} {k} at p found =
+      let (there, cell) = cell_found w o k at found in
+      ap (λ ks. slice_get ks k) (related.shapes o p.address p.kinds at.object there p.row)
+      ∙ slice_get-map (λ (z : Cell). z.kind) at.object.cells k at.cell cell
+
+  -- the fields of an object have the kinds that the source tests, so a field's place is known without its object
+  pub field_there : {o a : ℕ} (p : Points t o 0 a) (x : Object) (fields : List Kind) (field : ℕ) → slice_get w.objects o ≡ Some x
+      → kinds_of x.cells ≡ fields → field < length fields → Points t o field (add_of a (4 * before field fields))
+  field_there {o} p x fields field there same inside =
+      field_is p fields field (related.shapes o p.address p.kinds x there p.row ∙ same) inside
+
+  -- the place of a field, by a number of bytes that is that of the cells before it
+  pub member_there : {o a : ℕ} (p : Points t o 0 a) (x : Object) (fields : List Kind) (field c : ℕ) → slice_get w.objects o ≡ Some x
+      → kinds_of x.cells ≡ fields → field < length fields → (4 * before field fields < 4294967296 → c ≡ 4 * before field fields) → Points t o field (add_of a c)
+  member_there {o} {a} p x fields field c there same inside is =
+      let kinds : p.kinds ≡ fields = related.shapes o p.address p.kinds x there p.row ∙ same in
+      let below : a + 4 * before field fields < 4294967296
+      = subst (λ ks. a + 4 * before field ks < 4294967296) kinds (pointer-word (member-points p field (subst (λ ks. field < length ks) (sym kinds) inside))) in
+      subst (λ n. Points t o field (add_of a n)) (sym (is (omega (arith, below)))) (field_there p x fields field there same inside)

@@ -1,0 +1,62 @@
+-- Where a value stands that is stored by an address: behind that, or in a local, or it is one word.
+use Rattle.std.proofs.Common.{◌≡◌, ◌⊎◌, ℕ, ◌+◌, ◌<◌, ◌≤◌, Bool, true, false, length, Option, None, Some, slice_get, refl, sym, ap, subst, ◌∙◌, arith, inl, inr}
+use Rattle.std.specs.Prelude.{if◌then◌else◌}
+use Rattle.std.proofs.lemmas.Bool.{eqb-true}
+use Rattle.std.proofs.lemmas.Option.{same_Some, none-some}
+use Rattle.cyc_types.specs.declared.typed.Kind.{Kind}
+use Rattle.cyc_types.specs.TypedTrees.{Local, Global, Expression, Number, NullPointer, HeapRegion, Counter, Copy, Move, Peek, Assign, Converted, Convert}
+use Rattle.cyc_types.specs.Numbered.{Numbering}
+use Rattle.cyc_plain.specs.declared.instruction.Operand.{Operand}
+use Rattle.cyc_plain.specs.declared.instruction.Operand.TheVariants as operands
+use Rattle.cyc_meaning.specs.Values.{words_of_kind, kind_of}
+use Rattle.cyc_lower.specs.Slots.{Types, starts_of, slot_of}
+use Rattle.cyc_lower.specs.Lowering.{operand_or, operand_of, value_slot, null_of, are_as_wide, counter_operand, converted_operand, passed_words}
+use Rattle.cyc_lower.proofs.slots.Widths.{given, words_in}
+use Rattle.cyc_lower.proofs.slots.Slots.{room-inside}
+use Rattle.cyc_lower.proofs.relation.Fitting.{Fits, FitsConverted}
+
+module _ (types : Types) where
+  -- (what the code of a store stands for)
+  abbrev pub IsApart : (words address : ℕ) → Operand → Type 0
+  IsApart words address (operands.Slot n) = (words ≡ 1) ⊎ ((address < n) ⊎ ((number : ℕ) × (number < length types.locals) × (slot_of (starts_of types) number ≡ n) × (words ≤ words_in types.locals number)))
+  IsApart words address (operands.Word w) = Unit {0}
+
+  null_word : (words t : ℕ) (a : Expression) (o : Operand) → null_of a ≡ Some o → IsApart words t o
+  null_word words t NullPointer o is = subst (IsApart words t) (same_Some (operands.Word 0) o is) tt
+  null_word words t a o is = absurd (none-some o is)
+
+  null_apart : (words t : ℕ) (a : Expression) → IsApart words t (operand_or (null_of a) (t + 1))
+  null_apart words t a = by (null_of a) refl
+    where
+      by : (x : Option Operand) → null_of a ≡ x → IsApart words t (operand_or x (t + 1))
+      by None is = inr (inl (omega arith))
+      by (Some o) is = null_word words t a o is
+
+  module _ (b : Numbering) where
+    -- the value of a local
+    in_local : (n words t : ℕ) (kind : Kind) → words_of_kind kind ≤ words_in types.locals n → words ≡ words_of_kind kind → IsApart words t (operands.Slot (slot_of (starts_of types) n))
+    in_local n words t kind room wide = inr (inr (n, room-inside types n kind room, refl, omega (arith, wide, room)))
+
+    operand_apart : (words t : ℕ) (a : Expression) → words ≡ words_of_kind (given b.functions a) → Fits b types a → IsApart words t (operand_or (operand_of (starts_of types) a) (value_slot (starts_of types) a (t + 1)))
+    operand_apart words t (Number n) wide fits = tt
+    operand_apart words t NullPointer wide fits = tt
+    operand_apart words t HeapRegion wide fits = tt
+    operand_apart words t (Copy (Local p n) u) wide (few, room) = in_local n words t (kind_of u) room wide
+    operand_apart words t (Copy (Global n) u) wide fits = inr (inl (omega arith))
+    operand_apart words t (Move p n u) wide (few, room) = in_local n words t (kind_of u) room wide
+    operand_apart words t (Peek p n u) wide (few, room) = in_local n words t (kind_of u) room wide
+    operand_apart words t (Counter l) wide fits = by (slice_get (starts_of types).counters l)
+      where
+        by : (o : Option ℕ) → IsApart words t (operand_or (counter_operand o) (t + 1))
+        by None = inr (inl (omega arith))
+        by (Some slot) = inl wide
+    operand_apart words t (Assign (Local w n) (Convert from to a) ty) wide ((few, room), fits) = in_local n words t to room wide
+    operand_apart words t (Assign (Global n) c ty) wide fits = inr (inl (omega arith))
+    operand_apart words t a wide fits = inr (inl (omega arith))
+
+    pub stored_apart : (c : Converted) (t : ℕ) → FitsConverted b types c → IsApart (passed_words c) t (converted_operand (starts_of types) c (t + 1))
+    stored_apart (Convert from to a) t (is, converted, fits) = by (are_as_wide from to) refl
+      where
+        by : (wide : Bool) → are_as_wide from to ≡ wide → IsApart (words_of_kind to) t (operand_or (if wide then operand_of (starts_of types) a else null_of a) (if wide then value_slot (starts_of types) a (t + 1) else t + 1))
+        by true wide = operand_apart (words_of_kind to) t a (sym (eqb-true (words_of_kind from) (words_of_kind to) wide) ∙ ap words_of_kind is) fits
+        by false wide = null_apart (words_of_kind to) t a

@@ -1,0 +1,5 @@
+-- the steps of operators on pointers, and of accesses by them
+pub mod PointerSteps
+pub mod FatSteps
+pub mod Elements
+pub mod ThinSteps

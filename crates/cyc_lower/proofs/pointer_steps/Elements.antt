@@ -1,0 +1,425 @@
+-- Accesses by fat pointers: the pointer is tested, its index is compared with its length, and the address of the cell at the index is
+-- computed. A pointer to a struct stands at the struct itself where the source does not go wrong.
+use Rattle.std.proofs.Common.{◌≡◌, ◌≢◌, ℕ, zero, suc, ◌+◌, ◌*◌, ◌≤◌, ◌<◌, Bool, true, false, List, [], ◌∷◌, Option, None, Some, slice_get, refl, sym, ap, subst, ◌∙◌, arith, inl, inr}
+use Rattle.std.specs.Prelude.{◌==◌, ◌&&◌, nat_lt, nat_le, if◌then◌else◌, option_map}
+use Rattle.std.proofs.lemmas.Bool.{eq-eqb, ne_eqb, eqb-true, cases_Bool, ltb-true, ltb-false, le-leb, lt-leb, and_parts}
+use Rattle.cyc_words.specs.Word.{add_of, mul_of, shl_of}
+use Rattle.cyc_types.specs.declared.typed.Kind.{Kind}
+use Rattle.cyc_types.specs.declared.typed.Kind.TheVariants as kinds
+use Rattle.cyc_types.specs.TypedTrees.{Expression, Program}
+use Rattle.cyc_store.specs.State.{StoreState}
+use Rattle.cyc_plain.specs.declared.instruction.BinaryOperator.TheVariants as plain_binary
+use Rattle.cyc_plain.specs.declared.instruction.Comparison.TheVariants as comparisons
+use Rattle.cyc_plain.specs.declared.instruction.Operand.{Operand}
+use Rattle.cyc_plain.specs.declared.instruction.Operand.TheVariants as operands
+use Rattle.cyc_plain.specs.declared.instruction.Instruction.TheVariants as instructions
+use Rattle.cyc_plain.specs.State as plain
+use Rattle.cyc_plain.specs.State.{Words, put, Configuration}
+use Rattle.cyc_plain.specs.Step.{Choice, operand_word, with_slots, at, advanced, performed, branches}
+use Rattle.cyc_plain.specs.Straight.{At}
+use Rattle.cyc_plain.proofs.SlotLaws.{put-same, put-other}
+use Rattle.cyc_meaning.specs.Values.{Value, Int, Null, Thin, Fat, Handle, Key, Operand as Kinded, Cell, kinds_of, is_kind, is_thin, words_of_kind}
+use Rattle.cyc_meaning.specs.Operators.{Result, null_exception, array_bounds}
+use Rattle.cyc_meaning.specs.Pointers.{Reach, Stops, followed}
+use Rattle.cyc_meaning.specs.Pointers as reaches
+use Rattle.cyc_meaning.specs.State.{Object, World, Environment, Follow, Index, Advance, Entry, Needs, Focus, Evaluating, Given, GivenPlace, Throwing, State, Running}
+use Rattle.cyc_meaning.specs.Places.{arrives}
+use Rattle.cyc_meaning.specs.Parts.{is_target, cell_of}
+use Rattle.cyc_meaning.specs.Step.{wrong, computed, step, leads_to}
+use Rattle.cyc_objects.specs.Tables.{Tables}
+use Rattle.cyc_objects.specs.Words.{IsPartOf, Points, Is}
+use Rattle.cyc_objects.specs.Related as objects
+use Rattle.cyc_objects.proofs.NumberLemmas.{slice_get-map}
+use Rattle.cyc_objects.proofs.Pointers.{part-not-null, pointer-word, thinned, fat-moved}
+use Rattle.cyc_lower.specs.Lowerable.{is_pointer}
+use Rattle.cyc_lower.specs.Lowering.{raising, scale_of, reached_operand, followed_operand, lower_program}
+use Rattle.cyc_lower.proofs.slots.Widths.{wide_kind, same_kind, Outside}
+use Rattle.cyc_lower.proofs.relation.Moves.{put_elsewhere}
+use Rattle.cyc_lower.proofs.relation.Stands.{SteppedAt, ReachedBy, ReachedAt, FollowedAt, ValueAt}
+use Rattle.cyc_lower.proofs.relation.Relation.{IsIn, IsLow, types_at, types_on, floor, Holds, held, as_operand, DataIn, SharedAt, ValueStack, PlaceStack, Matches, code_of, bounds_at, top, IsParts, ReadyAt, with_left, as_right}
+use Rattle.cyc_lower.proofs.relation.Data.{Is-same, height-least, Holds-same, data_written, in_words}
+use Rattle.cyc_lower.proofs.relation.Accesses.{IsWell, is_fitting}
+use Rattle.cyc_lower.proofs.place_steps.PlaceWords.{narrow_element, wide_element, stays}
+use Rattle.cyc_lower.proofs.relation.Matched.{IsMatched, silently, by_one}
+use Rattle.cyc_lower.proofs.handler_steps.Handling.{raised}
+use Rattle.cyc_lower.proofs.pointer_steps.PointerSteps.{as_fat, int_word, is_moved, outside_index}
+use Rattle.cyc_lower.proofs.relation.Paths.{Link, is_quiet, by_path}
+
+-- ---- the words of an access
+
+-- a number of bytes by an index that counts cells of one word, or of three
+abbrev pub scaled : (words index : ℕ) → ℕ
+scaled words index = if words == 1 then shl_of index 2 else mul_of index 12
+
+-- the words of a pointer in slots one behind the other
+pub parts_of : (t : Tables) (v : Value) (slots : Words) (n : ℕ) → Is t kinds.Fat v slots n → IsParts t v slots n (n + 2)
+parts_of t v slots n is = Is-same t kinds.Fat v slots (λ j. if j == 0 then slots n else if j == 1 then slots (n + 1) else slots (n + 2)) n 0 each is
+  where
+    each : (j : ℕ) → j < 3 → (if 0 + j == 0 then slots n else if 0 + j == 1 then slots (n + 1) else slots (n + 2)) ≡ slots (n + j)
+    each zero below = ap slots (let same : n ≡ n + 0 = omega arith in same)
+    each (suc zero) below = refl
+    each (suc (suc zero)) below = refl
+    each (suc (suc (suc j))) below = absurd (omega (arith, below))
+
+-- the address of the cell at an index, by what the code computes of it
+module _ {t : Tables} where
+  pub element_is : {o start count w : ℕ} (i : ℕ) (part : IsPartOf t o start count w) → i < count → Points t o (start + i) (add_of w (scaled (words_of_kind part.kind) i))
+  element_is {o} {start} {count} {w} i part below = by (words_of_kind part.kind == 1) refl
+    where
+      by : (narrow : Bool) → (words_of_kind part.kind == 1) ≡ narrow → Points t o (start + i) (add_of w (if narrow then shl_of i 2 else mul_of i 12))
+      by true narrow = narrow_element i part below (eqb-true (words_of_kind part.kind) 1 narrow)
+      by false wide = wide_element i part below (ap words_of_kind (wide_kind part.kind wide))
+
+  -- a struct is reached at its first cell
+  pub first_is : {o start count a : ℕ} (i : ℕ) → IsPartOf t o start count a → start + i ≡ 0 → i < count → Points t o (start + i) a
+  first_is {o} {start} {count} {a} i part first below =
+      let none : i ≡ 0 = omega (arith, first) in
+      subst (λ (j : ℕ). Points t o (start + j) a) (sym none) (subst (Points t o (start + 0)) (let same : a + 4 * (0 * words_of_kind part.kind) ≡ a = omega arith in same) (thinned 0 part (omega (arith, below))))
+
+-- ---- the cell that is reached
+
+abbrev some_or : (kind : Kind) → Option Kind → Kind
+some_or kind None = kind
+some_or kind (Some other) = other
+
+-- where the tree says a kind, each cell of the part has its words
+module _ {t : Tables} {w : World} {s : StoreState} (related : objects.Related t w s) where
+  cell_of_kind : (kind : Kind) (offset : ℕ) (x : Option Object) → is_target (Some kind) offset (cell_of x offset) ≡ true → (y : Object) × (cell : Cell) × (x ≡ Some y) × (slice_get y.cells offset ≡ Some cell) × (cell.kind ≡ kind)
+  cell_of_kind kind offset None leads = absurd (let f : false ≡ true = leads in cc)
+  cell_of_kind kind offset (Some y) leads = by (slice_get y.cells offset) refl leads
+    where
+      by : (found : Option Cell) → slice_get y.cells offset ≡ found → is_target (Some kind) offset found ≡ true → (z : Object) × (cell : Cell) × (Some y ≡ Some z) × (slice_get z.cells offset ≡ Some cell) × (cell.kind ≡ kind)
+      by None at leads = absurd (let f : false ≡ true = leads in cc)
+      by (Some cell) at leads = (y, cell, refl, at, same_kind cell.kind kind leads)
+
+  pub part_words : {o start count a : ℕ} (i : ℕ) (part : IsPartOf t o start count a) (kind : Kind) → i < count → is_target (Some kind) (start + i) (cell_of (slice_get w.objects o) (start + i)) ≡ true
+      → words_of_kind part.kind ≡ words_of_kind kind
+  part_words {o} {start} {count} {a} i part kind below leads =
+      let (x, cell, there, at_cell, kind_is) = cell_of_kind kind (start + i) (slice_get w.objects o) leads in
+      let shape : part.kinds ≡ kinds_of x.cells = related.shapes o part.address part.kinds x there part.row in
+      let same : Some part.kind ≡ Some cell.kind = sym (part.even i below) ∙ (ap (λ ks. slice_get ks (start + i)) shape ∙ slice_get-map (λ (z : Cell). z.kind) x.cells (start + i) cell at_cell) in
+      ap words_of_kind (ap (some_or part.kind) same ∙ kind_is)
+
+  -- so its address is computed by them
+  pub cell_is : {o start count a : ℕ} (i m : ℕ) (part : IsPartOf t o start count a) (kind : Kind) → m ≡ i → i < count → is_target (Some kind) (start + i) (cell_of (slice_get w.objects o) (start + i)) ≡ true
+      → Points t o (start + i) (add_of a (scaled (words_of_kind kind) m))
+  cell_is {o} {start} {count} {a} i m part kind index_is below leads =
+      subst (λ (j : ℕ). Points t o (start + i) (add_of a (scaled (words_of_kind kind) j))) (sym index_is)
+      (subst (λ (j : ℕ). Points t o (start + i) (add_of a (scaled j i))) (part_words i part kind below leads) (element_is i part below))
+
+-- the slots that an access writes
+pub elsewhere : (slots : Words) (t x y m : ℕ) → Outside t 3 m → put (put slots (t + 2) x) t y m ≡ slots m
+elsewhere slots t x y m out =
+    put_elsewhere (put slots (t + 2) x) t y 3 m (omega arith) out ∙ put-other slots (t + 2) m x (λ same. beside out same)
+  where
+    beside : Outside t 3 m → m ≡ t + 2 → ⊥
+    beside (inl short) same = absurd (omega (arith, same, short))
+    beside (inr long) same = absurd (omega (arith, same, long))
+
+-- ---- the instructions of an access
+
+module _ (source : Program) (pages calls : ℕ) where
+  taken : (c : Configuration) (b : Bool) (target : ℕ) → b ≡ true → branches c b target ≡ plain.Running (at c target)
+  taken c b target is = ap (λ (x : Bool). branches c x target) is
+
+  passed : (c : Configuration) (b : Bool) (target : ℕ) → b ≡ false → branches c b target ≡ plain.Running (at c (c.active.next + 1))
+  passed c b target is = ap (λ (x : Bool). branches c x target) is
+
+  module _ (focus : Focus) (k₀ k : List Entry) (e : Environment) (w : World) (c : Configuration) (null : ℕ → Type 0) (span : Option ℕ) (n m t q : ℕ) (shared : SharedAt source pages calls k₀ e w c)
+      (here : ReachedBy (code_of source c.active.function) (bounds_at source c.active.function) (types_at source c.active.function) null span n m t c.active.next q) where
+    abbrev slots : Words
+    slots = c.active.slots
+
+    abbrev p : ℕ
+    p = c.active.next
+
+    abbrev r : ℕ
+    r = here.0
+
+    abbrev s : ℕ
+    s = here.1
+
+    -- null leads elsewhere
+    pub leaves_null : (next : State) → slots n ≡ 0 → step source (Running focus k₀ e w) ≡ next → ((block : ℕ) → null block → Matches source pages calls next (plain.Running (at c block)))
+        → IsMatched source pages calls (Running focus k₀ e w) (plain.Running c)
+    leaves_null next is_zero does goes =
+        let (block, jump, leads, end) = here.2 in
+        by_one source pages calls does shared jump
+        (λ choice. subst (Matches source pages calls next) (sym (taken c (slots n == 0) block (eq-eqb (slots n) 0 is_zero))) (goes block leads))
+
+    -- where it raises an exception
+    pub raises_null : (shared_behind : SharedAt source pages calls k e w c) → DataIn source shared_behind.tables c.active.slots k e w c → slots n ≡ 0 → step source (Running focus k₀ e w) ≡ Running (Throwing null_exception 0) k e w
+        → ((block : ℕ) → null block → At (code_of source c.active.function) block (raising null_exception)) → IsMatched source pages calls (Running focus k₀ e w) (plain.Running c)
+    raises_null shared_behind facts is_zero does raises =
+        leaves_null (Running (Throwing null_exception 0) k e w) is_zero does
+        (λ block leads. raised source pages calls null_exception 0 k e w (at c block) (operands.Word null_exception) (operands.Word 0) (omega arith) shared_behind facts (raises block leads) refl refl)
+
+    abbrev past_null : Link
+    past_null = record { instruction = instructions.Branch comparisons.Equal (operands.Slot n) (operands.Word 0) here.2.0; behind = at c r }
+
+    past_null_leads : slots n ≢ 0 → (choice : Choice) → performed (lower_program source) choice c past_null.instruction ≡ plain.Running (at c r)
+    past_null_leads some choice = passed c (slots n == 0) here.2.0 (ne_eqb (slots n) 0 some) ∙ ap (λ i. plain.Running (at c i)) here.2.3
+
+    abbrev in_bounds : Link
+    in_bounds = record { instruction = instructions.Branch comparisons.GreaterOrEqualUnsigned (operands.Slot m) (operands.Slot (n + 1)) here.3.0; behind = at c s }
+
+    in_bounds_leads : nat_lt (slots m) (slots (n + 1)) ≡ true → (choice : Choice) → performed (lower_program source) choice (at c r) in_bounds.instruction ≡ plain.Running (at c s)
+    in_bounds_leads less choice =
+        passed (at c r) (nat_le (slots (n + 1)) (slots m)) here.3.0 (lt-leb (slots (n + 1)) (slots m) (ltb-true (slots m) (slots (n + 1)) less)) ∙ ap (λ i. plain.Running (at c i)) here.3.3
+
+    -- and so does an index that is not below the length
+    pub raises_bounds : (shared_behind : SharedAt source pages calls k e w c) → DataIn source shared_behind.tables c.active.slots k e w c → slots n ≢ 0 → nat_lt (slots m) (slots (n + 1)) ≡ false
+        → step source (Running focus k₀ e w) ≡ Running (Throwing array_bounds 0) k e w → IsMatched source pages calls (Running focus k₀ e w) (plain.Running c)
+    raises_bounds shared_behind facts some least does =
+        let (block, jump, first_raise, end) = here.2 in
+        let (other, branch, raise, behind) = here.3 in
+        by_path source pages calls focus k₀ e w c (Running (Throwing array_bounds 0) k e w) (past_null ∷ []) in_bounds.instruction does shared
+        (jump, past_null_leads some, omega (arith, end), is_quiet c (at c r).active, tt)
+        branch
+        (λ choice. subst (Matches source pages calls (Running (Throwing array_bounds 0) k e w)) (sym (taken (at c r) (nat_le (slots (n + 1)) (slots m)) other (le-leb (slots (n + 1)) (slots m) (ltb-false (slots m) (slots (n + 1)) least))))
+        (raised source pages calls array_bounds 0 k e w (at c other) (operands.Word array_bounds) (operands.Word 0) (omega arith) shared_behind facts raise refl refl))
+
+    -- the first cell is reached
+    pub reaches_first : span ≡ None → (next : State) → slots n ≢ 0 → nat_lt (slots m) (slots (n + 1)) ≡ true → step source (Running focus k₀ e w) ≡ next
+        → Matches source pages calls next (plain.Running (at c q)) → IsMatched source pages calls (Running focus k₀ e w) (plain.Running c)
+    reaches_first first next some less does goes =
+        let (block, jump, raised, end) = here.2 in
+        let (other, branch, raise, behind) = here.3 in
+        let there : s ≡ q = subst (λ x. SteppedAt (code_of source c.active.function) (bounds_at source c.active.function) (types_at source c.active.function) x n m t s q) first here.4 in
+        by_path source pages calls focus k₀ e w c next (past_null ∷ []) in_bounds.instruction does shared
+        (jump, past_null_leads some, omega (arith, end), is_quiet c (at c r).active, tt)
+        branch
+        (λ choice. subst (Matches source pages calls next) (sym (in_bounds_leads less choice)) (subst (λ i. Matches source pages calls next (plain.Running (at c i))) (sym there) goes))
+
+    -- the cell at the index is reached, and its address comes to slot t
+    abbrev pub stepped : (words : ℕ) → Words
+    stepped words = put (put slots (t + 2) (scaled words (slots m))) t (add_of (slots n) (scaled words (slots m)))
+
+    scales : (words : ℕ) (choice : Choice)
+        → performed (lower_program source) choice (at c s)
+        (scale_of words (t + 2) m)
+        ≡ plain.Running (at (with_slots c (put slots (t + 2) (scaled words (slots m)))) (s + 1))
+    scales words choice = by (words == 1)
+      where
+        by : (narrow : Bool)
+            → performed (lower_program source) choice (at c s)
+            (if narrow then instructions.Binary plain_binary.ShiftLeft (t + 2) (operands.Slot m) (operands.Word 2) else instructions.Binary plain_binary.Multiply (t + 2) (operands.Slot m) (operands.Word 12))
+            ≡ plain.Running (at (with_slots c (put slots (t + 2) (if narrow then shl_of (slots m) 2 else mul_of (slots m) 12))) (s + 1))
+        by true = refl
+        by false = refl
+
+    pub reaches_cell : (words : ℕ) → span ≡ Some words → (next : State) → n ≤ t → slots n ≢ 0 → nat_lt (slots m) (slots (n + 1)) ≡ true → step source (Running focus k₀ e w) ≡ next
+        → Matches source pages calls next (plain.Running (at (with_slots c (stepped words)) q)) → IsMatched source pages calls (Running focus k₀ e w) (plain.Running c)
+    reaches_cell words cells next low some less does goes =
+        let g = c.active.function in
+        let (block, jump, raised, end) = here.2 in
+        let (other, branch, raise, behind) = here.3 in
+        let (scale, sum, last) = subst (λ x. SteppedAt (code_of source g) (bounds_at source g) (types_at source g) x n m t s q) cells here.4 in
+        let bytes = scaled words (slots m) in
+        let before = put slots (t + 2) bytes in
+        let b : Configuration = at (with_slots c before) (s + 1) in
+        let first : before n ≡ slots n = put-other slots (t + 2) n bytes (λ same. absurd (omega (arith, same, low))) in
+        by_path source pages calls focus k₀ e w c next
+        (past_null ∷ in_bounds ∷ record { instruction = scale_of words (t + 2) m; behind = b } ∷ [])
+        (instructions.Binary plain_binary.Add t (operands.Slot n) (operands.Slot (t + 2))) does shared (
+          jump,
+          past_null_leads some,
+          omega (arith, end),
+          is_quiet c (at c r).active,
+          (branch, in_bounds_leads less, omega (arith, behind), is_quiet (at c r) (at c s).active, (scale, scales words, omega arith, is_quiet (at c s) b.active, tt)),
+        )
+        sum
+        (λ choice. subst (λ (x : ℕ). Matches source pages calls next (plain.Running (at (with_slots c (put before t x)) (s + 1 + 1))))
+        (sym (ap (λ (y : ℕ). add_of y (before (t + 2))) first ∙ ap (add_of (slots n)) (put-same slots (t + 2) bytes)))
+        (subst (λ i. Matches source pages calls next (plain.Running (at (with_slots c (stepped words)) i))) (sym last) goes))
+
+  -- what raises the exception that null raises
+  abbrev pub RaisesNull : ℕ → (block : ℕ) → Type 0
+  RaisesNull g block = At (code_of source g) block (raising null_exception)
+
+  -- ---- a place is reached
+
+  -- by a fat pointer whose words these are
+  module _ (i : Kind) (target : Option Kind) (n m q : ℕ) (k : List Entry) (e : Environment) (w : World) (c : Configuration) where
+    abbrev span_there : Option ℕ
+    span_there = option_map words_of_kind target
+
+    abbrev waiting : List Entry
+    waiting = Needs (Follow kinds.Fat target) ∷ k
+
+    abbrev given : Value → Kinded
+    given x = record { kind = i; value = x }
+
+    abbrev free : ℕ
+    free = top source c.active.function k
+
+    abbrev tests : Value → Bool
+    tests x = is_kind i kinds.Fat && leads_to w target (followed x)
+
+    arrives_so : (x : Value) (reach : Reach) → IsWell (step source (Running (Given (given x)) waiting e w)) → followed x ≡ reach → step source (Running (Given (given x)) waiting e w) ≡ arrives reach k e w
+    arrives_so x reach well is =
+        ap (λ (b : Bool). if b then arrives (followed x) k e w else wrong w) (is_fitting (tests x) (arrives (followed x) k e w) w well) ∙ ap (λ (y : Reach). arrives y k e w) is
+
+    leads_there : (x : Value) → IsWell (step source (Running (Given (given x)) waiting e w)) → leads_to w target (followed x) ≡ true
+    leads_there x well = (and_parts (is_kind i kinds.Fat) (leads_to w target (followed x)) (is_fitting (tests x) (arrives (followed x) k e w) w well)).1
+
+    -- within bounds: the first cell, or the one at the index
+    cell_reached : (object start count index : ℕ) {x : Value} → c.active.slots n ≢ 0 → nat_lt (c.active.slots m) (c.active.slots (n + 1)) ≡ true → index < count
+        → (shared : SharedAt source pages calls k e w c) → (part : IsPartOf shared.tables object start count (c.active.slots n)) → c.active.slots m ≡ index
+        → step source (Running (Given (given x)) waiting e w) ≡ Running (GivenPlace (Thin object (start + index))) k e w → leads_to w target (reaches.At object (start + index)) ≡ true
+        → DataIn source shared.tables c.active.slots k e w c → Holds shared.tables c.active.slots (floor source c.active.function k) (held k) → n ≤ free
+        → ReachedAt (code_of source c.active.function) (bounds_at source c.active.function) (types_at source c.active.function) span_there n m free c.active.next q
+        → PlaceStack source c.active.function e.locals (reached_operand span_there n free) 0 q c.frames k
+        → IsMatched source pages calls (Running (Given (given x)) waiting e w) (plain.Running c)
+    cell_reached object start count index {x} some less below shared part index_is does leads facts holds low here place = by target refl leads here place
+      where
+        by : (found : Option Kind) → target ≡ found → leads_to w found (reaches.At object (start + index)) ≡ true
+            → ReachedAt (code_of source c.active.function) (bounds_at source c.active.function) (types_at source c.active.function) (option_map words_of_kind found) n m free c.active.next q
+            → PlaceStack source c.active.function e.locals (reached_operand (option_map words_of_kind found) n free) 0 q c.frames k
+            → IsMatched source pages calls (Running (Given (given x)) waiting e w) (plain.Running c)
+        by None is leads here place =
+            let first : start + index ≡ 0 = eqb-true (start + index) 0 leads in
+            let points = first_is index part first below in
+            reaches_first (Given (given x)) waiting k e w c (RaisesNull c.active.function) None n m free q shared here refl (Running (GivenPlace (Thin object (start + index))) k e w) some less does
+            (shared, facts, (operands.Slot n, 0, pointer-word points, stays points, holds, place))
+        by (Some kind) is leads here place =
+            let g = c.active.function in
+            let base = floor source g k in
+            let slots = c.active.slots in
+            let words = words_of_kind kind in
+            let address = add_of (slots n) (scaled words (slots m)) in
+            let points = cell_is shared.related index (slots m) part kind index_is below leads in
+            let after = put (put slots (free + 2) (scaled words (slots m))) free address in
+            let there : Points shared.tables object (start + index) (after free) = subst (Points shared.tables object (start + index)) (sym (put-same (put slots (free + 2) (scaled words (slots m))) free address)) points in
+            reaches_cell (Given (given x)) waiting k e w c (RaisesNull g) (Some words) n m free q shared here words refl (Running (GivenPlace (Thin object (start + index))) k e w) low some less does (
+              shared,
+              data_written source shared.tables g c.active.base w.objects e.locals k slots after c.active.handlers c.globals c.frames free 3 (height-least base (held k)) (λ x out. elsewhere slots free (scaled words (slots m)) address x out) facts,
+              (operands.Slot free, 0, pointer-word there, stays there, Holds-same shared.tables slots after base (held k) (λ x short. elsewhere slots free (scaled words (slots m)) address x (inl short)) holds, place),
+            )
+
+    pub follows_parts : (x : Value) → IsWell (step source (Running (Given (given x)) waiting e w)) → (shared : SharedAt source pages calls k e w c) → DataIn source shared.tables c.active.slots k e w c
+        → IsParts shared.tables x c.active.slots n m → Holds shared.tables c.active.slots (floor source c.active.function k) (held k) → n ≤ free
+        → ReachedAt (code_of source c.active.function) (bounds_at source c.active.function) (types_at source c.active.function) span_there n m free c.active.next q
+        → PlaceStack source c.active.function e.locals (reached_operand span_there n free) 0 q c.frames k
+        → IsMatched source pages calls (Running (Given (given x)) waiting e w) (plain.Running c)
+    follows_parts Null well shared facts is holds low here place =
+        raises_null (Given (given Null)) waiting k e w c (RaisesNull c.active.function) span_there n m free q shared here shared facts is (arrives_so Null (Stops null_exception) well refl) (λ block raises. raises)
+    follows_parts (Fat object start count index) well shared facts (part, count_is, index_is) holds low here place =
+        let g = c.active.function in
+        let slots = c.active.slots in
+        let x = Fat object start count index in
+        let some = part-not-null part in
+        let same : nat_lt (slots m) (slots (n + 1)) ≡ nat_lt index count = ap (λ (y : ℕ). nat_lt y (slots (n + 1))) index_is ∙ ap (nat_lt index) count_is in
+        elim (cases_Bool (nat_lt (slots m) (slots (n + 1)))) [
+          | inl less ↦
+              let inside = sym same ∙ less in
+              let reach : followed x ≡ reaches.At object (start + index) = ap (λ (b : Bool). if b then reaches.At object (start + index) else Stops array_bounds) inside in
+              cell_reached object start count index some less (ltb-true index count inside) shared part index_is (arrives_so x (reaches.At object (start + index)) well reach)
+              (subst (λ (y : Reach). leads_to w target y ≡ true) reach (leads_there x well)) facts holds low here place
+          | inr least ↦
+              let reach : followed x ≡ Stops array_bounds = ap (λ (b : Bool). if b then reaches.At object (start + index) else Stops array_bounds) (sym same ∙ least) in
+              raises_bounds (Given (given x)) waiting k e w c (RaisesNull g) span_there n m free q shared here shared facts some least (arrives_so x (Stops array_bounds) well reach)
+        ]
+    follows_parts x well shared facts is holds low here place = absurd is
+
+  -- what is no pointer is not followed
+  wrong_at_all : (b : Bool) (w : World) → IsWell (if b then wrong w else wrong w) → ⊥
+  wrong_at_all true w well = well refl
+  wrong_at_all false w well = well refl
+
+  not_followed : (i : Kind) (target : Option Kind) (t : Tables) (kind pointer : Kind) (x : Value) (slots : Words) (n : ℕ) (k : List Entry) (e : Environment) (w : World) → Is t kind x slots n
+      → IsWell (step source (Running (Given (record { kind = i; value = x })) (Needs (Follow pointer target) ∷ k) e w)) → is_pointer kind ≡ false → ⊥
+  not_followed i target t kind pointer (Int a) slots n k e w is well no_pointer = wrong_at_all (is_kind i pointer && leads_to w target (followed (Int a))) w well
+  not_followed i target t kind pointer (Handle region) slots n k e w is well no_pointer = wrong_at_all (is_kind i pointer && leads_to w target (followed (Handle region))) w well
+  not_followed i target t kind pointer (Key region) slots n k e w is well no_pointer = wrong_at_all (is_kind i pointer && leads_to w target (followed (Key region))) w well
+  not_followed i target t kinds.Nullable pointer x slots n k e w is well no_pointer = let f : true ≡ false = no_pointer in cc
+  not_followed i target t kinds.NonNull pointer x slots n k e w is well no_pointer = let f : true ≡ false = no_pointer in cc
+  not_followed i target t kinds.Fat pointer x slots n k e w is well no_pointer = let f : true ≡ false = no_pointer in cc
+  not_followed i target t kind pointer x slots n k e w is well no_pointer = is
+
+  -- by a fat pointer in slots
+  pub follows_fat : (pointer : Kind) (target : Option Kind) (v : Kinded) (o : Operand) (q : ℕ) (k : List Entry) (e : Environment) (w : World) (c : Configuration) → is_thin pointer ≡ false → v.kind ≡ pointer
+      → IsWell (step source (Running (Given v) (Needs (Follow pointer target) ∷ k) e w)) → (shared : SharedAt source pages calls k e w c) → DataIn source shared.tables c.active.slots k e w c
+      → IsIn shared.tables v c.active.slots o → Holds shared.tables c.active.slots (floor source c.active.function k) (held k) → IsLow o (top source c.active.function k)
+      → FollowedAt (code_of source c.active.function) (bounds_at source c.active.function) (types_at source c.active.function) false (option_map words_of_kind target) o (top source c.active.function k) c.active.next q
+      → PlaceStack source c.active.function e.locals (followed_operand false (option_map words_of_kind target) o (top source c.active.function k)) 0 q c.frames k
+      → IsMatched source pages calls (Running (Given v) (Needs (Follow pointer target) ∷ k) e w) (plain.Running c)
+  follows_fat pointer target v (operands.Word x) q k e w c thin kind well shared facts is holds low access place = absurd access
+  follows_fat pointer target v (operands.Slot n) q k e w c thin kind well shared facts is holds low access place = by pointer v.kind thin kind is well
+    where
+      by : (j i : Kind) → is_thin j ≡ false → i ≡ j → Is shared.tables i v.value c.active.slots n → IsWell (step source (Running (Given (record { kind = i; value = v.value })) (Needs (Follow j target) ∷ k) e w))
+          → IsMatched source pages calls (Running (Given (record { kind = i; value = v.value })) (Needs (Follow j target) ∷ k) e w) (plain.Running c)
+      by kinds.Fat i thin same is well =
+          follows_parts i target n (n + 2) q k e w c v.value well shared facts
+          (parts_of shared.tables v.value c.active.slots n (subst (λ x. Is shared.tables x v.value c.active.slots n) same is)) holds low access place
+      by kinds.Nullable i thin same is well = absurd (let f : true ≡ false = thin in cc)
+      by kinds.NonNull i thin same is well = absurd (let f : true ≡ false = thin in cc)
+      by kinds.Int i thin same is well = absurd (not_followed i target shared.tables kinds.Int kinds.Int v.value c.active.slots n k e w (subst (λ x. Is shared.tables x v.value c.active.slots n) same is) well refl)
+      by kinds.Handle i thin same is well = absurd (not_followed i target shared.tables kinds.Handle kinds.Handle v.value c.active.slots n k e w (subst (λ x. Is shared.tables x v.value c.active.slots n) same is) well refl)
+      by kinds.Key i thin same is well = absurd (not_followed i target shared.tables kinds.Key kinds.Key v.value c.active.slots n k e w (subst (λ x. Is shared.tables x v.value c.active.slots n) same is) well refl)
+
+  -- ---- an index
+
+  -- a fat pointer waits for its index, which is evaluated behind it
+  pub indexes_pointer : (peek : Option ℕ) (target : Option Kind) (i : Expression) (base : Kinded) (o : Operand) (k : List Entry) (e : Environment) (w : World) (c : Configuration)
+      → IsWell (step source (Running (Given base) (Needs (Index peek target i) ∷ k) e w)) → (shared : SharedAt source pages calls k e w c) → DataIn source shared.tables c.active.slots k e w c
+      → IsIn shared.tables base c.active.slots o → Holds shared.tables c.active.slots (floor source c.active.function k) (held k)
+      → ValueStack source c.active.function e.locals base.kind o c.active.next c.frames (Needs (Index peek target i) ∷ k)
+      → IsMatched source pages calls (Running (Given base) (Needs (Index peek target i) ∷ k) e w) (plain.Running c)
+  indexes_pointer peek target i base o k e w c well shared facts is holds (inl (x, m, q, there, at_i, sum, reached, place)) =
+      let g = c.active.function in
+      let goes = Running (Evaluating i) (Needs (Advance peek target base) ∷ k) e w in
+      let fits = is_fitting (is_kind base.kind kinds.Fat) goes w well in
+      let fat : base.kind ≡ kinds.Fat = same_kind base.kind kinds.Fat fits in
+      silently source pages calls (Running (Given base) (Needs (Index peek target i) ∷ k) e w) goes (plain.Running c) (ap (λ (b : Bool). if b then goes else wrong w) fits) (
+        shared,
+        facts,
+        as_operand x m (subst (λ n. ValueAt (code_of source g) (bounds_at source g) (types_on source g k) i (top source g k + n) x c.active.next m) (sym (ap words_of_kind fat)) at_i)
+            (subst (IsIn shared.tables base c.active.slots) there is, holds) (q, sum, reached, place),
+      )
+      (omega arith)
+  indexes_pointer peek target i base o k e w c well shared facts is holds (inr (n, x, q, there, low, known, sum, reached, place)) =
+      let goes = Running (Evaluating i) (Needs (Advance peek target base) ∷ k) e w in
+      let fits = is_fitting (is_kind base.kind kinds.Fat) goes w well in
+      silently source pages calls (Running (Given base) (Needs (Index peek target i) ∷ k) e w) goes (plain.Running c) (ap (λ (b : Bool). if b then goes else wrong w) fits)
+      (shared, facts, as_right (n, x, q, known, subst (IsIn shared.tables base c.active.slots) there is, low, holds, (sum, reached, place)))
+      (omega arith)
+
+  -- the pointer moves by the index, and then the access is made: only the third of its words is another, in a temporary
+  pub advances_pointer : (peek : Option ℕ) (target : Option Kind) (base : Kinded) (j : Kind) (x : Value) (k : List Entry) (e : Environment) (w : World) (c : Configuration)
+      → IsWell (step source (Running (Given (record { kind = j; value = x })) (Needs (Advance peek target base) ∷ k) e w)) → (shared : SharedAt source pages calls k e w c) → DataIn source shared.tables c.active.slots k e w c
+      → ReadyAt source shared.tables (record { kind = j; value = x }) e.locals c.active.function c.active.next c.active.slots c.frames (Needs (Advance peek target base) ∷ k)
+      → IsMatched source pages calls (Running (Given (record { kind = j; value = x })) (Needs (Advance peek target base) ∷ k) e w) (plain.Running c)
+  advances_pointer peek target base j (Int i) k e w c well shared facts (n, o, q, is, is_base, low, holds, (sum, reached, place)) =
+      let g = c.active.function in
+      let slots = c.active.slots in
+      let t = top source g k in
+      let (others, p, same, is_right) = in_words shared.tables (record { kind = j; value = Int i }) slots o is in
+      let word : operand_word slots o ≡ i = sym same ∙ int_word shared.tables j i others p is_right in
+      let change = λ (index : ℕ). add_of index i in
+      let waiting = Needs (Follow kinds.Fat target) ∷ k in
+      let result = is_moved change base.value waiting e w well in
+      let v : Kinded = record { kind = kinds.Fat; value = result.value } in
+      let index = add_of (slots (n + 2)) i in
+      let after = put slots (t + 2) index in
+      let elsewhere_same = λ (m : ℕ) (out : Outside t 3 m). outside_index slots t index m out in
+      let first : after n ≡ slots n = put-other slots (t + 2) n index (λ h. absurd (omega (arith, h, low))) in
+      let second : after (n + 1) ≡ slots (n + 1) = put-other slots (t + 2) (n + 1) index (λ h. absurd (omega (arith, h, low))) in
+      by_one source pages calls (ap (λ (r : Result). computed kinds.Fat r waiting e w) result.gives) shared sum
+      (λ choice. subst (λ (y : ℕ). Matches source pages calls (Running (Given v) waiting e w) (plain.Running (advanced (with_slots c (put slots (t + 2) (add_of (slots (n + 2)) y)))))) (sym word) (
+        shared,
+        with_left
+            (data_written source shared.tables g c.active.base w.objects e.locals k slots after c.active.handlers c.globals c.frames t 3 (height-least (floor source g k) (held k)) elsewhere_same facts) (
+              n,
+              t + 2,
+              q,
+              refl,
+              fat-moved shared.tables change base.value result.value slots (λ m. if m == 0 then after n else if m == 1 then after (n + 1) else after (t + 2)) n 0 (as_fat shared.tables base.kind base.value slots n is_base result.fat) result.gives
+                  first second (put-same slots (t + 2) index),
+              low,
+              Holds-same shared.tables slots after (floor source g k) (held k) (λ m short. elsewhere_same m (inl short)) holds,
+              reached,
+              place,
+            ),
+      ))
+  advances_pointer peek target base j x k e w c well shared facts ready = absurd (well refl)

@@ -1,0 +1,24 @@
+-- what a state of the source and one of the plain program have in common, and what keeps it
+pub mod Known
+pub mod Leads
+pub mod Rows
+pub mod GlobalRows
+pub mod Stands
+pub mod Fitting
+pub mod Relation
+pub mod Data
+pub mod Weights
+pub mod Matched
+pub mod Paths
+pub mod Moves
+pub mod Moving
+pub mod Counters
+pub mod Sharing
+pub mod Levels
+pub mod Pinned
+pub mod Named
+pub mod WaitingData
+pub mod Apart
+pub mod Keeping
+pub mod Accesses
+pub mod Whole

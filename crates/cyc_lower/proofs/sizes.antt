@@ -1,0 +1,7 @@
+-- the rest of the promise: the plain program is well formed, of words, and small
+pub mod WellFormed
+pub mod WordLemmas
+pub mod Sizes
+pub mod NeedBounds
+pub mod Routines
+pub mod Lowerings

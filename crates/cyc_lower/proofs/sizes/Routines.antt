@@ -1,0 +1,90 @@
+-- Functions and globals that are lowered one after the other.
+use Rattle.std.proofs.Common.{◌≡◌, ℕ, zero, suc, ◌+◌, ◌<◌, ◌≤◌, List, [], ◌∷◌, ◌++◌, length, get_or, map, take, Option, Some, refl, sym, ap, ◌∙◌, arith, slice_get, append_assoc}
+use Rattle.cyc_words.specs.declared.fault.Code.{Code}
+use Rattle.cyc_words.specs.declared.fault.Code.TheVariants.{TooManyFunctions}
+use Rattle.cyc_words.specs.declared.fault.Fault.{Fault}
+use Rattle.cyc_types.specs.declared.typed.TypedTree.{TypedTree}
+use Rattle.cyc_types.specs.declared.typed.Function.{Function as FunctionCode}
+use Rattle.cyc_types.specs.TypedTrees.{StructType, Function, Program}
+use Rattle.cyc_types.specs.TypedTreeView.{view_function, view_program}
+use Rattle.cyc_meaning.specs.FrameCount.{kept_by_items, frame_count, words_of_all}
+use Rattle.cyc_plain.specs.declared.instruction.Instruction.{Instruction}
+use Rattle.cyc_plain.specs.declared.instruction.Instruction.TheVariants.{Finish}
+use Rattle.cyc_lower.specs.Slots.{starts_from}
+use Rattle.cyc_lower.specs.Lowering.{first_temporary, outside_loops, items_code, function_code, slot_types, raises_of, body_code, blocks, starts_with}
+use Rattle.cyc_lower.specs.declared.limits.TheConstants.{MOST_FUNCTIONS}
+use Rattle.cyc_lower.specs.Lowered.{HasTooMany}
+use Rattle.cyc_lower.specs.Emission.{most_frame_count, most_locals}
+use Rattle.cyc_lower.proofs.slots.Slots.{slots-few}
+
+pub counted : {A B : Type 0} (f : A → B) (xs : List A) → length (map f xs) ≡ length xs
+counted f [] = refl
+counted f (x ∷ xs) = ap suc (counted f xs)
+
+-- the element with a number, in a list that is mapped
+pub numbered_at : {A B : Type 0} (f : A → B) (xs : List A) (n : ℕ) (x : A) → n < length xs → x ≡ get_or xs n x → slice_get (map f xs) n ≡ Some (f x)
+numbered_at f [] n x inside at = absurd (omega arith)
+numbered_at f (y ∷ ys) zero x inside at = ap (λ z. Some (f z)) (sym at)
+numbered_at f (y ∷ ys) (suc n) x inside at = numbered_at f ys n x (omega arith) at
+
+-- a frame has room for the slots of the locals
+pub few_locals : (f : FunctionCode) → frame_count (view_function f) ≤ most_frame_count
+    → (words_of_all (view_function f).parameters ≤ most_frame_count) × (first_temporary (view_function f) + kept_by_items (view_function f).body ≤ most_locals)
+few_locals f small = (omega (arith, small), omega (arith, small, slots-few (view_function f)))
+
+-- the code of a function's body, made again for the length that it had, with a return and the blocks behind it
+pub function_made : (structs : List StructType) (globals : List ℕ) (scopes : Option ℕ) (h : Function) (locals : List ℕ) (free raises : ℕ) (first body ended code : List Instruction) → locals ≡ starts_from 0 (slot_types h) → free ≡ first_temporary h
+    → first ≡ items_code (record { locals = locals; structs = structs; raises = 0; counters = []; globals = globals; scopes = scopes }) h.body 0 outside_loops free → raises ≡ length first
+    → body ≡ items_code (record { locals = locals; structs = structs; raises = raises; counters = []; globals = globals; scopes = scopes }) h.body 0 outside_loops free
+    → ended ≡ body ++ Finish free ∷ [] → code ≡ ended ++ blocks → code ≡ function_code structs globals scopes h
+function_made structs globals scopes h locals free raises first body ended code locals_is free_is first_is raises_is body_is ended_is code_is =
+    let made : first ≡ body_code (starts_with 0 structs globals scopes h) h =
+    first_is ∙ (λ i. items_code (record { locals = locals_is i; structs = structs; raises = 0; counters = []; globals = globals; scopes = scopes }) h.body 0 outside_loops (free_is i)) in
+    let known : raises ≡ raises_of structs globals scopes h = raises_is ∙ ap (λ (l : List Instruction). length l) made in
+    code_is
+    ∙ ap (λ (l : List Instruction). l ++ blocks) (ended_is ∙ ap (λ (l : List Instruction). l ++ Finish free ∷ []) body_is)
+    ∙ (λ i. (items_code (record { locals = locals_is i; structs = structs; raises = known i; counters = []; globals = globals; scopes = scopes }) h.body 0 outside_loops (free_is i) ++ Finish (free_is i) ∷ []) ++ blocks)
+    ∙ append_assoc (body_code (starts_with (raises_of structs globals scopes h) structs globals scopes h) h) (Finish (first_temporary h) ∷ []) blocks
+
+-- ---- lists that are lowered element by element
+
+map_snoc : {A B : Type 0} (f : A → B) (xs : List A) (x : A) → map f (xs ++ x ∷ []) ≡ map f xs ++ f x ∷ []
+map_snoc f [] x = refl
+map_snoc f (y ∷ xs) x = ap (λ l. f y ∷ l) (map_snoc f xs x)
+
+taken : {A : Type 0} (xs : List A) (i : ℕ) (x : A) → i < length xs → x ≡ get_or xs i x → take (suc i) xs ≡ take i xs ++ x ∷ []
+taken [] i x inside at = absurd (omega (arith, inside))
+taken (y ∷ xs) zero x inside at = ap (λ z. z ∷ []) (sym at)
+taken (y ∷ xs) (suc i) x inside at = ap (λ l. y ∷ l) (taken xs i x (omega (arith, inside)) at)
+
+-- what is made of one element more
+pub one_more : {A B C D : Type 0} (f : A → D) (g : C → D) (view : B → C) (made new : List A) (xs : List B) (i : ℕ) (a : A) (x : B) → i < length xs → x ≡ get_or xs i x → new ≡ made ++ a ∷ []
+    → f a ≡ g (view x) → map f made ≡ map g (map view (take i xs)) → map f new ≡ map g (map view (take (i + 1) xs))
+one_more {A} {B} {C} {D} f g view made new xs i a x inside at is one made_is =
+    let next : suc i ≡ i + 1 = omega arith in
+    ap (λ (l : List A). map f l) is
+    ∙ map_snoc f made a
+    ∙ ap (λ (l : List D). l ++ f a ∷ []) made_is
+    ∙ ap (λ (d : D). map g (map view (take i xs)) ++ d ∷ []) one
+    ∙ sym (map_snoc g (map view (take i xs)) (view x))
+    ∙ ap (λ (l : List C). map g l) (sym (map_snoc view (take i xs) x))
+    ∙ ap (λ (l : List B). map g (map view l)) (sym (taken xs i x inside at))
+    ∙ ap (λ (n : ℕ). map g (map view (take n xs))) next
+
+-- ---- more functions than there may be
+
+fault_is : (f : Fault) (c : Code) (l k : ℕ) → f.code ≡ c → f.line ≡ l → f.column ≡ k → f ≡ record { code = c; line = l; column = k }
+fault_is f c l k a b d =
+    ap (λ (x : Code). record { code = x; line = f.line; column = f.column }) a
+    ∙ ap (λ (x : ℕ). record { code = c; line = x; column = f.column }) b
+    ∙ ap (λ (x : ℕ). record { code = c; line = l; column = x }) d
+
+pub too_many : (t : TypedTree) (x : FunctionCode) (f : Fault) → MOST_FUNCTIONS < length t.functions.items → x ≡ get_or t.functions.items MOST_FUNCTIONS x
+    → f.code ≡ TooManyFunctions → f.line ≡ x.span.line → f.column ≡ x.span.column → HasTooMany (view_program t) f
+too_many t x f more at a b d = (view_function x, numbered_at view_function t.functions.items MOST_FUNCTIONS x more at, fault_is f TooManyFunctions x.span.line x.span.column a b d)
+
+pub one_too_many : (p : Program) (f g : Fault) → HasTooMany p f → HasTooMany p g → f ≡ g
+one_too_many p f g (h, e, a) (k, d, b) =
+    let same : h ≡ k = let s : Some h ≡ Some k = sym e ∙ d in cc in
+    let fault : Function → Fault = λ x. record { code = TooManyFunctions; line = x.place.line; column = x.place.column } in
+    a ∙ ap fault same ∙ sym b

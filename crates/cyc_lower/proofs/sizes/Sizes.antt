@@ -1,0 +1,818 @@
+-- The size of a function's code is bounded by the tokens that its spelling needs. A value through a fat pointer to fat pointers is one token,
+-- and takes some eighty words.
+use Rattle.cyc_types.specs.typing.Expressions.{type_of_side}
+use Rattle.std.proofs.Common.{◌≡◌, ℕ, zero, suc, ◌+◌, ◌*◌, ◌≤◌, Bool, true, false, List, [], ◌∷◌, ◌++◌, length, Option, None, Some, max, refl, arith}
+use Rattle.std.specs.Prelude.{◌==◌, sum_by, if◌then◌else◌}
+use Rattle.std.proofs.lemmas.List.Sums.{sum_by-append, sum_by-cons}
+use Rattle.cyc_types.specs.declared.typed.Kind.{Kind}
+use Rattle.cyc_types.specs.declared.typed.Kind.TheVariants as kinds
+use Rattle.cyc_types.specs.declared.typed.Callee.TheVariants as callees
+use Rattle.cyc_types.specs.declared.typed.UnaryOperator.TheVariants as unary
+use Rattle.cyc_types.specs.declared.typed.Operator.{Operator}
+use Rattle.cyc_types.specs.declared.typed.Operator.TheVariants as operators
+use Rattle.cyc_types.specs.declared.typed.PointerOperator.{PointerOperator}
+use Rattle.cyc_types.specs.declared.typed.PointerOperator.TheVariants as pointers
+use Rattle.cyc_types.specs.declared.typed.LogicalOperator.{LogicalOperator}
+use Rattle.cyc_types.specs.declared.typed.LogicalOperator.TheVariants as logical
+use Rattle.cyc_types.specs.TypedTrees.{Load, New, OnHeap, AsUnique, ByHandle, Initial, Plain, Fields, Array, Dereference, Target, Member, Element, Lvalue, Local, Global, Expression, Number, Copy, Call, Unary, Binary, Assign, Converted, Convert, Arguments, NoArguments, MoreArguments, Operations, NoOperations, ThenCompute, ThenTest, ThenPointer, ThenPointerPeek, Statement, Block, Empty, Evaluate, If, While, Return, Break, Continue, Items, NoItems, MoreItems, Execute, Declare, StructType, Function, Move, Peek, AddressOfCell, Store, FreeUnique, Side, VariableSide, CellSide, Swap, Throw, Try, Clauses, NoClauses, Default, Case, NumberOfElements, type_of_place, DeclareRegion, OpenRegion, DeclareAlias, DeclareKey, FreeKey, AddressOf}
+use Rattle.cyc_types.specs.Types.{Ty, words_of}
+use Rattle.cyc_types.proofs.WeightLemmas.{some_token}
+use Rattle.cyc_types.specs.Weight.{expression_weight, dereference_weight, initial_weight, converted_weight, arguments_weight, more_arguments_weight, operations_weight, else_weight, statement_weight, items_weight, function_weight, side_weight, clauses_weight}
+use Rattle.cyc_plain.specs.declared.instruction.Comparison.{Comparison}
+use Rattle.cyc_plain.specs.declared.instruction.Comparison.TheVariants as comparisons
+use Rattle.cyc_plain.specs.declared.instruction.BinaryOperator.TheVariants as plain_binary
+use Rattle.cyc_plain.specs.declared.instruction.Operand.{Operand}
+use Rattle.cyc_plain.specs.declared.instruction.Operand.TheVariants as operands
+use Rattle.cyc_plain.specs.declared.instruction.Request.TheVariants as requests
+use Rattle.cyc_plain.specs.declared.instruction.Instruction.{Instruction}
+use Rattle.cyc_plain.specs.declared.instruction.Instruction.TheVariants as instructions
+use Rattle.cyc_plain.specs.Program.{instruction_size, size}
+use Rattle.cyc_plain.specs.declared.limits.TheConstants.{RECORD_WORDS}
+use Rattle.cyc_lower.specs.declared.statements.Exits.{Exits}
+use Rattle.cyc_lower.specs.Slots.{with_counter, slot_of, Starts, global_of}
+use Rattle.cyc_store.specs.declared.range.TheConstants.{HEAP, UNIQUE}
+use Rattle.cyc_meaning.specs.Values.{kind_of, words_of_kind, is_thin}
+use Rattle.cyc_lower.proofs.slots.Widths.{kind_few, type_words}
+use Rattle.cyc_lower.specs.Lowering.{begun_code, filled_code, ended_code, elements_code, converts_there, passed_words, all_passed, source_of, source_slot, converted_by, moved_by, move_of, unary_operator, binary_operator, operand_of, operand_or, code_unless, slot_or, code_unless_slot, left_of, value_slot, next_slot, left_slot, value_operand, converted_operand, printed_operand, conversion_code, divisor_code, checked_code, operator_code, truth_code, load_code, low_byte, test_code, is_in, copy_code, expression_code, arguments_code, converted_code, converted_operand_code, printed_code, initial_code, assignment_code, operations_code, discarded_code, failing_comparison, compared_or, left_with, slot_with, first_code, second_code, pair_code, condition_code, condition_of, failing_jump, break_target, continue_target, return_code, declaration_code, statement_code, items_code, first_temporary, jump_if_zero, jump_if_nonzero, lower_function, behind_left, pointer_code, outside_loops, inside_loop, pointer_operator, index_of, first_two, pointer_instructions, stores_code, object_code, made_code, place_operand, place_offset, place_code, address_code, store_address_code, blocks, free_code, right_slot, side_code, read_side, write_side, exchange_code, swap_code, leave_code, tag_operand, other_jump, clause_code, caught_code, clauses_code, element_by, count_code, span_of, tested_code, widened_code, conversion_by, tested_by, check_code, are_as_wide, saved_code, loaded_code, bounds_code, stepped_code, bounded_code, past_bounded, thinned_code, reached_code, followed_code, followed_operand, followed_by, span_in, pointer_of, pointer_slot, reached_operand, word_by_word, load_word, store_word, global_code, starts_with, raises_of, load_at, opened_code, closed_code, named_code, dynamic_code, closing_code, handlers_code, marks_code, kept_code, kept_code_in, restored_code, restored_code_in, behind_record, inside_try, inside_region}
+use Rattle.cyc_meaning.specs.Operators.{null_exception}
+use Rattle.cyc_lower.specs.Lowered.{size_per_weight}
+use Rattle.cyc_lower.specs.declared.statements.Opened.{Opened}
+
+abbrev code_size : List Instruction → ℕ
+code_size code = sum_by instruction_size code
+
+both : (a b : List Instruction) → code_size (a ++ b) ≡ code_size a + code_size b
+both a b = sum_by-append instruction_size a b
+
+cons : (i : Instruction) (a : List Instruction) → code_size (i ∷ a) ≡ instruction_size i + code_size a
+cons i a = sum_by-cons instruction_size i a
+
+-- ---- expressions
+
+unless_size : (known : Option Operand) (x : List Instruction) → code_size (code_unless known x) ≤ code_size x
+unless_size (Some o) x = omega arith
+unless_size None x = omega arith
+
+unless_slot_size : (known : Option Operand) (x : List Instruction) → code_size (code_unless_slot known x) ≤ code_size x
+unless_slot_size (Some (operands.Slot n)) x = omega arith
+unless_slot_size (Some (operands.Word n)) x = omega arith
+unless_slot_size None x = omega arith
+
+tested_size : (starts : Starts) (to : Kind) (o : Operand) → code_size (tested_code starts to o) ≤ 18
+tested_size starts kinds.NonNull o = omega arith
+tested_size starts to o = omega arith
+
+widened_size : (o : Operand) → code_size (widened_code o) ≤ 18
+widened_size (operands.Slot n) = omega arith
+widened_size (operands.Word w) = omega arith
+
+stepped_size : (span : Option ℕ) (n m t : ℕ) → code_size (stepped_code span n m t) ≤ 22
+stepped_size None n m t = omega arith
+stepped_size (Some words) n m t = by (words == 1)
+  where
+    by : (narrow : Bool)
+        → code_size ((if narrow then instructions.Binary plain_binary.ShiftLeft (t + 2) (operands.Slot m) (operands.Word 2) else instructions.Binary plain_binary.Multiply (t + 2) (operands.Slot m) (operands.Word 12)) ∷ instructions.Binary plain_binary.Add t (operands.Slot n) (operands.Slot (t + 2)) ∷ []) ≤ 22
+    by true = omega arith
+    by false = omega arith
+
+bounded_size : (starts : Starts) (span : Option ℕ) (n m t : ℕ) → code_size (bounded_code starts span n m t) ≤ 33
+bounded_size starts span n m t = omega (arith, both (bounds_code starts (operands.Slot m) (operands.Slot (n + 1))) (stepped_code span n m t), stepped_size span n m t)
+
+reached_size : (starts : Starts) (span : Option ℕ) (n m t : ℕ) → code_size (reached_code starts span n m t) ≤ 44
+reached_size starts span n m t = omega (arith, both (check_code starts null_exception (operands.Slot n)) (bounded_code starts span n m t), bounded_size starts span n m t)
+
+thinned_size : (starts : Starts) (to : Kind) (span : Option ℕ) (o : Operand) (p : ℕ) → code_size (thinned_code starts to span o p) ≤ 44
+thinned_size starts kinds.NonNull span (operands.Slot n) p = reached_size starts span n (n + 2) n
+thinned_size starts kinds.Nullable span (operands.Slot n) p =
+    omega (arith, cons (jump_if_zero (operands.Slot n) (p + past_bounded span)) (bounded_code starts span n (n + 2) n), bounded_size starts span n (n + 2) n)
+thinned_size starts to span o p = omega arith
+
+conversion_by_size : (starts : Starts) (wide : Bool) (to : Kind) (span : Option ℕ) (o : Operand) (p : ℕ) → code_size (conversion_by starts wide to span o p) ≤ 44
+conversion_by_size starts true to span o p = omega (arith, tested_size starts to o)
+conversion_by_size starts false kinds.Fat span o p = omega (arith, widened_size o)
+conversion_by_size starts false to span o p = thinned_size starts to span o p
+
+conversion_size : (starts : Starts) (from to : Kind) (span : Option ℕ) (o : Operand) (p : ℕ) → code_size (conversion_code starts from to span o p) ≤ 44
+conversion_size starts from to span o p = conversion_by_size starts (are_as_wide from to) to span o p
+
+divisor_size : (starts : Starts) (o : Operand) → code_size (divisor_code starts o) ≤ 18
+divisor_size starts (operands.Word (suc n)) = omega arith
+divisor_size starts (operands.Word zero) = omega arith
+divisor_size starts (operands.Slot n) = omega arith
+
+binary_size : (o : Operator) (l r : Operand) (d : ℕ) → instruction_size (instructions.Binary (binary_operator o) d l r) ≤ 18
+binary_size operators.Divide l r d = omega arith
+binary_size operators.Remainder l r d = omega arith
+binary_size o l r d = omega arith
+
+checked_size : (starts : Starts) (o : Operator) (l r : Operand) (d : ℕ) → code_size (checked_code starts o l r d) ≤ 36
+checked_size starts o l r d = omega (arith, both (divisor_code starts r) (instructions.Binary (binary_operator o) d l r ∷ []), divisor_size starts r, binary_size o l r d)
+
+operator_size : (starts : Starts) (o : Operator) (l r : Operand) (d : ℕ) → code_size (operator_code starts o l r d) ≤ 36
+operator_size starts operators.Divide l r d = checked_size starts operators.Divide l r d
+operator_size starts operators.Remainder l r d = checked_size starts operators.Remainder l r d
+operator_size starts o l r d = omega arith
+
+move_size : (words d : ℕ) (o : Operand) → words ≤ 3 → code_size (move_of words d o ∷ []) ≤ 20
+move_size words d (operands.Word n) few = omega arith
+move_size words d (operands.Slot n) few = by (words == 1)
+  where
+    by : (one : Bool) → code_size ((if one then instructions.Move d (operands.Slot n) else instructions.MoveWords d n words) ∷ []) ≤ 20
+    by true = omega arith
+    by false = omega (arith, few)
+
+passed_few : (c : Converted) → passed_words c ≤ 3
+passed_few (Convert from to a) = kind_few to
+
+copy_size : (c : Converted) (o : Operand) (d : ℕ) → code_size (copy_code (passed_words c) o d) ≤ 20
+copy_size c o d = by (is_in o d)
+  where
+    by : (is : Bool) → code_size (if is then [] else move_of (passed_words c) d o ∷ []) ≤ 20
+    by true = omega arith
+    by false = move_size (passed_words c) d o (passed_few c)
+
+-- an address that nothing is added to
+copied_address_size : (o : Operand) (d : ℕ) → code_size (copy_code 1 o d) ≤ 6
+copied_address_size (operands.Word n) d = omega arith
+copied_address_size (operands.Slot n) d = by (n == d)
+  where
+    by : (is : Bool) → code_size (if is then [] else instructions.Move d (operands.Slot n) ∷ []) ≤ 6
+    by true = omega arith
+    by false = omega arith
+
+-- a fat pointer
+copied_pointer_size : (t d : ℕ) → code_size (copy_code 3 (operands.Slot t) d) ≤ 20
+copied_pointer_size t d = by (t == d)
+  where
+    by : (is : Bool) → code_size (if is then [] else instructions.MoveWords d t 3 ∷ []) ≤ 20
+    by true = omega arith
+    by false = omega arith
+
+address_size : (o : Operand) (bytes d : ℕ) → code_size (address_code o bytes d) ≤ 11
+address_size o zero d = omega (arith, copied_address_size o d)
+address_size o (suc bytes) d = omega arith
+
+converted_by_size : (starts : Starts) (known : Option Operand) (inner : List Instruction) (from to : Kind) (span : Option ℕ) (o : Operand) (p bound : ℕ) → code_size inner ≤ bound → code_size (converted_by starts known inner from to span o p) ≤ bound + 44
+converted_by_size starts known inner from to span o p bound few =
+    let front = code_unless known inner in
+    omega (arith, both front (conversion_code starts from to span o (p + length front)), unless_size known inner, few, conversion_size starts from to span o (p + length front))
+
+followed_size : (starts : Starts) (thin : Bool) (span : Option ℕ) (o : Operand) (t : ℕ) → code_size (followed_code starts thin span o t) ≤ 44
+followed_size starts true span o t = omega arith
+followed_size starts false span (operands.Slot n) t = reached_size starts span n (n + 2) t
+followed_size starts false span (operands.Word w) t = omega arith
+
+followed_by_size : (starts : Starts) (known : Option Operand) (inner : List Instruction) (thin : Bool) (span : Option ℕ) (o : Operand) (t bound : ℕ) → code_size inner ≤ bound → code_size (followed_by starts known inner thin span o t) ≤ bound + 44
+followed_by_size starts known inner thin span o t bound few =
+    omega (arith, both (code_unless known inner) (followed_code starts thin span o t), unless_size known inner, few, followed_size starts thin span o t)
+
+tested_by_size : (starts : Starts) (known : Option Operand) (inner : List Instruction) (o : Operand) (bound : ℕ) → code_size inner ≤ bound → code_size (tested_by starts known inner o) ≤ bound + 18
+tested_by_size starts known inner o bound few = omega (arith, both (code_unless known inner) (check_code starts null_exception o), unless_size known inner, few)
+
+initial_by_size : (starts : Starts) (there : Bool) (known : Option Operand) (at_once inner : List Instruction) (from to : Kind) (span : Option ℕ) (o : Operand) (p d bound : ℕ) → code_size at_once ≤ bound → code_size inner ≤ bound
+    → code_size (if there then at_once else moved_by starts known inner from to span o p d) ≤ bound + 64
+initial_by_size starts true known at_once inner from to span o p d bound few other = omega (arith, few)
+initial_by_size starts false known at_once inner from to span o p d bound few other =
+    omega (
+      arith,
+      both (converted_by starts known inner from to span o p) (move_of (words_of_kind to) d o ∷ []),
+      converted_by_size starts known inner from to span o p bound other,
+      move_size (words_of_kind to) d o (kind_few to),
+    )
+
+first_two_size : (l : Operand) (d : ℕ) → code_size (first_two l d) ≤ 14
+first_two_size (operands.Word n) d = omega arith
+first_two_size (operands.Slot n) d = by (n == d)
+  where
+    by : (there : Bool) → code_size (if there then [] else instructions.MoveWords d n 2 ∷ []) ≤ 14
+    by true = omega arith
+    by false = omega arith
+
+pointer_size : (o : PointerOperator) (l r : Operand) (d : ℕ) → code_size (pointer_instructions o l r d) ≤ 36
+pointer_size pointers.AddFat l r d = omega (arith, cons (instructions.Binary (pointer_operator pointers.AddFat) (d + 2) (index_of l) r) (first_two l d), first_two_size l d)
+pointer_size pointers.SubtractFat l r d = omega (arith, cons (instructions.Binary (pointer_operator pointers.SubtractFat) (d + 2) (index_of l) r) (first_two l d), first_two_size l d)
+pointer_size pointers.ThinIsNull l r d = omega arith
+pointer_size pointers.ThinIsNotNull l r d = omega arith
+pointer_size pointers.FatIsNull l r d = omega arith
+pointer_size pointers.FatIsNotNull l r d = omega arith
+pointer_size pointers.NullIs l r d = omega arith
+pointer_size pointers.NullIsNot l r d = omega arith
+pointer_size pointers.EqualThin l r d = omega arith
+pointer_size pointers.NotEqualThin l r d = omega arith
+
+count_size : (o : Operand) (p d : ℕ) → code_size (count_code o p d) ≤ 41
+count_size (operands.Word n) p d = omega arith
+count_size (operands.Slot n) p d = omega arith
+
+element_by_size : (starts : Starts) (there : Option Operand) (front : List Instruction) (known : Option Operand) (inner : List Instruction) (span : Option ℕ) (s : ℕ) (o : Operand) (t n m : ℕ)
+    → code_size front ≤ n
+    → code_size inner ≤ m
+    → code_size (element_by starts (code_unless_slot there front) (code_unless known inner) span s o t) ≤ n + m + 58
+element_by_size starts there front known inner span s o t n m first second =
+    let operand = code_unless known inner in
+    let sum = instructions.Binary plain_binary.Add (t + 2) (operands.Slot (s + 2)) o in
+    let reached = reached_code starts span s (t + 2) t in
+    omega (
+      arith,
+      both (code_unless_slot there front) (operand ++ sum ∷ reached),
+      both operand (sum ∷ reached),
+      cons sum reached,
+      unless_slot_size there front,
+      unless_size known inner,
+      first,
+      second,
+      reached_size starts span s (t + 2) t,
+    )
+
+test_size : (o : LogicalOperator) (operand : List Instruction) (p d t : ℕ) → code_size (test_code o operand p d t) ≤ 25 + code_size operand
+test_size logical.AndThen operand p d t = omega (arith, both operand (truth_code t d), cons (jump_if_zero (operands.Slot t) (p + 1 + length operand)) (operand ++ truth_code t d))
+test_size logical.OrElse operand p d t = omega (arith, both operand (truth_code t d), cons (jump_if_nonzero (operands.Slot t) (p + 1 + length operand)) (operand ++ truth_code t d))
+
+stores_size : (many address offset slot : ℕ) → code_size (stores_code many address offset slot) ≡ 10 * many
+stores_size zero address offset slot = refl
+stores_size (suc many) address offset slot =
+    omega (arith, cons (instructions.Store (operands.Slot address) offset (operands.Slot slot)) (stores_code many address (offset + 4) (suc slot)), stores_size many address (offset + 4) (suc slot))
+
+saved_size : (words address : ℕ) (o : Operand) → words ≤ 3 → code_size (saved_code words address o) ≤ 30
+saved_size words address (operands.Slot n) few = omega (arith, stores_size words address 0 n, few)
+saved_size words address (operands.Word n) few = omega arith
+
+loaded_size : (narrow : Bool) (o : Operand) (bytes d t : ℕ)
+    → code_size (if narrow then instructions.Load d o bytes ∷ [] else address_code o bytes t ++ (instructions.Load (d + 2) (operands.Slot t) 8 ∷ instructions.Load (d + 1) (operands.Slot t) 4 ∷ instructions.Load d (operands.Slot t) 0 ∷ [])) ≤ 41
+loaded_size true o bytes d t = omega arith
+loaded_size false o bytes d t =
+    omega (arith, both (address_code o bytes t) (instructions.Load (d + 2) (operands.Slot t) 8 ∷ instructions.Load (d + 1) (operands.Slot t) 4 ∷ instructions.Load d (operands.Slot t) 0 ∷ []), address_size o bytes t)
+
+object_size : (handle : Operand) (words d t : ℕ) → code_size (object_code handle words d t) ≡ 17 + 10 * words
+object_size handle words d t =
+    let move = instructions.Move d (operands.Slot (t + words)) ∷ [] in
+    omega (
+      arith,
+      cons (instructions.Ask (requests.Allocate (t + words) handle (operands.Word (max 1 words)))) (stores_code words (t + words) 0 t ++ move),
+      both (stores_code words (t + words) 0 t) move,
+      stores_size words (t + words) 0 t,
+    )
+
+-- an element of an array comes to its cell
+filled_size : (kind : Kind) (head t : ℕ) → code_size (filled_code (words_of_kind kind) head t) ≤ 80
+filled_size kinds.Int head t = omega arith
+filled_size kinds.Nullable head t = omega arith
+filled_size kinds.NonNull head t = omega arith
+filled_size kinds.Fat head t = omega arith
+filled_size kinds.Handle head t = omega arith
+filled_size kinds.Key head t = omega arith
+
+-- ---- regions and handlers
+
+closed_size : (starts : Starts) (m : ℕ) → code_size (closed_code starts m) ≤ 10
+closed_size starts m = omega arith
+
+opened_size : (starts : Starts) (n t : ℕ) → code_size (opened_code starts n t) ≤ 36
+opened_size starts n t =
+    let name = named_code starts 1 n (operands.Slot (t + 1)) in
+    let keep = instructions.Move t (operands.Slot (t + 2)) in
+    omega (arith, cons (instructions.Ask (requests.OpenLexical (t + 1))) (keep ∷ name), cons keep name)
+
+handlers_size : (first : Option ℕ) → code_size (handlers_code first) ≤ 5
+handlers_size None = omega arith
+handlers_size (Some first) = omega arith
+
+marks_size : (starts : Starts) (mark : Option ℕ) → code_size (marks_code starts mark) ≤ 10
+marks_size starts None = omega arith
+marks_size starts (Some m) = closed_size starts m
+
+-- all handlers are closed by one instruction, where there are some, and so are all regions
+leave_size : (starts : Starts) (opened : Opened) → code_size (leave_code starts opened) ≤ 15
+leave_size starts opened = omega (arith, both (handlers_code opened.handler) (marks_code starts opened.mark), handlers_size opened.handler, marks_size starts opened.mark)
+
+kept_size : (scopes : Option ℕ) (t : ℕ) → code_size (kept_code_in scopes t) ≤ 5
+kept_size None t = omega arith
+kept_size (Some global) t = omega arith
+
+restored_size : (starts : Starts) (scopes : Option ℕ) (t : ℕ) → code_size (restored_code_in starts scopes t) ≤ 10
+restored_size starts None t = omega arith
+restored_size starts (Some global) t = closed_size starts (t + RECORD_WORDS)
+
+-- a list of arguments with a comma before each has at most one token more
+more_weight : (cs : Arguments) → more_arguments_weight cs ≤ arguments_weight cs + 1
+more_weight NoArguments = omega arith
+more_weight (MoreArguments c cs) = omega arith
+
+-- ---- locals that have these first slots
+
+module _ (starts : Starts) where
+  loads_size : (words first d : ℕ) → code_size (word_by_word load_word words first d) ≤ 5 * words
+  loads_size zero first d = omega arith
+  loads_size (suc words) first d = omega (arith, cons (load_word first d) (word_by_word load_word words (suc first) (suc d)), loads_size words (suc first) (suc d))
+
+  saves_size : (words first n : ℕ) → code_size (word_by_word store_word words first n) ≤ 5 * words
+  saves_size zero first n = omega arith
+  saves_size (suc words) first n = omega (arith, cons (store_word first n) (word_by_word store_word words (suc first) (suc n)), saves_size words (suc first) (suc n))
+
+  global_size : (c : Converted) (first : ℕ) (o : Operand) → code_size (global_code (passed_words c) first o) ≤ 15
+  global_size (Convert from to a) first (operands.Slot n) = omega (arith, saves_size (words_of_kind to) first n, kind_few to)
+  global_size (Convert from to a) first (operands.Word n) = omega arith
+
+  load_size : (l : Lvalue) (t : Ty) (d : ℕ) → code_size (load_code starts (words_of t) l d) ≤ 20
+  load_size (Local w n) t d = move_size (words_of t) d (operands.Slot (slot_of starts n)) (omega (arith, type_words t, kind_few (kind_of t)))
+  load_size (Global n) t d = omega (arith, loads_size (words_of t) (global_of starts n) d, type_words t, kind_few (kind_of t))
+
+  -- an operator on pointers with its right operand, and what stands behind
+  right_size : (o : PointerOperator) (a : Expression) (p : ℕ) (l : Operand) (d t : ℕ) (back : List Instruction)
+      → code_size (expression_code starts a p (value_slot starts a (behind_left o t)) (behind_left o t)) ≤ size_per_weight * expression_weight a
+      → code_size (pointer_code o l (value_operand starts a (behind_left o t)) (code_unless (operand_of starts a) (expression_code starts a p (value_slot starts a (behind_left o t)) (behind_left o t))) d ++ back)
+      ≤ size_per_weight * expression_weight a + 36 + code_size back
+  right_size o a p l d t back few =
+      let r = value_operand starts a (behind_left o t) in
+      let inner = expression_code starts a p (value_slot starts a (behind_left o t)) (behind_left o t) in
+      let operand = code_unless (operand_of starts a) inner in
+      omega (arith, both (pointer_code o l r operand d) back, both operand (pointer_instructions o l r d), unless_size (operand_of starts a) inner, pointer_size o l r d, few)
+
+mutual
+  expression_size : (starts : Starts) → (a : Expression) (p d t : ℕ) → code_size (expression_code starts a p d t) ≤ size_per_weight * expression_weight a
+  expression_size starts (Number n) p d t = omega arith
+  expression_size starts (Copy l ty) p d t = omega (arith, load_size starts l ty d)
+  expression_size starts (Move w n ty) p d t = omega (arith, load_size starts (Local w n) ty d)
+  expression_size starts (Peek w n ty) p d t = omega (arith, load_size starts (Local w n) ty d)
+  expression_size starts (Call callees.Putchar cs ty) p d t =
+      let o = printed_operand starts cs (operands.Slot t) t in
+      omega (arith, both (printed_code starts cs p t) (instructions.WriteByte o ∷ low_byte o d ∷ []), printed_size starts cs p t)
+  expression_size starts (Call callees.Getchar cs ty) p d t =
+      omega (arith, both (arguments_code starts cs p t) (instructions.ReadByte d ∷ []), arguments_size starts cs p t)
+  expression_size starts (Call (callees.Function n) cs ty) p d t =
+      omega (arith, both (arguments_code starts cs p t) (instructions.Call n t (all_passed cs) d ∷ []), arguments_size starts cs p t)
+  expression_size starts (NumberOfElements a) p d t =
+      let inner = expression_code starts a p (value_slot starts a t) t in
+      let front = code_unless (operand_of starts a) inner in
+      let count = count_code (value_operand starts a t) (p + length front) d in
+      omega (arith, both front count, unless_size (operand_of starts a) inner, expression_size starts a p (value_slot starts a t) t, count_size (value_operand starts a t) (p + length front) d)
+  expression_size starts (Unary o a) p d t =
+      let inner = expression_code starts a p (value_slot starts a t) t in
+      omega (arith, both (code_unless (operand_of starts a) inner) (instructions.Unary (unary_operator o) d (value_operand starts a t) ∷ []), unless_size (operand_of starts a) inner, expression_size starts a p (value_slot starts a t) t)
+  expression_size starts (Binary a os ty) p d t =
+      let inner = expression_code starts a p (left_slot starts a os d t) t in
+      let front = code_unless (left_of starts a os) inner in
+      let l = operand_or (left_of starts a os) (left_slot starts a os d t) in
+      omega (arith, both front (operations_code starts os (p + length front) l d t), unless_size (left_of starts a os) inner, expression_size starts a p (left_slot starts a os d t) t, operations_size starts os (p + length front) l d t)
+  expression_size starts (Assign (Local w n) c ty) p d t =
+      let o = operands.Slot (slot_of starts n) in
+      omega (arith, both (initial_code starts c p (slot_of starts n) t) (copy_code (passed_words c) o d), initial_size starts c p (slot_of starts n) t, copy_size c o d)
+  expression_size starts (Assign (Global n) c ty) p d t =
+      let o = converted_operand starts c t in
+      let front = converted_operand_code starts c p t in
+      let store = global_code (passed_words c) (global_of starts n) o in
+      omega (arith, both (front ++ store) (copy_code (passed_words c) o d), both front store, converted_operand_size starts c p t, global_size starts c (global_of starts n) o, copy_size c o d)
+  expression_size starts (Load x) p d t =
+      let o = place_operand starts x t in
+      let words = words_of (type_of_place x) in
+      omega (arith, both (place_code starts x p t) (loaded_code words o (place_offset starts x) d t), place_size starts x p t, loaded_size (words == 1) o (place_offset starts x) d t)
+  expression_size starts (AddressOf (Local w n) ty) p d t = omega arith
+  expression_size starts (AddressOf (Global n) ty) p d t = omega arith
+  expression_size starts (AddressOfCell x ty) p d t =
+      let address = address_code (place_operand starts x t) (place_offset starts x) d in
+      omega (arith, both (place_code starts x p t) address, place_size starts x p t, address_size (place_operand starts x t) (place_offset starts x) d)
+  expression_size starts (Store x c ty) p d t =
+      let address = store_address_code starts x p t in
+      let value = converted_operand_code starts c (p + length address) (t + 1) in
+      let o = converted_operand starts c (t + 1) in
+      let write = saved_code (passed_words c) t o in
+      omega (
+        arith,
+        both (address ++ (value ++ write)) (copy_code (passed_words c) o d),
+        both address (value ++ write),
+        both value write,
+        saved_size (passed_words c) t o (passed_few c),
+        store_address_size starts x p t,
+        converted_operand_size starts c (p + length address) (t + 1),
+        copy_size c o d,
+      )
+  expression_size starts (FreeUnique a) p d t =
+      let inner = expression_code starts a p (value_slot starts a t) t in
+      let front = code_unless (operand_of starts a) inner in
+      omega (arith, both front (free_code (value_operand starts a t) (p + length front)), unless_size (operand_of starts a) inner, expression_size starts a p (value_slot starts a t) t)
+  expression_size starts (New OnHeap i ty) p d t = made_size starts i (operands.Word HEAP) p d t
+  expression_size starts (New AsUnique i ty) p d t = omega (arith, made_size starts i (operands.Word UNIQUE) p d t)
+  expression_size starts (New (ByHandle h) i ty) p d t =
+      let front = expression_code starts h p t t in
+      omega (arith, both front (made_code starts i (operands.Slot t) (p + length front) d (t + 1)), expression_size starts h p t t, made_size starts i (operands.Slot t) (p + length front) d (t + 1))
+  expression_size starts (FreeKey a) p d t =
+      let inner = expression_code starts a p (value_slot starts a t) t in
+      let front = code_unless (operand_of starts a) inner in
+      omega (arith, both front (closing_code (value_operand starts a t)), unless_size (operand_of starts a) inner, expression_size starts a p (value_slot starts a t) t)
+  expression_size starts a p d t = omega (arith, some_token a)
+
+  made_size : (starts : Starts) → (i : Initial) (handle : Operand) (p d t : ℕ) → code_size (made_code starts i handle p d t) ≤ size_per_weight * (1 + initial_weight i)
+  made_size starts (Plain kind a) handle p d t =
+      omega (arith, both (expression_code starts a p t t) (object_code handle (words_of_kind kind) d t), expression_size starts a p t t, object_size handle (words_of_kind kind) d t, kind_few kind)
+  made_size starts (Fields cs) handle p d t =
+      omega (arith, both (arguments_code starts cs p t) (object_code handle (all_passed cs) d t), fields_size starts cs p t, more_weight cs, object_size handle (all_passed cs) d t)
+  made_size starts (Array w level n kind a) handle p d t =
+      let first = expression_code starts n p t t in
+      let m = p + length first in
+      let words = words_of_kind kind in
+      let inner = expression_code (with_counter starts (t + 2)) a (m + 7 + 1) (t + 3) (t + 3) in
+      let filled = filled_code words (m + 7) t in
+      let elements = elements_code words inner (m + 7) d t in
+      let jump = instructions.Branch comparisons.Equal (operands.Slot (t + 2)) (operands.Slot (t + 1)) (m + 7 + 1 + length (inner ++ filled)) in
+      omega (
+        arith,
+        both first (begun_code starts handle words t ++ elements),
+        both (begun_code starts handle words t) elements,
+        filled_size kind (m + 7) t,
+        cons jump ((inner ++ filled) ++ ended_code d t),
+        both (inner ++ filled) (ended_code d t),
+        both inner filled,
+        cons (instructions.Move (t + 2) (operands.Word 0)) (copy_code 3 (operands.Slot t) d),
+        copied_pointer_size t d,
+        expression_size starts n p t t,
+        expression_size (with_counter starts (t + 2)) a (m + 7 + 1) (t + 3) (t + 3),
+      )
+
+  place_size : (starts : Starts) → (x : Dereference) (p t : ℕ) → code_size (place_code starts x p t) + 41 ≤ size_per_weight * dereference_weight x
+  place_size starts (Target k a ty) p t =
+      let slot = value_slot starts a t in
+      omega (
+        arith,
+        followed_by_size starts (operand_of starts a) (expression_code starts a p slot t) (is_thin k) (span_in ty) (value_operand starts a t) t (size_per_weight * expression_weight a) (expression_size starts a p slot t),
+      )
+  place_size starts (Member k a n f ty) p t =
+      let slot = value_slot starts a t in
+      omega (arith, tested_by_size starts (operand_of starts a) (expression_code starts a p slot t) (value_operand starts a t) (size_per_weight * expression_weight a) (expression_size starts a p slot t))
+  place_size starts (Element a i ty) p t =
+      let front = expression_code starts a p t t in
+      let slot = value_slot starts i (t + 3) in
+      let q = p + length (code_unless_slot (pointer_of starts a i) front) in
+      omega (
+        arith,
+        element_by_size starts (pointer_of starts a i) front (operand_of starts i) (expression_code starts i q slot (t + 3)) (span_in ty) (pointer_slot starts a i t) (value_operand starts i (t + 3)) t (size_per_weight * expression_weight a) (size_per_weight * expression_weight i) (expression_size starts a p t t) (expression_size starts i q slot (t + 3)),
+      )
+
+  -- with the address in a slot
+  store_address_size : (starts : Starts) → (x : Dereference) (p t : ℕ) → code_size (store_address_code starts x p t) + 12 ≤ size_per_weight * dereference_weight x
+  store_address_size starts (Target k a ty) p t =
+      let slot = value_slot starts a t in
+      let o = value_operand starts a t in
+      let x = followed_operand (is_thin k) (span_in ty) o t in
+      let front = place_code starts (Target k a ty) p t in
+      omega (
+        arith,
+        both front (copy_code 1 x t),
+        followed_by_size starts (operand_of starts a) (expression_code starts a p slot t) (is_thin k) (span_in ty) o t (size_per_weight * expression_weight a) (expression_size starts a p slot t),
+        copied_address_size x t,
+      )
+  store_address_size starts (Member k a n f ty) p t =
+      let slot = value_slot starts a t in
+      let o = value_operand starts a t in
+      let x = Member k a n f ty in
+      let front = place_code starts x p t in
+      omega (
+        arith,
+        both front (address_code o (place_offset starts x) t),
+        tested_by_size starts (operand_of starts a) (expression_code starts a p slot t) o (size_per_weight * expression_weight a) (expression_size starts a p slot t),
+        address_size o (place_offset starts x) t,
+      )
+  store_address_size starts (Element a i ty) p t =
+      let front = expression_code starts a p t t in
+      let slot = value_slot starts i (t + 3) in
+      let q = p + length (code_unless_slot (pointer_of starts a i) front) in
+      let x = reached_operand (span_in ty) (pointer_slot starts a i t) t in
+      omega (
+        arith,
+        both (place_code starts (Element a i ty) p t) (copy_code 1 x t),
+        copied_address_size x t,
+        element_by_size starts (pointer_of starts a i) front (operand_of starts i) (expression_code starts i q slot (t + 3)) (span_in ty) (pointer_slot starts a i t) (value_operand starts i (t + 3)) t (size_per_weight * expression_weight a) (size_per_weight * expression_weight i) (expression_size starts a p t t) (expression_size starts i q slot (t + 3)),
+      )
+
+  initial_size : (starts : Starts) → (c : Converted) (p d t : ℕ) → code_size (initial_code starts c p d t) ≤ size_per_weight * converted_weight c + 64
+  initial_size starts (Convert from to a) p d t =
+      let slot = source_slot starts (Convert from to a) t in
+      initial_by_size starts (converts_there from to) (source_of starts (Convert from to a)) (expression_code starts a p d t) (expression_code starts a p slot t) from to (span_of a) (converted_operand starts (Convert from to a) t) p d
+      (size_per_weight * expression_weight a) (expression_size starts a p d t) (expression_size starts a p slot t)
+
+  converted_size : (starts : Starts) → (c : Converted) (p t : ℕ) → code_size (converted_code starts c p t) ≤ size_per_weight * converted_weight c + 44
+  converted_size starts (Convert from to a) p t =
+      let front = expression_code starts a p t t in
+      omega (arith, both front (conversion_code starts from to (span_of a) (operands.Slot t) (p + length front)), expression_size starts a p t t, conversion_size starts from to (span_of a) (operands.Slot t) (p + length front))
+
+  converted_operand_size : (starts : Starts) → (c : Converted) (p t : ℕ) → code_size (converted_operand_code starts c p t) ≤ size_per_weight * converted_weight c + 44
+  converted_operand_size starts (Convert from to a) p t =
+      let slot = source_slot starts (Convert from to a) t in
+      converted_by_size starts (source_of starts (Convert from to a)) (expression_code starts a p slot t) from to (span_of a) (converted_operand starts (Convert from to a) t) p
+      (size_per_weight * expression_weight a) (expression_size starts a p slot t)
+
+  printed_size : (starts : Starts) → (cs : Arguments) (p t : ℕ) → code_size (printed_code starts cs p t) ≤ size_per_weight * arguments_weight cs + 44
+  printed_size starts NoArguments p t = omega arith
+  printed_size starts (MoreArguments c cs) p t =
+      let front = converted_operand_code starts c p t in
+      omega (arith, both front (printed_code starts cs (p + length front) t), converted_operand_size starts c p t, more_printed_size starts cs (p + length front) t)
+
+  more_printed_size : (starts : Starts) → (cs : Arguments) (p t : ℕ) → code_size (printed_code starts cs p t) ≤ size_per_weight * more_arguments_weight cs
+  more_printed_size starts NoArguments p t = omega arith
+  more_printed_size starts (MoreArguments c cs) p t =
+      let front = converted_operand_code starts c p t in
+      omega (arith, both front (printed_code starts cs (p + length front) t), converted_operand_size starts c p t, more_printed_size starts cs (p + length front) t)
+
+  -- with a store for each word
+  fields_size : (starts : Starts) → (cs : Arguments) (p t : ℕ) → code_size (arguments_code starts cs p t) + 10 * all_passed cs ≤ size_per_weight * more_arguments_weight cs
+  fields_size starts NoArguments p t = omega arith
+  fields_size starts (MoreArguments c cs) p t =
+      let q = p + length (converted_code starts c p t) in
+      omega (arith, both (converted_code starts c p t) (arguments_code starts cs q (t + passed_words c)), converted_size starts c p t, passed_few c, fields_size starts cs q (t + passed_words c))
+
+  -- with the words that are passed
+  arguments_size : (starts : Starts) → (cs : Arguments) (p t : ℕ) → code_size (arguments_code starts cs p t) + 4 * all_passed cs ≤ size_per_weight * arguments_weight cs + 56
+  arguments_size starts NoArguments p t = omega arith
+  arguments_size starts (MoreArguments c cs) p t =
+      let q = p + length (converted_code starts c p t) in
+      omega (arith, both (converted_code starts c p t) (arguments_code starts cs q (t + passed_words c)), converted_size starts c p t, passed_few c, more_arguments_size starts cs q (t + passed_words c))
+
+  more_arguments_size : (starts : Starts) → (cs : Arguments) (p t : ℕ) → code_size (arguments_code starts cs p t) + 4 * all_passed cs ≤ size_per_weight * more_arguments_weight cs
+  more_arguments_size starts NoArguments p t = omega arith
+  more_arguments_size starts (MoreArguments c cs) p t =
+      let q = p + length (converted_code starts c p t) in
+      omega (arith, both (converted_code starts c p t) (arguments_code starts cs q (t + passed_words c)), converted_size starts c p t, passed_few c, more_arguments_size starts cs q (t + passed_words c))
+
+  operations_size : (starts : Starts) → (os : Operations) (p : ℕ) (l : Operand) (d t : ℕ) → code_size (operations_code starts os p l d t) ≤ size_per_weight * operations_weight os
+  operations_size starts NoOperations p l d t = omega arith
+  operations_size starts (ThenCompute o a os) p l d t =
+      let inner = expression_code starts a p (value_slot starts a (suc t)) (suc t) in
+      let operand = code_unless (operand_of starts a) inner in
+      let next = next_slot os d t in
+      let operator = operator_code starts o l (value_operand starts a (suc t)) next in
+      let q = p + length (operand ++ operator) in
+      omega (
+        arith,
+        both (operand ++ operator) (operations_code starts os q (operands.Slot next) d t),
+        both operand operator,
+        unless_size (operand_of starts a) inner,
+        expression_size starts a p (value_slot starts a (suc t)) (suc t),
+        operator_size starts o l (value_operand starts a (suc t)) next,
+        operations_size starts os q (operands.Slot next) d t,
+      )
+  operations_size starts (ThenTest o a os) p l d t =
+      let operand = expression_code starts a (p + 1) t t in
+      let next = next_slot os d t in
+      let front = test_code o operand p next t in
+      let q = p + length front in
+      omega (arith, both front (operations_code starts os q (operands.Slot next) d t), test_size o operand p next t, expression_size starts a (p + 1) t t, operations_size starts os q (operands.Slot next) d t)
+  operations_size starts (ThenPointer o a os) p l d t =
+      let slot = value_slot starts a (behind_left o t) in
+      let next = next_slot os d t in
+      let q = p + length (pointer_code o l (value_operand starts a (behind_left o t)) (code_unless (operand_of starts a) (expression_code starts a p slot (behind_left o t))) next) in
+      omega (arith, right_size starts o a p l next t (operations_code starts os q (operands.Slot next) d t) (expression_size starts a p slot (behind_left o t)), operations_size starts os q (operands.Slot next) d t)
+  operations_size starts (ThenPointerPeek n o a os) p l d t =
+      let slot = value_slot starts a (behind_left o t) in
+      let next = next_slot os d t in
+      let q = p + length (pointer_code o l (value_operand starts a (behind_left o t)) (code_unless (operand_of starts a) (expression_code starts a p slot (behind_left o t))) next) in
+      omega (arith, right_size starts o a p l next t (operations_code starts os q (operands.Slot next) d t) (expression_size starts a p slot (behind_left o t)), operations_size starts os q (operands.Slot next) d t)
+
+module _ (starts : Starts) where
+  assignment_size : (l : Lvalue) (c : Converted) (p t : ℕ) → code_size (assignment_code starts l c p t) ≤ size_per_weight * converted_weight c + 64
+  assignment_size (Local w n) c p t = initial_size starts c p (slot_of starts n) t
+  assignment_size (Global n) c p t =
+      let front = converted_operand_code starts c p t in
+      omega (arith, both front (global_code (passed_words c) (global_of starts n) (converted_operand starts c t)), converted_operand_size starts c p t, global_size starts c (global_of starts n) (converted_operand starts c t))
+
+  discarded_size : (a : Expression) (p t : ℕ) → code_size (discarded_code starts a p t) ≤ size_per_weight * expression_weight a
+  discarded_size (Call callees.Putchar cs ty) p t =
+      omega (arith, both (printed_code starts cs p t) (instructions.WriteByte (printed_operand starts cs (operands.Slot t) t) ∷ []), printed_size starts cs p t)
+  discarded_size (Assign l c ty) p t = omega (arith, assignment_size l c p t)
+  discarded_size (Store x c ty) p t =
+      let address = store_address_code starts x p t in
+      let value = converted_operand_code starts c (p + length address) (t + 1) in
+      let write = saved_code (passed_words c) t (converted_operand starts c (t + 1)) in
+      omega (arith, both address (value ++ write), both value write, saved_size (passed_words c) t (converted_operand starts c (t + 1)) (passed_few c), store_address_size starts x p t, converted_operand_size starts c (p + length address) (t + 1))
+  discarded_size a p t = omega (arith, unless_size (operand_of starts a) (expression_code starts a p t t), expression_size starts a p t t)
+
+  -- ---- statements
+
+  first_size : (a b : Expression) (p t : ℕ) → code_size (first_code starts a b p t) ≤ size_per_weight * expression_weight a
+  first_size a b p t =
+      let slot = slot_with starts (operand_of starts b) a t in
+      omega (arith, unless_size (left_with (operand_of starts b) (operand_of starts a)) (expression_code starts a p slot t), expression_size starts a p slot t)
+
+  second_size : (b : Expression) (p t : ℕ) → code_size (second_code starts b p t) ≤ size_per_weight * expression_weight b
+  second_size b p t = omega (arith, unless_size (operand_of starts b) (expression_code starts b p (value_slot starts b (suc t)) (suc t)), expression_size starts b p (value_slot starts b (suc t)) (suc t))
+
+  -- a value that is compared with 0
+  alone_size : (a : Expression) (p t : ℕ) → code_size (pair_code starts a (Number 0) p t) ≤ size_per_weight * expression_weight a
+  alone_size a p t = omega (arith, both (first_code starts a (Number 0) p t) [], first_size a (Number 0) p t)
+
+  condition_size : (a : Expression) (p t : ℕ) → code_size (condition_code starts a p t) ≤ size_per_weight * expression_weight a
+  condition_size (Unary unary.Not a) p t = omega (arith, alone_size a p t)
+  condition_size (Binary a (ThenCompute o b NoOperations) ty) p t = by (failing_comparison o)
+    where
+      by : (f : Option Comparison) → code_size (pair_code starts (compared_or f a b (Binary a (ThenCompute o b NoOperations) ty)).left (compared_or f a b (Binary a (ThenCompute o b NoOperations) ty)).right p t) ≤ size_per_weight * expression_weight (Binary a (ThenCompute o b NoOperations) ty)
+      by (Some failing) =
+          let front = first_code starts a b p t in
+          let q = p + length front in
+          omega (arith, both front (second_code starts b q t), first_size a b p t, second_size b q t)
+      by None = alone_size (Binary a (ThenCompute o b NoOperations) ty) p t
+  condition_size a p t = alone_size a p t
+
+  return_size : (v : Option Converted) (p : ℕ) (exits : Exits) (t : ℕ) → code_size (return_code starts v p exits t) ≤ size_per_weight * statement_weight (Return v)
+  return_size None p exits t = omega (arith, both (leave_code starts exits.in_function) (instructions.Finish t ∷ []), leave_size starts exits.in_function)
+  return_size (Some (Convert from to a)) p exits t =
+      let known = source_of starts (Convert from to a) in
+      let inner = expression_code starts a p t t in
+      let front = code_unless_slot known inner in
+      let s = slot_or known t in
+      let conversion = conversion_code starts from to (span_of a) (operands.Slot s) (p + length front) in
+      omega (
+        arith,
+        both ((front ++ conversion) ++ leave_code starts exits.in_function) (instructions.Finish s ∷ []),
+        both (front ++ conversion) (leave_code starts exits.in_function),
+        both front conversion,
+        unless_slot_size known inner,
+        expression_size starts a p t t,
+        conversion_size starts from to (span_of a) (operands.Slot s) (p + length front),
+        leave_size starts exits.in_function,
+      )
+
+  throw_size : (n : ℕ) (v : Option Expression) (p : ℕ) (exits : Exits) (t : ℕ) → code_size (statement_code starts (Throw n v) p exits t) ≤ size_per_weight * statement_weight (Throw n v)
+  throw_size n None p exits t = omega arith
+  throw_size n (Some a) p exits t =
+      let inner = expression_code starts a p (value_slot starts a t) t in
+      omega (
+        arith,
+        both (code_unless (operand_of starts a) inner) (instructions.Throw (tag_operand n) (value_operand starts a t) ∷ []),
+        unless_size (operand_of starts a) inner,
+        expression_size starts a p (value_slot starts a t) t,
+      )
+
+  caught_size : (x : Option ℕ) (t : ℕ) → code_size (caught_code starts x t) ≤ 6
+  caught_size None t = omega arith
+  caught_size (Some n) t = omega arith
+
+  else_size : (t : Statement) (p : ℕ) (exits : Exits) (d : ℕ) → code_size (statement_code starts t p exits d) ≤ size_per_weight * statement_weight t → code_size (statement_code starts t p exits d) ≤ size_per_weight * else_weight t (statement_weight t)
+  else_size Empty p exits d bound = omega arith
+  else_size t p exits d bound = omega (arith, bound)
+
+  named_size : (ty : Ty) (n : ℕ) (o : Operand) → code_size (named_code starts (words_of ty) n o) ≤ 20
+  named_size ty n o = move_size (words_of ty) (slot_of starts n) o (omega (arith, type_words ty, kind_few (kind_of ty)))
+
+  -- a side, and the two instructions that read and write it
+  side_size : (a : Side) (p t : ℕ) → code_size (side_code starts a p t) ≤ size_per_weight * side_weight a
+  side_size (VariableSide l ty) p t = omega arith
+  side_size (CellSide x) p t = omega (arith, store_address_size starts x p t)
+
+  words_size : (many address index slot : ℕ) → code_size (word_by_word (load_at address) many index slot) ≡ 10 * many
+  words_size zero address index slot = refl
+  words_size (suc many) address index slot =
+      omega (arith, cons (instructions.Load slot (operands.Slot address) (4 * index)) (word_by_word (load_at address) many (suc index) (suc slot)), words_size many address (suc index) (suc slot))
+
+  read_size : (a : Side) (words s d : ℕ) → words ≤ 3 → code_size (read_side starts a words s d) ≤ 30
+  read_size (VariableSide (Local w n) ty) words s d few = omega (arith, move_size words d (operands.Slot (slot_of starts n)) few)
+  read_size (VariableSide (Global n) ty) words s d few = omega (arith, loads_size starts words (global_of starts n) d, few)
+  read_size (CellSide x) words s d few = omega (arith, words_size words s 0 d, few)
+
+  write_size : (a : Side) (words s v : ℕ) → words ≤ 3 → code_size (write_side starts a words s v) ≤ 30
+  write_size (VariableSide (Local w n) ty) words s v few = omega (arith, move_size words (slot_of starts n) (operands.Slot v) few)
+  write_size (VariableSide (Global n) ty) words s v few = omega (arith, saves_size starts words (global_of starts n) v, few)
+  write_size (CellSide x) words s v few = omega (arith, stores_size words s 0 v, few)
+
+  swap_size : (x y : Side) (p t : ℕ) → code_size (swap_code starts x y p t) ≤ size_per_weight * (2 + side_weight x + side_weight y)
+  swap_size x y p t =
+      let words = words_of (type_of_side x) in
+      let few : words ≤ 3 = omega (arith, type_words (type_of_side x), kind_few (kind_of (type_of_side x))) in
+      let front = side_code starts x p t in
+      let middle = side_code starts y (p + length front) (right_slot x t) in
+      let back = exchange_code starts words x y t in
+      let first = read_side starts x words t (t + 2) in
+      let second = read_side starts y words (right_slot x t) (t + 2 + words) in
+      let third = write_side starts x words t (t + 2 + words) in
+      let fourth = write_side starts y words (right_slot x t) (t + 2) in
+      omega (
+        arith,
+        both front (middle ++ back),
+        both middle back,
+        both first (second ++ (third ++ fourth)),
+        both second (third ++ fourth),
+        both third fourth,
+        side_size x p t,
+        side_size y (p + length front) (right_slot x t),
+        read_size x words t (t + 2) few,
+        read_size y words (right_slot x t) (t + 2 + words) few,
+        write_size x words t (t + 2 + words) few,
+        write_size y words (right_slot x t) (t + 2) few,
+      )
+
+  mutual
+    statement_size : (s : Statement) (p : ℕ) (exits : Exits) (d : ℕ) → code_size (statement_code starts s p exits d) ≤ size_per_weight * statement_weight s
+    statement_size (Block r js) p exits d = omega (arith, items_size js p exits d)
+    statement_size Empty p exits d = omega arith
+    statement_size (Evaluate a) p exits t = omega (arith, discarded_size a p t)
+    statement_size (Swap x y) p exits t = swap_size x y p t
+    statement_size (If a s u) p exits t =
+        let condition = condition_code starts a p t in
+        let m = p + length condition in
+        let first = statement_code starts s (m + 1) exits t in
+        let r = m + 1 + length first in
+        let second = statement_code starts u (r + 1) exits t in
+        let jump_first = failing_jump (condition_of starts a t) (r + 1) ∷ first in
+        let jump_second = instructions.Jump (r + 1 + length second) ∷ second in
+        omega (
+          arith,
+          both (condition ++ jump_first) jump_second,
+          both condition jump_first,
+          cons (failing_jump (condition_of starts a t) (r + 1)) first,
+          cons (instructions.Jump (r + 1 + length second)) second,
+          condition_size a p t,
+          statement_size s (m + 1) exits t,
+          else_size u (r + 1) exits t (statement_size u (r + 1) exits t),
+        )
+    statement_size (While w a s) p exits t =
+        let condition = condition_code starts a (p + 2) t in
+        let m = p + 2 + length condition in
+        let body = statement_code starts s (m + 1) (inside_loop p exits) t in
+        let test = failing_jump (condition_of starts a t) (break_target p) ∷ body in
+        let again = instructions.Jump (continue_target p) ∷ [] in
+        let rest = (condition ++ test) ++ again in
+        let exit = instructions.Jump (m + 1 + length body + 1) in
+        omega (
+          arith,
+          cons (instructions.Jump (continue_target p)) (exit ∷ rest),
+          cons exit rest,
+          both (condition ++ test) again,
+          both condition test,
+          cons (failing_jump (condition_of starts a t) (break_target p)) body,
+          condition_size a (p + 2) t,
+          statement_size s (m + 1) (inside_loop p exits) t,
+        )
+    statement_size (Return v) p exits d = return_size v p exits d
+    statement_size Break p exits d = omega (arith, both (leave_code starts exits.in_loop) (instructions.Jump (break_target exits.head) ∷ []), leave_size starts exits.in_loop)
+    statement_size Continue p exits d = omega (arith, both (leave_code starts exits.in_loop) (instructions.Jump (continue_target exits.head) ∷ []), leave_size starts exits.in_loop)
+    statement_size (Throw n v) p exits d = throw_size n v p exits d
+    statement_size (Try s cs) p exits t =
+        let kept = kept_code starts t in
+        let m = p + length kept in
+        let body = statement_code starts s (m + 1) (inside_try exits t) (behind_record starts t) in
+        let close = instructions.Leave t ∷ [] in
+        let out = m + 1 + length (body ++ close) in
+        let restored = restored_code starts t in
+        let clauses = clauses_code starts cs (out + 1 + length restored) out exits t in
+        let over = instructions.Jump (out + 1 + length (restored ++ clauses)) in
+        let begin = instructions.Try t (out + 1) in
+        omega (
+          arith,
+          both kept (begin ∷ ((body ++ close) ++ over ∷ (restored ++ clauses))),
+          cons begin ((body ++ close) ++ over ∷ (restored ++ clauses)),
+          both (body ++ close) (over ∷ (restored ++ clauses)),
+          both body close,
+          cons over (restored ++ clauses),
+          both restored clauses,
+          kept_size starts.scopes t,
+          restored_size starts starts.scopes t,
+          statement_size s (m + 1) (inside_try exits t) (behind_record starts t),
+          clauses_size cs (out + 1 + length restored) out exits t,
+        )
+
+    items_size : (js : Items) (p : ℕ) (exits : Exits) (d : ℕ) → code_size (items_code starts js p exits d) ≤ size_per_weight * items_weight js
+    items_size NoItems p exits d = omega arith
+    items_size (MoreItems (Execute s) js) p exits d =
+        let q = p + length (statement_code starts s p exits d) in
+        omega (arith, both (statement_code starts s p exits d) (items_code starts js q exits d), statement_size s p exits d, items_size js q exits d)
+    items_size (MoreItems (Declare n t None) js) p exits d = omega (arith, items_size js (p + 0) exits d)
+    items_size (MoreItems (Declare n t (Some c)) js) p exits d =
+        let front = declaration_code starts n (Some c) p d in
+        let q = p + length front in
+        omega (arith, both front (items_code starts js q exits d), initial_size starts c p (slot_of starts n) d, items_size js q exits d)
+    items_size (MoreItems (DeclareRegion r n) js) p exits t =
+        let front = opened_code starts n t in
+        let inner = items_code starts js (p + length front) (inside_region exits t) (t + 1) in
+        omega (arith, both front (inner ++ closed_code starts t), both inner (closed_code starts t), opened_size starts n t, closed_size starts t, items_size js (p + length front) (inside_region exits t) (t + 1))
+    items_size (MoreItems (OpenRegion r n w k) js) p exits t =
+        omega (arith, cons (move_of 1 (slot_of starts n) (operands.Slot (slot_of starts k))) (items_code starts js (p + 1) exits t), items_size js (p + 1) exits t)
+    items_size (MoreItems (DeclareAlias r n ty w m) js) p exits t =
+        let name = named_code starts (words_of ty) n (operands.Slot (slot_of starts m)) in
+        omega (arith, both name (items_code starts js (p + 1) exits t), named_size ty n (operands.Slot (slot_of starts m)), items_size js (p + 1) exits t)
+    items_size (MoreItems (DeclareKey r n) js) p exits t =
+        let front = dynamic_code starts n t in
+        omega (arith, both front (items_code starts js (p + length front) exits t), items_size js (p + length front) exits t)
+
+    -- where no clause catches it, the exception goes on
+    clauses_size : (cs : Clauses) (p out : ℕ) (exits : Exits) (t : ℕ) → code_size (clauses_code starts cs p out exits t) ≤ 24 + size_per_weight * clauses_weight cs
+    clauses_size NoClauses p out exits t = omega arith
+    clauses_size (Default r js) p out exits t = omega (arith, items_size js p exits t)
+    clauses_size (Case n x r js cs) p out exits t =
+        let caught = caught_code starts x t in
+        let items = items_code starts js (p + 1 + length caught) exits t in
+        let jump = instructions.Jump out ∷ [] in
+        let clause = clause_code n t (caught ++ items) p out in
+        let next = p + length clause in
+        omega (
+          arith,
+          both clause (clauses_code starts cs next out exits t),
+          cons (other_jump n t (p + 1 + length (caught ++ items) + 1)) ((caught ++ items) ++ jump),
+          both (caught ++ items) jump,
+          both caught items,
+          caught_size x t,
+          items_size js (p + 1 + length caught) exits t,
+          clauses_size cs next out exits t,
+        )
+
+pub function_size : (structs : List StructType) (globals : List ℕ) (scopes : Option ℕ) (h : Function) → size (lower_function structs globals scopes h) ≤ size_per_weight * function_weight h
+function_size structs globals scopes h =
+    let d = first_temporary h in
+    let starts = starts_with (raises_of structs globals scopes h) structs globals scopes h in
+    omega (arith, both (items_code starts h.body 0 outside_loops d) (instructions.Finish d ∷ blocks), items_size starts h.body 0 outside_loops d)

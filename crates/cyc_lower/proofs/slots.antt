@@ -1,0 +1,5 @@
+-- the slots of locals and the words of globals
+pub mod Widths
+pub mod Slots
+pub mod LocalSlots
+pub mod GlobalWords

@@ -1,0 +1,4 @@
+-- the steps that begin an expression, and that hand a value on
+pub mod Evaluations
+pub mod GlobalSteps
+pub mod Values

@@ -1,0 +1,10 @@
+mod Sharing
+mod Places
+mod Values
+pub mod WordLemmas
+pub mod Columns
+pub mod Links
+pub mod FreePages
+pub mod PoolLemmas
+pub mod Fresh
+pub mod Heads

@@ -1,0 +1,19 @@
+use Rattle.std.proofs.Common.{sym, ap, ◌∙◌, arith}
+use Rattle.std.specs.Prelude.{slice_index}
+use Rattle.cyc_rawpages.specs.Pool.{PoolState}
+use Rattle.cyc_rawpages.specs.declared.header.TheConstants.{OWNER}
+use Rattle.cyc_rawpages.proofs.PoolLemmas.{header-in, column-read}
+use Rattle.cyc_rawpages.proofs.pool.Pool.owner.Goals as goal
+
+pub header_at-requires : goal.header_at-requires
+header_at-requires c = let there = c.requires in let pages = ap (λ (t : PoolState). t.pages) c.self.view_is in record { few = c.self.invariant.up.few; there = omega (arith, there, pages); low = omega arith }
+
+pub get-requires : goal.get-requires
+get-requires c =
+    let s = c.self.inside in let there = c.requires in let pages = ap (λ (t : PoolState). t.pages) c.self.view_is in
+    rw c.header_at.ensures (header-in s.pages c.args.page.number OWNER s.block c.self.invariant.whole (omega (arith, there, pages)) (omega arith))
+
+pub returns : goal.returns
+returns c =
+    let s = c.self.inside in let p = c.args.page.number in let there = c.requires in let pages = ap (λ (t : PoolState). t.pages) c.self.view_is in
+    c.get.ensures ∙ ap (slice_index s.block) c.header_at.ensures ∙ sym (column-read s.pages p OWNER s.block (omega (arith, there, pages))) ∙ ap (λ (t : PoolState). slice_index t.owners p) c.self.view_is

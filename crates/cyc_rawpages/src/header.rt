@@ -1,0 +1,66 @@
+//! The words of a pool: those of all pages, and behind them a header of each page.
+
+ghost use Rattle.std.specs.Int.{bit_at};
+ghost use Rattle.std.specs.Prelude.{◌==◌, if◌then◌else◌, ◌≡◌, ◌≢◌, ℕ, ◌<◌, ◌≤◌};
+ghost use Rattle.cyc_rawpages.specs.Pool.{header_at};
+
+/// The words of a page, and its bits.
+pub const PAGE_WORDS: u32 = 1024;
+
+/// The words of a page's header.
+pub const HEADER_WORDS: u32 = 64;
+
+/// The words of a page and of its header.
+pub const WHOLE_WORDS: u32 = 1088;
+
+/// The most pages of a pool.
+pub const MOST_PAGES: u32 = 65536;
+
+/// Of a header, where the fill mark stands: how many of the page's words are filled.
+pub const FILL: u32 = 0;
+
+/// Of a header, where the owner stands.
+pub const OWNER: u32 = 1;
+
+/// Of a header, where the low half of the serial stands.
+pub const LOW: u32 = 2;
+
+/// Of a header, where the high half of the serial stands.
+pub const HIGH: u32 = 3;
+
+/// Of a header, where the link to the next page stands: that behind this one in its chain, or among the free ones.
+pub const NEXT: u32 = 4;
+
+/// Of the header of a chain's head, where the last page of the chain stands.
+pub const TAIL: u32 = 5;
+
+/// Of a header, where the first word of bits stands.
+pub const BITS: u32 = 32;
+
+/// No page.
+pub const NONE: u32 = 0xffff_ffff;
+
+/// The number of a word of a page's header among all words of the pool.
+#[inline]
+pub(crate) fn header_at(pages: u32, page: u32, field: u32) -> usize
+    requires few { pages ≤ MOST_PAGES }
+    requires there { page < pages }
+    requires low { field < HEADER_WORDS }
+    ensures { result ≡ header_at pages page field }
+{
+    PAGE_WORDS as usize * pages as usize + (HEADER_WORDS as usize * page as usize + field as usize)
+}
+
+/// A word with one of its bits set or cleared.
+#[inline]
+pub(crate) fn marked(word: u32, bit: u32, value: bool) -> u32
+    requires { bit < 32 }
+    ensures same { (bit_at result bit == 1) ≡ value }
+    ensures other { (i : ℕ) → i < 32 → i ≢ bit → bit_at result i ≡ bit_at word i }
+{
+    if value {
+        word | 1 << bit
+    } else {
+        word & !(1 << bit)
+    }
+}

@@ -1,0 +1,237 @@
+//! A pool of pages over one block of memory.
+
+ghost use Rattle.std.specs.Prelude.{◌≡◌, ◌≢◌, [], ◌∷◌, ◌++◌, ◌+◌, ◌*◌, ◌<◌, ◌≤◌, IfOk, MatchOption, false, length, replicate, set, slice_index, slice_index_or};
+ghost use Rattle.cyc_rawpages.specs.Lists.{chain_at, freed};
+ghost use Rattle.cyc_rawpages.specs.Pool.{IsFree, IsHead, LinksAll, new_pool};
+
+use super::block::Block;
+use super::change::Change;
+use super::header::{
+    BITS, FILL, HIGH, LOW, MOST_PAGES, NEXT, NONE, OWNER, PAGE_WORDS, TAIL, WHOLE_WORDS, header_at,
+    marked,
+};
+use super::roll::Roll;
+use std::alloc::{AllocError, Global};
+use std::marker::Model;
+
+/// A page of a pool, by its number.
+#[derive(Clone, Copy, Debug, PartialEq, Eq)]
+pub struct PageNo {
+    /// From 0 up to the pages of the pool.
+    pub number: u32,
+}
+
+/// A chain of pages, by its head.
+#[derive(Clone, Copy, Debug, PartialEq, Eq)]
+pub struct Chain {
+    /// The first page of the chain.
+    pub head: PageNo,
+}
+
+/// A pool of pages. A page is free or in a chain, which is known by its first page, the head. Each page has 1,024 words,
+/// 1,024 bits, a fill mark, an owner and a serial, of which the pool says nothing: they are its caller's.
+///
+/// After [`Pool::new`] no call takes memory. The pool's memory is freed where the pool is dropped.
+#[derive(Drop)]
+pub struct Pool {
+    block: Block,
+    pages: u32,
+    /// The first of the free pages, which are linked.
+    first: u32,
+    roll: Roll,
+}
+
+impl Model for Pool {
+    ghost use Rattle.cyc_rawpages.specs.Pool.{PoolState, state_of, IsPool};
+
+    ghost Value = { PoolState };
+
+    ghost view = { λ p. state_of p.pages p.block p.roll.lists };
+
+    ghost invariant = { λ p. IsPool p.pages p.block p.first p.roll.lists };
+}
+
+/// Links all pages, each to the one with the next number, and gives the first.
+fn link_all(block: &mut Block, pages: u32) -> u32
+    requires few { pages ≤ MOST_PAGES }
+    requires whole { length block.old ≡ WHOLE_WORDS * pages }
+    ensures { LinksAll pages block.old block.new result }
+{
+    let mut first = NONE;
+    let mut left = pages;
+    while left > 0 {
+        left -= 1;
+        block.set(header_at(pages, left, NEXT), first);
+        first = left;
+    }
+    first
+}
+
+impl Pool {
+    /// A pool of so many pages, all of them free, with a 0 in each word and in each field, and no bit set.
+    pub fn new(alloc: Global, pages: u32) -> Result<Pool, AllocError>
+        requires { pages ≤ MOST_PAGES }
+        ensures { IfOk result (λ p. p ≡ new_pool pages) }
+    {
+        let mut block = Block::new(alloc, WHOLE_WORDS as usize * pages as usize)?;
+        let first = link_all(&mut block, pages);
+        Ok(Pool {
+            block,
+            pages,
+            first,
+            roll: Roll::with(&Roll::new(), &Change::Made(pages)),
+        })
+    }
+
+    /// Takes a free page, which is a chain of its own from then on. None where no page is free.
+    pub fn take(&mut self) -> Option<PageNo>
+        ensures { MatchOption result ((self.old.free ≡ replicate self.old.pages false) × (self.new ≡ self.old))
+            (λ page. (page.number < self.old.pages) × IsFree self.old.free page.number
+            × (self.new ≡ record self.old { free = set self.old.free page.number false; chains = set self.old.chains page.number (page.number ∷ []) })) }
+    {
+        let page = self.first;
+        if page == NONE {
+            return None;
+        }
+        self.first = self.block.get(header_at(self.pages, page, NEXT));
+        self.block.set(header_at(self.pages, page, TAIL), page);
+        self.roll = Roll::with(&self.roll, &Change::Taken(page));
+        Some(PageNo { number: page })
+    }
+
+    /// Puts a page that is a chain of its own behind the last page of another chain.
+    pub fn chain_push(&mut self, head: PageNo, page: PageNo)
+        requires head { (head.number < self.old.pages) × IsHead self.old.chains head.number }
+        requires page { (page.number < self.old.pages) × (chain_at self.old.chains page.number ≡ page.number ∷ []) }
+        requires other { head.number ≢ page.number }
+        ensures head { IsHead self.new.chains head.number }
+        ensures pushed { self.new ≡ record self.old { chains = set (set self.old.chains head.number (chain_at self.old.chains head.number ++ page.number ∷ [])) page.number [] } }
+    {
+        let tail = self.block.get(header_at(self.pages, head.number, TAIL));
+        self.block
+            .set(header_at(self.pages, tail, NEXT), page.number);
+        self.block
+            .set(header_at(self.pages, head.number, TAIL), page.number);
+        self.roll = Roll::with(&self.roll, &Change::Pushed(head.number, page.number));
+    }
+
+    /// Gives all pages of a chain back, by one splice, so in the same time for any number of them.
+    pub fn give_chain(&mut self, chain: Chain)
+        requires there { chain.head.number < self.old.pages }
+        requires head { IsHead self.old.chains chain.head.number }
+        ensures { self.new ≡ record self.old { free = freed self.old.free (chain_at self.old.chains chain.head.number); chains = set self.old.chains chain.head.number [] } }
+    {
+        let head = chain.head.number;
+        let tail = self.block.get(header_at(self.pages, head, TAIL));
+        self.block
+            .set(header_at(self.pages, tail, NEXT), self.first);
+        self.first = head;
+        self.roll = Roll::with(&self.roll, &Change::Given(head));
+    }
+
+    /// A word of a page.
+    #[inline]
+    pub fn load(&self, page: PageNo, word: u32) -> u32
+        requires { (page.number < self.now.pages) × (word < PAGE_WORDS) }
+        ensures { result ≡ slice_index self.now.words (PAGE_WORDS * page.number + word) }
+    {
+        self.block
+            .get(PAGE_WORDS as usize * page.number as usize + word as usize)
+    }
+
+    /// Writes a word of a page.
+    #[inline]
+    pub fn save(&mut self, page: PageNo, word: u32, value: u32)
+        requires { (page.number < self.old.pages) × (word < PAGE_WORDS) }
+        ensures { self.new ≡ record self.old { words = set self.old.words (PAGE_WORDS * page.number + word) value } }
+    {
+        self.block.set(
+            PAGE_WORDS as usize * page.number as usize + word as usize,
+            value,
+        )
+    }
+
+    /// The fill mark of a page.
+    #[inline]
+    pub fn fill(&self, page: PageNo) -> u32
+        requires { page.number < self.now.pages }
+        ensures { result ≡ slice_index self.now.fills page.number }
+    {
+        self.block.get(header_at(self.pages, page.number, FILL))
+    }
+
+    /// Sets the fill mark of a page.
+    #[inline]
+    pub fn set_fill(&mut self, page: PageNo, fill: u32)
+        requires { page.number < self.old.pages }
+        ensures { self.new ≡ record self.old { fills = set self.old.fills page.number fill } }
+    {
+        self.block
+            .set(header_at(self.pages, page.number, FILL), fill)
+    }
+
+    /// The owner of a page.
+    #[inline]
+    pub fn owner(&self, page: PageNo) -> u32
+        requires { page.number < self.now.pages }
+        ensures { result ≡ slice_index self.now.owners page.number }
+    {
+        self.block.get(header_at(self.pages, page.number, OWNER))
+    }
+
+    /// Sets the owner of a page.
+    #[inline]
+    pub fn set_owner(&mut self, page: PageNo, owner: u32)
+        requires { page.number < self.old.pages }
+        ensures { self.new ≡ record self.old { owners = set self.old.owners page.number owner } }
+    {
+        self.block
+            .set(header_at(self.pages, page.number, OWNER), owner)
+    }
+
+    /// The serial of a page.
+    #[inline]
+    pub fn serial(&self, page: PageNo) -> u64
+        requires { page.number < self.now.pages }
+        ensures { result ≡ slice_index self.now.serials page.number }
+    {
+        let low = self.block.get(header_at(self.pages, page.number, LOW));
+        let high = self.block.get(header_at(self.pages, page.number, HIGH));
+        low as u64 + 0x1_0000_0000 * high as u64
+    }
+
+    /// Sets the serial of a page.
+    #[inline]
+    pub fn set_serial(&mut self, page: PageNo, serial: u64)
+        requires { page.number < self.old.pages }
+        ensures { self.new ≡ record self.old { serials = set self.old.serials page.number serial } }
+    {
+        let low = (serial % 0x1_0000_0000) as u32;
+        let high = (serial / 0x1_0000_0000) as u32;
+        self.block.set(header_at(self.pages, page.number, LOW), low);
+        self.block
+            .set(header_at(self.pages, page.number, HIGH), high);
+    }
+
+    /// Whether a bit of a page is set.
+    #[inline]
+    pub fn bit(&self, page: PageNo, bit: u32) -> bool
+        requires { (page.number < self.now.pages) × (bit < PAGE_WORDS) }
+        ensures { result ≡ slice_index_or self.now.bits (PAGE_WORDS * page.number + bit) false }
+    {
+        let marks = self
+            .block
+            .get(header_at(self.pages, page.number, BITS + bit / 32));
+        marks >> (bit % 32) & 1 == 1
+    }
+
+    /// Sets or clears a bit of a page.
+    pub fn set_bit(&mut self, page: PageNo, bit: u32, value: bool)
+        requires { (page.number < self.old.pages) × (bit < PAGE_WORDS) }
+        ensures { self.new ≡ record self.old { bits = set self.old.bits (PAGE_WORDS * page.number + bit) value } }
+    {
+        let at = header_at(self.pages, page.number, BITS + bit / 32);
+        let marks = marked(self.block.get(at), bit % 32, value);
+        self.block.set(at, marks);
+    }
+}

@@ -1,0 +1,67 @@
+-- How a place in a text is shown to a person. All of it is this project's own choice.
+use Rattle.std.specs.Prelude.{◌≡◌, ℕ, ◌+◌, ◌-◌, ◌≤◌, ◌↔◌, ◌==◌, ◌/◌, ◌%◌, ◌&&◌, nat_le, min, List, [], ◌∷◌, ◌++◌, length, replicate, take, slice_index_or, drop, codes, if◌then◌else◌, false}
+use Rattle.std.specs.List.{flat_map, slice_split}
+use Rattle.std.specs.Fmt.{digit_glyph}
+use Rattle.cyc_terminal.specs.declared.excerpt.Excerpt.{Excerpt}
+
+-- the lines of a text, without their line feeds
+abbrev pub lines_of : List ℕ → List (List ℕ)
+lines_of text = slice_split (λ b. b == 10) text
+
+-- line n of a text, counted from 1, without its line feed; the empty line past the last
+abbrev pub line_at : List ℕ → ℕ → List ℕ
+line_at text n = slice_index_or (lines_of text) (n - 1) []
+
+-- how many bytes of a line stand before its column k, counted from 1; all of them past its end
+abbrev pub bytes_before : List ℕ → ℕ → ℕ
+bytes_before line k = min (k - 1) (length line)
+
+-- a byte as `\x` and two hexadecimal digits
+abbrev pub escaped_byte : ℕ → List ℕ
+escaped_byte b = 92 ∷ 120 ∷ digit_glyph false (b / 16) ∷ digit_glyph false (b % 16) ∷ []
+
+-- the characters that show a byte: printable ASCII and the tab as they are, a carriage return as a
+-- space, and any other byte escaped, so that no byte of a text steers a terminal
+abbrev pub shown_byte : ℕ → List ℕ
+shown_byte b = if b == 9 then 9 ∷ []
+    else (if b == 13 then 32 ∷ []
+    else (if nat_le 32 b && nat_le b 126 then b ∷ []
+    else escaped_byte b))
+
+-- white space as wide as `shown_byte`: a tab for a tab, else a space for each character
+abbrev pub blank_byte : ℕ → List ℕ
+blank_byte b = if b == 9 then 9 ∷ [] else replicate (length (shown_byte b)) 32
+
+abbrev pub shown_bytes : List ℕ → List ℕ
+shown_bytes bs = flat_map shown_byte bs
+
+abbrev pub blank_bytes : List ℕ → List ℕ
+blank_bytes bs = flat_map blank_byte bs
+
+-- how many bytes of a line an excerpt shows at most
+abbrev pub most_shown : ℕ
+most_shown = 72
+
+-- what stands for n bytes that are left out
+abbrev pub dots : ℕ → List ℕ
+dots n = if n == 0 then [] else codes "..."
+
+-- The excerpt of a line round a place that has `place` bytes of it before it: a part of the line in one piece,
+-- the bytes before the place and those from it on; the whole line where it is no longer than `most_shown`;
+-- dots for the bytes that are left out at either end.
+pub record IsExcerpt (line : List ℕ) (place : ℕ) (e : Excerpt) : Type 0 where
+  pub left_out : ℕ
+  pub right_out : ℕ
+  pub before : e.before.now ≡ drop left_out (take place line)
+  pub after : e.after.now ≡ take (length line - right_out - place) (drop place line)
+  pub reaches_place : left_out + length e.before.now ≡ place
+  pub from_place : place + length e.after.now + right_out ≡ length line
+  pub narrow : length e.before.now + length e.after.now ≤ most_shown
+  pub whole : length line ≤ most_shown → (left_out ≡ 0) × (right_out ≡ 0)
+  pub lead : e.lead.now ≡ dots left_out
+  pub trail : e.trail.now ≡ dots right_out
+
+-- the two lines of an excerpt: the part of the line, and a mark under the first byte from the place on
+abbrev pub excerpt_text : Excerpt → List ℕ
+excerpt_text e = codes "    " ++ (e.lead.now ++ (shown_bytes e.before.now ++ (shown_bytes e.after.now ++ (e.trail.now
+    ++ (10 ∷ codes "    " ++ (blank_bytes e.lead.now ++ (blank_bytes e.before.now ++ codes "^\n")))))))

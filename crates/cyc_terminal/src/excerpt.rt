@@ -1,0 +1,147 @@
+//! A line of a text with a mark under one place of it.
+ghost use Rattle.std.specs.Prelude.{◌≡◌, Some, slice_get, option_map, ◌≤◌, ◌<◌, ◌+◌};
+ghost use Rattle.std.specs.Fmt.{WritesOnOk};
+ghost use Rattle.cyc_terminal.specs.Excerpt.{IsExcerpt, bytes_before, dots, escaped_byte, excerpt_text, shown_byte, shown_bytes, blank_byte, blank_bytes, line_at, lines_of};
+
+use std::fmt;
+
+// The n-th piece, from 0, of the text cut at its line feeds.
+fn piece(text: &[u8], n: usize) -> Option<&[u8]>
+    ensures { option_map (λ s. s.now) result ≡ slice_get (lines_of text.now) n }
+{
+    text.split(|byte| *byte == b'\n').nth(n)
+}
+
+/// Line `line` of the text, counted from 1, without its line feed; empty where there is none.
+fn line_at(text: &[u8], line: u32) -> &[u8]
+    ensures { result.now ≡ line_at text.now line }
+{
+    match piece(text, line.saturating_sub(1) as usize) {
+        Some(found) => found,
+        None => &[],
+    }
+}
+
+fn write_escaped<W: fmt::Write>(byte: u8, f: &mut fmt::Formatter<W>) -> fmt::Result
+    ensures { WritesOnOk W.write_str_gives f.old result (escaped_byte byte) f.new }
+{
+    write!(f, "\\x{byte:02x}")
+}
+
+fn write_byte<W: fmt::Write>(byte: u8, f: &mut fmt::Formatter<W>) -> fmt::Result
+    ensures { WritesOnOk W.write_str_gives f.old result (shown_byte byte) f.new }
+{
+    match byte {
+        b'\t' => f.write_str("\t"),
+        b'\r' => f.write_str(" "),
+        b' '..=b'~' => f.write_char(char::from(byte)),
+        _ => write_escaped(byte, f),
+    }
+}
+
+fn write_blank<W: fmt::Write>(byte: u8, f: &mut fmt::Formatter<W>) -> fmt::Result
+    ensures { WritesOnOk W.write_str_gives f.old result (blank_byte byte) f.new }
+{
+    match byte {
+        b'\t' => f.write_str("\t"),
+        b' '..=b'~' | b'\r' => f.write_str(" "),
+        _ => f.write_str("    "),
+    }
+}
+
+#[derive(Drop)]
+pub struct Shown<'a>(pub &'a [u8]);
+
+impl fmt::Display for Shown<'_> {
+    ghost output = { λ s. Some (shown_bytes s.0.now) };
+
+    fn fmt<W: fmt::Write>(&self, f: &mut fmt::Formatter<W>) -> fmt::Result {
+        for byte in self.0 {
+            write_byte(*byte, f)?;
+        }
+        Ok(())
+    }
+}
+
+#[derive(Drop)]
+struct Blank<'a>(&'a [u8]);
+
+impl fmt::Display for Blank<'_> {
+    ghost output = { λ s. Some (blank_bytes s.0.now) };
+
+    fn fmt<W: fmt::Write>(&self, f: &mut fmt::Formatter<W>) -> fmt::Result {
+        for byte in self.0 {
+            write_blank(*byte, f)?;
+        }
+        Ok(())
+    }
+}
+
+/// The part of one line of a text that is shown round a place of the line. Its `Display` is two
+/// lines: that part, and a mark under the place.
+#[derive(Drop)]
+pub struct Excerpt<'a> {
+    /// Dots for what is left out at the beginning of the line.
+    pub lead: &'static str,
+    /// The bytes before the place.
+    pub before: &'a [u8],
+    /// The bytes from the place on.
+    pub after: &'a [u8],
+    /// Dots for what is left out at the end of the line.
+    pub trail: &'static str,
+}
+
+const MOST_SHOWN: usize = 72;
+
+fn dots(left_out: usize) -> &'static str
+    ensures { result.now ≡ dots left_out }
+{
+    if left_out == 0 { "" } else { "..." }
+}
+
+/// Where the part of a line of `len` bytes begins that is shown round `place`.
+fn window_start(len: usize, place: usize) -> usize
+    requires { place ≤ len }
+    ensures before { result ≤ place }
+    ensures reaches { place ≤ result + MOST_SHOWN }
+    ensures full { MOST_SHOWN < len → result + MOST_SHOWN ≤ len }
+    ensures whole { len ≤ MOST_SHOWN → result ≡ 0 }
+{
+    if len <= MOST_SHOWN {
+        0
+    } else {
+        place.saturating_sub(MOST_SHOWN / 2).min(len - MOST_SHOWN)
+    }
+}
+
+/// The excerpt round a place of a text. A column past the end of its line is the end of the line,
+/// and a line past the last is empty.
+pub fn excerpt_at(text: &[u8], line: u32, column: u32) -> Excerpt<'_>
+    ensures { IsExcerpt (line_at text.now line) (bytes_before (line_at text.now line) column) result }
+{
+    let whole = line_at(text, line);
+    let place = whole.len().min(column.saturating_sub(1) as usize);
+    let start = window_start(whole.len(), place);
+    let end = start + MOST_SHOWN.min(whole.len() - start);
+    Excerpt {
+        lead: dots(start),
+        before: &whole[start..place],
+        after: &whole[place..end],
+        trail: dots(whole.len() - end),
+    }
+}
+
+impl fmt::Display for Excerpt<'_> {
+    ghost output = { λ e. Some (excerpt_text e) };
+
+    fn fmt<W: fmt::Write>(&self, f: &mut fmt::Formatter<W>) -> fmt::Result {
+        let (lead, trail) = (self.lead, self.trail);
+        write!(
+            f,
+            "    {lead}{}{}{trail}\n",
+            Shown(self.before),
+            Shown(self.after)
+        )?;
+        write!(f, "    {}{}^\n", Blank(lead.as_bytes()), Blank(self.before))
+    }
+}

@@ -1,0 +1,1 @@
+autocmd BufNewFile,BufRead *.cyc set filetype=cyclone

@@ -1,0 +1,64 @@
+#!/bin/sh
+# What can be tried in some minutes of a change, with no proof: builds the program unproved at the place that is named, and runs on it, side
+# by side, the command-line suite but for the cases with long files, the whole-language cases, the codes, the documents, the examples, the
+# syntax files and some random programs. The last line is `N passed, M failed` over all of it.
+#
+#     sh tests/quick.sh PROGRAM
+set -u
+cd "$(dirname "$0")/.."
+program=$1
+passed=0
+failed=0
+logs=$(mktemp -d)
+trap 'rm -rf "$logs"' EXIT
+
+# begin NAME COMMAND ..: starts a test, and notes what it says and its status
+begin() {
+  name=$1
+  shift
+  { "$@" > "$logs/$name" 2>&1; echo $? > "$logs/$name.status"; } &
+}
+
+# on SCRIPT ..: a test of the program, which needs more of the stack where it is not optimised
+on() {
+  script=$1
+  shift
+  python3 "tests/runners/$script" --program "$program" --stack 64 "$@"
+}
+
+# add NAME: shows what a test said, and adds up its last line
+add() {
+  echo "== $1"
+  cat "$logs/$1"
+  status=$(cat "$logs/$1.status")
+  count=$(grep -E '^[0-9]+ passed, [0-9]+ failed$' "$logs/$1" | tail -n 1)
+  good=${count%% passed*}
+  bad=${count#*, }
+  bad=${bad%% *}
+  if [ -z "$count" ] || { [ "$status" -ne 0 ] && [ "$bad" -eq 0 ]; }; then
+    good=0
+    bad=1
+    echo "$1: ended with status $status"
+  fi
+  passed=$((passed + good))
+  failed=$((failed + bad))
+}
+
+echo "The program is built with no proof, in a minute or two; then it is tried."
+if ! tools/unproved "$program"; then
+  echo "0 passed, 1 failed"
+  exit 1
+fi
+begin "command line" on run.py --quick
+begin "whole language" on run.py --whole
+begin "random programs" on differential.py --count 20
+begin "editors" python3 tests/runners/editors.py
+begin "documents" python3 tests/runners/documents.py
+begin "codes" on codes.py
+begin "examples" on examples.py
+wait
+for name in "command line" "whole language" "codes" "documents" "examples" "editors" "random programs"; do
+  add "$name"
+done
+echo "$passed passed, $failed failed"
+[ "$failed" -eq 0 ]

@@ -1,0 +1,178 @@
+#!/usr/bin/env python3
+"""Compares what stands elsewhere of the codes of refusals with docs/codes.txt, and tries the smallest text of each
+code.
+
+    python3 tests/runners/codes.py [--program PATH] [--write]
+
+The docstrings of crates/cyc_words/src/fault.rt, the messages and hints of crates/cyc_terminal/src/advice.rt and the
+table of codes in docs/LANGUAGE.md have to say what docs/codes.txt says. --write makes the table in docs/LANGUAGE.md of it, and
+tries nothing. The last line is `N passed, M failed`, of the three files and the codes.
+"""
+import os
+import re
+import sys
+import tempfile
+
+import suite
+
+TABLE = os.path.join(suite.ROOT, "docs", "codes.txt")
+LANGUAGE = os.path.join(suite.ROOT, "docs", "LANGUAGE.md")
+FAULTS = os.path.join(suite.ROOT, "crates", "cyc_words", "src", "fault.rt")
+ADVICE = os.path.join(suite.ROOT, "crates", "cyc_terminal", "src", "advice.rt")
+FIELDS = {"meaning", "place", "message", "hint", "text", "at", "by"}
+# The table of codes in docs/LANGUAGE.md, from its head to the empty line behind it.
+HEAD = "| Code | What it means | Its place | Smallest text |\n|---|---|---|---|\n"
+PART = re.compile(r'"([^"]*)"(?: \* (\d+))?')
+
+
+class Code:
+    """A code of the table."""
+
+    def __init__(self, number, name):
+        self.number = int(number)
+        self.name = name
+
+    def parts(self):
+        """The smallest text as pieces that are repeated; nothing where the table has words in its place."""
+        if not self.text.startswith('"'):
+            return None
+        return [(piece, int(times or 1)) for piece, times in PART.findall(self.text)]
+
+    def source(self):
+        """The smallest text itself."""
+        pieces = [piece.replace("#", str(copy)) if times > 1 else piece
+                  for piece, times in self.parts() for copy in range(1, times + 1)]
+        return "".join(pieces).encode("ascii")
+
+    def row(self):
+        """The code's row of the table for people."""
+        parts = self.parts()
+        if parts is None:
+            smallest = self.text
+        else:
+            smallest = " and then ".join(words_of(*part) for part in parts if part[0]) or "the empty text"
+            smallest += f", at {self.at}"
+        if self.by == "compile":
+            smallest += "; `compile` alone refuses it"
+        return f"| {self.number} | {self.meaning} | {self.place} | {smallest} |\n"
+
+
+def words_of(piece, times):
+    """A piece of a text that is repeated, for people."""
+    if times == 1:
+        return f"`` {piece} ``" if "`" in piece else f"`{piece}`"
+    if "#" in piece:
+        return f"`{piece.replace('#', '1')}` to `{piece.replace('#', str(times))}`"
+    return f"{times:,} " + ("spaces" if piece == " " else f"times `{piece}`")
+
+
+def content(path):
+    with open(path, encoding="utf-8") as file:
+        return file.read()
+
+
+def codes():
+    """The codes of the table."""
+    found = []
+    for line in content(TABLE).split("\n"):
+        word, _, rest = line.partition(" ")
+        if word.isdigit():
+            found.append(Code(word, rest.strip()))
+        elif word in FIELDS:
+            setattr(found[-1], word, rest.strip())
+        elif line and not line.startswith("#"):
+            sys.exit(f"{TABLE}: no field is called {word}")
+    for code in found:
+        code.by = getattr(code, "by", "check")
+    return found
+
+
+def faults_of_docstrings(found):
+    """What the docstrings in the code say otherwise."""
+    body = content(FAULTS).split("pub enum Code {\n")[1].split("\n}\n")[0]
+    written, words = {}, []
+    for line in body.split("\n"):
+        line = line.strip()
+        if line.startswith("///"):
+            words.append(line[3:].strip())
+        else:
+            name, number = re.fullmatch(r"(\w+) = (\d+),", line).groups()
+            written[name] = (int(number), " ".join(words))
+            words = []
+    wanted = {code.name: (code.number, f"{code.meaning}. Place: {code.place}.") for code in found}
+    return differences(wanted, written)
+
+
+def faults_of_advice(found):
+    """What the program's words say otherwise."""
+    faults = []
+    for function, field in (("meaning", "message"), ("hint", "hint")):
+        body = content(ADVICE).split(f"pub fn {function}(")[1].split("\n}\n")[0]
+        written = dict(re.findall(r'Code::(\w+) =>\s*"([^"]*)",', body))
+        faults += differences({code.name: getattr(code, field) for code in found}, written)
+    return faults
+
+
+def differences(wanted, written):
+    """The names at which two tables differ."""
+    names = sorted(wanted.keys() | written.keys())
+    pairs = [(name, wanted.get(name), written.get(name)) for name in names]
+    return [suite.difference(*pair) for pair in pairs if pair[1] != pair[2]]
+
+
+def table_of(text):
+    """The table of codes in a document: what stands before it, the table, and what stands behind it."""
+    before, behind = text.split(HEAD)
+    rows, rest = behind.split("\n\n", 1) if "\n\n" in behind else (behind[:-1], None)
+    return before, HEAD + rows + "\n", "" if rest is None else "\n" + rest
+
+
+def table_for(found):
+    return HEAD + "".join(code.row() for code in found)
+
+
+def faults_of_language(found):
+    """What docs/LANGUAGE.md says otherwise."""
+    _, table, _ = table_of(content(LANGUAGE))
+    wanted, got = table_for(found).split("\n"), table.split("\n")
+    faults = [suite.difference("a row", one, other) for one, other in zip(wanted, got) if one != other]
+    return faults or ([] if wanted == got else ["the tables are not of one length"])
+
+
+def faults_of_code(code, program, folder):
+    """What the program says of the smallest text of a code otherwise."""
+    if code.parts() is None:
+        return []
+    source = os.path.join(folder, "text.cyc")
+    with open(source, "wb") as file:
+        file.write(code.source())
+    refusal = (b"", f"fault {code.number} at {code.at}", 2)
+    checked = suite.answer([program, "check", source])
+    compiled = suite.answer([program, "compile", source, "-o", os.path.join(folder, "text.elf")])
+    expected = [
+        ("check", (b"", "done", 0) if code.by == "compile" else refusal, checked),
+        ("compile", refusal, compiled),
+    ]
+    return [suite.difference(what, wanted, got) for what, wanted, got in expected if wanted != got]
+
+
+def main():
+    parser = suite.command_line(__doc__)
+    parser.add_argument("--write", action="store_true")
+    options = parser.parse_args()
+    found = codes()
+    if options.write:
+        before, _, behind = table_of(content(LANGUAGE))
+        with open(LANGUAGE, "w", encoding="utf-8") as file:
+            file.write(before + table_for(found) + behind)
+        return
+    files = [(FAULTS, faults_of_docstrings), (ADVICE, faults_of_advice), (LANGUAGE, faults_of_language)]
+    program = suite.program_of(options, len(files) + len(found))
+    with tempfile.TemporaryDirectory(prefix="cyclone-codes-") as folder:
+        things = [(os.path.relpath(path), lambda compare=compare: compare(found)) for path, compare in files]
+        things += [(f"code {code.number}", lambda code=code: faults_of_code(code, program, folder)) for code in found]
+        suite.try_each(things, lambda thing: thing[0], lambda thing: thing[1]())
+
+
+if __name__ == "__main__":
+    main()

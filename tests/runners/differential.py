@@ -1,0 +1,216 @@
+#!/usr/bin/env python3
+"""Random programs, checked, compiled and run, beside what tests/references/reference.py says of them.
+
+    python3 tests/runners/differential.py [--program PATH] [--count N] [--profile NAME] [--seed N] [--check] [--texts FOLDER]
+
+The profiles are ints, pointers, heap, exceptions, unique and regions; each has what those before it have. Each program is made so
+that it is mostly accepted and ends soon. One that is accepted is run on two inputs, with just as many calls and pages as
+it needs and fewer, and with a small budget of steps, which has to give a prefix of the whole output. One of its functions
+is filled up with locals until its frame has 256 words, which changes nothing, and 257, which is refused. Beside it stand
+texts that were refused, and the program with one thing changed: what is checked of each is the code and its place.
+
+No run may come to what is closed or freed: then the reference itself is wrong, or the language's rules are. The same seed
+gives the same programs. The last line is `N passed, M failed`, of programs: `--count` of ints, and a quarter of that of each
+other profile.
+
+--check only asks what `check` says. --texts writes the programs to a folder, and those of ints in C beside it. As
+`--program tests/references/in_c.py` answers like the program itself, the expectations for ints can be held against gcc too.
+"""
+import os
+import random
+import tempfile
+
+import suite  # first: it says where the references and the generators are
+import in_c
+import makers
+import reference
+from language import runs
+
+# A program whose evaluation takes more calls and passes of loops than this is not used.
+STEPS_AT_MOST = 10_000
+# How many texts that differ from a program in one thing are checked beside it.
+BROKEN_TEXTS = 4
+
+
+class Wanted:
+    """A program, the ways to run it, and what each has to give: output, last line and exit status; and texts with their verdicts."""
+
+    def __init__(self, profile, seed, number):
+        numbers = random.Random(f"{seed} {number}" if profile == "ints" else f"{profile} {seed} {number}")
+        self.profile, self.verdicts, self.runs = profile, [], []
+        while not self.made(numbers):
+            pass
+        for given in self.inputs:
+            self.add(given)
+        run = self.evaluated(self.inputs[0])
+        for calls in sorted({run.deepest, max(run.deepest - 1, 1), numbers.randint(1, run.deepest)}):
+            self.add(self.inputs[0], calls=calls)
+        for pages in sorted({max(run.store.most, 3), max(run.store.most - 1, 3)}) if profile != "ints" else []:
+            self.add(self.inputs[0], pages=pages)
+        self.steps = numbers.choice([1, 10, 100, 1000, 10_000])
+        self.fill(numbers)
+        for _ in range(BROKEN_TEXTS):
+            self.judge(makers.broken(self.text, numbers))
+
+    def fill(self, numbers):
+        """The program with a full frame, and with one that is too full."""
+        name = numbers.choice(sorted(set(self.program.functions) & {"f0", "f1", "f2", "main"}))
+        free = reference.FRAME_AT_MOST - reference.frame_words(self.program.functions[name])
+        self.full, self.too_full = (self.text.replace(makers.filling(name), "{int z;} " * count) for count in (free, free + 1))
+        line, column = self.program.functions[name].place
+        self.refusal = f"fault 51 at {line}:{column}"
+
+    def made(self, numbers):
+        """Makes a program, and says whether it is of use: it is accepted, its frames are small enough and its runs end soon."""
+        self.text = makers.PROFILES[self.profile](numbers).text()
+        try:
+            self.program = reference.Program(self.text)
+        except reference.Refused as refused:
+            self.verdicts.append((self.text, str(refused)))
+            return False
+        try:
+            self.program.hold_to_sizes()
+        except reference.Refused:
+            return False
+        self.inputs = [self.some_bytes(numbers) for _ in range(2)]
+        return all(self.evaluated(given).line != "budget spent" for given in self.inputs)
+
+    def judge(self, text):
+        """Keeps the verdict on a text. One that is accepted is run too, on nothing: its run must not be dead or wrong."""
+        verdict = reference.verdict(text)
+        self.verdicts.append((text, verdict))
+        if verdict == "done":
+            self.ended(reference.Run(reference.Program(text), b"", steps=STEPS_AT_MOST), text)
+
+    @staticmethod
+    def some_bytes(numbers):
+        return bytes(numbers.choice([0, 1, 10, 48, 65, 255, numbers.randrange(256)]) for _ in range(numbers.randint(0, 12)))
+
+    def evaluated(self, given, calls=reference.CALLS, pages=reference.PAGES):
+        done = reference.Run(self.program, given, calls, STEPS_AT_MOST, pages)
+        done.line, done.status = self.ended(done, self.text)
+        return done
+
+    @staticmethod
+    def ended(run, text):
+        """How a run ends; what is accepted is never dead or wrong."""
+        try:
+            return run.end()
+        except (runs.Dead, runs.Wrong) as error:
+            raise SystemExit(f"{text}\nthis text is accepted, and its run is at fault: {error}")
+
+    def add(self, given, calls=reference.CALLS, pages=reference.PAGES):
+        done = self.evaluated(given, calls, pages)
+        self.runs.append((given, ["--calls", str(calls), "--pages", str(pages)], (bytes(done.output), done.line, done.status)))
+
+
+class Tried:
+    """A program's answers, of which the first that is otherwise than wanted is kept."""
+
+    def __init__(self, program, folder):
+        self.program = program
+        self.source, self.image = os.path.join(folder, "main.cyc"), os.path.join(folder, "main.elf")
+        self.fault, self.text = None, None
+
+    def want(self, what, expected, got):
+        if self.fault is None and got != expected:
+            self.fault = suite.difference(what, expected, got)
+
+    def given(self, text):
+        if self.fault is None:
+            self.text = text
+        with open(self.source, "w", encoding="latin-1") as file:
+            file.write(text)
+
+    def check(self, text, line="done"):
+        self.given(text)
+        self.want("check", (b"", line, 0 if line == "done" else 2), suite.answer([self.program, "check", self.source]))
+
+    def compile(self, text, line="done", status=0):
+        self.given(text)
+        self.want("compile", (b"", line, status), suite.answer([self.program, "compile", self.source, "-o", self.image]))
+
+    def run(self, given, options, expected):
+        got = suite.answer([self.program, "run", self.image, *options], given)
+        self.want(f"run {' '.join(options)} on {given}", expected, got)
+
+    def run_some(self, given, steps, expected):
+        """A run with a budget of steps, which ends as the whole run does or has printed a prefix of what that prints."""
+        got = suite.answer([self.program, "run", self.image, "--steps", str(steps)], given)
+        if got[1:] == ("budget spent", 7) and expected[0].startswith(got[0]):
+            return
+        self.want(f"run --steps {steps} on {given}", expected, got)
+
+
+def try_program(tried, wanted, only_check):
+    """Checks a program and those beside it, and compiles and runs it in each way."""
+    for text, line in wanted.verdicts:
+        tried.check(text, line)
+    if only_check:
+        return tried.check(wanted.text)
+    tried.compile(wanted.text)
+    for given, options, expected in wanted.runs:
+        tried.run(given, options, expected)
+    given, _, expected = wanted.runs[0]
+    tried.run_some(given, wanted.steps, expected)
+    tried.compile(wanted.full)
+    tried.run(*wanted.runs[0])
+    tried.compile(wanted.too_full, wanted.refusal, 2)
+
+
+def write(wanted, path):
+    """The program, in C too where it is of ints, each run with what it has to give, and the texts beside it with their verdicts."""
+    texts = [(".cyc", wanted.text)] + [(f".{number}.cyc", text) for number, (text, _) in enumerate(wanted.verdicts)]
+    for ending, text in texts + ([(".c", in_c.text_in_c(wanted.program))] if wanted.profile == "ints" else []):
+        with open(path + ending, "w", encoding="latin-1") as file:
+            file.write(text)
+    with open(path + ".txt", "w", encoding="ascii") as file:
+        for given, options, expected in wanted.runs:
+            file.write(f"{' '.join(options)} on {given}: {expected}\n")
+        for number, (_, line) in enumerate(wanted.verdicts):
+            file.write(f".{number}.cyc: {line}\n")
+
+
+def programs_of(options):
+    """Each program's profile and number."""
+    for profile in [options.profile] if options.profile else makers.PROFILES:
+        count = options.count if profile == "ints" or options.profile else options.count // 4
+        yield from ((profile, number) for number in range(count))
+
+
+def try_all(options, program):
+    """The numbers of programs that pass and that fail."""
+    passed, failed, shortest = 0, 0, None
+    with tempfile.TemporaryDirectory(prefix="cyclone-random-") as folder:
+        for profile, number in programs_of(options):
+            wanted, tried = Wanted(profile, options.seed, number), Tried(program, folder)
+            if options.texts:
+                write(wanted, os.path.join(options.texts, f"{profile}.{number:04}"))
+            try_program(tried, wanted, options.check)
+            passed += not tried.fault
+            if tried.fault:
+                failed += 1
+                print(f"FAILED program {number} of {profile}, seed {options.seed}\n  " + tried.fault.replace("\n", "\n  "))
+                shortest = min(shortest or tried.text, tried.text, key=len)
+    if shortest:
+        print("the shortest of the texts that fail (--texts FOLDER writes all programs):")
+        print("\n".join("    " + line for line in shortest.splitlines()))
+    return passed, failed
+
+
+def main():
+    parser = suite.command_line(__doc__)
+    parser.add_argument("--count", type=int, default=200)
+    parser.add_argument("--profile", choices=makers.PROFILES)
+    parser.add_argument("--seed", type=int, default=1)
+    parser.add_argument("--check", action="store_true")
+    parser.add_argument("--texts")
+    options = parser.parse_args()
+    program = suite.program_of(options, len(list(programs_of(options))))
+    if options.texts:
+        os.makedirs(options.texts, exist_ok=True)
+    suite.end(*reference.with_room(lambda: try_all(options, program)))
+
+
+if __name__ == "__main__":
+    main()

@@ -1,0 +1,140 @@
+#!/usr/bin/env python3
+"""Looks over the documents: their lines, their code spans, and the files that they name.
+
+    python3 tests/runners/documents.py [--write]
+
+Outside of tables and programs a line of a document has at most 120 characters, a code span ends on its line, and a path
+in a code span that begins with a folder of the repository leads to a file or a folder. --write fills the lines of the
+documents up to 120 characters, so that no code span is broken, and looks for nothing. The last line is `N passed, M
+failed`, of documents.
+"""
+import argparse
+import os
+import re
+
+import suite
+
+WIDTH = 120
+FOLDERS = ("crates", "docs", "tests", "examples", "bench", "editors", "tools")
+# What the gate makes, and a clean clone has not.
+MADE = re.compile(r"crates/\w+/out\b")
+ITEM = re.compile(r" *(- |\d+\. )")
+
+
+def content(path):
+    with open(os.path.join(suite.ROOT, path), encoding="utf-8") as file:
+        return file.read()
+
+
+def documents():
+    """The documents of the repository, by their paths from its top."""
+    found = []
+    for folder, folders, names in os.walk(suite.ROOT):
+        folders[:] = [name for name in folders if name != "out" and not name.startswith(".")]
+        found += [os.path.relpath(os.path.join(folder, name), suite.ROOT) for name in names if name.endswith(".md")]
+    return sorted(found)
+
+
+def code_spans(line):
+    """The code spans of a line, and what is left of it where one does not end."""
+    spans, rest = [], line
+    while "`" in rest:
+        opening = re.search("`+", rest)
+        closing = re.search(rf"(?<!`){opening.group()}(?!`)", rest[opening.end():])
+        if not closing:
+            return spans, rest[opening.start():]
+        spans.append(rest[opening.end():][:closing.start()].strip())
+        rest = rest[opening.end():][closing.end():]
+    return spans, ""
+
+
+def faults_of_line(line):
+    """What is wrong with a line."""
+    faults = []
+    if len(line) > WIDTH and not line.startswith("|"):
+        faults.append(f"has {len(line)} characters")
+    spans, rest = code_spans(line)
+    if rest:
+        faults.append(f"a code span does not end on its line: {rest}")
+    for span in spans:
+        if re.fullmatch(rf"({'|'.join(FOLDERS)})/[\w./-]+", span) and not MADE.match(span) \
+                and not os.path.exists(os.path.join(suite.ROOT, span)):
+            faults.append(f"there is no {span}")
+    return faults
+
+
+def faults_of(path):
+    """What is wrong with a document. A program is indented by four spaces, or by six in a list."""
+    lines = content(path).split("\n")
+    return [f"line {number}: {fault}" for number, line in enumerate(lines, 1)
+            if not line.startswith("    ") for fault in faults_of_line(line)]
+
+
+def is_text(line):
+    """Whether a line is one of a paragraph, and no head, table, program or empty line."""
+    return line.strip() != "" and not line.startswith(("#", "|", "    "))
+
+
+def goes_on(line, rest):
+    """Whether a line goes on with a paragraph whose lines begin with `rest`."""
+    return line.startswith(rest) and is_text(line[len(rest):]) and not ITEM.match(line)
+
+
+def pieces_of(text):
+    """The words of a text with their code spans whole."""
+    pattern = re.compile(r"(?:(?P<ticks>`+)(?!`)(?:.|\n)*?(?<!`)(?P=ticks)(?!`)|[^\s`])+")
+    return [" ".join(found.group().split()) for found in pattern.finditer(text)]
+
+
+def filled(text, first, rest):
+    """A paragraph, whose first line begins with `first` and whose others begin with `rest`."""
+    lines, line = [], None
+    for piece in pieces_of(text):
+        if line is None:
+            line = first + piece
+        elif len(line) + 1 + len(piece) <= WIDTH:
+            line += " " + piece
+        else:
+            lines.append(line)
+            line = rest + piece
+    return lines + [line]
+
+
+def filled_document(text):
+    """A document with its lines filled up."""
+    lines, done, at = text.split("\n"), [], 0
+    while at < len(lines):
+        line = lines[at]
+        at += 1
+        if not is_text(line):
+            done.append(line)
+            continue
+        item = ITEM.match(line)
+        first = item.group() if item else line[: len(line) - len(line.lstrip())]
+        rest = " " * len(first)
+        paragraph = [line[len(first):]]
+        while at < len(lines) and goes_on(lines[at], rest):
+            paragraph.append(lines[at])
+            at += 1
+        done += filled("\n".join(paragraph), first, rest)
+    return "\n".join(done)
+
+
+def write(path):
+    text = filled_document(content(path))
+    with open(os.path.join(suite.ROOT, path), "w", encoding="utf-8") as file:
+        file.write(text)
+
+
+def main():
+    parser = argparse.ArgumentParser(description=__doc__.split("\n")[0])
+    parser.add_argument("--write", action="store_true")
+    if parser.parse_args().write:
+        for path in documents():
+            write(path)
+    else:
+        suite.try_each(documents(), lambda path: path, faults_of)
+
+
+if __name__ == "__main__":
+    main()

@@ -1,0 +1,157 @@
+#!/usr/bin/env python3
+"""Reads the examples, and a text of odd tokens, with the syntax files in editors/, and says which bytes are taken for what they are not.
+
+    python3 tests/runners/editors.py
+
+What each byte is comes from the reference's rules of tokens (language/texts.py). The file for vim is read by vim; the TextMate grammar
+by a small reader of such grammars here, a line and a token at a time, as editors do. The last line is `N passed, M failed`, of texts
+and files.
+"""
+import json
+import os
+import re
+import subprocess
+import tempfile
+
+import suite  # first: it says where the references and the generators are
+from language import texts
+
+EXAMPLES = os.path.join(suite.ROOT, "examples")
+VIM = os.path.join(suite.ROOT, "editors", "vim")
+TEXTMATE = os.path.join(suite.ROOT, "editors", "textmate", "cyclone.tmLanguage.json")
+# What touches its neighbour, what only begins like something else, and comments of each form.
+ODD = """int interest=0x1F+0X0a-017*08/12int%_1;/**//*/ if " ' # */return'\\''+'\\\\'-' '*'"';
+a-->b>>=c:=:d||e//*/ while
+`int`r int*`H x;newer new_ukeys new0 NULLs NULL/*
+struct 'a' // */ struct Point2 p?q@r 0x 0 1 x1 unique_region,heap_regions,regions region region_t
+"""
+# The kinds of bytes, and how each file names them: a group for vim, the beginning of a scope for TextMate.
+KINDS = {
+    "comment": ("cycloneComment", "comment."),
+    "name": ("cycloneName", "variable.other."),
+    "type": ("cycloneType", "storage.type."),
+    "statement": ("cycloneStatement", "keyword.control."),
+    "memory": ("cycloneMemory", "keyword.other.memory."),
+    "constant": ("cycloneConstant", "constant.language."),
+    "region": ("cycloneRegion", "entity.name.region."),
+    "number": ("cycloneNumber", "constant.numeric."),
+    "character": ("cycloneCharacter", "constant.character."),
+    "sign": ("cycloneSign", "keyword.operator."),
+}
+WORDS = {
+    "type": "int void struct datatype exn region_t uregion_key_t",
+    "statement": "if else while for return break continue throw try catch case default",
+    "memory": "region open let alias NewDynamicRegion new_ukey new rnew numelts ufree free_ukey",
+    "constant": "NULL unique_region heap_region",
+}
+KIND_OF_WORD = {word: kind for kind, words in WORDS.items() for word in words.split()}
+# Writes the group of each byte of a line, a line for each line of the text.
+VIM_SCRIPT = """
+set nomore encoding=latin1 synmaxcol=0 redrawtime=100000
+execute 'set runtimepath^=' . $FILES
+syntax enable
+execute 'edit ' . $TEXT
+let groups = []
+for line in range(1, line('$'))
+  call add(groups, join(map(range(1, len(getline(line))), 'synIDattr(synID(line, v:val, 1), "name")')))
+endfor
+call writefile(groups, $GROUPS)
+quitall!
+"""
+
+
+def kinds_of(text):
+    """The kind of each byte of a text by the rules of tokens; nothing for a space."""
+    kinds, at = [], 0
+    while at < len(text):
+        match = texts.TOKEN.match(text, at)
+        kind, word = match.lastgroup, match.group()
+        if kind == "space":
+            kind = "comment" if word.startswith("/") else None
+        kinds += [KIND_OF_WORD.get(word, kind) if kind == "name" else kind] * len(word)
+        at = match.end()
+    return kinds
+
+
+def groups_in_vim(text, folder):
+    """What vim takes each byte of each line for."""
+    paths = {name: os.path.join(folder, name.lower() + ".cyc") for name in ("TEXT", "GROUPS", "SCRIPT")}
+    for name, content in (("TEXT", text), ("SCRIPT", VIM_SCRIPT)):
+        with open(paths[name], "w", encoding="latin-1") as file:
+            file.write(content)
+    words = ["vim", "-N", "-u", "NONE", "-i", "NONE", "-n", "-es", "-S", paths["SCRIPT"]]
+    environment = {**os.environ, **paths, "FILES": VIM, "HOME": folder, "TERM": "dumb"}
+    subprocess.run(words, env=environment, stdin=subprocess.DEVNULL, capture_output=True, timeout=suite.SECONDS)
+    with open(paths["GROUPS"], encoding="latin-1") as file:
+        return [line.split(" ") for line in file.read().split("\n")]
+
+
+def first_match(rules, line, at):
+    """The rule that matches first from here on, and its match: of two at one place the upper one."""
+    found = [(match.start(), number, match) for number, (match_of, _, _) in enumerate(rules) if (match := match_of.search(line, at))]
+    return min(found, key=lambda one: one[:2], default=None)
+
+
+def scopes_of_line(rules, line, inside):
+    """The scope of each byte of a line, and the rule that is still open behind it: a rule has a beginning, a name and an end, or none."""
+    scopes, at = [""] * len(line), 0
+    while at <= len(line):
+        if inside:
+            match = inside[2].search(line, at)
+            end = match.end() if match else len(line)
+            scopes[at:end] = [inside[1]] * (end - at)
+            if not match:
+                return scopes, inside
+            at, inside = end, None
+            continue
+        found = first_match(rules, line, at)
+        if not found:
+            break
+        _, number, match = found
+        scopes[match.start(): match.end()] = [rules[number][1]] * len(match.group())
+        at = match.end()
+        inside = rules[number] if rules[number][2] else None
+    return scopes, inside
+
+
+def scopes_in_textmate(text, _):
+    """What the grammar takes each byte of each line for."""
+    with open(TEXTMATE, encoding="utf-8") as file:
+        patterns = json.load(file)["patterns"]
+    rules = [(re.compile(one.get("match") or one["begin"]), one["name"], re.compile(one["end"]) if "end" in one else None) for one in patterns]
+    lines, inside = [], None
+    for line in text.split("\n"):
+        scopes, inside = scopes_of_line(rules, line, inside)
+        lines.append(scopes)
+    return lines
+
+
+def faults_of(text, named, column, folder):
+    """Each first byte of a line that a file takes for what it is not. Spaces may be anything."""
+    lines, kinds, faults, at = named(text, folder), kinds_of(text), [], 0
+    for number, line in enumerate(text.split("\n"), 1):
+        names = lines[number - 1] if number <= len(lines) else []
+        for place, byte in enumerate(line):
+            kind, name = kinds[at + place], names[place] if place < len(names) else ""
+            if byte not in " \t\r" and not name.startswith(KINDS[kind][column]):
+                faults.append(f"{number}:{place + 1}: {kind} is taken for {name or 'nothing'}: {line}")
+                break
+        at += len(line) + 1
+    return faults
+
+
+def main():
+    named = [("a text of odd tokens", ODD)]
+    for name in sorted(os.listdir(EXAMPLES)):
+        if name.endswith(".cyc"):
+            with open(os.path.join(EXAMPLES, name), encoding="latin-1") as file:
+                named.append((f"examples/{name}", file.read()))
+    files = ((groups_in_vim, 0, "editors/vim"), (scopes_in_textmate, 1, "editors/textmate"))
+    with tempfile.TemporaryDirectory(prefix="editors-") as folder:
+        things = [(f"{name} in {where}", lambda one=(text, reader, column): faults_of(*one, folder))
+                  for name, text in named for reader, column, where in files]
+        suite.try_each(things, lambda thing: thing[0], lambda thing: thing[1]())
+
+
+if __name__ == "__main__":
+    main()

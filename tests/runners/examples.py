@@ -1,0 +1,119 @@
+#!/usr/bin/env python3
+"""Compiles and runs the programs in examples/ that have an output beside them, checks those in docs/ and in tests/sound, and says which it
+fails.
+
+    python3 tests/runners/examples.py [--program PATH]
+
+`NAME.cyc` is compiled, and run on `NAME.in`, or on no input where there is none. `NAME.out` is what a terminal then
+shows: the standard output, and behind it the last line on standard error, which also tells the exit status. `check` has
+to take the program too. A program in docs/LANGUAGE.md whose first line is `// done` or `// fault C at L:K` has this verdict, and a
+program in tests/sound the one that its head says. A fragment on the right of a table in docs/FROM_C.md is accepted where the program
+above the table says `/* here */`. The last line is `N passed, M failed`.
+"""
+import os
+import re
+import tempfile
+
+import suite  # first: it says where the references and the generators are
+import in_trees
+
+FOLDER = os.path.join(suite.ROOT, "examples")
+LANGUAGE = os.path.join(suite.ROOT, "docs", "LANGUAGE.md")
+FROM_C = os.path.join(suite.ROOT, "docs", "FROM_C.md")
+# A program that fragments stand in, and a row of the table below it: its number, and the first code of its last cell.
+FRAME = re.compile(r"^(?:    .*\n)+", re.M)
+HERE = "/* here */"
+FRAGMENT = re.compile(r"^\| (\d+) \|.* \| (?:`` (.+?) ``|`([^`]+)`)[^|]*\|$", re.M)
+# A program in a document: lines that are indented, with empty lines between, and its verdict in the first.
+SHOWN = re.compile(r"^    // (done|fault \d+ at \d+:\d+)\n(?:    .*\n|\n(?=    ))*", re.M)
+PARTS = ("standard output", "last line on standard error", "exit status")
+
+
+def status_of(line):
+    """The exit status that goes with a last line of a run."""
+    if line.startswith("returned "):
+        return int(line.split()[1]) & 0xFF
+    return {"full": 5, "uncaught": 4}[line.split()[0]]
+
+
+def content(name):
+    """What a file of the folder holds; nothing where it is not there."""
+    path = os.path.join(FOLDER, name)
+    if not os.path.exists(path):
+        return b""
+    with open(path, "rb") as file:
+        return file.read()
+
+
+def faults_of(program, name, folder):
+    """What a program's compilation and run do otherwise than its files say."""
+    source, image = os.path.join(FOLDER, name + ".cyc"), os.path.join(folder, name + ".elf")
+    given = content(name + ".in")
+    output, _, last = content(name + ".out")[:-1].rpartition(b"\n")
+    last = last.decode("latin-1")
+    steps = (
+        ("check", [program, "check", source], (b"", "done", 0)),
+        ("compile", [program, "compile", source, "-o", image], (b"", "done", 0)),
+        ("run", [program, "run", image], (output + b"\n", last, status_of(last))),
+    )
+    for step, words, wanted in steps:
+        got = suite.answer(words, given)
+        differing = [part for part in zip(PARTS, wanted, got) if part[1] != part[2]]
+        if differing:
+            return [suite.difference(f"{step}: {what}", one, other) for what, one, other in differing]
+    return []
+
+
+def shown_programs():
+    """The programs in the document that begin with their verdict: the line of the document, the text, and the verdict."""
+    with open(LANGUAGE, encoding="utf-8") as file:
+        document = file.read()
+    return [(document[: found.start()].count("\n") + 1, re.sub("^    ", "", found[0], flags=re.M), found[1]) for found in SHOWN.finditer(document)]
+
+
+def fragments():
+    """The fragments in the page for C programmers: the number of each, and its text within the program above its table."""
+    with open(FROM_C, encoding="utf-8") as file:
+        document = file.read()
+    frames = [frame for frame in FRAME.finditer(document) if HERE in frame[0]]
+    found = []
+    for frame, after in zip(frames, frames[1:] + [None]):
+        table = document[frame.end(): after.start() if after else len(document)]
+        for number, ticked, plain in FRAGMENT.findall(table):
+            fragment = (ticked or plain).replace("\\|", "|")
+            found.append((int(number), re.sub("^    ", "", frame[0], flags=re.M).replace(HERE, fragment)))
+    if [number for number, _ in found] != list(range(1, len(re.findall(r"^\| \d+ \|", document, flags=re.M)) + 1)):
+        raise ValueError("docs/FROM_C.md has rows that are not read, or not numbered in order")
+    return found
+
+
+def faults_of_shown(program, text, verdict, folder):
+    """What the program says of a text otherwise than its first line."""
+    path = os.path.join(folder, "text.cyc")
+    with open(path, "w", encoding="ascii") as file:
+        file.write(text)
+    wanted, got = (b"", verdict, 0 if verdict == "done" else 2), suite.answer([program, "check", path])
+    return [] if got == wanted else [suite.difference("check", wanted, got)]
+
+
+def judged_programs():
+    """The programs in tests/sound: where each stands, its text, and its verdict."""
+    return [(f"tests/sound/{name}.programs: {head[0]}", text, in_trees.refusal_of(head)[0])
+            for name in ("accepted", "refused") for head, text in in_trees.programs_in(name)]
+
+
+def main():
+    options = suite.command_line(__doc__).parse_args()
+    names = sorted(name[: -len(".out")] for name in os.listdir(FOLDER) if name.endswith(".out"))
+    judged = [(f"docs/LANGUAGE.md:{line}", text, verdict) for line, text, verdict in shown_programs()] + judged_programs()
+    judged += [(f"docs/FROM_C.md: {number}", text, "done") for number, text in fragments()]
+    program = suite.program_of(options, len(names) + len(judged))
+    with tempfile.TemporaryDirectory(prefix="cyclone-example-") as folder:
+        things = [(f"examples/{name}.cyc", lambda name=name: faults_of(program, name, folder)) for name in names]
+        for place, text, verdict in judged:
+            things.append((place, lambda one=(text, verdict): faults_of_shown(program, *one, folder)))
+        suite.try_each(things, lambda thing: thing[0], lambda thing: thing[1]())
+
+
+if __name__ == "__main__":
+    main()

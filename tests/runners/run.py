@@ -1,0 +1,363 @@
+#!/usr/bin/env python3
+"""Runs the built program on the cases in tests/cases and says which of them it fails.
+
+    python3 tests/runners/run.py [--program PATH] [--whole] [--quick] [FILE.cases ..]
+
+The last line is `N passed, M failed`. A case is a few lines; tests/README.md has the format. With --whole the cases are those of
+the whole language, in tests/whole. With --quick those with a file of more than 8,192 bytes are left out, and it says how many.
+"""
+import os
+import re
+import shlex
+import struct
+import subprocess
+import tempfile
+
+import suite
+
+CASES = os.path.join(suite.TESTS, "cases")
+WHOLE = os.path.join(suite.TESTS, "whole")
+# The file that holds the text of a line `? LINE | TEXT`.
+TEXT_FILE = "text.cyc"
+# What is long for --quick, in bytes.
+LONG = 8192
+
+
+class BadCase(Exception):
+    """A line of a case file that means nothing."""
+
+
+def unescaped(text):
+    r"""The bytes that a text means, where `\n`, `\t`, `\r`, `\\`, `\"` and `\xNN` are escapes."""
+    names = {"n": "\n", "t": "\t", "r": "\r", "\\": "\\", '"': '"'}
+
+    def one(match):
+        name = match.group(1)
+        if name[0] == "x":
+            return chr(int(name[1:], 16))
+        if name not in names:
+            raise BadCase(f"unknown escape \\{name}")
+        return names[name]
+
+    return re.sub(r"\\(x[0-9a-fA-F]{2}|.)", one, text).encode("latin-1")
+
+
+def image_of(words):
+    """An image with one segment of text at 00400000, and its entry there."""
+    text = b"".join(bytes.fromhex(word) for word in words)
+    header = bytes.fromhex("7f454c46010201") + bytes(9)
+    header += struct.pack(">HHIIIIIHHHHHH", 2, 8, 1, 0x400000, 52, 0, 0, 52, 32, 1, 0, 0, 0)
+    segment = struct.pack(">8I", 1, 84, 0x400000, 0x400000, len(text), len(text), 5, 4)
+    return header + segment + text
+
+
+class Step:
+    """One command of a case, and what is expected of it."""
+
+    def __init__(self, line, words, is_program):
+        self.line = line
+        self.words = words
+        self.is_program = is_program
+        self.input = b""
+        self.output = b""
+        self.output_has = []
+        self.error_has = []
+        self.status = None
+        self.last = None
+        self.closed = set()
+        self.full = False
+        self.broken = False
+
+
+class Case:
+    """A name, and the actions that make files, run steps and look at files, in order."""
+
+    def __init__(self, path, line, name):
+        self.place = f"{os.path.relpath(path)}:{line}"
+        self.name = name
+        self.actions = []
+        self.longest = 0
+
+
+def repeated(value):
+    """What a `let` means: `"TEXT"`, `"TEXT" * N` with `#` for the number of each copy, or plain text up to the line's end."""
+    match = re.fullmatch(r'"((?:[^"\\]|\\.)*)"(?:\s*\*\s*(\d+))?', value)
+    if not match:
+        return value
+    text = unescaped(match.group(1)).decode("latin-1")
+    if match.group(2) is None:
+        return text
+    return "".join(text.replace("#", str(copy)) for copy in range(1, int(match.group(2)) + 1))
+
+
+class Reader:
+    """Reads the cases of one file."""
+
+    def __init__(self, path):
+        self.path = path
+        with open(path, encoding="utf-8") as file:
+            self.lines = file.read().split("\n")
+        self.at = 0
+        self.shared = {}
+        self.own = {}
+        self.cases = []
+        self.step = None
+
+    def block(self):
+        """The indented lines that follow, without their indentation and with names put in."""
+        lines = []
+        while self.at < len(self.lines) and self.lines[self.at].startswith("    "):
+            lines.append(self.lines[self.at][4:])
+            self.at += 1
+        return self.with_names("\n".join(lines))
+
+    def with_names(self, text):
+        names = {**self.shared, **self.own}
+        return re.sub(
+            r"\$(?:\{([A-Z][A-Z0-9_]*)\}|([A-Z][A-Z0-9_]*))",
+            lambda m: names.get(m.group(1) or m.group(2), m.group(0)),
+            text,
+        )
+
+    def read(self):
+        while self.at < len(self.lines):
+            line = self.lines[self.at]
+            self.at += 1
+            if line.strip() and not line.startswith("#"):
+                try:
+                    self.take(line)
+                except (BadCase, ValueError) as error:
+                    raise SystemExit(f"{self.path}:{self.at}: {error}")
+        return self.cases
+
+    def take(self, line):
+        word, _, rest = line.partition(" ")
+        rest = rest.strip()
+        if word == "==":
+            self.cases.append(Case(self.path, self.at, rest))
+            self.own = {}
+            self.step = None
+        elif word == "let":
+            name, _, value = rest.partition("=")
+            scope = self.own if self.cases else self.shared
+            scope[name.strip()] = repeated(value.strip()) or self.block()
+        elif not self.cases:
+            raise BadCase("a case begins with a line `== NAME`")
+        elif word in (">", "$"):
+            self.step = Step(self.at, shlex.split(self.with_names(rest)), word == ">")
+            self.cases[-1].actions.append(self.step)
+        elif word == "?":
+            self.check_text(rest)
+        elif word in FILES:
+            self.cases[-1].actions.append(FILES[word](self, rest))
+        elif self.step is None:
+            raise BadCase(f"`{word}` is no word of a case, or no command stands before it")
+        else:
+            self.expect(word, rest)
+
+    def check_text(self, rest):
+        """Makes a file of a text, and a step that checks it."""
+        said, bar, text = rest.partition("|")
+        if not bar:
+            raise BadCase("a text is checked by a line `? LINE | TEXT`")
+        content = unescaped(self.with_names(text.strip()))
+        self.step = Step(self.at, ["check", TEXT_FILE], True)
+        self.step.last = said.strip()
+        self.step.status = 0 if self.step.last == "done" else 2
+        self.cases[-1].actions += [made(self, TEXT_FILE, content), self.step]
+
+    def expect(self, word, rest):
+        step = self.step
+        if word == "in":
+            step.input = unescaped(self.with_names(rest))
+        elif word == "out":
+            step.output = unescaped(self.with_names(rest)) if rest else self.block().encode("latin-1") + b"\n"
+        elif word == "out-has":
+            step.output_has.append(unescaped(self.with_names(rest)))
+        elif word == "err-has":
+            step.error_has.append(unescaped(rest) if rest else self.block().encode("latin-1"))
+        elif word == "ends":
+            status, _, last = rest.partition(" ")
+            step.status, step.last = int(status), last
+        elif word == "closed":
+            step.closed.update(rest.split())
+        elif word == "full":
+            step.full = True
+        elif word == "broken":
+            step.broken = True
+        else:
+            raise BadCase(f"`{word}` is no word of a case")
+
+
+def made(reader, rest, content):
+    """An action that makes a file."""
+    path = rest
+    case = reader.cases[-1]
+    case.longest = max(case.longest, len(content))
+
+    def act(folder):
+        with open(os.path.join(folder, path), "wb") as file:
+            file.write(content)
+
+    return act
+
+
+def make_bytes(reader, rest):
+    path, _, text = rest.partition(" ")
+    return made(reader, path, unescaped(reader.with_names(text)))
+
+
+def changed(path, change):
+    """An action that changes the bytes of a file."""
+
+    def act(folder):
+        path_there = os.path.join(folder, path)
+        with open(path_there, "rb") as file:
+            content = file.read()
+        with open(path_there, "wb") as file:
+            file.write(change(content))
+
+    return act
+
+
+def make_patch(reader, rest):
+    path, offset, new = rest.split()
+    start, new = int(offset), bytes.fromhex(new)
+    return changed(path, lambda content: content[:start] + new + content[start + len(new):])
+
+
+def make_cut(reader, rest):
+    path, length = rest.split()
+    return changed(path, lambda content: content[: int(length)])
+
+
+def look_absent(reader, rest):
+    def act(folder):
+        if os.path.lexists(os.path.join(folder, rest)):
+            return f"the file {rest} is there, and should not be"
+
+    return act
+
+
+def look_holds(reader, rest):
+    path, _, text = rest.partition(" ")
+    wanted = unescaped(reader.with_names(text))
+
+    def act(folder):
+        try:
+            with open(os.path.join(folder, path), "rb") as file:
+                content = file.read()
+        except OSError as error:
+            return f"the file {path} cannot be read: {error}"
+        if content != wanted:
+            return f"the file {path}\n  wanted {suite.shown(wanted)}\n  is     {suite.shown(content)}"
+
+    return act
+
+
+# The words that make, change or look at a file, and what each does.
+FILES = {
+    "file": lambda reader, rest: made(reader, rest, reader.block().encode("latin-1")),
+    "bytes": make_bytes,
+    "hex": lambda reader, rest: made(reader, rest, bytes.fromhex(reader.block())),
+    "words": lambda reader, rest: made(reader, rest, image_of(reader.block().split())),
+    "folder": lambda reader, rest: lambda folder: os.mkdir(os.path.join(folder, rest)),
+    "patch": make_patch,
+    "cut": make_cut,
+    "absent": look_absent,
+    "holds": look_holds,
+}
+
+
+def run_step(step, folder, program):
+    """The status, standard output and standard error of a step."""
+    words = ([program] if step.is_program else []) + step.words
+    streams = [f"{number}>&-" for name, number in (("in", 0), ("out", 1), ("err", 2)) if name in step.closed]
+    if step.full:
+        streams.append("1>/dev/full")
+    shell = ["sh", "-c", 'exec "$@" ' + " ".join(streams), "sh"]
+    output = subprocess.PIPE
+    if step.broken:
+        reading, output = os.pipe()
+        os.close(reading)
+    try:
+        return subprocess.run(
+            shell + words,
+            cwd=folder,
+            input=step.input,
+            stdout=output,
+            stderr=subprocess.PIPE,
+            timeout=suite.SECONDS,
+            # another program may run this one, and find the files of the repository
+            env={**os.environ, "LC_ALL": "C", "CYCLONE": program, "ROOT": suite.ROOT},
+        )
+    finally:
+        if step.broken:
+            os.close(output)
+
+
+def faults_of_step(step, folder, program, act):
+    """What a step does otherwise than expected, in words."""
+    try:
+        done = act(step, folder, program)
+    except subprocess.TimeoutExpired:
+        return [f"took longer than {suite.SECONDS} seconds"]
+    faults = []
+
+    def want(what, wanted, got):
+        if wanted != got:
+            faults.append(suite.difference(what, wanted, got))
+
+    if step.status is not None:
+        wanted = f"{step.status} {step.last}".strip()
+        last = "" if "err" in step.closed else suite.last_line(done.stderr)
+        want("exit status and last line on standard error", wanted, f"{done.returncode} {last}".strip())
+    if not step.output_has:
+        want("standard output", step.output, done.stdout or b"")
+    for text in step.output_has:
+        if text not in done.stdout:
+            faults.append(f"standard output lacks {suite.shown(text)}\n  got    {suite.shown(done.stdout)}")
+    for text in step.error_has:
+        if text not in done.stderr:
+            faults.append(f"standard error lacks {suite.shown(text)}\n  got    {suite.shown(done.stderr)}")
+    return faults
+
+
+def faults_of(case, program, act=run_step):
+    """What a case does otherwise than expected, where `act` runs its steps."""
+    faults = []
+    with tempfile.TemporaryDirectory(prefix="cyclone-case-") as folder:
+        for action in case.actions:
+            if isinstance(action, Step):
+                name = "> " if action.is_program else "$ "
+                for fault in faults_of_step(action, folder, program, act):
+                    faults.append(f"line {action.line}: {name}{shlex.join(action.words)}\n{fault}")
+            else:
+                fault = action(folder)
+                if fault:
+                    faults.append(fault)
+    return faults
+
+
+def case_files(folder):
+    return sorted(os.path.join(folder, name) for name in os.listdir(folder) if name.endswith(".cases"))
+
+
+def main():
+    parser = suite.command_line(__doc__)
+    parser.add_argument("--whole", action="store_true")
+    parser.add_argument("--quick", action="store_true", help=f"leave out cases with a file of more than {LONG} bytes")
+    parser.add_argument("files", nargs="*")
+    options = parser.parse_args()
+    files = options.files or case_files(WHOLE if options.whole else CASES)
+    cases = [case for path in files for case in Reader(path).read()]
+    if options.quick:
+        short = [case for case in cases if case.longest <= LONG]
+        print(f"{len(cases) - len(short)} cases with long files are left out")
+        cases = short
+    program = suite.program_of(options, len(cases))
+    suite.try_each(cases, lambda case: f"{case.place}: {case.name}", lambda case: faults_of(case, program))
+
+
+if __name__ == "__main__":
+    main()

@@ -1,0 +1,482 @@
+#!/usr/bin/env python3
+"""Tries the tests' own tools: the suite's runner, on a stand-in for the program, passes and fails what it should; the table of what
+the gate costs, on looks at processes that are written here, has the sums worked by hand; wrong bodies are tried together where they may
+be, and what the prover says of them is judged as it should be; and the reference answers the cases of the whole language, in tests/whole, and those of the program that
+check texts, as they say.
+
+    python3 tests/runners/self_test.py [TEXTS.json]
+
+A file of texts with their verdicts, a list of objects with `text` and `expect`, is held against the reference too.
+"""
+import contextlib
+import json
+import os
+import subprocess
+import sys
+import tempfile
+
+import suite  # first: it says where the references and the generators are
+import gate_table
+import in_trees
+import reference
+import rules
+import run
+import wrong
+
+HERE = os.path.dirname(os.path.abspath(__file__))
+# The cases of the program that only check texts, and take little time.
+TEXT_CASES = ["flow", "parsing", "texts", "types"]
+
+STAND_IN = """#!/bin/sh
+case "$1" in
+say) printf '%s' "$2"; echo said >&2; exit 3;;
+echo) cat 2>/dev/null || exit 8; echo done >&2;;
+make) printf '%s' "$3" > "$2"; echo done >&2;;
+check) case "$(cat "$2")" in good*) echo done >&2;; *) echo 'fault 1 at 1:1' >&2; exit 2;; esac;;
+silent) exit 0;;
+*) echo 'first line' >&2; echo usage >&2; exit 9;;
+esac
+"""
+
+GOOD = r"""
+let TWICE = "ab" * 2
+let COUNTED = "x#," * 12
+let BYTES =
+    48 49
+
+== words, statuses and last lines
+> say hi
+out hi
+ends 3 said
+> nonsense
+err-has first line
+ends 9 usage
+> silent
+ends 0
+
+== input, escapes and names
+> echo
+in $TWICE\n\x21
+out abab\n!
+ends 0 done
+> echo
+in one\ntwo\n
+out
+    one
+    two
+ends 0 done
+
+== numbered copies
+> echo
+in $COUNTED
+out x1,x2,x3,x4,x5,x6,x7,x8,x9,x10,x11,x12,
+ends 0 done
+
+== files
+hex a.bin
+    $BYTES
+holds a.bin HI
+patch a.bin 1 4a
+cut a.bin 2
+holds a.bin HJ
+absent b.bin
+> make b.bin $TWICE
+ends 0 done
+holds b.bin abab
+words w.elf
+    0000000c
+$ wc -c w.elf
+out-has 88
+ends 0
+
+== texts that are checked
+let MORE = "1 | " * 2
+? done | good
+? done | good ${MORE}2 | 3
+? fault 1 at 1:1 |
+err-has fault
+? fault 1 at 1:1 | bad\n
+
+== streams
+> echo
+in x
+full
+ends 8
+> silent
+closed in out err
+ends 0
+"""
+
+# Each of these cases breaks one expectation.
+BAD = r"""
+== a wrong output
+> say hi
+out ho
+ends 3 said
+== a wrong status
+> say hi
+out hi
+ends 4 said
+== a wrong last line
+> nonsense
+ends 9 first line
+== a line where there should be none
+> nonsense
+ends 9
+== an output where there should be none
+> say hi
+ends 3 said
+== a text that is lacking
+> nonsense
+err-has third line
+ends 9 usage
+== a file that is there
+> make a x
+ends 0 done
+absent a
+== a file that holds something else
+bytes a x
+holds a y
+== a text that has no fault
+? fault 1 at 1:1 | good
+== a file that is not there
+holds a y
+"""
+
+
+def last_line_of_run(cases, folder):
+    path = os.path.join(folder, "x.cases")
+    with open(path, "w", encoding="utf-8") as file:
+        file.write(cases)
+    words = [sys.executable, os.path.join(HERE, "run.py"), "--program", os.path.join(folder, "stand_in"), path]
+    done = subprocess.run(words, capture_output=True, text=True)
+    return done.stdout.rstrip().split("\n")[-1], done.returncode, done.stdout + done.stderr
+
+
+# Three looks at a gate, a second apart: two checks of a crate side by side, with a helper; a wrong body; a proof that ends, and
+# another whose parent has ended; and a check of somebody else.
+LOOKS = """\
+100 1 5 0.2 python3 /usr/local/bin/rt ci
+101 100 10 3.0 /opt/bin/rattle build --crate-name low src/lib.rt -o /x/low.rlib
+102 101 11 1.0 /opt/bin/rattle build --crate-name low src/lib.rt -o /x/low.rlib
+103 100 12 2.0 /opt/bin/rattle build --crate-name low src/lib.rt --test -o out/low_tests.o
+900 1 13 50.0 /opt/bin/rattle check --crate-name low src/lib.rt
+
+100 1 5 0.2 python3 /usr/local/bin/rt ci
+103 100 12 4.0 /opt/bin/rattle build --crate-name low src/lib.rt --test -o out/low_tests.o
+104 100 20 1.0 /opt/bin/rattle check --crate-name low src/lib.rt --incremental /tmp/kept
+105 100 21 0.1 setpriv --reuid=65534 true
+106 105 22 7.0 /opt/bin/rattle check --crate-name top src/main.rt -o /x/checked
+
+100 1 5 0.2 python3 /usr/local/bin/rt ci
+101 100 30 1.0 /opt/bin/rattle check --crate-name low src/lib.rt --incremental /tmp/kept
+106 1 22 9.0 /opt/bin/rattle check --crate-name top src/main.rt -o /x/checked"""
+
+COSTS = """\
+| | Proof | Tests | Wrong bodies | All |
+|---|---|---|---|---|
+| `low` | 4 (1) | 4 (2) | 2 (2) | 10 |
+| `top` | 9 (2) | - | - | 9 |
+| all crates | 13 (3) | 4 (2) | 2 (2) | 19 |
+| proofs, the rest | - | - | - | 1 |
+| suite | - | - | - | 40 |
+
+Seconds of processors, and in brackets those on the clock while such a check ran.
+The whole gate: 1.0 processor minutes in 0.5 minutes, on 4 processors, 2026-01-01."""
+
+
+def is_table_right():
+    account = gate_table.Account(100)
+    for look in LOOKS.split("\n\n"):
+        account.take([gate_table.process_of(line) for line in look.split("\n")], 1.0)
+    wholes = [
+        {"name": "proofs", "processors": 20.0, "clock": 20.0, "checks": account.rows()},
+        {"name": "suite", "processors": 40.0, "clock": 10.0, "checks": []},
+    ]
+    lines = "\n".join(gate_table.table(wholes, 4, "2026-01-01"))
+    if lines != COSTS:
+        print(f"the table of costs is\n{lines}\nand should be\n{COSTS}")
+    return lines == COSTS
+
+
+# Files of a crate whose bodies are told apart, and what each of these cases is tried with.
+SOURCE = """\
+/// Half of a number.
+pub fn half(n: u32) -> u32
+    ensures { result ≡ n / 2 }
+{
+    part(n, 2)
+}
+
+pub trait Parted {
+    /// It has no body here.
+    fn parts(&self) -> u32
+        ensures { result ≡ count self.now };
+
+    fn more(&self) -> u32 {
+        self.parts() + 1
+    }
+}
+
+fn part(n: u32, of: u32) -> u32
+    requires { 0 < of }
+    ensures { result ≡ n / of }
+{
+    let found = n / of;
+    found
+}
+
+const THIRD: u32 = 3;
+
+fn third(n: u32) -> u32 {
+    n / THIRD
+}
+"""
+
+TURNS = """\
+== half_is_a_third
+tests: half
+file: src/lib.rt
+old: part(n, 2)
+new: part(n, 3)
+refused: half
+
+== part_is_one_more
+tests: part
+file: src/lib.rt
+old:     let found = n / of;
+old:     found
+new:     let more = n / of;
+new:     more + 1
+refused: part
+
+== third_is_a_fourth
+tests: third
+file: src/lib.rt
+old: THIRD: u32 = 3
+new: THIRD: u32 = 4
+refused: third
+
+== third_is_one_more
+tests: third
+file: src/lib.rt
+old: n / THIRD
+new: n / THIRD + 1
+file: proofs/third/Answers.antt
+old: a
+new: b
+refused: third
+
+== more_is_two_more
+tests: more
+file: src/lib.rt
+old: self.parts() + 1
+new: self.parts() + 2
+refused: Parted::more
+
+== more_is_the_same
+tests: more
+file: src/lib.rt
+old: self.parts() + 1
+new: self.parts()
+refused: Parted::more
+"""
+
+# The cases that are tried together, and whether each turns the body of its function alone. `half` calls `part`, and a constant is no body.
+ROUNDS = [
+    [("half_is_a_third", True), ("third_is_one_more", True), ("more_is_two_more", True)],
+    [("part_is_one_more", True), ("more_is_the_same", True)],
+    [("third_is_a_fourth", False)],
+]
+
+
+def are_rounds_right(folder):
+    """Whether cases are told apart that change what another one's proof rests on."""
+    source = os.path.join(folder, "crates", "low", "src", "lib.rt")
+    os.makedirs(os.path.dirname(source))
+    paths = {source: SOURCE, os.path.join(folder, "low.cases"): TURNS}
+    for path, text in paths.items():
+        with open(path, "w", encoding="utf-8") as file:
+            file.write(text)
+    crates = os.path.join(folder, "crates")
+    cases = wrong.cases_in(os.path.join(folder, "low.cases"))
+    rounds = wrong.rounds_of(cases, wrong.Bodies(crates, "low"), False)
+    got = [[(case.name, turned is not None) for case, turned in together] for together in rounds]
+    alone = [len(together) for together in wrong.rounds_of(cases, wrong.Bodies(crates, "low"), True)]
+    if got != ROUNDS or alone != [1] * len(cases):
+        print(suite.difference("rounds of cases", ROUNDS, got))
+    return got == ROUNDS and alone == [1] * len(cases)
+
+
+# What the prover says of a wrong body of `a::f` in the crate `mid`, and of a definition of `low` for a law of `mid`: its status, the lines
+# of its answer, and what is wrong with that.
+GOAL = "note: src/a.rt:9:1: it is not proved that what the function ensures holds when it returns (`returns`)"
+FALSE_GOAL = f"{GOAL}; the facts known there allow values at which this goal is false"
+LEFT = "fn mid::a::f: no proof: expected answers in ./proofs/a/f/Answers.antt; `search` did not prove `returns`"
+REFUSED = "fn mid::a::f: not proved"
+NONE, SOME = "only=1 proved=0", "only=2 proved=1"
+TYPES = "expected type `A`, but this has type `B`"
+GONE = "./proofs/a/f/Answers.antt:5:3: error: `returns`: `goal.returns`: module `Goals` has no `returns` that can be named from here"
+ANSWERS_TO_BODIES = [
+    (1, [GOAL, LEFT, NONE], None),
+    (1, [f"./proofs/a/f/Answers.antt:5:3: error: `returns`: {TYPES}", REFUSED, NONE], None),
+    (1, [FALSE_GOAL, GONE, REFUSED, NONE], None),
+    (0, ["fn mid::a::f: proved", "only=1 proved=1"], "not refused by a"),
+    (1, ["fn mid::a::f: proved", "fn mid::b::f: not proved", SOME], "not refused by a"),
+    (1, [GONE, GOAL, REFUSED, NONE], "refused by a"),
+    (1, [GOAL, "fn mid::b::g: not proved", "fn mid::a::f: no proof: it calls `mid::b::g`, which is not proved", SOME], "not refused by a"),
+    (1, [GOAL, f"{LEFT}; it calls `mid::b::g`, which is not proved", NONE], None),
+    (1, [f"./proofs/b/g/Answers.antt:5:3: error: `returns`: {TYPES}", REFUSED, NONE], "refused by a"),
+    (1, [f"./proofs/Lemmas.antt:5:3: error: `lemma`: {TYPES}", REFUSED, NONE], "refused by a"),
+    (1, ["src/a.rt:9:1: error[E0308]: mismatched types"], "it cannot be read"),
+    (1, ["./src/a.rt:9:1: error: `g` is not in scope", REFUSED, NONE], "it cannot be read"),
+    (1, [GOAL, "fn mid::b::g: not proved", NONE], "the prover says nothing of a"),
+    (1, [GOAL, LEFT], "the prover gave no answer"),
+    (3, ["fn mid::a::f: could not tell", NONE], "the prover gave no answer"),
+    (2, ["rattle: a::f fits no function"], "the prover gave no answer"),
+]
+LAW = "fn mid::a::f: not proved"
+ANSWERS_TO_DEFINITIONS = [
+    (1, [f"./proofs/Calls.antt:1:1: error: `call`: {TYPES}", LAW, NONE], None),
+    (1, ["../between/proofs/Kept.antt:1:1: error: `kept`: as printed, the two types differ", LAW, NONE], None),
+    (1, [GOAL, "fn mid::b::g: no proof: expected answers", LAW, NONE], None),
+    (0, ["fn mid::a::f: proved", "only=1 proved=1"], "not refused by a"),
+    (1, ["../low/specs/Rules.antt:1:1: error: `f` is not in scope", f"./proofs/Calls.antt:1:1: error: `call`: {TYPES}", LAW, NONE], "it cannot be read"),
+    (1, ["./src/laws.rt:1:1: error: the clause cannot be read", LAW, NONE], "it cannot be read"),
+    (
+        1,
+        [f"../low/proofs/Well.antt:1:1: error: `well`: {TYPES}",
+         "./proofs/Whole.antt:1:1: error: 8 declarations that depend on `well`, which was not admitted, were not checked: a", LAW, NONE],
+        "refused by a",
+    ),
+    (1, ["./proofs/Calls.antt:1:1: error: `call` is not admitted: rejected", LAW, NONE], "refused by a"),
+    (1, ["./proofs/Calls.antt:1:1: error: `call`: `g` is not in scope", LAW, NONE], "refused by a"),
+    (3, ["./proofs/Calls.antt:1:1: error: `call`: out of memory"], "the prover gave no answer"),
+]
+
+
+def case_on(path):
+    """A case of the crate `mid` that changes a file."""
+    case = wrong.Case("mid", "case")
+    for word, text in (("file", path), ("old", "a"), ("new", "b"), ("refused", "a::f")):
+        case.read(word, text)
+    return case
+
+
+def is_judge_right():
+    """Whether what the prover says of wrong bodies and definitions is judged as it should be."""
+    right = True
+    body = wrong.Body("a::f", "a/f", "mid/src/a.rt", 1, 2, frozenset())
+    for path, turned, answers in (("src/a.rt", body, ANSWERS_TO_BODIES), ("../low/specs/Rules.antt", None, ANSWERS_TO_DEFINITIONS)):
+        for status, said, wanted in answers:
+            answer = wrong.Answer(status, "\n".join(said), "mid", "/crates")
+            got = wrong.judged(case_on(path), turned, answer, ["low", "between", "mid"])
+            if (got or "").partition(":")[0] != (wanted or ""):
+                print(suite.difference(said[0], wanted, got))
+                right = False
+    return right
+
+
+# What the prover says of a wrong rule, as its status and the lines of its answer, and what is wrong with that.
+NO_RULE = "only=1 proved=0"
+PROVERS_ANSWERS = [
+    (1, ["./proofs/Calls.antt:1:1: error: `call`: expected type `A`, but this has type `B`", NO_RULE], None),
+    (1, ["/crates/cyc_guard/proofs/Kept.antt:1:1: error: `kept`: as printed, the two types differ", NO_RULE], None),
+    (0, ["only=1 proved=1"], "not refused"),
+    (1, ["/crates/cyc_types/specs/Rules.antt:1:1: error: `f` is not in scope", "./proofs/Calls.antt:1:1: error: `call`: a type", NO_RULE], "it is no rule"),
+    (1, ["./src/laws.rt:1:1: error: the clause cannot be read", NO_RULE], "it is no rule"),
+    (
+        1,
+        ["/crates/cyc_types/proofs/Well.antt:1:1: error: `well`: a type",
+         "./proofs/Whole.antt:1:1: error: 8 declarations that depend on `well`, which was not admitted, were not checked: a", NO_RULE],
+        "refused, but by no proof about runs",
+    ),
+    (1, ["./proofs/Calls.antt:1:1: error: `call` is not admitted: rejected", NO_RULE], "refused, but by no proof about runs"),
+    (3, ["./proofs/Calls.antt:1:1: error: `call`: out of memory"], "the prover gave no answer"),
+]
+
+
+def is_judge_of_rules_right():
+    """Whether what the prover says of wrong rules is judged as it should be."""
+    right = True
+    for status, said, wanted in PROVERS_ANSWERS:
+        got = rules.judged(status, "\n".join(said), "/crates")
+        if (got or "").partition(":")[0] != (wanted or ""):
+            print(suite.difference(said[0], wanted, got))
+            right = False
+    return right
+
+
+def are_promises_told():
+    """Whether the document says of each wrong body what it would break."""
+    told = wrong.has_promises()
+    if not told:
+        print("the table of wrong bodies in docs/GUARANTEES.md is not that of the cases: python3 tests/runners/wrong.py --write makes it so")
+    return told
+
+
+def is_runner_right(folder):
+    program = os.path.join(folder, "stand_in")
+    with open(program, "w", encoding="utf-8") as file:
+        file.write(STAND_IN)
+    os.chmod(program, 0o755)
+    is_right = True
+    for cases, wanted in ((GOOD, ("6 passed, 0 failed", 0)), (BAD, ("0 passed, 10 failed", 1))):
+        line, status, all_of_it = last_line_of_run(cases, folder)
+        if (line, status) != wanted:
+            print(f"the runner said {line!r} with status {status} and should have said {wanted}:\n{all_of_it}")
+            is_right = False
+    return is_right
+
+
+def answered(step, folder, _):
+    """What the reference says, in this process, where the program would be run."""
+    with contextlib.chdir(folder):
+        output, line, status = reference.answer(step.words, lambda: step.input)
+    return subprocess.CompletedProcess(step.words, status, output, (line + "\n").encode("latin-1"))
+
+
+def is_case_right(case):
+    faults = run.faults_of(case, "the reference", answered)
+    for fault in faults:
+        print(f"{case.place}: {case.name}\n{fault}")
+    return not faults
+
+
+def is_text_right(case):
+    """Whether the reference refuses a text as it should, with the limits of an image too."""
+    try:
+        reference.Program(case["text"]).hold_to_sizes()
+        verdict = "done"
+    except reference.Refused as refused:
+        verdict = str(refused)
+    if verdict != case["expect"]:
+        print(suite.difference(suite.shown(case["text"]), case["expect"], verdict))
+    return verdict == case["expect"]
+
+
+def is_program_right(head, text):
+    """Whether the reference refuses a program as its head says, and runs it to this end where it leaves out the rules of that code."""
+    refusal, code = in_trees.refusal_of(head)
+    wanted, got = (refusal, head[1]), (reference.verdict(text), in_trees.run_of(text, code))
+    if got != wanted:
+        print(suite.difference(head[0], wanted, got))
+    return got == wanted
+
+
+def main():
+    files = run.case_files(run.WHOLE) + [os.path.join(run.CASES, name + ".cases") for name in TEXT_CASES]
+    cases = [case for path in files for case in run.Reader(path).read()]
+    texts = []
+    if len(sys.argv) > 1:
+        with open(sys.argv[1], encoding="utf-8") as file:
+            texts = json.load(file)
+    with tempfile.TemporaryDirectory() as folder:
+        right = [is_runner_right(folder), is_table_right(), are_rounds_right(folder), is_judge_right(), is_judge_of_rules_right(), are_promises_told()]
+    right += reference.with_room(lambda: [is_case_right(case) for case in cases] + [is_text_right(case) for case in texts])
+    right += reference.with_room(lambda: [is_program_right(*one) for name in ("accepted", "refused") for one in in_trees.programs_in(name)])
+    suite.end(right.count(True), right.count(False))
+
+
+if __name__ == "__main__":
+    main()

@@ -1,0 +1,650 @@
+#!/usr/bin/env python3
+"""Wrong bodies of functions and wrong definitions, each refused by the proof of a function or a law.
+
+    python3 tests/runners/wrong.py [CRATE ..] [--only NAME ..]
+
+`wrong/CRATE.cases` has those that a proof of the crate must refuse: what each puts in the place of what, and the functions or laws
+whose proofs these are. First the functions are proved as they stand, so that a case that no check reads fails. Then the prover is asked
+for them with the case in its place, and for nothing else: what it would refuse elsewhere does not count. A case that it cannot read, or
+one that only takes away a name which a proof has, fails too, since no contract was tried.
+
+Of the crates below, the libraries are taken that `rt ci` leaves in `crates/NAME/out`. Where a case changes a file of another crate, that
+crate and those between are taken as they are written, and what refuses it must be a proof of a crate that it does not change.
+
+Wrong bodies of functions that do not call each other are tried together, since a proof rests on no other function's body. What is not
+refused so is tried once more alone; with `--alone` each is. Before the last line, `N passed, M failed`, stands what it took.
+"""
+import argparse
+import collections
+import os
+import re
+import shutil
+import subprocess
+import sys
+import tempfile
+from concurrent.futures import FIRST_COMPLETED, ThreadPoolExecutor, wait
+
+import suite  # first: it says where the references and the generators are
+import in_trees
+
+CASES = os.path.join(suite.TESTS, "wrong")
+PARTS = ("src", "specs", "proofs")
+LANES = max(1, len(os.sched_getaffinity(0)) // 2)
+
+
+def stands_on(root):
+    """The crates, each with the names of what it stands on."""
+    found = {}
+    with open(os.path.join(root, "crates.txt"), encoding="utf-8") as file:
+        for line in file:
+            head, colon, names = line.partition("#")[0].partition(":")
+            if colon:
+                found[head.split()[0]] = names.split()
+    return found
+
+
+def in_order(crate, graph):
+    """The crates that a crate stands on, each behind those that it stands on itself, and the crate last."""
+    found = []
+
+    def visit(it):
+        for below in graph[it]:
+            if below in graph and below not in found:
+                visit(below)
+        found.append(it)
+
+    visit(crate)
+    return found
+
+
+# ---- cases
+
+
+class Edit:
+    """What a case puts in the place of what, in a file by its path from the folder of the crates."""
+
+    def __init__(self, path):
+        self.path = path
+        self.old = []
+        self.new = []
+
+
+class Case:
+    """A wrong body or a wrong definition."""
+
+    def __init__(self, crate, name):
+        self.crate = crate
+        self.name = name
+        self.path = None
+        self.edits = []
+        # the functions or laws whose proofs must be refused, the programs that it is said to let through, and the promise that it tests
+        self.refused = []
+        self.lets = []
+        self.tests = None
+
+    def read(self, word, text):
+        """Reads a line of it."""
+        if word == "file":
+            self.path = os.path.normpath(os.path.join(self.crate, text))
+        elif word == "old":
+            if not self.edits or self.edits[-1].new or self.edits[-1].path != self.path:
+                self.edits.append(Edit(self.path))
+            self.edits[-1].old.append(text)
+        elif word == "new":
+            self.edits[-1].new.append(text)
+        elif word == "refused":
+            self.refused += text.split()
+        elif word == "lets":
+            self.lets += text.split()
+        elif word == "tests":
+            self.tests = text
+        else:
+            raise ValueError(f"{self.crate}, {self.name}: a line that begins with {word}")
+
+    def changed(self):
+        """The crates whose files it changes."""
+        return {it.path.split(os.sep)[0] for it in self.edits}
+
+    def texts(self, crates, others):
+        """The texts that it makes of files in a folder of crates, by their paths, where others have made these of them. Each text that it
+        replaces stands there once."""
+        found = dict(others)
+        for edit in self.edits:
+            if edit.path not in found:
+                with open(os.path.join(crates, edit.path), encoding="utf-8") as file:
+                    found[edit.path] = file.read()
+            old = "\n".join(edit.old)
+            if found[edit.path].count(old) != 1:
+                raise ValueError(f"{edit.path} has {found[edit.path].count(old)} times: {old}")
+            found[edit.path] = found[edit.path].replace(old, "\n".join(edit.new))
+        return found
+
+
+def cases_in(path):
+    """The cases of a file, which is named by its crate."""
+    crate = os.path.basename(path).removesuffix(".cases")
+    found = []
+    with open(path, encoding="utf-8") as file:
+        for line in file:
+            line = line.rstrip("\n")
+            if line.startswith("== "):
+                found.append(Case(crate, line[3:]))
+            elif line and not line.startswith("#"):
+                word, _, text = line.partition(":")
+                found[-1].read(word, text[1:])
+    for case in found:
+        if not (case.edits and case.refused and case.tests):
+            raise ValueError(f"{crate}, {case.name}: it changes nothing, or does not say what is refused or what it tests")
+    return found
+
+
+def all_cases():
+    """The cases of all crates, in the order of the pipeline."""
+    paths = [os.path.join(CASES, f"{crate}.cases") for crate in stands_on(suite.ROOT)]
+    return [case for path in paths if os.path.exists(path) for case in cases_in(path)]
+
+
+def promises(cases):
+    """The lines of the table in `docs/GUARANTEES.md`, of wrong bodies and the promises that they test."""
+    lines = ["| Wrong body | Crate | What it would break |", "|---|---|---|"]
+    return lines + [f"| {case.name.replace('_', ' ')} | `{case.crate}` | {case.tests} |" for case in cases]
+
+
+GUARANTEES = os.path.join(suite.ROOT, "docs", "GUARANTEES.md")
+TABLE = re.compile(r"(?<=\n\n)\| Wrong body \| .*?(?=\n\n|\n?\Z)", re.DOTALL)
+
+
+def has_promises():
+    """Whether the table is that of the cases."""
+    with open(GUARANTEES, encoding="utf-8") as file:
+        return TABLE.findall(file.read()) == ["\n".join(promises(all_cases()))]
+
+
+def write_promises():
+    """Makes the table of the cases."""
+    with open(GUARANTEES, encoding="utf-8") as file:
+        text = file.read()
+    with open(GUARANTEES, "w", encoding="utf-8") as file:
+        file.write(TABLE.sub(lambda _: "\n".join(promises(all_cases())), text))
+
+
+# ---- functions, and which wrong bodies are tried together
+
+HEAD = re.compile(r"( *)(?:pub(?:\(\w+\))? )?(?:(?:const|final|unsafe|ghost) )*fn (\w+)")
+OWNER = re.compile(r"(?:pub(?:\(\w+\))? |unsafe )*(?:trait (?P<trait>\w+)|impl (?:(?P<of>[\w:]+) for )?(?P<type>\w+))")
+TYPE = re.compile(r"(?:pub(?:\(\w+\))? )?(?:struct|enum|union) (\w+)")
+CYCLE = re.compile(r" *#\[cycle\((\w+)\)\]")
+
+# A function with a body: its path in the crate, the folder of its proof in `proofs`, its file, the numbers of the body's first line and of
+# the one behind it, and the words in it.
+Body = collections.namedtuple("Body", "function proof path first behind words")
+
+
+def opening(lines, head, indent):
+    """The line in which the body of a function opens: the last one of its head, or one of its own behind the clauses. None where it has
+    no body, or one with nothing in it."""
+    for at in range(head, len(lines)):
+        if at > head and HEAD.match(lines[at]) or lines[at].endswith("{}"):
+            return None
+        if lines[at].endswith("{") and re.match(indent + "[^ /]", lines[at]):
+            return at
+    return None
+
+
+def without_parameters(text):
+    """A head without what stands in angle brackets."""
+    while "<" in text:
+        shorter = re.sub(r"<[^<>]*>", "", text.replace("->", ""))
+        if shorter == text:
+            break
+        text = shorter
+    return text
+
+
+def steps_to(path):
+    """The path in the crate of a file's module, by the file's path from the folder of the crates."""
+    steps = path.removesuffix(".rt").split(os.sep)[2:]
+    return steps[:-1] if steps[-1] in ("lib", "main", "mod") else steps
+
+
+def types_in(path, text):
+    """The types of a file, each with the path of its module."""
+    return {it[1]: steps_to(path) for it in map(TYPE.match, text.split("\n")) if it}
+
+
+def bodies_in(path, text, types):
+    """The bodies of a file's functions. The file is laid out as `rt fmt` does. Methods stand where their type does, in one of these
+    modules."""
+    lines, found = text.split("\n"), []
+    types = types | types_in(path, text)
+    owner, cycle = [], None
+    for at, line in enumerate(lines):
+        it = OWNER.match(without_parameters(line))
+        if it:
+            home = types.get(it["type"], steps_to(path))
+            owner = [*home, it["trait"] or it["type"] + (it["of"] or "").split("::")[-1]]
+        cycle = CYCLE.match(line) or cycle
+        head = HEAD.match(line)
+        if not head:
+            continue
+        above = owner if head[1] else steps_to(path)
+        proof = os.path.join(*above, f"+{cycle[1]}" if cycle else head[2])
+        opens = opening(lines, at, head[1])
+        if opens is not None:
+            closes = lines.index(head[1] + "}", opens)
+            words = frozenset(re.findall(r"\w+", "\n".join(lines[opens + 1:closes])))
+            found.append(Body("::".join([*above, head[2]]), proof, path, opens + 1, closes, words))
+        cycle = None
+    return found
+
+
+class Bodies:
+    """The bodies of a crate's functions."""
+
+    def __init__(self, crates, crate):
+        self.crates = crates
+        texts = {}
+        for folder, _, names in os.walk(os.path.join(crates, crate, "src")):
+            for path in (os.path.join(folder, name) for name in names):
+                with open(path, encoding="utf-8") as file:
+                    texts[os.path.relpath(path, crates)] = file.read()
+        types = {name: steps for path, text in texts.items() for name, steps in types_in(path, text).items()}
+        self.all = [self.settled(body, crate) for path, text in texts.items() for body in bodies_in(path, text, types)]
+        self.words = collections.defaultdict(set)
+        for it in self.all:
+            self.words[it.function.split("::")[-1]] |= it.words
+
+    def settled(self, body, crate):
+        """The body with the folder of its proof, which is named as a cycle's where the function calls itself."""
+        above, name = os.path.split(body.proof)
+        own = os.path.join(above, f"+{name}")
+        return body._replace(proof=own) if os.path.isdir(os.path.join(self.crates, crate, "proofs", own)) else body
+
+    def proofs_beside(self, functions):
+        """The folders in `proofs` of all functions but these and those of their cycles."""
+        return {it.proof for it in self.all} - {it.proof for it in self.all if it.function in functions}
+
+    def turned_by(self, case):
+        """The function that must be refused, where a case changes its body, and maybe what its proof has of it, and nothing else; or None."""
+        own = next((it for it in self.all if [it.function] == case.refused), None)
+        if not own:
+            return None
+        proof = os.path.join(case.crate, "proofs", own.proof, "")
+        around = {self.around(it) for it in case.edits if not it.path.startswith(proof)}
+        return own if around == {own} else None
+
+    def around(self, edit):
+        """The function whose body an edit changes, or None."""
+        with open(os.path.join(self.crates, edit.path), encoding="utf-8") as file:
+            first = file.read().partition("\n".join(edit.old))[0].count("\n")
+        is_in = lambda it: it.path == edit.path and it.first <= first and first + len(edit.old) <= it.behind
+        return next(filter(is_in, self.all), None)
+
+    def reached_from(self, function):
+        """The names of the functions that one may call, in turn too, as far as words in bodies tell."""
+        found, left = set(), [function.split("::")[-1]]
+        while left:
+            new = (self.words[left.pop()] & self.words.keys()) - found
+            found |= new
+            left += new
+        return found
+
+
+def rounds_of(cases, bodies, is_alone):
+    """The cases that are tried together, list by list: none changes what another's proof rests on. With each stands the function whose
+    body alone it changes, or None."""
+    rounds, others = [], []
+    for case in cases:
+        turned = bodies.turned_by(case)
+        if not turned or is_alone:
+            others.append([(case, turned)])
+            continue
+        name, reached = turned.function.split("::")[-1], bodies.reached_from(turned.function)
+        for names, together in rounds:
+            if name not in names and not any(it in reached or name in names[it] for it in names):
+                names[name] = reached
+                together.append((case, turned))
+                break
+        else:
+            rounds.append(({name: reached}, [(case, turned)]))
+    return [together for _, together in rounds] + others
+
+
+# ---- what the prover says
+
+ERROR = re.compile(r"(\S+?\.(?:antt|rt)):\d+:\d+: error(\[[\w-]+\])?: (.*)")
+GOAL = re.compile(r"note: \S+\.rt:\d+:\d+: it is not proved that ")
+COUNTS = re.compile(r"only=\d+ proved=\d+")
+# What is said of a function whose own proof holds, where one that it calls has none.
+RESTS = re.compile(r"no proof: it calls [^;]*, which (is|are) not proved")
+# What a note says of a goal that does not hold.
+IS_FALSE = "the facts known there allow values at which this goal is false"
+# Errors that say no more than that another declaration was refused.
+FOLLOWS = re.compile(r"is not admitted|not admitted, (was|were) not checked|depends? on .* (was|were) not checked")
+# Errors of a text that names what is not there, or is no text of the language.
+UNREAD = re.compile(r"is not in scope|has no field|has no `|is no name|operand is missing|expected the end|cannot continue")
+
+Error = collections.namedtuple("Error", "path code text")
+
+
+class Answer:
+    """What the prover says of functions of a crate. Paths are from the folder of the crates."""
+
+    def __init__(self, status, said, crate, crates):
+        self.status = status
+        self.lines = said.rstrip("\n").split("\n")
+        self.errors = []
+        # of each function by its name what its line says, and the notes of goals that stand before that line
+        self.functions = {}
+        goals = []
+        for line in self.lines:
+            error = ERROR.match(line)
+            if error:
+                path = os.path.relpath(os.path.normpath(os.path.join(crates, crate, error[1])), crates)
+                self.errors.append(Error(path, error[2], error[3]))
+            elif GOAL.match(line):
+                goals.append(line)
+            elif line.startswith("fn "):
+                name, _, text = line[3:].partition(": ")
+                self.functions[name] = text, goals
+                goals = []
+
+    def fault(self, changed):
+        """What is wrong with it as a whole, or None: whether what was asked can be read, with the files that are changed."""
+        for it in self.errors:
+            is_proof = it.path.split(os.sep)[1:2] == ["proofs"]
+            if it.code or not is_proof and not FOLLOWS.search(it.text) or it.path in changed and UNREAD.search(it.text):
+                return f"it cannot be read: {it.path}: {it.text}"
+        if self.status not in (0, 1) or not any(map(COUNTS.fullmatch, self.lines)):
+            return "the prover gave no answer: " + " ".join(self.lines)[-300:]
+        return None
+
+    def of(self, crate, function):
+        """What it says of a function, by its path in the crate, and the notes of its goals."""
+        return self.functions.get(f"{crate}::{function}", (None, []))
+
+    def holds(self, crate, function):
+        """Whether the function's own proof holds, whatever is known of those that it calls."""
+        said, goals = self.of(crate, function)
+        return bool(said == "proved" or said and RESTS.fullmatch(said) and not goals)
+
+
+def judged(case, turned, answer, between=()):
+    """What the prover's answer to a case comes to: None where each proof is refused, and else what is wrong. `turned` is the function
+    whose body alone it changes, or None, and `between` are the crates from those that it changes up to its own."""
+    fault = answer.fault({it.path for it in case.edits})
+    if fault:
+        return fault
+    for function in case.refused:
+        fault = fault or judged_of(case, function, turned, answer, between)
+    return fault
+
+
+def judged_of(case, function, turned, answer, between):
+    """What the answer to a case comes to for one function.
+
+    A wrong body is refused by an error in the function's own proof, or by a goal that is left there; a wrong definition by one in what the
+    proof rests on, but not in a crate that is not its own and that it changes: such proofs say how the definitions hang together."""
+    said, goals = answer.of(case.crate, function)
+    if said is None:
+        return f"the prover says nothing of {function}"
+    if answer.holds(case.crate, function):
+        return f"not refused by {function}"
+    if said.startswith("could not tell"):
+        return f"the prover gave no answer: {function}: {said}"
+    if turned:
+        folders = [os.path.join(case.crate, "proofs", turned.proof, "")]
+    else:
+        folders = [os.path.join(it, "proofs", "") for it in between if it == case.crate or it not in case.changed()]
+        goals = [goal for _, several in answer.functions.values() for goal in several]
+    errors = [it for it in answer.errors if it.path.startswith(tuple(folders)) and not FOLLOWS.search(it.text)]
+    unread = [it for it in errors if UNREAD.search(it.text)]
+    if len(unread) < len(errors) or any(IS_FALSE in it or not unread for it in goals):
+        return None
+    if unread:
+        return f"refused by {function}, but only since a proof names what it takes away: {unread[0].path}: {unread[0].text}"
+    return f"refused by {function}, but by nothing of its own: {said}"
+
+
+# ---- the prover's runs
+
+# Where the prover and its libraries are, the crates, what each stands on, a folder with the libraries that are built of them, and one for
+# what is made here.
+Settings = collections.namedtuple("Settings", "kit crates graph built room")
+
+
+class Group:
+    """Cases of a crate that change files of the same other crates: these and those between are taken as they are written."""
+
+    def __init__(self, crate, others, settings):
+        self.crate = crate
+        self.settings = settings
+        self.order = in_order(crate, settings.graph)
+        self.written = [it for it in self.order if it == crate or others & set(in_order(it, settings.graph))]
+        self.bodies = Bodies(settings.crates, crate)
+        self.cases = []
+        self.seed = os.path.join(settings.room, "-".join([crate, *sorted(others)]))
+
+    def library(self, crate):
+        return os.path.join(self.settings.built, crate, "out", "rlib", f"{crate}.rlib")
+
+    def missing(self):
+        """The crates whose libraries it needs and that are not built."""
+        return [it for it in self.order if it not in self.written and not os.path.exists(os.path.join(self.library(it), "format"))]
+
+    def size(self):
+        """How much there is to prove, about: the bytes of its sources."""
+        folders = [os.path.join(self.settings.crates, name, part) for name in self.written for part in PARTS]
+        return sum(os.path.getsize(os.path.join(at, name)) for folder in folders for at, _, names in os.walk(folder) for name in names)
+
+    def fill(self, folder, texts):
+        """Makes a folder of crates that has those which are taken as they are written, with these texts in place of theirs. The proofs of
+        functions that no case names are left out: a proof rests on what the others promise, and `rt ci` has proved that."""
+        for name in self.written:
+            for part in PARTS:
+                there = os.path.join(self.settings.crates, name, part)
+                if os.path.isdir(there):
+                    shutil.copytree(there, os.path.join(folder, name, part))
+        for proof in self.bodies.proofs_beside({it for case in self.cases for it in case.refused}):
+            there = os.path.join(folder, self.crate, "proofs", proof)
+            os.makedirs(there, exist_ok=True)
+            for name in ("Answers.antt", "Invariants.antt"):
+                if os.path.exists(os.path.join(there, name)):
+                    os.remove(os.path.join(there, name))
+            with open(os.path.join(there, "Proof.antt"), "w", encoding="utf-8") as file:
+                file.write("-- It is left out.\n")
+        for path, text in texts.items():
+            with open(os.path.join(folder, path), "w", encoding="utf-8") as file:
+                file.write(text)
+
+    def words(self, crates, kept, functions):
+        """The prover's words for these functions."""
+        kit, graph = self.settings.kit, self.settings.graph
+        root = next(it for it in ("src/main.rt", "src/lib.rt") if os.path.exists(os.path.join(crates, self.crate, it)))
+        words = [f"{kit}/bin/rattle", "check", "--crate-name", self.crate, root, "-L", f"dependency={kit}/rlibs"]
+        used = {it for name in self.written for it in graph[name]}
+        for it in sorted({"core", "std"} | used - graph.keys()):
+            words += ["--extern", f"{it}={kit}/rlibs/{it}.rlib"]
+        for it in self.order[:-1]:
+            if it in self.written:
+                words += ["--lib", f"{it}:{','.join(['core', 'std', *graph[it]])}={crates}/{it}/src/lib.rt"]
+            elif it in used:
+                words += ["--extern", f"{it}={self.library(it)}"]
+            else:
+                words += ["-L", f"dependency={os.path.dirname(self.library(it))}"]
+        words += ["--antt-project", f"{kit}/rattle/logic/antt-project.json", "--logic-built", f"{kit}/logic_built"]
+        return words + ["--incremental", kept, "--jobs", "1", *(word for it in functions for word in ("--only", it))]
+
+    def ask(self, texts, functions, kept):
+        """The prover's answer for these functions, with these texts in place, and the seconds of processors that it took. In a folder the
+        prover keeps what it proves."""
+        with tempfile.TemporaryDirectory(dir=self.settings.room) as crates:
+            self.fill(crates, texts)
+            how = {"stdin": subprocess.DEVNULL, "stdout": subprocess.PIPE, "stderr": subprocess.STDOUT, "text": True, "errors": "replace"}
+            with subprocess.Popen(self.words(crates, kept, functions), cwd=os.path.join(crates, self.crate), **how) as process:
+                said = process.stdout.read()
+                _, status, used = os.wait4(process.pid, 0)
+                process.returncode = os.waitstatus_to_exitcode(status)
+            return Answer(process.returncode, said, self.crate, crates), used.ru_utime + used.ru_stime
+
+    def prove(self):
+        """Proves the functions of all cases as they stand, and says of each that is not proved why; and the seconds that it took."""
+        os.mkdir(self.seed)
+        functions = sorted({it for case in self.cases for it in case.refused})
+        answer, spent = self.ask({}, functions, self.seed)
+        fault = answer.fault(())
+        said = {it: answer.of(self.crate, it)[0] for it in functions}
+        return {it: fault or f"{it} as it stands: {said[it]}" for it in functions if fault or not answer.holds(self.crate, it)}, spent
+
+    def attempt(self, together):
+        """Tries cases together: what is wrong with each, or None; and the seconds that it took."""
+        texts = {}
+        try:
+            for case, _ in together:
+                texts = case.texts(self.settings.crates, texts)
+        except (OSError, ValueError) as error:
+            return [str(error)] * len(together), 0.0
+        with tempfile.TemporaryDirectory(dir=self.settings.room) as folder:
+            kept = os.path.join(folder, "kept")
+            linked(self.seed, kept)
+            answer, spent = self.ask(texts, sorted({it for case, _ in together for it in case.refused}), kept)
+        return [judged(case, turned, answer, self.written) for case, turned in together], spent
+
+
+def linked(seed, folder):
+    """Copies what the prover kept. It replaces such files and changes none, so links do."""
+
+    def copy(one, other):
+        return os.link(one, other) if one.endswith(".oantt") else shutil.copy2(one, other)
+
+    shutil.copytree(seed, folder, copy_function=copy)
+
+
+# A task of a lane: the group, and the cases to be tried together, or None where the functions are to be proved as they stand.
+Task = collections.namedtuple("Task", "group together")
+
+
+class Run:
+    """Groups of cases, tried on several lanes."""
+
+    def __init__(self, groups, is_alone):
+        self.waiting = [Task(group, None) for group in groups]
+        self.is_alone = is_alone
+        self.ready = []
+        # what is wrong with each case that was tried, and by crate the runs of the prover, and the seconds of processors that they took,
+        # for proofs as they stand and for cases
+        self.faults = {}
+        self.costs = collections.defaultdict(lambda: [0, 0.0, 0.0])
+
+    def on(self, lanes):
+        """Tries all on so many lanes."""
+        running = {}
+        with ThreadPoolExecutor(lanes) as pool:
+            while running or self.ready or self.waiting:
+                while len(running) < lanes and (self.ready or self.waiting):
+                    task = (self.ready or self.waiting).pop(0)
+                    work = (task.group.attempt, task.together) if task.together else (task.group.prove,)
+                    running[pool.submit(*work)] = task
+                for it in wait(running, return_when=FIRST_COMPLETED).done:
+                    self.take(running.pop(it), *it.result())
+
+    def take(self, task, result, spent):
+        """Takes what a task came to."""
+        cost = self.costs[task.group.crate]
+        cost[0] += 1
+        cost[2 if task.together else 1] += spent
+        if not task.together:
+            self.begin(task.group, result)
+            return
+        for (case, turned), fault in zip(task.together, result):
+            if fault and len(task.together) > 1:
+                self.ready.append(Task(task.group, [(case, turned)]))
+            else:
+                self.end(case, fault)
+
+    def begin(self, group, faults):
+        """Makes tasks of a group's cases, where the functions are proved as they stand."""
+        cases = []
+        for case in group.cases:
+            fault = next((faults[it] for it in case.refused if it in faults), None)
+            if fault:
+                self.end(case, fault)
+            else:
+                cases.append(case)
+        try:
+            rounds = rounds_of(cases, group.bodies, self.is_alone)
+        except OSError as error:
+            rounds = []
+            for case in cases:
+                self.end(case, str(error))
+        self.ready += [Task(group, together) for together in rounds]
+
+    def end(self, case, fault):
+        self.faults[case] = fault
+        print(f"FAILED {case.crate}, {case.name}: {fault}" if fault else f"{case.crate}, {case.name}: refused", flush=True)
+
+    def table(self):
+        """The lines of a table of what it took."""
+        lines = ["| | Cases | Runs of the prover | Seconds, as they stand | Seconds, with the cases |", "|---|---|---|---|---|"]
+        for crate, (runs, right, wrong) in sorted(self.costs.items(), key=lambda it: -it[1][1] - it[1][2]):
+            lines.append(f"| `{crate}` | {sum(case.crate == crate for case in self.faults)} | {runs} | {right:.0f} | {wrong:.0f} |")
+        runs, right, wrong = (sum(it) for it in zip(*self.costs.values())) if self.costs else (0, 0, 0)
+        return [*lines, f"| all | {len(self.faults)} | {runs} | {right:.0f} | {wrong:.0f} |"]
+
+
+def chosen(options):
+    """The cases that are asked for, or None where there is no such crate or name."""
+    every = all_cases()
+    unknown = set(options.crates) - {it.crate for it in every} | set(options.only) - {it.name for it in every}
+    if unknown:
+        print(f"there is no case or crate {' '.join(sorted(unknown))}", file=sys.stderr)
+        return None
+    return [it for it in every if (not options.crates or it.crate in options.crates) and (not options.only or it.name in options.only)]
+
+
+def groups_of(cases, settings):
+    """The groups of cases, those with most to prove first."""
+    found = {}
+    for case in cases:
+        others = frozenset(case.changed() - {case.crate})
+        found.setdefault((case.crate, others), Group(case.crate, others, settings)).cases.append(case)
+    return sorted(found.values(), key=lambda it: -it.size())
+
+
+def main():
+    parser = argparse.ArgumentParser(description=__doc__.split("\n")[0])
+    parser.add_argument("crates", nargs="*", metavar="CRATE")
+    parser.add_argument("--only", action="append", default=[], metavar="NAME", help="this case (repeatable)")
+    parser.add_argument("--alone", action="store_true", help="each case by itself")
+    parser.add_argument("--lanes", type=int, default=LANES, help="so many runs of the prover side by side")
+    parser.add_argument("--built", default=os.path.join(suite.ROOT, "crates"), help="the folder of the crates whose libraries are built")
+    parser.add_argument("--write", action="store_true", help="makes the table in docs/GUARANTEES.md of the cases, and tries none")
+    options = parser.parse_args()
+    if options.write:
+        write_promises()
+        return 0
+    cases = chosen(options)
+    if cases is None:
+        return 2
+    kit = os.path.dirname(subprocess.run(["rt", "doc"], capture_output=True, text=True, check=True).stdout.strip())
+    refused = {head[0] for head, _ in in_trees.programs_in("refused")}
+    with tempfile.TemporaryDirectory(prefix="wrong-") as room:
+        settings = Settings(kit, os.path.join(suite.ROOT, "crates"), stands_on(suite.ROOT), os.path.abspath(options.built), room)
+        groups = groups_of(cases, settings)
+        run = Run([it for it in groups if not it.missing()], options.alone)
+        for group in groups:
+            for case in group.cases if group.missing() else []:
+                run.end(case, f"there is no library of {group.missing()[0]}: `rt ci {group.missing()[-1]}` makes those that are needed")
+        run.on(options.lanes)
+        for case in cases:
+            missing = [it for it in case.lets if it not in refused]
+            if missing:
+                run.end(case, f"there is no program {missing[0]} in refused.programs")
+    print("\n".join(run.table()))
+    failed = sum(1 for it in run.faults.values() if it)
+    print(f"{len(run.faults) - failed} passed, {failed} failed")
+    return 1 if failed else 0
+
+
+if __name__ == "__main__":
+    sys.exit(main())
