@@ -231,10 +231,9 @@ impl<'a> Parser<'a> {
     pub(crate) fn parse_from_name(&mut self, room: u32, name: Ident) -> Result<Box<Expr>, Stop>
         ensures { Gives view_boxed result (from_name room (nested room) (view_name name) self.old) self.new }
     {
-        if !self.sees(Sign::LeftParen) {
+        let Some(_) = self.take_if(Sign::LeftParen) else {
             return self.node(Expr::Variable { name });
-        }
-        self.take_sign(Sign::LeftParen)?;
+        };
         let arguments = self.parse_arguments(room)?;
         self.take_sign_inside(room, Sign::RightParen)?;
         self.node(call(name, arguments))
@@ -315,20 +314,18 @@ impl<'a> Parser<'a> {
     fn parse_postfix(&mut self, room: u32) -> Result<Option<Postfix>, Stop>
         ensures { Gives (option_map then_postfix) result (one_postfix room (nested room) self.old) self.new }
     {
-        if self.sees(Sign::LeftBracket) {
-            self.take_sign(Sign::LeftBracket)?;
+        if let Some(_) = self.take_if(Sign::LeftBracket) {
             let index = self.parse_expression(room)?;
             self.take_sign_inside(room, Sign::RightBracket)?;
             return Ok(Some(Postfix::Index {
                 index: Box::into_inner(index),
             }));
         }
-        if self.sees(Sign::Arrow) {
-            self.take_sign(Sign::Arrow)?;
-            let name = self.take_identifier()?;
-            return Ok(Some(Postfix::Field { name }));
-        }
-        Ok(None)
+        let Some(_) = self.take_if(Sign::Arrow) else {
+            return Ok(None);
+        };
+        let name = self.take_identifier()?;
+        Ok(Some(Postfix::Field { name }))
     }
 
     fn begins_postfix(&self) -> bool
@@ -622,10 +619,9 @@ impl<'a> Parser<'a> {
     ) -> Result<Box<Expr>, Stop>
         ensures { Gives view_boxed result (assignment room (nested room) (view_boxed target) self.old) self.new }
     {
-        if !self.sees(Sign::Assign) {
+        let Some(_) = self.take_if(Sign::Assign) else {
             return Ok(target);
-        }
-        self.take_sign(Sign::Assign)?;
+        };
         let value = self.parse_expression(room)?;
         self.node(Expr::Assign { target, value })
     }

@@ -192,8 +192,7 @@ impl<'a> Parser<'a> {
     {
         let span = self.take_next();
         let name = Ident { name, span };
-        if self.sees(Sign::Colon) {
-            self.take_sign(Sign::Colon)?;
+        if let Some(_) = self.take_if(Sign::Colon) {
             let block = self.parse_block(room)?;
             return Ok(labelled(name, block));
         }
