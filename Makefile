@@ -14,8 +14,8 @@ help:
 	@echo 'make try      compiles and runs the program in SOURCE with no proof: make try SOURCE=hello.cyc'
 	@echo 'make quick    builds it with no proof, and runs the command-line suite, the whole-language cases, the examples and random'
 	@echo '              programs on that, in some minutes: for who changes something'
-	@echo 'make cases    builds it, and runs the command-line suite, the table of codes, the examples, and random programs, and refuses'
-	@echo '              its allocations in turn'
+	@echo 'make cases    builds it, and runs the command-line suite, the table of codes, the examples, random programs and images, and'
+	@echo '              refuses its allocations in turn'
 	@echo 'make bench    builds it, and prints figures of its speed and its stack beside qemu-mips, tcc and gcc, and of its code by pairs of'
 	@echo '              equal programs here and in C, in bench/pairs (Debian packages qemu-user, tcc, gcc and gcc-mips-linux-gnu)'
 	@echo 'make test     the gate: every proof, wrong body and test from nothing, and what `make cases` runs; hours. The last line'
@@ -45,6 +45,7 @@ cases: build
 	@python3 tests/runners/editors.py
 	@python3 tests/runners/refused.py
 	@python3 tests/runners/differential.py
+	@python3 tests/runners/images.py
 
 bench: build
 	@python3 bench/machine.py

@@ -1,6 +1,6 @@
 #!/usr/bin/env bash
-# The gate: every proof and test of the crates (rt ci), their wrong bodies, then the command-line suite, the examples and random
-# programs on the program that this has just proved and built. Before the last line stands what it cost, by crate and part, which
+# The gate: every proof and test of the crates (rt ci), their wrong bodies, then the command-line suite, the examples, random
+# programs and images on the program that this has just proved and built. Before the last line stands what it cost, by crate and part, which
 # is in out/gate.md too, as far as it came also where the gate is stopped, and then what failed, in short: who sees only the end of
 # a long log sees that. The last line is `N passed, M failed` over all of it.
 set -u
@@ -57,6 +57,7 @@ add "examples" python3 tests/runners/examples.py
 add "editors" python3 tests/runners/editors.py
 add "refused allocations" python3 tests/runners/refused.py
 add "random programs" python3 tests/runners/differential.py
+add "images" python3 tests/runners/images.py
 echo "== costs"
 mkdir -p out
 python3 tests/runners/gate_table.py show "$costs" | tee out/gate.md

@@ -1,9 +1,9 @@
 #!/usr/bin/env python3
-"""Tries the tests' own tools: the suite's runner, on a stand-in for the program, passes and fails what it should; the table of what
-the gate costs, on looks at processes that are written here, has the sums worked by hand; wrong bodies are tried together where they may
-be, and what the prover says of them is judged as it should be; pairs of programs that do not print the same have no figures, and the
-others the right ones; and the reference answers the cases of the whole language, in tests/whole, and those of the program that
-check texts, as they say.
+"""Tries the tests' own tools: the suite's runner and that of images, on stand-ins for the program, pass and fail what they should; the
+table of what the gate costs, on looks at processes that are written here, has the sums worked by hand; wrong bodies are tried together
+where they may be, and what the prover says of them is judged as it should be; pairs of programs that do not print the same have no
+figures, and the others the right ones; and the reference answers the cases of the whole language, in tests/whole, and those of the
+program that check texts, as they say.
 
     python3 tests/runners/self_test.py [TEXTS.json]
 
@@ -18,6 +18,7 @@ import tempfile
 
 import suite  # first: it says where the references and the generators are
 import gate_table
+import images
 import in_trees
 import reference
 import run
@@ -494,6 +495,45 @@ def is_case_right(case):
     return not faults
 
 
+# Stand-ins that answer each image wrongly.
+WRONG_MACHINES = {
+    "a wrong output": "printf x; echo 'returned 3' >&2; exit 3",
+    "a last line that is none of the manual's": "echo 'returned three' >&2; exit 3",
+    "no last line": "exit 0",
+    "a crash": "kill -SEGV $$",
+}
+# An answer that is wanted, what a program says, and whether that is a fault.
+ENDED, OPEN = (b"x", "returned -1", 255), (b"x", None, None)
+ANSWERS_OF_RUNS = [
+    (ENDED, ENDED, False), (ENDED, (b"y", "returned -1", 255), True), (ENDED, (b"x", "returned 255", 255), True),
+    (ENDED, (b"x", "returned -1", 1), True), (ENDED, (b"x", "returned -1", -11), True), (ENDED, (b"x", "returned -1", None), True),
+    (ENDED, (b"x", "returned -1\n", 255), True), (ENDED, (b"x", "", 255), True), (OPEN, (b"xy", "trap break", 6), False),
+    (OPEN, (b"y", "trap break", 6), True), (OPEN, (b"x", "trap broken", 6), True), (OPEN, (b"x", "trap break", 7), True),
+    (OPEN, (b"x", "image fault 7", 3), True), (OPEN, (b"x", "full", 5), False), (OPEN, (b"x", "done", 0), True),
+    (OPEN, (b"x", "full", -9), True), (OPEN, (b"x", "write fault", 8), True),
+]
+
+
+def is_judge_of_images_right(folder):
+    """Whether answers to images are judged as they should be, also those of programs that answer nothing right."""
+    right = True
+    for wanted, got, is_fault in ANSWERS_OF_RUNS:
+        if bool(images.fault_of("run", wanted, got)) != is_fault:
+            print(f"of {wanted}, wanted, and {got} it is said: {images.fault_of('run', wanted, got)}")
+            right = False
+    program = os.path.join(folder, "wrong_machine")
+    for name, body in WRONG_MACHINES.items():
+        with open(program, "w", encoding="utf-8") as file:
+            file.write(f"#!/bin/sh\n{body}\n")
+        os.chmod(program, 0o755)
+        words = [sys.executable, os.path.join(HERE, "images.py"), "--program", program, "--part", "random", "--count", "20"]
+        done = subprocess.run(words, capture_output=True, text=True)
+        if (done.stdout.rstrip().split("\n")[-1], done.returncode) != ("0 passed, 20 failed", 1):
+            print(f"{name}: images.py said\n{done.stdout}{done.stderr}")
+            right = False
+    return right
+
+
 def is_text_right(case):
     """Whether the reference refuses a text as it should, with the limits of an image too."""
     try:
@@ -523,7 +563,7 @@ def main():
         with open(sys.argv[1], encoding="utf-8") as file:
             texts = json.load(file)
     with tempfile.TemporaryDirectory() as folder:
-        right = [is_runner_right(folder), is_table_right(), are_rounds_right(folder), is_judge_right(), are_promises_told()]
+        right = [is_runner_right(folder), is_judge_of_images_right(folder), is_table_right(), are_rounds_right(folder), is_judge_right(), are_promises_told()]
         right.append(are_pairs_right(folder))
     right += reference.with_room(lambda: [is_case_right(case) for case in cases] + [is_text_right(case) for case in texts])
     right += reference.with_room(lambda: [is_program_right(*one) for name in ("accepted", "refused") for one in in_trees.programs_in(name)])
