@@ -7,7 +7,7 @@ use cyc_types::typed::{
 use cyc_words::{Fault, Span};
 
 /// What a place does to a local.
-#[derive(Clone, Copy, Debug, PartialEq, Eq)]
+#[derive(Clone, Copy)]
 pub enum Change {
     /// It uses the local's value, which leaves the local empty.
     Moved,
@@ -20,7 +20,7 @@ pub enum Change {
 }
 
 /// What was done to a local, and the place of its name there.
-#[derive(Clone, Copy, Debug, PartialEq, Eq)]
+#[derive(Clone, Copy)]
 pub struct Cause {
     pub change: Change,
     pub span: Span,
@@ -170,7 +170,9 @@ impl Walk {
     fn touch(&mut self, cause: Cause) {
         let is_said = match self.touched {
             None => true,
-            Some(before) => before.change != Change::Moved && cause.change == Change::Moved,
+            Some(before) => {
+                !matches!(before.change, Change::Moved) && matches!(cause.change, Change::Moved)
+            }
         };
         if is_said {
             self.touched = Some(cause);

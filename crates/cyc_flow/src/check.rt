@@ -44,7 +44,7 @@ pub fn flow(alloc: Global, tree: TypedTree) -> Result<Flowed, Fault>
 }
 
 /// A fault of flow, and where the variable of which it speaks came to be as it is, if there is such a place.
-#[derive(Clone, Copy, Debug, PartialEq, Eq)]
+#[derive(Clone, Copy)]
 pub struct Explained {
     pub fault: Fault,
     pub cause: Option<Cause>,

@@ -7,7 +7,7 @@ ghost use Rattle.cyc_flow.specs.Code.{view_fullness, view_state};
 use std::alloc::{AllocError, Global};
 
 /// What is known of a local, in rising order.
-#[derive(Clone, Copy, Debug, PartialEq, Eq)]
+#[derive(Clone, Copy)]
 pub(crate) enum Fullness {
     /// It may hold nothing.
     Vacant,

@@ -6,7 +6,7 @@ ghost use Rattle.cyc_flow.specs.Code.{fault_of};
 use cyc_words::Fault;
 use std::alloc::{AllocError, AllocFailed};
 
-#[derive(Clone, Copy, Debug, PartialEq, Eq)]
+#[derive(Clone, Copy)]
 pub(crate) enum Stop {
     /// An allocation was refused.
     Memory,
