@@ -1,4 +1,4 @@
--- Programs that the rules accept, run through the ends of their scopes: none is dead or wrong. Each is proved by computation. Made by tests/in_trees.py of tests/sound.
+-- Programs that the rules accept, run through the ends of their scopes: none is dead or wrong. Each is proved by computation. Made by tests/generators/in_trees.py of tests/sound.
 use Rattle.std.proofs.Common.{◌≡◌, [], ◌∷◌, Some, None, pos, refl}
 use Rattle.cyc_words.specs.Word.{slt_of, sar_of, div_of, rem_of}
 use Rattle.cyc_words.specs.Ending.{Returned, Uncaught}

@@ -1,5 +1,5 @@
 -- Programs that the rules refuse, as the trees that a checker would make without the rules of that one code: each is dead or wrong.
--- Each is proved by computation. Made by tests/in_trees.py of tests/sound.
+-- Each is proved by computation. Made by tests/generators/in_trees.py of tests/sound.
 use Rattle.std.proofs.Common.{◌≡◌, [], ◌∷◌, Some, None, refl}
 use Rattle.cyc_words.specs.Word.{slt_of, sar_of, div_of, rem_of}
 use Rattle.cyc_syntax.specs.declared.tree.PointerKind.TheVariants as marks
