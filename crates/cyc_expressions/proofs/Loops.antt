@@ -25,7 +25,7 @@ module _ {X Y B : Type 0} (view : X → Y) (add : Y → B → B) where
   onto_nothing (Ok b) = refl
   onto_nothing (Err e) = refl
 
--- and where it has read none yet
+-- where a loop has read no item yet
 pub first_of : {A : Type 0} (xs : List A) (i : ℕ) → i < length xs → (x : A) × (drop i xs ≡ x ∷ drop (i + 1) xs)
 first_of [] i lt = absurd (omega (arith, lt))
 first_of (x ∷ xs) i lt = (get_or (x ∷ xs) i x, drop_more (x ∷ xs) i x lt)
