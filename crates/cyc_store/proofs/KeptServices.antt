@@ -6,6 +6,7 @@ use Rattle.std.proofs.lemmas.Bool.{cases_eq, cases_lt, cond_both}
 use Rattle.std.proofs.lemmas.List.{append-nil}
 use mathlib.Core.Path.{fun_ext}
 use Rattle.cyc_words.specs.Demand.{page_words, demand_of, pages_from, region_pages}
+use Rattle.cyc_words.proofs.Numbers.{when_equal}
 use Rattle.cyc_store.specs.Lookup.{lookup}
 use Rattle.cyc_store.specs.State.{Sort, Lexical, Dynamic, Uniques, Home, handle_of, is_lexical, StoreState, homes, sizes_of, sizes_in, demand, opened, lexical_count}
 use Rattle.cyc_store.specs.Soundness.{IsSound}
@@ -19,7 +20,7 @@ use Rattle.cyc_store.specs.declared.row.Row.{Row}
 use Rattle.cyc_store.specs.declared.row.TheConstants.{NONE}
 use Rattle.cyc_store.specs.declared.row.ClassSlots.{ClassSlots}
 use Rattle.cyc_store.specs.declared.range.TheConstants.{PAGE_WORDS, UNIQUE, MOST_PAGES}
-use Rattle.cyc_store.proofs.LookupLemmas.{when_equal, when_other, lookup-there}
+use Rattle.cyc_store.proofs.LookupLemmas.{when_other, lookup-there}
 use Rattle.cyc_store.proofs.LiveWords.{odd-apart}
 use Rattle.cyc_store.specs.Services.{OpenLexical, OpenDynamic, Opened, OpenedLexical, Serves}
 use Rattle.cyc_store.proofs.Responses.{serves-lexical, sound-lexical, serves-dynamic, sound-dynamic}
@@ -93,7 +94,7 @@ lexical-few (r ∷ rs) = either (is_lexical r.sort) (lexical_count rs) (length r
     either true n m e = omega (arith, e)
     either false n m e = omega (arith, e)
 
-pages-some : (pages filled : ℕ) (sizes : List ℕ) → pages ≤ pages_from pages filled sizes
+pub pages-some : (pages filled : ℕ) (sizes : List ℕ) → pages ≤ pages_from pages filled sizes
 pages-some pages filled [] = omega arith
 pages-some pages filled (size ∷ sizes) = cond_both (nat_le (filled + size) page_words) (pages_from pages (filled + size) sizes) (pages_from (suc pages) size sizes) (λ n. pages ≤ n)
     (λ e. pages-some pages (filled + size) sizes)
