@@ -172,16 +172,18 @@ module _ (t : PageTable) (lexicals : List ℕ) (classes : List ClassSlots) (b : 
     newest-down : c.regions ≡ down_to (lexical_count c.regions) b.regions
     newest-down = regions-are ∙ (newest.down ∙ ap (λ n. down_to n b.regions) (sym many-left))
 
-    newest-same : (v : PageTable) → v.most ≡ t.most → v.words.items ≡ t.words.items
-        → ◌≡◌ {A = Stored} (record { pages = v.most; words = v.words.items; blocks = c }) (record { pages = t.most; words = t.words.items; blocks = record b { regions = c.regions } })
-    newest-same v most words =
-        ap (λ n. record { pages = n; words = v.words.items; blocks = c }) most
-        ∙ (ap (λ ws. record { pages = t.most; words = ws; blocks = c }) words
-        ∙ ap (λ (d : Blocks). record { pages = t.most; words = t.words.items; blocks = d }) (noted ∙ ap (λ rs. record b { regions = rs }) (sym regions-are)))
+    newest-same : (v : PageTable) (old new : ℕ) → v.most ≡ t.most → v.words.items ≡ t.words.items → new ≡ old
+        → ◌≡◌ {A = Stored} (record { pages = v.most; words = v.words.items; blocks = c; room = new })
+        (record { pages = t.most; words = t.words.items; blocks = record b { regions = c.regions }; room = old })
+    newest-same v old new most words room =
+        ap (λ n. record { pages = n; words = v.words.items; blocks = c; room = new }) most
+        ∙ (ap (λ ws. record { pages = t.most; words = ws; blocks = c; room = new }) words
+        ∙ (ap (λ n. record { pages = t.most; words = t.words.items; blocks = c; room = n }) room
+        ∙ ap (λ (d : Blocks). record { pages = t.most; words = t.words.items; blocks = d; room = old }) (noted ∙ ap (λ rs. record b { regions = rs }) (sym regions-are))))
 
-    pub newest-unwinds : (v : PageTable) → v.most ≡ t.most → v.words.items ≡ t.words.items
-        → Unwinds (record { pages = t.most; words = t.words.items; blocks = b }) (record { pages = v.most; words = v.words.items; blocks = c })
-    newest-unwinds v most words = record { count = newest-count; regions = newest-down; same = newest-same v most words }
+    pub newest-unwinds : (v : PageTable) (old new : ℕ) → v.most ≡ t.most → v.words.items ≡ t.words.items → new ≡ old
+        → Unwinds (record { pages = t.most; words = t.words.items; blocks = b; room = old }) (record { pages = v.most; words = v.words.items; blocks = c; room = new })
+    newest-unwinds v old new most words room = record { count = newest-count; regions = newest-down; same = newest-same v old new most words room }
 
 -- all that were to be closed are closed
 pub unwound : (old new : Stored) (mark : ℕ) → new ≡ record old { blocks = record old.blocks { regions = new.blocks.regions } }

@@ -1,11 +1,11 @@
 use Rattle.std.proofs.Common.{◌≡◌, ◌+◌, ◌*◌, ◌<◌, ◌≤◌, true, None, length, refl, sym, subst, arith}
 use Rattle.std.specs.Prelude.{is_some}
 use Rattle.cyc_words.proofs.Booleans.{some_there}
-use Rattle.cyc_store.specs.Ledger.{Stored, held_of, store_of}
+use Rattle.cyc_store.specs.Ledger.{Stored, IsUsedUp, held_of, store_of}
 use Rattle.cyc_store.specs.Lookup.{lookup}
 use Rattle.cyc_store.specs.State.{handle_of}
 use Rattle.cyc_store.specs.Services.{Allocate, Allocated, Refused, Full, refusal, Serves}
-use Rattle.cyc_store.proofs.KeptServices.{not-true, kept-full, kept-unchanged, held-unchanged, kept-some}
+use Rattle.cyc_store.proofs.KeptServices.{not-true, kept-full, kept-unchanged, held-unchanged, kept-some, kept-used}
 use Rattle.cyc_store.proofs.KeptMaking.{root-there, root-small, first-there, first-small, first-count, last-few, behind-serves, behind-kept, after-full, after-none, after-serves, after-kept}
 use Rattle.cyc_store.proofs.plain.PlainStore.alloc_in.Goals as goal
 
@@ -94,8 +94,8 @@ invariant_of-self c =
     behind-kept f.table f.lexicals.items f.classes f.ledger.blocks k c.args.root r named c.index-first.result.now c.index-first.ensures c.index-last.result.now c.index-last.ensures c.args.words c.requires.least c.requires.most c.if-last-words-le-PAGE_WORDS.true c.address_at-address.result c.address_at-address.ensures
     c.with-self-inside.result.blocks c.with-self-inside.ensures _ (record { most = refl; words = refl; live = refl; free = refl; rows = refl })
 
-pub returns-then-last-words-le-PAGE_WORDS : goal.returns-then-last-words-le-PAGE_WORDS
-returns-then-last-words-le-PAGE_WORDS c =
+pub returns-then-last-words-le-PAGE_WORDS-clause-answer : goal.returns-then-last-words-le-PAGE_WORDS-clause-answer
+returns-then-last-words-le-PAGE_WORDS-clause-answer c =
     let f = c.self.inside in let k = c.self.invariant in
     let (r, named) = some_there (lookup handle_of f.ledger.blocks.regions (2 * c.args.root + 1))
     (subst (λ (v : Stored). is_some (lookup handle_of v.blocks.regions (2 * c.args.root + 1)) ≡ true) (sym c.self.view_is) c.requires.named) in
@@ -103,8 +103,8 @@ returns-then-last-words-le-PAGE_WORDS c =
     (behind-serves f.table f.lexicals.items f.classes f.ledger.blocks k c.args.root r named c.index-first.result.now c.index-first.ensures c.index-last.result.now c.index-last.ensures c.args.words c.requires.least c.requires.most c.if-last-words-le-PAGE_WORDS.true c.address_at-address.result c.address_at-address.ensures
     c.with-self-inside.result.blocks c.with-self-inside.ensures)
 
-pub returns-then-is_full : goal.returns-then-is_full
-returns-then-is_full c =
+pub returns-then-is_full-clause-answer : goal.returns-then-is_full-clause-answer
+returns-then-is_full-clause-answer c =
     let f = c.self.inside in let k = c.self.invariant in
     let (r, named) = some_there (lookup handle_of f.ledger.blocks.regions (2 * c.args.root + 1))
     (subst (λ (v : Stored). is_some (lookup handle_of v.blocks.regions (2 * c.args.root + 1)) ≡ true) (sym c.self.view_is) c.requires.named) in
@@ -119,14 +119,19 @@ invariant_of-self-in_default c =
     (subst (λ (v : Stored). is_some (lookup handle_of v.blocks.regions (2 * c.args.root + 1)) ≡ true) (sym c.self.view_is) c.requires.named) in
     kept-unchanged f.table c.draw.new.self f.lexicals.items f.classes f.ledger.blocks c.in_default.ensures.same k
 
-pub returns-in_default : goal.returns-in_default
-returns-in_default c =
+pub returns-in_default-clause-answer : goal.returns-in_default-clause-answer
+returns-in_default-clause-answer c =
     let f = c.self.inside in let k = c.self.invariant in
     let (r, named) = some_there (lookup handle_of f.ledger.blocks.regions (2 * c.args.root + 1))
     (subst (λ (v : Stored). is_some (lookup handle_of v.blocks.regions (2 * c.args.root + 1)) ≡ true) (sym c.self.view_is) c.requires.named) in
     let some = kept-some f.table f.lexicals.items f.classes f.ledger.blocks k (λ full. not-true (c.if-is_full.ensures.1 full)) in
     subst (λ (v : Stored). (true ≡ true) × (refusal (held_of v) (Allocate (2 * c.args.root + 1) c.args.words) ≡ None) × (store_of c.draw.new.self.most c.draw.new.self.words.items f.ledger.blocks ≡ held_of v)) c.self.view_is
     (refl, after-none f.table f.lexicals.items f.classes f.ledger.blocks k c.args.root r named c.index-first.result.now c.index-first.ensures c.index-last.result.now c.index-last.ensures c.args.words c.requires.least c.requires.most c.if-last-words-le-PAGE_WORDS.false some.0 some.1 some.2, held-unchanged f.table c.draw.new.self f.ledger.blocks c.in_default.ensures.same)
+
+pub returns-in_default-clause-grew : goal.returns-in_default-clause-grew
+returns-in_default-clause-grew c =
+    let f = c.self.inside in
+    λ e. subst (λ (v : Stored). IsUsedUp v) c.self.view_is (kept-used f.table f.lexicals.items f.classes f.ledger.blocks c.self.invariant c.in_default.ensures.grew)
 
 pub overflow_add-first-2 : goal.overflow_add-first-2
 overflow_add-first-2 c =
@@ -169,8 +174,8 @@ invariant_of-self-2 c =
     after-kept f.table f.lexicals.items f.classes f.ledger.blocks k c.args.root r named c.index-first.result.now c.index-first.ensures c.index-last.result.now c.index-last.ensures c.args.words c.requires.least c.requires.most c.if-last-words-le-PAGE_WORDS.false c.draw.new.self c.in-Ok.page c.in-Ok.ensures.draws (λ full. not-true (c.if-is_full.ensures.1 full)) c.address_at-address-2.result c.address_at-address-2.ensures
     c.with-self-inside-2.result.blocks c.with-self-inside-2.ensures _ refl refl refl refl refl
 
-pub returns : goal.returns
-returns c =
+pub returns-clause-answer : goal.returns-clause-answer
+returns-clause-answer c =
     let f = c.self.inside in let k = c.self.invariant in
     let (r, named) = some_there (lookup handle_of f.ledger.blocks.regions (2 * c.args.root + 1))
     (subst (λ (v : Stored). is_some (lookup handle_of v.blocks.regions (2 * c.args.root + 1)) ≡ true) (sym c.self.view_is) c.requires.named) in
