@@ -2,7 +2,7 @@
 use Rattle.std.proofs.Common.{◌≡◌, ◌≢◌, ℕ, zero, suc, ◌+◌, ◌-◌, ◌*◌, ◌%◌, ◌<◌, ◌≤◌, Bool, true, false, not, List, [], ◌∷◌, ◌++◌, length, Some, slice_get, refl, sym, ap, subst, ◌∙◌, arith, inl, inr}
 use Rattle.std.specs.Prelude.{◌==◌, if◌then◌else◌}
 use Rattle.std.proofs.lemmas.Bool.{cases_eq, cases_lt, cases_Bool, eq-eqb, ne_eqb}
-use Rattle.cyc_select.specs.declared.constants.TheConstants.{CALLS, FRAME, HANDLERS}
+use Rattle.cyc_select.specs.declared.constants.TheConstants.{CALLS, FRAME, HANDLERS, REGIONS}
 use Rattle.cyc_machine.specs.declared.constants.TheConstants.{RETURN_ADDRESS}
 use Rattle.cyc_words.specs.Ending.{Returned}
 use Rattle.cyc_words.specs.Word.{signed, add_of, sign_extended}
@@ -59,6 +59,7 @@ record AreLoaded (globals stack : ℕ) (frame : Frame) (value count : ℕ) (r : 
   pub left_same : after_r (loaded frame value count) r w CALLS ≡ r CALLS
   pub back_same : after_r (loaded frame value count) r w RETURN_ADDRESS ≡ r RETURN_ADDRESS
   pub newest_same : after_r (loaded frame value count) r w HANDLERS ≡ r HANDLERS
+  pub count_same : after_r (loaded frame value count) r w REGIONS ≡ r REGIONS
   pub unchanged : after_w (loaded frame value count) r w ≡ w
   pub returned : (k : ℕ) → k < count → after_r (loaded frame value count) r w (result_register k) ≡ slots (value + k)
 
@@ -100,6 +101,7 @@ module _ (globals stack : ℕ) (frame : Frame) (r : Words) (w : Contents) (slots
     left_same = refl;
     back_same = refl;
     newest_same = refl;
+    count_same = refl;
     unchanged = refl;
     returned = λ k below. absurd (omega (arith, below));
   }
@@ -110,6 +112,7 @@ module _ (globals stack : ℕ) (frame : Frame) (r : Words) (w : Contents) (slots
     left_same = refl;
     back_same = refl;
     newest_same = refl;
+    count_same = refl;
     unchanged = refl;
     returned = λ k below. one_is k (after_r (loaded frame value 1) r w) below (first_is (omega (arith, fits)));
   }
@@ -120,6 +123,7 @@ module _ (globals stack : ℕ) (frame : Frame) (r : Words) (w : Contents) (slots
     left_same = refl;
     back_same = refl;
     newest_same = refl;
+    count_same = refl;
     unchanged = refl;
     returned = λ k below. two_are k (after_r (loaded frame value 2) r w) below (first_is (omega (arith, fits))) (second_is (omega (arith, fits)));
   }
@@ -130,6 +134,7 @@ module _ (globals stack : ℕ) (frame : Frame) (r : Words) (w : Contents) (slots
     left_same = refl;
     back_same = refl;
     newest_same = refl;
+    count_same = refl;
     unchanged = refl;
     returned = λ k below. three_are k (after_r (loaded frame value 3) r w) below (first_is (omega (arith, fits))) (second_is (omega (arith, fits))) (third_is (omega (arith, fits)));
   }
@@ -233,6 +238,7 @@ module _ (program : Program) (well : IsWellFormed program) (frames : List Frame)
         based = (subst (λ (fs : List states.Frame). AreBased frames base c.active.function c.active.base fs) under s.based).1;
         store = s.store;
         laid = s.laid;
+        counted = load.count_same ∙ s.counted;
       } in
       walk_few code formed addresses globals_length (words_per_call * calls) 1 (size + 1) line hi c.output _ (Running d) (omega arith)
       (walk_block code formed addresses globals_length (words_per_call * calls) (loaded frame value results) 1 line line hi c.output c.input _ r w d later
@@ -373,6 +379,7 @@ module _ (program : Program) (well : IsWellFormed program) (frames : List Frame)
     based = s.based;
     store = s.store;
     laid = s.laid;
+    counted = s.counted;
   }
 
   -- the registers hold the values from this one on
@@ -478,6 +485,7 @@ module _ (program : Program) (well : IsWellFormed program) (frames : List Frame)
     based = b.standing.based;
     store = b.standing.store;
     laid = b.standing.laid;
+    counted = b.standing.counted;
   }
     where
       one_less : (n : ℕ) → n ≡ b.r CALLS + 1 → n + suc (length c.frames) ≡ calls

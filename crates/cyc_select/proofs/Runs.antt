@@ -48,7 +48,7 @@ use Rattle.cyc_select.proofs.Views.{Contents}
 use Rattle.cyc_select.proofs.Walks.{Stands, stands_front, stands_back, Rises, rising_distinct, rising_inside, comes_map, Quiet, Walk}
 use Rattle.cyc_select.proofs.Standing.{IsNewest, Standing, behind_line}
 use Rattle.cyc_select.proofs.Matches.{At, Ready, Matches, Reached}
-use Rattle.cyc_select.proofs.Simple.{address_goes, move_goes, unary_goes, binary_goes, divide_goes, jump_goes, branch_goes, read_goes, write_goes, load_global_goes, store_global_goes, uncaught_goes}
+use Rattle.cyc_select.proofs.Simple.{address_goes, move_goes, unary_goes, binary_goes, divide_goes, jump_goes, branch_goes, read_goes, write_goes, load_global_goes, count_lexical_goes, store_global_goes, uncaught_goes}
 use Rattle.cyc_select.proofs.Accesses.{move_words_goes, load_goes, store_goes}
 use Rattle.cyc_select.proofs.Requests.{ask_goes}
 use Rattle.cyc_select.proofs.Handlers.{catch_goes, leave_goes, throw_goes, try_goes}
@@ -274,6 +274,7 @@ module _ (program : Program) (well : IsWellFormed program) (words : HasWords pro
     instruction_goes (plain.Ask request) at in_range fits stands =
         ask_goes program well frames fit code formed addresses pages calls few c run r w base now s request at in_range fits stands
         (λ stops allowed. stops_not (plain.Ask request) at allowed stops)
+    instruction_goes (plain.CountLexical destination) at below fits stands = count_lexical_goes program well frames fit code formed addresses pages calls few c run r w base now s destination at below stands
     instruction_goes (plain.Try first handler) at in_range fits stands = try_goes program well frames fit code formed addresses pages calls few lie c range_of lands_inside run r w base now s first handler at in_range stands
     instruction_goes (plain.Leave first) at in_range fits stands =
         leave_goes program well frames fit code formed addresses pages calls few lie c range_of lands_inside run r w base now s first at in_range (stops_not (plain.Leave first) at (zeros_at program c (plain.Leave first) at refl)) stands
