@@ -1,9 +1,10 @@
 -- The table of first places gives what the rules say that a signature's variables are.
-use Rattle.std.proofs.Common.{◌≡◌, ℕ, zero, suc, ◌+◌, ◌<◌, ◌≤◌, Bool, true, false, cond, if◌then◌else◌, List, [], ◌∷◌, ◌++◌, map, replicate, drop, length, get_or, slice_get, unwrap_or, Option, Some, None, refl, sym, ap, ◌∙◌, arith}
+use Rattle.std.proofs.Common.{◌≡◌, ℕ, zero, suc, ◌+◌, ◌<◌, ◌≤◌, Bool, true, false, cond, if◌then◌else◌, ◌||◌, List, [], ◌∷◌, ◌++◌, map, replicate, drop, length, get_or, slice_get, unwrap_or, Option, Some, None, refl, sym, ap, ◌∙◌, arith}
 use Rattle.std.specs.List.{list_any}
 use Rattle.std.proofs.lemmas.Bool.{eq-eqb}
 use Rattle.std.proofs.lemmas.Bool.Decides.{nat_tests}
 use Rattle.std.proofs.lemmas.List.{drop_all}
+use Rattle.std.proofs.lemmas.List.Folds.{list_any-append}
 use Rattle.cyc_words.proofs.Lists.{drop_read}
 use Rattle.cyc_types.specs.declared.region.Region.{Region}
 use Rattle.cyc_types.specs.declared.region.Region.TheVariants.{Heap, Unique, Variable}
@@ -45,6 +46,10 @@ module _ (ts : List TyCode) (cs : List ConvertedCode) (i : ℕ) where
       ap (λ xs. noted_places table (paired_arguments (map view_ty xs) (map value_in (drop i cs)))) (drop_read ts i t lt_t is_t)
       ∙ ap (λ xs. noted_places table (paired_arguments (map view_ty (t ∷ drop (i + 1) ts)) (map value_in xs))) (drop_read cs i c lt_c is_c)
       ∙ noted_append table (paired_argument (view_ty t) (type_of (value_in c))) (paired_arguments (map view_ty (drop (i + 1) ts)) (map value_in (drop (i + 1) cs)))
+
+-- std's law, by a name that code can cite
+pub any_append : {A : Type 0} (test : A → Bool) (ps qs : List A) → list_any test (ps ++ qs) ≡ (list_any test ps || list_any test qs)
+any_append test ps qs = list_any-append test ps qs
 
 pub paired_int : (t : Ty) → paired t Int ≡ []
 paired_int Int = refl

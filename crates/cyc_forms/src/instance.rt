@@ -171,7 +171,7 @@ fn has_unique_argument(variables: &[Region], regions: &[Region]) -> bool
     false
 }
 
-#[tactic(auto, using(std::proofs::lemmas::List::Folds::list_any-append))]
+#[tactic(auto, using(crate::proofs::Instances::any_append))]
 fn has_unique_in(parameter: &Ty, given: &Ty) -> bool
     ensures { result ≡ list_any is_unique_for_variable (paired (view_ty parameter.now) (view_ty given.now)) }
 {
