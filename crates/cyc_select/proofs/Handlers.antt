@@ -29,7 +29,7 @@ use Rattle.cyc_select.specs.declared.code.Line.{Line}
 use Rattle.cyc_select.specs.declared.code.Line.TheVariants as lines
 use Rattle.cyc_select.specs.Labelled.{Labelled, IsFormed, AreAddresses}
 use Rattle.cyc_select.specs.Machine as labelled
-use Rattle.cyc_select.specs.Machine.{State, Running, Ended}
+use Rattle.cyc_select.specs.Machine.{State, Running, Ended, IsReturnPoint}
 use Rattle.cyc_select.specs.Selection.{ordinary, small, syscall, load, load_code, load_count, slot_offset, store_all, recorded_code, caught_code, opened_code, unwound_code, body, instruction_line}
 use Rattle.cyc_select.proofs.Blocks.{lasting, newest_lasts, count_lasts, Puts}
 use Rattle.cyc_select.proofs.Calls.{length_ordinary}
@@ -129,7 +129,7 @@ holds_four slots first contents intact =
 module _ (program : Program) (well : IsWellFormed program) (frames : List Frame) (fit : AreFrames program frames) (code : Labelled) (formed : IsFormed code) (addresses : ℕ → ℕ) (pages calls : ℕ) (few : calls ≤ 4096)
     (lie : AreAddresses code addresses) (c : Configuration)
     (range_of : (function index first handler : ℕ) → instruction_at program (record { function = function; index = index }) ≡ Some (plain.Try first handler) → IsTryInRange (routine_at program function) first handler)
-    (lands_inside : (function index first handler : ℕ) → instruction_at program (record { function = function; index = index }) ≡ Some (plain.Try first handler) → instruction_line program function index + 5 < length code.lines) where
+    (lands_at : (function index first handler : ℕ) → instruction_at program (record { function = function; index = index }) ≡ Some (plain.Try first handler) → IsReturnPoint code (instruction_line program function index + 5)) where
   abbrev frame : Frame
   frame = frame_at frames c.active.function
 
@@ -636,7 +636,7 @@ module _ (program : Program) (well : IsWellFormed program) (frames : List Frame)
             (λ f unwound.
             walk_return code formed addresses globals_length (words_per_call * calls) 0 (label + 4) (label + 4) hi c.output c.input _ final w f (instruction_line program it.call.function it.index + 5) lie unwound
             (stands_back code label (ordinary unwound_code) (lines.Return ∷ []) unwound_stands).0 (omega arith)
-            (lands_inside it.call.function it.index it.first it.one.handler it.one.opened) (back_word ∙ it.one.line)
+            (lands_at it.call.function it.index it.first it.one.handler it.one.opened) (back_word ∙ it.one.line)
             (λ g thrown.
             walk_end code formed addresses globals_length (words_per_call * calls) (suc (label + 4)) hi c.output _ (Running g) (omega arith)
             (reached program well frames fit code formed addresses pages calls few c zeros (plain.Throw tag value)
@@ -723,7 +723,7 @@ module _ (program : Program) (well : IsWellFormed program) (frames : List Frame)
       landing_is = ap addresses (let e : here + 4 + 1 ≡ here + 5 = omega arith in e)
 
       landing_word : IsWord landing
-      landing_word = omega (arith, landing_is, lie.below (here + 5) (lands_inside c.active.function c.active.next first handler at_i))
+      landing_word = omega (arith, landing_is, lie.below (here + 5) (lands_at c.active.function c.active.next first handler at_i).inside)
 
       abbrev r1 : Words
       r1 = put r RETURN_ADDRESS (addresses (here + 4 + 1))
