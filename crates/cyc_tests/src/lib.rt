@@ -21,6 +21,8 @@ mod rows;
 #[cfg(test)]
 mod store;
 #[cfg(test)]
+mod surface;
+#[cfg(test)]
 mod syntax;
 #[cfg(test)]
 mod system;
