@@ -21,7 +21,7 @@ use Rattle.cyc_plain.specs.WellFormed.{IsWellFormed, IsCallInRange}
 use Rattle.cyc_plain.proofs.RunLaws.{zeros, limited-full, called_at}
 use Rattle.cyc_plain.proofs.SlotLaws.{put-same, copied-inside, copied-above}
 use Rattle.cyc_frame.specs.Layout.{AreFrames, frame_at, slot_word}
-use Rattle.cyc_frame.specs.declared.frame.Frame.{Frame}
+use Rattle.cyc_frame.specs.Frame.{Frame}
 use Rattle.cyc_select.specs.declared.code.Line.{Line}
 use Rattle.cyc_select.specs.declared.code.Condition.TheVariants as conditions
 use Rattle.cyc_select.specs.declared.code.Line.TheVariants as lines

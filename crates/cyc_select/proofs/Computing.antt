@@ -14,7 +14,7 @@ use Rattle.cyc_plain.specs.declared.instruction.Operand.TheVariants as operands
 use Rattle.cyc_plain.specs.State.{Words, put}
 use Rattle.cyc_plain.specs.Step.{operand_word}
 use Rattle.cyc_plain.proofs.SlotLaws.{put-same, put-other}
-use Rattle.cyc_frame.specs.declared.frame.Frame.{Frame}
+use Rattle.cyc_frame.specs.Frame.{Frame}
 use Rattle.cyc_select.specs.declared.constants.TheConstants.{FIRST, SECOND, THIRD, FRAME, ZERO}
 use Rattle.cyc_select.specs.declared.plan.Operation.{Operation}
 use Rattle.cyc_select.specs.declared.plan.Operation.TheVariants as operations

@@ -14,7 +14,7 @@ use Rattle.cyc_plain.specs.declared.instruction.Operand.TheVariants as operands
 use Rattle.cyc_plain.specs.declared.instruction.Request.{Request}
 use Rattle.cyc_plain.specs.declared.instruction.Request.TheVariants as requests
 use Rattle.cyc_plain.specs.Requests.{first_operand, answer_count, destination_of, operand_size}
-use Rattle.cyc_frame.specs.declared.frame.Frame.{Frame}
+use Rattle.cyc_frame.specs.Frame.{Frame}
 use Rattle.cyc_select.specs.declared.constants.TheConstants.{FIRST, SECOND, THIRD, ZERO}
 use Rattle.cyc_select.specs.declared.plan.Operation.{Operation}
 use Rattle.cyc_select.specs.declared.plan.Operation.TheVariants as operations

@@ -22,7 +22,7 @@ use Rattle.cyc_plain.specs.WellFormed.{IsOperand, IsOfWord, IsTryInRange, IsWell
 use Rattle.cyc_plain.proofs.SlotLaws.{put-same, put-other, copied-inside, copied-below, copied-above}
 use Rattle.cyc_plain.proofs.RunLaws.{zeros, zeros_at, over_within, lies_at}
 use Rattle.cyc_frame.specs.Layout.{AreFrames, slot_word, frame_at}
-use Rattle.cyc_frame.specs.declared.frame.Frame.{Frame}
+use Rattle.cyc_frame.specs.Frame.{Frame}
 use Rattle.cyc_select.specs.declared.constants.TheConstants.{CALLS, FRAME, HANDLERS, REGIONS, ZERO}
 use Rattle.cyc_select.specs.declared.code.Condition.TheVariants as conditions
 use Rattle.cyc_select.specs.declared.code.Line.{Line}

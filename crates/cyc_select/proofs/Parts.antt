@@ -10,7 +10,7 @@ use Rattle.cyc_plain.specs.declared.instruction.Instruction.TheVariants as plain
 use Rattle.cyc_plain.specs.Program.{Routine, Program, CodePlace, no_routine, routine_at, places_from, places_of}
 use Rattle.cyc_plain.specs.WellFormed.{IsWellFormed, leaves}
 use Rattle.cyc_plain.proofs.Placed.{routine_in}
-use Rattle.cyc_frame.specs.declared.frame.Frame.{Frame}
+use Rattle.cyc_frame.specs.Frame.{Frame}
 use Rattle.cyc_select.specs.declared.constants.TheConstants.{START_LINES}
 use Rattle.cyc_select.specs.Selection.{body_count, behind_count, count_of, function_count, functions_count, function_line, instruction_line, start_lines, function_lines, select_of}
 use Rattle.cyc_select.proofs.Formed.{few_results, get_below, range_at, count_some}

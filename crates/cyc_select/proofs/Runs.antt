@@ -30,7 +30,7 @@ use Rattle.cyc_plain.proofs.Placed.{holds_at, routine_in, below_of_get}
 use Rattle.cyc_plain.proofs.RunLaws.{limited-within, zeros, zeros_allowed, zeros_at, stuck_within}
 use Rattle.cyc_plain.proofs.Steps.{function_known}
 use Rattle.cyc_frame.specs.Layout.{AreFrames, frame_at}
-use Rattle.cyc_frame.specs.declared.frame.Frame.{Frame}
+use Rattle.cyc_frame.specs.Frame.{Frame}
 use Rattle.cyc_select.specs.Labelled.{Labelled, IsFormed, AreAddresses}
 use Rattle.cyc_select.specs.Machine as labelled
 use Rattle.cyc_select.specs.Machine.{State, Running, Ended, IsReturnPoint, machine}

@@ -32,7 +32,7 @@ use Rattle.cyc_plain.specs.WellFormed.{IsOperand, IsOfWord, IsWellFormed}
 use Rattle.cyc_plain.proofs.SlotLaws.{put-other}
 use Rattle.cyc_plain.proofs.RunLaws.{zeros, over_within, zeros_at, calls_nothing}
 use Rattle.cyc_frame.specs.Layout.{AreFrames, frame_at}
-use Rattle.cyc_frame.specs.declared.frame.Frame.{Frame}
+use Rattle.cyc_frame.specs.Frame.{Frame}
 use Rattle.cyc_machine.specs.declared.constants.TheConstants.{ARGUMENT, END_UNCAUGHT, PUT_BYTE, SECOND_ARGUMENT, SERVICE, RETURN_ADDRESS}
 use Rattle.cyc_select.specs.declared.code.Line.{Line}
 use Rattle.cyc_select.specs.declared.code.Condition.{Condition}

@@ -16,7 +16,7 @@ use Rattle.cyc_plain.specs.WellFormed.{IsWellFormed}
 use Rattle.cyc_plain.proofs.SlotLaws.{put-same, put-other}
 use Rattle.std.proofs.lemmas.Bool.{cases_eq}
 use Rattle.cyc_frame.specs.Layout.{IsFrame, AreFrames, slot_word, frame_at}
-use Rattle.cyc_frame.specs.declared.frame.Frame.{Frame}
+use Rattle.cyc_frame.specs.Frame.{Frame}
 use Rattle.cyc_select.specs.Selection.{slot_offset, instruction_line, body_count}
 use Rattle.cyc_select.proofs.Blocks.{lasting, newest_lasts, count_lasts}
 use Rattle.cyc_select.proofs.Cells.{IsCell}

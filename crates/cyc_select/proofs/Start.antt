@@ -25,7 +25,7 @@ use Rattle.cyc_plain.specs.WellFormed.{IsWellFormed, HasWords}
 use Rattle.cyc_words.proofs.Matching.{way_before}
 use Rattle.cyc_words.proofs.Simulation.{simulates}
 use Rattle.cyc_frame.specs.Layout.{AreFrames, frame_at}
-use Rattle.cyc_frame.specs.declared.frame.Frame.{Frame}
+use Rattle.cyc_frame.specs.Frame.{Frame}
 use Rattle.cyc_select.specs.declared.code.Line.TheVariants as lines
 use Rattle.cyc_select.specs.Labelled.{Labelled, IsFormed, AreAddresses}
 use Rattle.cyc_select.specs.Machine as labelled

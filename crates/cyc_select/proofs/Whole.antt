@@ -6,7 +6,7 @@ use Rattle.std.proofs.lemmas.List.Sums.{sum_by-cons, sum_by-append}
 use Rattle.cyc_plain.specs.Program.{Program, CodePlace, routine_at, size}
 use Rattle.cyc_plain.specs.WellFormed.{IsWellFormed, HasWords, IsPlain}
 use Rattle.cyc_words.proofs.Prices.{sum_by-flat_map}
-use Rattle.cyc_frame.specs.declared.frame.Frame.{Frame}
+use Rattle.cyc_frame.specs.Frame.{Frame}
 use Rattle.cyc_frame.specs.Layout.{AreFrames}
 use Rattle.cyc_select.specs.declared.constants.TheConstants.{MAX_START_WORDS, START_LINES}
 use Rattle.cyc_select.specs.Labelled.{words_of, all_words, IsCode}

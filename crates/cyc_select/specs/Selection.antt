@@ -34,7 +34,7 @@ use Rattle.cyc_plain.specs.declared.instruction.Request.TheVariants as requests
 use Rattle.cyc_plain.specs.Requests.{first_operand, second_operand, answer_count, destination_of}
 use Rattle.cyc_plain.specs.Program.{Routine, Program, routine_at}
 use Rattle.cyc_frame.specs.Layout.{slot_word, frame_at}
-use Rattle.cyc_frame.specs.declared.frame.Frame.{Frame}
+use Rattle.cyc_frame.specs.Frame.{Frame}
 use Rattle.cyc_select.specs.declared.constants.TheConstants.{ZERO, FIRST_RESULT, SECOND_RESULT, THIRD_RESULT, FIRST, SECOND, THIRD, FRAME, CALLS, HANDLERS, REGIONS, START_LINES}
 use Rattle.cyc_select.specs.declared.code.Line.{Line}
 use Rattle.cyc_select.specs.declared.code.Condition.TheVariants as conditions

@@ -23,15 +23,15 @@ impl Emitter {
     /// One argument, from the caller's slot to the callee's, whose frame is the current one already.
     fn argument(
         &mut self,
-        caller: Frame,
-        callee: Frame,
+        caller: &Frame,
+        callee: &Frame,
         source: usize,
         slot: usize,
     ) -> Result<(), AllocError>
-        requires words { callee.words ≤ MOST_FRAME_WORDS }
-        requires source { IsReached caller source }
-        requires target { IsReached callee slot }
-        ensures { AddsLines result self.old self.new (ordinary (load FIRST (4 * callee.words + slot_offset caller source) ∷ store_slot callee FIRST slot ∷ [])) }
+        requires words { callee.now.words ≤ MOST_FRAME_WORDS }
+        requires source { IsReached caller.now source }
+        requires target { IsReached callee.now slot }
+        ensures { AddsLines result self.old self.new (ordinary (load FIRST (4 * callee.now.words + slot_offset caller.now source) ∷ store_slot callee.now FIRST slot ∷ [])) }
     {
         let offset = offset_of(callee.words) + offset_of(caller.first_slot + source);
         self.ordinary(&[load(FIRST, offset), store_slot(callee, FIRST, slot)])
@@ -40,15 +40,15 @@ impl Emitter {
     /// The arguments, from the caller's slots to the first ones of the callee.
     fn arguments(
         &mut self,
-        caller: Frame,
-        callee: Frame,
+        caller: &Frame,
+        callee: &Frame,
         source: usize,
         count: usize,
     ) -> Result<(), AllocError>
-        requires words { callee.words ≤ MOST_FRAME_WORDS }
-        requires source { AreReached caller source count }
-        requires target { AreReached callee 0 count }
-        ensures { AddsLines result self.old self.new (ordinary (copies caller callee source 0 count)) }
+        requires words { callee.now.words ≤ MOST_FRAME_WORDS }
+        requires source { AreReached caller.now source count }
+        requires target { AreReached callee.now 0 count }
+        ensures { AddsLines result self.old self.new (ordinary (copies caller.now callee.now source 0 count)) }
     {
         for slot in 0..count {
             self.argument(caller, callee, source + slot, slot)?;
@@ -57,11 +57,11 @@ impl Emitter {
     }
 
     /// The end of a run where too many calls are under way, and the change to the callee's frame.
-    fn enter(&mut self, caller: Frame, callee: Frame) -> Result<(), AllocError>
-        requires return_address { caller.return_address ≤ MOST_FRAME_WORDS }
-        requires some { 0 < callee.words }
-        requires words { callee.words ≤ MOST_FRAME_WORDS }
-        ensures { AddsLines result self.old self.new (enter_code caller callee) }
+    fn enter(&mut self, caller: &Frame, callee: &Frame) -> Result<(), AllocError>
+        requires return_address { caller.now.return_address ≤ MOST_FRAME_WORDS }
+        requires some { 0 < callee.now.words }
+        requires words { callee.now.words ≤ MOST_FRAME_WORDS }
+        ensures { AddsLines result self.old self.new (enter_code caller.now callee.now) }
     {
         self.ordinary(&[
             small(SERVICE, END_FULL as u16),
@@ -75,19 +75,19 @@ impl Emitter {
     /// A call of the function whose first line is the label.
     pub(crate) fn call(
         &mut self,
-        frames: (Frame, Frame),
+        frames: (&Frame, &Frame),
         here: usize,
         label: usize,
         arguments: usize,
         count: usize,
     ) -> Result<(), AllocError>
         requires fits { here ≤ most_lines }
-        requires return_address { frames.0.return_address ≤ MOST_FRAME_WORDS }
-        requires some { 0 < frames.1.words }
-        requires words { frames.1.words ≤ MOST_FRAME_WORDS }
-        requires source { AreReached frames.0 arguments count }
-        requires target { AreReached frames.1 0 count }
-        ensures { AddsLines result self.old self.new (calling_code frames.0 frames.1 here label arguments count) }
+        requires return_address { frames.0.now.return_address ≤ MOST_FRAME_WORDS }
+        requires some { 0 < frames.1.now.words }
+        requires words { frames.1.now.words ≤ MOST_FRAME_WORDS }
+        requires source { AreReached frames.0.now arguments count }
+        requires target { AreReached frames.1.now 0 count }
+        ensures { AddsLines result self.old self.new (calling_code frames.0.now frames.1.now here label arguments count) }
     {
         let (caller, callee) = frames;
         self.branch(BranchOp::NotEqual, CALLS, ZERO, here + 3)?;
@@ -99,12 +99,12 @@ impl Emitter {
     /// Registers into the slots from one on.
     pub(crate) fn store_all(
         &mut self,
-        frame: Frame,
+        frame: &Frame,
         slot: usize,
         sources: &[u8],
     ) -> Result<(), AllocError>
-        requires { AreReached frame slot (length sources.now) }
-        ensures { AddsLines result self.old self.new (ordinary (store_all frame slot sources.now)) }
+        requires { AreReached frame.now slot (length sources.now) }
+        ensures { AddsLines result self.old self.new (ordinary (store_all frame.now slot sources.now)) }
     {
         let mut next = slot;
         for source in sources {
@@ -115,9 +115,9 @@ impl Emitter {
     }
 
     /// The slots from one on into registers.
-    fn load_all(&mut self, frame: Frame, slot: usize, targets: &[u8]) -> Result<(), AllocError>
-        requires { AreReached frame slot (length targets.now) }
-        ensures { AddsLines result self.old self.new (ordinary (load_all frame slot targets.now)) }
+    fn load_all(&mut self, frame: &Frame, slot: usize, targets: &[u8]) -> Result<(), AllocError>
+        requires { AreReached frame.now slot (length targets.now) }
+        ensures { AddsLines result self.old self.new (ordinary (load_all frame.now slot targets.now)) }
     {
         let mut next = slot;
         for target in targets {
@@ -130,15 +130,15 @@ impl Emitter {
     /// Words from slots to slots.
     pub(crate) fn move_words(
         &mut self,
-        frame: Frame,
+        frame: &Frame,
         destination: usize,
         source: usize,
         count: usize,
     ) -> Result<(), AllocError>
         requires few { count ≤ GREATEST_VALUE }
-        requires source { AreReached frame source count }
-        requires target { AreReached frame destination count }
-        ensures { AddsLines result self.old self.new (move_words frame destination source count) }
+        requires source { AreReached frame.now source count }
+        requires target { AreReached frame.now destination count }
+        ensures { AddsLines result self.old self.new (move_words frame.now destination source count) }
     {
         self.load_all(frame, source, &RESULTS[..count])?;
         self.store_all(frame, destination, &RESULTS[..count])
@@ -147,14 +147,14 @@ impl Emitter {
     /// Behind a call: the caller has its return address and the number of calls again, and gets what was returned.
     pub(crate) fn returned(
         &mut self,
-        frame: Frame,
+        frame: &Frame,
         slot: usize,
         results: usize,
     ) -> Result<(), AllocError>
-        requires return_address { frame.return_address ≤ MOST_FRAME_WORDS }
+        requires return_address { frame.now.return_address ≤ MOST_FRAME_WORDS }
         requires few { results ≤ GREATEST_VALUE }
-        requires target { AreReached frame slot results }
-        ensures { AddsLines result self.old self.new (returned_code frame slot results) }
+        requires target { AreReached frame.now slot results }
+        ensures { AddsLines result self.old self.new (returned_code frame.now slot results) }
     {
         self.ordinary(&[
             load(RETURN_ADDRESS, offset_of(frame.return_address)),
@@ -167,13 +167,13 @@ impl Emitter {
     fn ending(
         &mut self,
         is_main: bool,
-        frame: Frame,
+        frame: &Frame,
         here: usize,
         value: usize,
     ) -> Result<(), AllocError>
         requires fits { here ≤ most_lines }
-        requires source { is_main ≡ true → IsReached frame value }
-        ensures { AddsLines result self.old self.new (ending_code is_main frame here value) }
+        requires source { is_main ≡ true → IsReached frame.now value }
+        ensures { AddsLines result self.old self.new (ending_code is_main frame.now here value) }
     {
         if !is_main {
             return Ok(());
@@ -190,17 +190,17 @@ impl Emitter {
     pub(crate) fn returning(
         &mut self,
         is_main: bool,
-        frame: Frame,
+        frame: &Frame,
         here: usize,
         value: usize,
         results: usize,
     ) -> Result<(), AllocError>
         requires fits { here ≤ most_lines }
-        requires words { frame.words ≤ MOST_FRAME_WORDS }
+        requires words { frame.now.words ≤ MOST_FRAME_WORDS }
         requires few { results ≤ GREATEST_VALUE }
-        requires main { is_main ≡ true → IsReached frame value }
-        requires source { AreReached frame value results }
-        ensures { AddsLines result self.old self.new (returning_code is_main frame here value results) }
+        requires main { is_main ≡ true → IsReached frame.now value }
+        requires source { AreReached frame.now value results }
+        ensures { AddsLines result self.old self.new (returning_code is_main frame.now here value results) }
     {
         self.ending(is_main, frame, here, value)?;
         self.load_all(frame, value, &RESULTS[..results])?;

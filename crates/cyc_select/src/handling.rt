@@ -31,10 +31,10 @@ fn load_record(target: u8, offset: u16) -> Instr
 
 impl Emitter {
     /// What a record has, but for the line that an exception comes to.
-    fn recorded(&mut self, frame: Frame, first: usize) -> Result<(), AllocError>
-        requires return_address { frame.return_address ≤ MOST_FRAME_WORDS }
-        requires target { AreReached frame first RECORD_WORDS }
-        ensures { AddsLines result self.old self.new (ordinary (recorded_code frame first)) }
+    fn recorded(&mut self, frame: &Frame, first: usize) -> Result<(), AllocError>
+        requires return_address { frame.now.return_address ≤ MOST_FRAME_WORDS }
+        requires target { AreReached frame.now first RECORD_WORDS }
+        ensures { AddsLines result self.old self.new (ordinary (recorded_code frame.now first)) }
     {
         self.ordinary(&[
             store_slot(frame, HANDLERS, first),
@@ -45,10 +45,10 @@ impl Emitter {
     }
 
     /// Where an exception comes to a handler.
-    fn caught(&mut self, frame: Frame, first: usize) -> Result<(), AllocError>
-        requires return_address { frame.return_address ≤ MOST_FRAME_WORDS }
-        requires target { AreReached frame first RECORD_WORDS }
-        ensures { AddsLines result self.old self.new (ordinary (caught_code frame first)) }
+    fn caught(&mut self, frame: &Frame, first: usize) -> Result<(), AllocError>
+        requires return_address { frame.now.return_address ≤ MOST_FRAME_WORDS }
+        requires target { AreReached frame.now first RECORD_WORDS }
+        ensures { AddsLines result self.old self.new (ordinary (caught_code frame.now first)) }
     {
         self.ordinary(&[
             load(RETURN_ADDRESS, offset_of(frame.return_address)),
@@ -58,10 +58,10 @@ impl Emitter {
     }
 
     /// The rest of a record, which is the newest one then.
-    fn opened(&mut self, frame: Frame, first: usize) -> Result<(), AllocError>
-        requires return_address { frame.return_address ≤ MOST_FRAME_WORDS }
-        requires target { AreReached frame first RECORD_WORDS }
-        ensures { AddsLines result self.old self.new (ordinary (opened_code frame first)) }
+    fn opened(&mut self, frame: &Frame, first: usize) -> Result<(), AllocError>
+        requires return_address { frame.now.return_address ≤ MOST_FRAME_WORDS }
+        requires target { AreReached frame.now first RECORD_WORDS }
+        ensures { AddsLines result self.old self.new (ordinary (opened_code frame.now first)) }
     {
         self.ordinary(&[
             store_slot(frame, RETURN_ADDRESS, first + 2),
@@ -73,15 +73,15 @@ impl Emitter {
     /// A handler is opened, whose first line has this label.
     pub(crate) fn open_handler(
         &mut self,
-        frame: Frame,
+        frame: &Frame,
         here: usize,
         first: usize,
         label: usize,
     ) -> Result<(), AllocError>
         requires fits { here ≤ most_lines }
-        requires return_address { frame.return_address ≤ MOST_FRAME_WORDS }
-        requires target { AreReached frame first RECORD_WORDS }
-        ensures { AddsLines result self.old self.new (try_code frame here first label) }
+        requires return_address { frame.now.return_address ≤ MOST_FRAME_WORDS }
+        requires target { AreReached frame.now first RECORD_WORDS }
+        ensures { AddsLines result self.old self.new (try_code frame.now here first label) }
     {
         self.recorded(frame, first)?;
         self.line(Line::Call { label: here + 9 })?;
@@ -91,9 +91,9 @@ impl Emitter {
     }
 
     /// The handler with this record is closed.
-    pub(crate) fn leave(&mut self, frame: Frame, first: usize) -> Result<(), AllocError>
-        requires target { AreReached frame first RECORD_WORDS }
-        ensures { AddsLines result self.old self.new (ordinary (load_slot frame HANDLERS first ∷ [])) }
+    pub(crate) fn leave(&mut self, frame: &Frame, first: usize) -> Result<(), AllocError>
+        requires target { AreReached frame.now first RECORD_WORDS }
+        ensures { AddsLines result self.old self.new (ordinary (load_slot frame.now HANDLERS first ∷ [])) }
     {
         self.ordinary(&[load_slot(frame, HANDLERS, first)])
     }
@@ -113,15 +113,15 @@ impl Emitter {
     /// An exception is thrown.
     pub(crate) fn throw(
         &mut self,
-        frame: Frame,
+        frame: &Frame,
         here: usize,
         tag: Operand,
         value: Operand,
     ) -> Result<(), AllocError>
         requires fits { here ≤ most_lines }
-        requires tag { IsFound frame tag }
-        requires value { IsFound frame value }
-        ensures { AddsLines result self.old self.new (throw_code frame here tag value) }
+        requires tag { IsFound frame.now tag }
+        requires value { IsFound frame.now value }
+        ensures { AddsLines result self.old self.new (throw_code frame.now here tag value) }
     {
         self.load(frame, ARGUMENT, tag)?;
         self.load(frame, SECOND_ARGUMENT, value)?;

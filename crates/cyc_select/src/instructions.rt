@@ -65,17 +65,17 @@ pub(crate) fn store(source: u8, offset: u16) -> Instr
 }
 
 /// A slot of the current frame into a register.
-pub(crate) fn load_slot(frame: Frame, target: u8, slot: usize) -> Instr
-    requires { IsReached frame slot }
-    ensures { result ≡ load_slot frame target slot }
+pub(crate) fn load_slot(frame: &Frame, target: u8, slot: usize) -> Instr
+    requires { IsReached frame.now slot }
+    ensures { result ≡ load_slot frame.now target slot }
 {
     load(target, offset_of(frame.first_slot + slot))
 }
 
 /// A register into a slot of the current frame.
-pub(crate) fn store_slot(frame: Frame, source: u8, slot: usize) -> Instr
-    requires { IsReached frame slot }
-    ensures { result ≡ store_slot frame source slot }
+pub(crate) fn store_slot(frame: &Frame, source: u8, slot: usize) -> Instr
+    requires { IsReached frame.now slot }
+    ensures { result ≡ store_slot frame.now source slot }
 {
     store(source, offset_of(frame.first_slot + slot))
 }
@@ -156,18 +156,18 @@ pub(crate) fn or_lower(target: u8, word: u32) -> Instr
 }
 
 /// The frame of a function that is called comes below the current one.
-pub(crate) fn push_frame(frame: Frame) -> Instr
-    requires some { 0 < frame.words }
-    requires small { frame.words ≤ MOST_FRAME_WORDS }
-    ensures { result ≡ push_frame frame }
+pub(crate) fn push_frame(frame: &Frame) -> Instr
+    requires some { 0 < frame.now.words }
+    requires small { frame.now.words ≤ MOST_FRAME_WORDS }
+    ensures { result ≡ push_frame frame.now }
 {
     add_immediate(FRAME, FRAME, minus(offset_of(frame.words)))
 }
 
 /// The current frame is left.
-pub(crate) fn pop_frame(frame: Frame) -> Instr
-    requires { frame.words ≤ MOST_FRAME_WORDS }
-    ensures { result ≡ pop_frame frame }
+pub(crate) fn pop_frame(frame: &Frame) -> Instr
+    requires { frame.now.words ≤ MOST_FRAME_WORDS }
+    ensures { result ≡ pop_frame frame.now }
 {
     add_immediate(FRAME, FRAME, offset_of(frame.words))
 }

@@ -63,9 +63,9 @@ pub(crate) fn address_count(address: Operand, offset: u32) -> usize
 
 impl Emitter {
     /// The address comes into a register, but for an offset that fits the instruction.
-    fn address(&mut self, frame: Frame, address: Operand, offset: u32) -> Result<(), AllocError>
-        requires { IsFound frame address }
-        ensures { AddsLines result self.old self.new (ordinary (address_code frame address offset)) }
+    fn address(&mut self, frame: &Frame, address: Operand, offset: u32) -> Result<(), AllocError>
+        requires { IsFound frame.now address }
+        ensures { AddsLines result self.old self.new (ordinary (address_code frame.now address offset)) }
     {
         if fits_signed(offset) {
             return self.operand(frame, FIRST, address);
@@ -76,13 +76,13 @@ impl Emitter {
     /// The address of a slot's word comes into a slot.
     pub(crate) fn address_of(
         &mut self,
-        frame: Frame,
+        frame: &Frame,
         destination: usize,
         slot: usize,
     ) -> Result<(), AllocError>
-        requires target { IsReached frame destination }
-        requires source { IsReached frame slot }
-        ensures { AddsLines result self.old self.new (address_of frame destination slot) }
+        requires target { IsReached frame.now destination }
+        requires source { IsReached frame.now slot }
+        ensures { AddsLines result self.old self.new (address_of frame.now destination slot) }
     {
         self.ordinary(&[
             add_immediate(FIRST, FRAME, offset_of(frame.first_slot + slot)),
@@ -93,14 +93,14 @@ impl Emitter {
     /// A word of memory comes into a slot.
     pub(crate) fn load_word(
         &mut self,
-        frame: Frame,
+        frame: &Frame,
         destination: usize,
         address: Operand,
         offset: u32,
     ) -> Result<(), AllocError>
-        requires target { IsReached frame destination }
-        requires address { IsFound frame address }
-        ensures { AddsLines result self.old self.new (load_word frame destination address offset) }
+        requires target { IsReached frame.now destination }
+        requires address { IsFound frame.now address }
+        ensures { AddsLines result self.old self.new (load_word frame.now destination address offset) }
     {
         self.address(frame, address, offset)?;
         self.ordinary(&[
@@ -112,14 +112,14 @@ impl Emitter {
     /// An operand goes into a word of memory.
     pub(crate) fn store_word(
         &mut self,
-        frame: Frame,
+        frame: &Frame,
         address: Operand,
         offset: u32,
         source: Operand,
     ) -> Result<(), AllocError>
-        requires address { IsFound frame address }
-        requires source { IsFound frame source }
-        ensures { AddsLines result self.old self.new (store_word frame address offset source) }
+        requires address { IsFound frame.now address }
+        requires source { IsFound frame.now source }
+        ensures { AddsLines result self.old self.new (store_word frame.now address offset source) }
     {
         self.address(frame, address, offset)?;
         self.operand(frame, SECOND, source)?;

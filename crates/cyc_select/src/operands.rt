@@ -76,12 +76,12 @@ impl Emitter {
     /// An operand comes into a register.
     pub(crate) fn load(
         &mut self,
-        frame: Frame,
+        frame: &Frame,
         target: u8,
         operand: Operand,
     ) -> Result<(), AllocError>
-        requires { IsFound frame operand }
-        ensures { AddsLines result self.old self.new (ordinary (load_code frame target operand)) }
+        requires { IsFound frame.now operand }
+        ensures { AddsLines result self.old self.new (ordinary (load_code frame.now target operand)) }
     {
         match operand {
             Operand::Slot { number } => self.ordinary(&[load_slot(frame, target, number)]),
@@ -92,12 +92,12 @@ impl Emitter {
     /// An operand is in a register.
     pub(crate) fn operand(
         &mut self,
-        frame: Frame,
+        frame: &Frame,
         register: u8,
         operand: Operand,
     ) -> Result<(), AllocError>
-        requires { IsFound frame operand }
-        ensures { AddsLines result self.old self.new (ordinary (operand_code frame register operand)) }
+        requires { IsFound frame.now operand }
+        ensures { AddsLines result self.old self.new (ordinary (operand_code frame.now register operand)) }
     {
         if is_zero_word(operand) {
             return Ok(());

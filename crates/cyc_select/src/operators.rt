@@ -229,13 +229,13 @@ impl Emitter {
     /// An operand is copied into a slot.
     pub(crate) fn copy(
         &mut self,
-        frame: Frame,
+        frame: &Frame,
         destination: usize,
         source: Operand,
     ) -> Result<(), AllocError>
-        requires target { IsReached frame destination }
-        requires source { IsFound frame source }
-        ensures { AddsLines result self.old self.new (move_code frame destination source) }
+        requires target { IsReached frame.now destination }
+        requires source { IsFound frame.now source }
+        ensures { AddsLines result self.old self.new (move_code frame.now destination source) }
     {
         self.operand(frame, FIRST, source)?;
         self.ordinary(&[store_slot(frame, operand_register(FIRST, source), destination)])
@@ -270,19 +270,19 @@ impl Emitter {
     }
 
     /// Two operands, each in a register.
-    fn operands(&mut self, frame: Frame, left: Operand, right: Operand) -> Result<(), AllocError>
-        requires left { IsFound frame left }
-        requires right { IsFound frame right }
-        ensures { AddsLines result self.old self.new (ordinary (operands_code frame left right)) }
+    fn operands(&mut self, frame: &Frame, left: Operand, right: Operand) -> Result<(), AllocError>
+        requires left { IsFound frame.now left }
+        requires right { IsFound frame.now right }
+        ensures { AddsLines result self.old self.new (ordinary (operands_code frame.now left right)) }
     {
         self.operand(frame, FIRST, left)?;
         self.operand(frame, SECOND, right)
     }
 
     /// A plan up to its outcome.
-    pub(crate) fn operation_of(&mut self, frame: Frame, plan: Plan) -> Result<(), AllocError>
-        requires { IsPlanFound frame plan }
-        ensures { AddsLines result self.old self.new (ordinary (operation_of frame plan)) }
+    pub(crate) fn operation_of(&mut self, frame: &Frame, plan: Plan) -> Result<(), AllocError>
+        requires { IsPlanFound frame.now plan }
+        ensures { AddsLines result self.old self.new (ordinary (operation_of frame.now plan)) }
     {
         self.operands(frame, plan.left, plan.right)?;
         self.operation(
@@ -293,9 +293,9 @@ impl Emitter {
     }
 
     /// A word that is computed.
-    fn computed(&mut self, frame: Frame, plan: Plan) -> Result<(), AllocError>
-        requires { IsPlanFound frame plan }
-        ensures { AddsLines result self.old self.new (ordinary (computed_code frame plan)) }
+    fn computed(&mut self, frame: &Frame, plan: Plan) -> Result<(), AllocError>
+        requires { IsPlanFound frame.now plan }
+        ensures { AddsLines result self.old self.new (ordinary (computed_code frame.now plan)) }
     {
         self.operation_of(frame, plan)?;
         self.outcome(plan.outcome)
@@ -304,22 +304,22 @@ impl Emitter {
     /// It goes to a slot.
     pub(crate) fn plan(
         &mut self,
-        frame: Frame,
+        frame: &Frame,
         plan: Plan,
         destination: usize,
     ) -> Result<(), AllocError>
-        requires target { IsReached frame destination }
-        requires found { IsPlanFound frame plan }
-        ensures { AddsLines result self.old self.new (ordinary (plan_code frame plan destination)) }
+        requires target { IsReached frame.now destination }
+        requires found { IsPlanFound frame.now plan }
+        ensures { AddsLines result self.old self.new (ordinary (plan_code frame.now plan destination)) }
     {
         self.computed(frame, plan)?;
         self.ordinary(&[store_slot(frame, FIRST, destination)])
     }
 
     /// What a branch tests.
-    fn test(&mut self, frame: Frame, test: Test) -> Result<(), AllocError>
-        requires { IsTestFound frame test }
-        ensures { AddsLines result self.old self.new (ordinary (test_code frame test)) }
+    fn test(&mut self, frame: &Frame, test: Test) -> Result<(), AllocError>
+        requires { IsTestFound frame.now test }
+        ensures { AddsLines result self.old self.new (ordinary (test_code frame.now test)) }
     {
         match test {
             Test::Operands { left, right, .. } => self.operands(frame, left, right),
@@ -331,12 +331,12 @@ impl Emitter {
     /// A jump where a test holds.
     pub(crate) fn branch_where(
         &mut self,
-        frame: Frame,
+        frame: &Frame,
         test: Test,
         label: usize,
     ) -> Result<(), AllocError>
-        requires { IsTestFound frame test }
-        ensures { AddsLines result self.old self.new (branch_code frame test label) }
+        requires { IsTestFound frame.now test }
+        ensures { AddsLines result self.old self.new (branch_code frame.now test label) }
     {
         self.test(frame, test)?;
         self.line(branch_line(test, label))
@@ -345,12 +345,12 @@ impl Emitter {
     /// The negated dividend by 1, and behind that the division of the registers as they are.
     fn quotient(
         &mut self,
-        frame: Frame,
+        frame: &Frame,
         which: MoveFromOp,
         destination: usize,
     ) -> Result<(), AllocError>
-        requires { IsReached frame destination }
-        ensures { AddsLines result self.old self.new (quotient_code frame which destination) }
+        requires { IsReached frame.now destination }
+        ensures { AddsLines result self.old self.new (quotient_code frame.now which destination) }
     {
         self.ordinary(&[
             arithmetic(ArithmeticOp::SubtractUnsigned, ZERO, FIRST),
@@ -362,10 +362,10 @@ impl Emitter {
     }
 
     /// Dividend and divisor come into their registers.
-    fn loads(&mut self, frame: Frame, left: Operand, right: Operand) -> Result<(), AllocError>
-        requires left { IsFound frame left }
-        requires right { IsFound frame right }
-        ensures { AddsLines result self.old self.new (ordinary (loads_code frame left right)) }
+    fn loads(&mut self, frame: &Frame, left: Operand, right: Operand) -> Result<(), AllocError>
+        requires left { IsFound frame.now left }
+        requires right { IsFound frame.now right }
+        ensures { AddsLines result self.old self.new (ordinary (loads_code frame.now left right)) }
     {
         self.load(frame, FIRST, left)?;
         self.load(frame, SECOND, right)
@@ -374,13 +374,13 @@ impl Emitter {
     /// The same, and -1 comes into a third.
     fn dividend_and_divisor(
         &mut self,
-        frame: Frame,
+        frame: &Frame,
         left: Operand,
         right: Operand,
     ) -> Result<(), AllocError>
-        requires left { IsFound frame left }
-        requires right { IsFound frame right }
-        ensures { AddsLines result self.old self.new (ordinary (divided_code frame left right)) }
+        requires left { IsFound frame.now left }
+        requires right { IsFound frame.now right }
+        ensures { AddsLines result self.old self.new (ordinary (divided_code frame.now left right)) }
     {
         self.loads(frame, left, right)?;
         self.ordinary(&[add_immediate(THIRD, ZERO, minus(1))])
@@ -390,16 +390,16 @@ impl Emitter {
     /// divided by 1.
     fn divide(
         &mut self,
-        frame: Frame,
+        frame: &Frame,
         here: usize,
         which: MoveFromOp,
         parts: Parts,
     ) -> Result<(), AllocError>
         requires fits { here ≤ most_lines }
-        requires target { IsReached frame parts.destination }
-        requires left { IsFound frame parts.left }
-        requires right { IsFound frame parts.right }
-        ensures { AddsLines result self.old self.new (divide_code frame here which parts.destination parts.left parts.right) }
+        requires target { IsReached frame.now parts.destination }
+        requires left { IsFound frame.now parts.left }
+        requires right { IsFound frame.now parts.right }
+        ensures { AddsLines result self.old self.new (divide_code frame.now here which parts.destination parts.left parts.right) }
     {
         let before = load_count(parts.left) + load_count(parts.right);
         self.dividend_and_divisor(frame, parts.left, parts.right)?;
@@ -410,16 +410,16 @@ impl Emitter {
     /// An operator on two operands.
     pub(crate) fn binary(
         &mut self,
-        frame: Frame,
+        frame: &Frame,
         here: usize,
         operator: BinaryOperator,
         parts: Parts,
     ) -> Result<(), AllocError>
         requires fits { here ≤ most_lines }
-        requires target { IsReached frame parts.destination }
-        requires left { IsFound frame parts.left }
-        requires right { IsFound frame parts.right }
-        ensures { AddsLines result self.old self.new (operator_code frame here operator parts.destination parts.left parts.right) }
+        requires target { IsReached frame.now parts.destination }
+        requires left { IsFound frame.now parts.left }
+        requires right { IsFound frame.now parts.right }
+        ensures { AddsLines result self.old self.new (operator_code frame.now here operator parts.destination parts.left parts.right) }
     {
         if is_tested(operator, parts.right) {
             return self.divide(frame, here, part_of(operator), parts);
@@ -429,9 +429,9 @@ impl Emitter {
     }
 
     /// A byte of the input comes into a slot.
-    pub(crate) fn read_byte(&mut self, frame: Frame, destination: usize) -> Result<(), AllocError>
-        requires { IsReached frame destination }
-        ensures { AddsLines result self.old self.new (ordinary (small SERVICE GET_BYTE ∷ syscall ∷ store_slot frame SERVICE destination ∷ [])) }
+    pub(crate) fn read_byte(&mut self, frame: &Frame, destination: usize) -> Result<(), AllocError>
+        requires { IsReached frame.now destination }
+        ensures { AddsLines result self.old self.new (ordinary (small SERVICE GET_BYTE ∷ syscall ∷ store_slot frame.now SERVICE destination ∷ [])) }
     {
         self.ordinary(&[
             small(SERVICE, GET_BYTE as u16),
@@ -441,9 +441,9 @@ impl Emitter {
     }
 
     /// An operand's low byte is printed.
-    pub(crate) fn write_byte(&mut self, frame: Frame, source: Operand) -> Result<(), AllocError>
-        requires { IsFound frame source }
-        ensures { AddsLines result self.old self.new (write_code frame source) }
+    pub(crate) fn write_byte(&mut self, frame: &Frame, source: Operand) -> Result<(), AllocError>
+        requires { IsFound frame.now source }
+        ensures { AddsLines result self.old self.new (write_code frame.now source) }
     {
         self.load(frame, ARGUMENT, source)?;
         self.ordinary(&[small(SERVICE, PUT_BYTE as u16), syscall()])
@@ -452,13 +452,13 @@ impl Emitter {
     /// A global comes into a slot.
     pub(crate) fn load_global(
         &mut self,
-        frame: Frame,
+        frame: &Frame,
         destination: usize,
         global: usize,
     ) -> Result<(), AllocError>
         requires global { global < MOST_GLOBALS }
-        requires target { IsReached frame destination }
-        ensures { AddsLines result self.old self.new (load_global frame destination global) }
+        requires target { IsReached frame.now destination }
+        ensures { AddsLines result self.old self.new (load_global frame.now destination global) }
     {
         self.ordinary(&[
             upper_of_global(global),
@@ -470,13 +470,13 @@ impl Emitter {
     /// An operand goes into a global.
     pub(crate) fn store_global(
         &mut self,
-        frame: Frame,
+        frame: &Frame,
         global: usize,
         source: Operand,
     ) -> Result<(), AllocError>
         requires global { global < MOST_GLOBALS }
-        requires source { IsFound frame source }
-        ensures { AddsLines result self.old self.new (store_global frame global source) }
+        requires source { IsFound frame.now source }
+        ensures { AddsLines result self.old self.new (store_global frame.now global source) }
     {
         self.operand(frame, FIRST, source)?;
         self.ordinary(&[
@@ -488,12 +488,12 @@ impl Emitter {
     /// The run ends with an exception that nothing caught.
     pub(crate) fn uncaught(
         &mut self,
-        frame: Frame,
+        frame: &Frame,
         tag: u32,
         value: Operand,
     ) -> Result<(), AllocError>
-        requires { IsFound frame value }
-        ensures { AddsLines result self.old self.new (uncaught_code frame tag value) }
+        requires { IsFound frame.now value }
+        ensures { AddsLines result self.old self.new (uncaught_code frame.now tag value) }
     {
         self.word(ARGUMENT, tag)?;
         self.load(frame, SECOND_ARGUMENT, value)?;

@@ -23,10 +23,10 @@ use std::alloc::{AllocError, Global};
 impl Emitter {
     /// The call of `main`, whose first line is the label: one call more is under way, and its frame lies below the end of
     /// the stack.
-    fn start(&mut self, frame: Frame, label: usize) -> Result<(), AllocError>
-        requires some { 0 < frame.words }
-        requires words { frame.words ≤ MOST_FRAME_WORDS }
-        ensures { AddsLines result self.old self.new (start_code frame label) }
+    fn start(&mut self, frame: &Frame, label: usize) -> Result<(), AllocError>
+        requires some { 0 < frame.now.words }
+        requires words { frame.now.words ≤ MOST_FRAME_WORDS }
+        ensures { AddsLines result self.old self.new (start_code frame.now label) }
     {
         self.ordinary(&[add_immediate(CALLS, ARGUMENT, minus(1)), push_frame(frame)])?;
         self.line(Line::Jump { label })
@@ -93,7 +93,7 @@ fn selected(alloc: Global, plain: &Plain, frames: &Frames) -> Result<Code, Alloc
     let globals = Vec::from_slice(alloc, plain.globals())?;
     let main = plain.main();
     let mut emitter = Emitter::new(alloc);
-    emitter.start(frames[main], starts[main])?;
+    emitter.start(&frames[main], starts[main])?;
     emitter.functions(
         alloc,
         &Ready {

@@ -31,15 +31,15 @@ pub(crate) struct Tables<'a> {
 
 impl<'a> Tables<'a> {
     /// The frame of a function.
-    pub(crate) fn frame(&self, function: usize) -> Frame
+    pub(crate) fn frame(&self, function: usize) -> &'a Frame
         requires known { IsKnown self.now }
         requires function { function < length self.now.plain.now.functions }
-        ensures value { result ≡ frame_at self.now.frames.now function }
-        ensures words { result.words ≤ MOST_FRAME_WORDS }
-        ensures return_address { result.return_address < result.words }
-        ensures slots { AreReached result 0 (routine_at self.now.plain.now function).slots }
+        ensures value { result.now ≡ frame_at self.now.frames.now function }
+        ensures words { result.now.words ≤ MOST_FRAME_WORDS }
+        ensures return_address { result.now.return_address < result.now.words }
+        ensures slots { AreReached result.now 0 (routine_at self.now.plain.now function).slots }
     {
-        self.frames[function]
+        &self.frames[function]
     }
 
     /// The number of the first line of a function.
