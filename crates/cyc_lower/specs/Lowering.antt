@@ -590,14 +590,6 @@ while_code condition jump body p =
 
 -- ---- regions
 
--- how many lexical regions are open now is kept in the global for it
-abbrev pub scopes_code_in : Option ℕ → (count : Operand) → List Instruction
-scopes_code_in None count = []
-scopes_code_in (Some global) count = instructions.StoreGlobal global count ∷ []
-
-abbrev pub scopes_code : Starts → (count : Operand) → List Instruction
-scopes_code starts count = scopes_code_in starts.scopes count
-
 -- a local that is declared gets a value of so many words, which stands in an operand
 abbrev pub named_code : Starts → (words number : ℕ) → Operand → List Instruction
 named_code starts words n o = move_of words (slot_of starts n) o ∷ []
@@ -607,13 +599,11 @@ abbrev pub opened_code : Starts → (number t : ℕ) → List Instruction
 opened_code starts n t =
     instructions.Ask (requests.OpenLexical (t + 1))
     ∷ instructions.Move t (operands.Slot (t + 2))
-    ∷ instructions.Binary plain_binary.Add (t + 2) (operands.Slot t) (operands.Word 1)
-    ∷ scopes_code starts (operands.Slot (t + 2))
-    ++ named_code starts 1 n (operands.Slot (t + 1))
+    ∷ named_code starts 1 n (operands.Slot (t + 1))
 
 -- the newest lexical regions are closed, down to the mark in slot m
-abbrev pub closed_code : Starts → (m : ℕ) → List Instruction
-closed_code starts m = instructions.Ask (requests.CloseTo (operands.Slot m)) ∷ scopes_code starts (operands.Slot m)
+abbrev pub closed_code : (m : ℕ) → List Instruction
+closed_code m = instructions.Ask (requests.CloseTo (operands.Slot m)) ∷ []
 
 -- a dynamic region is opened, and a local becomes its key
 abbrev pub dynamic_code : Starts → (number t : ℕ) → List Instruction
@@ -646,38 +636,38 @@ handlers_code None = []
 handlers_code (Some first) = instructions.Leave first ∷ []
 
 -- all lexical regions are closed, down to the outermost one's mark
-abbrev pub marks_code : Starts → Option ℕ → List Instruction
-marks_code starts None = []
-marks_code starts (Some m) = closed_code starts m
+abbrev pub marks_code : Option ℕ → List Instruction
+marks_code None = []
+marks_code (Some m) = closed_code m
 
-abbrev pub leave_code : Starts → Opened → List Instruction
-leave_code starts opened = handlers_code opened.handler ++ marks_code starts opened.mark
+abbrev pub leave_code : Opened → List Instruction
+leave_code opened = handlers_code opened.handler ++ marks_code opened.mark
 
 -- ---- handlers
 
--- A `try` has the record of its handler in the slots from t on. Behind it it keeps how many lexical regions are open, where a program has
--- any.
+-- A `try` has the record of its handler in the slots from t on. Behind it it keeps how many lexical regions are open, where a program may
+-- open some.
 abbrev pub behind_record_in : Option ℕ → (t : ℕ) → ℕ
 behind_record_in None t = t + RECORD_WORDS
-behind_record_in (Some global) t = t + RECORD_WORDS + 1
+behind_record_in (Some place) t = t + RECORD_WORDS + 1
 
 abbrev pub behind_record : Starts → (t : ℕ) → ℕ
 behind_record starts t = behind_record_in starts.scopes t
 
 abbrev pub kept_code_in : Option ℕ → (t : ℕ) → List Instruction
 kept_code_in None t = []
-kept_code_in (Some global) t = instructions.LoadGlobal (t + RECORD_WORDS) global ∷ []
+kept_code_in (Some place) t = instructions.CountLexical (t + RECORD_WORDS) ∷ []
 
 abbrev pub kept_code : Starts → (t : ℕ) → List Instruction
 kept_code starts t = kept_code_in starts.scopes t
 
 -- where an exception comes to it, the lexical regions are closed that were opened in it
-abbrev pub restored_code_in : Starts → Option ℕ → (t : ℕ) → List Instruction
-restored_code_in starts None t = []
-restored_code_in starts (Some global) t = closed_code starts (t + RECORD_WORDS)
+abbrev pub restored_code_in : Option ℕ → (t : ℕ) → List Instruction
+restored_code_in None t = []
+restored_code_in (Some place) t = closed_code (t + RECORD_WORDS)
 
 abbrev pub restored_code : Starts → (t : ℕ) → List Instruction
-restored_code starts t = restored_code_in starts starts.scopes t
+restored_code starts t = restored_code_in starts.scopes t
 
 -- the word of an exception's number, which is less than 2 ^ 32 in every text
 abbrev pub tag_operand : (tag : ℕ) → Operand
@@ -982,11 +972,11 @@ module _ (starts : Starts) where
 
   -- A value is returned from a slot: that of a local, or t. It is converted before handlers are closed.
   abbrev pub return_code : Option Converted → (p : ℕ) → Exits → (t : ℕ) → List Instruction
-  return_code None p exits t = leave_code starts exits.in_function ++ instructions.Finish t ∷ []
+  return_code None p exits t = leave_code exits.in_function ++ instructions.Finish t ∷ []
   return_code (Some (Convert from to a)) p exits t =
       code_unless_slot (source_of starts (Convert from to a)) (expression_code starts a p t t)
       ++ conversion_code starts from to (span_of a) (operands.Slot (slot_or (source_of starts (Convert from to a)) t)) (p + length (code_unless_slot (source_of starts (Convert from to a)) (expression_code starts a p t t)))
-      ++ leave_code starts exits.in_function
+      ++ leave_code exits.in_function
       ++ instructions.Finish (slot_or (source_of starts (Convert from to a)) t)
       ∷ []
 
@@ -1050,8 +1040,8 @@ module _ (starts : Starts) where
     statement_code (While w a s) p exits t =
         while_code (condition_code a (p + 2) t) (failing_jump (condition_of a t)) (statement_code s (p + 2 + length (condition_code a (p + 2) t) + 1) (inside_loop p exits) t) p
     statement_code (Return v) p exits t = return_code v p exits t
-    statement_code Break p exits t = leave_code starts exits.in_loop ++ instructions.Jump (break_target exits.head) ∷ []
-    statement_code Continue p exits t = leave_code starts exits.in_loop ++ instructions.Jump (continue_target exits.head) ∷ []
+    statement_code Break p exits t = leave_code exits.in_loop ++ instructions.Jump (break_target exits.head) ∷ []
+    statement_code Continue p exits t = leave_code exits.in_loop ++ instructions.Jump (continue_target exits.head) ∷ []
     statement_code (Throw n v) p exits t = thrown_code v p t ++ instructions.Throw (tag_operand n) (thrown_operand v t) ∷ []
     statement_code (Try s cs) p exits t =
         kept_code starts t
@@ -1065,7 +1055,7 @@ module _ (starts : Starts) where
         declaration_code n v p t ++ items_code js (p + length (declaration_code n v p t)) exits t
     -- behind a region the temporaries begin behind its mark, and at the end of the block it is closed
     items_code (MoreItems (DeclareRegion r n) js) p exits t =
-        opened_code starts n t ++ (items_code js (p + length (opened_code starts n t)) (inside_region exits t) (t + 1) ++ closed_code starts t)
+        opened_code starts n t ++ (items_code js (p + length (opened_code starts n t)) (inside_region exits t) (t + 1) ++ closed_code t)
     -- the word of a key is the handle of its region
     items_code (MoreItems (OpenRegion r n w k) js) p exits t = named_code starts 1 n (operands.Slot (slot_of starts k)) ++ items_code js (p + 1) exits t
     items_code (MoreItems (DeclareAlias r n ty w s) js) p exits t = named_code starts (words_of ty) n (operands.Slot (slot_of starts s)) ++ items_code js (p + 1) exits t
@@ -1084,7 +1074,7 @@ module _ (starts : Starts) where
 -- ---- programs
 
 -- By which the code of a function is made, in a program with these structs, whose globals have these first words, where blocks stand
--- behind this place, and where this global tells how many lexical regions are open.
+-- behind this place, and where a `try` keeps how many lexical regions are open, if it does.
 abbrev pub starts_with : (raises : ℕ) → List StructType → (globals : List ℕ) → (scopes : Option ℕ) → Function → Starts
 starts_with raises structs globals scopes h = record { locals = starts_from 0 (slot_types h); structs = structs; raises = raises; counters = []; globals = globals; scopes = scopes }
 
@@ -1153,22 +1143,18 @@ is_handle t = false
 abbrev pub may_open : Function → Bool
 may_open h = list_any is_handle h.parameters || list_any is_handle h.locals
 
--- Behind all globals stands the word that tells how many lexical regions are open, where a program may open some.
-abbrev pub scopes_if : Bool → (globals : ℕ) → Option ℕ
-scopes_if true globals = Some globals
-scopes_if false globals = None
+-- How many words behind the first of its handler's record a `try` keeps how many lexical regions are open, where a program may open some.
+abbrev pub scopes_if : Bool → Option ℕ
+scopes_if true = Some RECORD_WORDS
+scopes_if false = None
 
 abbrev pub scopes_of : Program → Option ℕ
-scopes_of p = scopes_if (list_any may_open p.functions) (length (lower_globals p.globals))
-
-abbrev pub scopes_words : Option ℕ → List ℕ
-scopes_words None = []
-scopes_words (Some global) = 0 ∷ []
+scopes_of p = scopes_if (list_any may_open p.functions)
 
 -- each function keeps its number
 abbrev pub lower_program : Program → PlainProgram
 lower_program p = record {
   functions = map (lower_function p.structs (globals_of p) (scopes_of p)) p.functions;
-  globals = lower_globals p.globals ++ scopes_words (scopes_of p);
+  globals = lower_globals p.globals;
   main = p.main;
 }

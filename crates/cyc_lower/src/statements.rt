@@ -127,14 +127,14 @@ fn free_behind(item: &Item, free: usize) -> usize
 
 impl Emitter {
     /// What was opened is closed: all handlers from the outermost on, and then all lexical regions.
-    fn lower_leave(&mut self, starts: &Starts, opened: Opened) -> Result<(), AllocError>
-        ensures { Appends result self.old self.new (leave_code (view_starts starts.now) opened) }
+    fn lower_leave(&mut self, opened: Opened) -> Result<(), AllocError>
+        ensures { Appends result self.old self.new (leave_code opened) }
     {
         if let Some(first) = opened.handler {
             self.emit(Instruction::Leave { first })?;
         }
         match opened.mark {
-            Some(mark) => self.close_lexical(starts, mark),
+            Some(mark) => self.close_lexical(mark),
             None => Ok(()),
         }
     }
@@ -154,7 +154,7 @@ impl Emitter {
             Some(value) => self.convert_to_slot(starts, value, free)?,
             None => free,
         };
-        self.lower_leave(starts, exits.in_function)?;
+        self.lower_leave(exits.in_function)?;
         self.emit(Instruction::Finish { value: from })
     }
 
@@ -380,11 +380,11 @@ impl Emitter {
             } => self.lower_loop(starts, body, condition, exits, free),
             Stmt::Return { value } => self.lower_return(starts, value, exits, free),
             Stmt::Break => {
-                self.lower_leave(starts, exits.in_loop)?;
+                self.lower_leave(exits.in_loop)?;
                 self.lower_break(exits.head)
             }
             Stmt::Continue => {
-                self.lower_leave(starts, exits.in_loop)?;
+                self.lower_leave(exits.in_loop)?;
                 self.lower_continue(exits.head)
             }
             Stmt::Throw { tag, value } => self.lower_throw(starts, *tag, value, free),
@@ -468,7 +468,7 @@ impl Emitter {
         }
         while behind > free {
             behind -= 1;
-            self.close_lexical(starts, behind)?;
+            self.close_lexical(behind)?;
         }
         Ok(())
     }

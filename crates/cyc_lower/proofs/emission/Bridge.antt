@@ -32,10 +32,10 @@ use Rattle.cyc_meaning.specs.Values.{kind_of, words_of_kind, is_thin}
 use Rattle.cyc_meaning.specs.FrameCount.{words_of_all, operand_words}
 use Rattle.cyc_objects.proofs.NumberLemmas.{slice_get-there}
 use Rattle.cyc_lower.specs.Slots.{counted, Types, starts_of, slot_of, global_of, global_types}
-use Rattle.cyc_lower.specs.Lowering.{most_elements, begun_code, filled_code, ended_code, elements_code, types_of, are_as_wide, converts_there, passed_words, source_of, source_slot, moved_by, move_of, operand_of, operand_or, code_unless, slot_or, code_unless_slot, left_with, left_of, value_slot, next_slot, slot_with, left_slot, value_operand, converted_operand, printed_operand, check_code, conversion_code, divisor_code, checked_code, operator_code, truth_code, load_code, low_byte, test_code, is_in, copy_code, expression_code, arguments_code, converted_code, converted_operand_code, printed_code, initial_code, assignment_code, assigned_operand, operations_code, discarded_code, failing_comparison, compared_or, compared_of, first_operand, first_code, second_code, pair_code, condition_code, condition_of, failing_jump, break_target, continue_target, return_code, declaration_code, statement_code, items_code, function_code, first_temporary, results_of, lower_function, lower_program, behind_left, pointer_code, outside_loops, inside_loop, pointer_operator, index_code, pointer_instructions, stores_code, object_code, made_code, place_operand, place_offset, place_code, address_code, raising, blocks, guard_code, body_code, free_code, jump_if_zero, right_slot, side_code, read_side, write_side, exchange_code, swap_code, leave_code, other_jump, clause_code, thrown_code, thrown_operand, caught_code, clauses_code, counter_operand, count_code, span_of, null_of, tested_code, widened_code, conversion_by, loaded_code, saved_code, all_passed, bounds_code, stepped_code, bounded_code, past_bounded, thinned_code, reached_code, followed_code, span_in, pointer_of, pointer_slot, word_by_word, load_word, store_word, global_code, globals_of, load_at, kept_code, kept_code_in, restored_code, restored_code_in, behind_record, inside_try, closed_code, scopes_code_in, handlers_code, marks_code, try_code, scopes_of, opened_code, inside_region, named_code, dynamic_code}
+use Rattle.cyc_lower.specs.Lowering.{most_elements, begun_code, filled_code, ended_code, elements_code, types_of, are_as_wide, converts_there, passed_words, source_of, source_slot, moved_by, move_of, operand_of, operand_or, code_unless, slot_or, code_unless_slot, left_with, left_of, value_slot, next_slot, slot_with, left_slot, value_operand, converted_operand, printed_operand, check_code, conversion_code, divisor_code, checked_code, operator_code, truth_code, load_code, low_byte, test_code, is_in, copy_code, expression_code, arguments_code, converted_code, converted_operand_code, printed_code, initial_code, assignment_code, assigned_operand, operations_code, discarded_code, failing_comparison, compared_or, compared_of, first_operand, first_code, second_code, pair_code, condition_code, condition_of, failing_jump, break_target, continue_target, return_code, declaration_code, statement_code, items_code, function_code, first_temporary, results_of, lower_function, lower_program, behind_left, pointer_code, outside_loops, inside_loop, pointer_operator, index_code, pointer_instructions, stores_code, object_code, made_code, place_operand, place_offset, place_code, address_code, raising, blocks, guard_code, body_code, free_code, jump_if_zero, right_slot, side_code, read_side, write_side, exchange_code, swap_code, leave_code, other_jump, clause_code, thrown_code, thrown_operand, caught_code, clauses_code, counter_operand, count_code, span_of, null_of, tested_code, widened_code, conversion_by, loaded_code, saved_code, all_passed, bounds_code, stepped_code, bounded_code, past_bounded, thinned_code, reached_code, followed_code, span_in, pointer_of, pointer_slot, word_by_word, load_word, store_word, global_code, globals_of, load_at, kept_code, kept_code_in, restored_code, restored_code_in, behind_record, inside_try, closed_code, handlers_code, marks_code, try_code, scopes_of, opened_code, inside_region, dynamic_code}
 use Rattle.cyc_lower.specs.declared.statements.Exits.{Exits}
 use Rattle.cyc_lower.specs.declared.statements.Opened.{Opened}
-use Rattle.cyc_lower.proofs.relation.Stands.{BegunAt, FilledAt, OperandBy, CheckAt, ConversionBy, ConversionAt, DivisorAt, CheckedAt, OperatorAt, LoadAt, CopyBy, ExpressionAt, InitialAt, InitialBy, ConvertedAt, ConvertedOperandAt, PrintedAt, ArgumentsAt, OperationsAt, PairAt, ConditionAt, AssignmentAt, DiscardedAt, ReturnedAt, ReturnAt, DeclarationAt, StatementAt, ItemsAt, FirstTwoAt, IndexAt, PointerAt, StoresAt, ObjectAt, MadeAt, AddressAt, PlaceAt, GuardAt, FreedAt, HasSide, SideAt, ReadAt, WriteAt, SwapAt, LeaveAt, ThrownAt, CaughtAt, ClausesAt, CountAt, TestedAt, WidenedAt, LoadedBy, SavedAt, BoundsAt, SteppedAt, ThinnedAt, ReachedAt, FollowedAt, EachAt, GlobalAt, ExchangeAt, ToldAt, ClosedAt, HandlersAt, MarksAt, KeptAt, RestoredAt, OpenedAt}
+use Rattle.cyc_lower.proofs.relation.Stands.{BegunAt, FilledAt, OperandBy, CheckAt, ConversionBy, ConversionAt, DivisorAt, CheckedAt, OperatorAt, LoadAt, CopyBy, ExpressionAt, InitialAt, InitialBy, ConvertedAt, ConvertedOperandAt, PrintedAt, ArgumentsAt, OperationsAt, PairAt, ConditionAt, AssignmentAt, DiscardedAt, ReturnedAt, ReturnAt, DeclarationAt, StatementAt, ItemsAt, FirstTwoAt, IndexAt, PointerAt, StoresAt, ObjectAt, MadeAt, AddressAt, PlaceAt, GuardAt, FreedAt, HasSide, SideAt, ReadAt, WriteAt, SwapAt, LeaveAt, ThrownAt, CaughtAt, ClausesAt, CountAt, TestedAt, WidenedAt, LoadedBy, SavedAt, BoundsAt, SteppedAt, ThinnedAt, ReachedAt, FollowedAt, EachAt, GlobalAt, ExchangeAt, ClosedAt, HandlersAt, MarksAt, KeptAt, RestoredAt, OpenedAt}
 use Rattle.cyc_lower.proofs.emission.Lengths.{body_long, past_long}
 use Rattle.cyc_types.specs.typing.Expressions.{type_of_side}
 use Rattle.cyc_lower.specs.Lowerable.{is_converted, is_pointer}
@@ -833,53 +833,41 @@ module _ (code : List Instruction) (b : Numbering) (types : Types) (raised : Blo
   returns_numbered None c numbered = absurd numbered
   returns_numbered (Some t) c (kind, numbered) = numbered
 
-  told_stands : (scopes : Option ℕ) (o : Operand) (p q : ℕ) → p + length (scopes_code_in scopes o) ≡ q → HasAt code p (scopes_code_in scopes o) → ToldAt code b types scopes o p q
-  told_stands None o p q end has = omega (arith, end)
-  told_stands (Some global) o p q end (here, none) = (here, end)
-
-  closed_stands : (mark p q : ℕ) → p + length (closed_code (starts_of types) mark) ≡ q → HasAt code p (closed_code (starts_of types) mark) → ClosedAt code b types mark p q
-  closed_stands mark p q end (ask, rest) = (ask, told_stands types.scopes (operands.Slot mark) (p + 1) q (omega (arith, end)) rest)
+  closed_stands : (mark p q : ℕ) → p + length (closed_code mark) ≡ q → HasAt code p (closed_code mark) → ClosedAt code b types mark p q
+  closed_stands mark p q end (ask, none) = (ask, end)
 
   handlers_stand : (handler : Option ℕ) (p q : ℕ) → p + length (handlers_code handler) ≡ q → HasAt code p (handlers_code handler) → HandlersAt code b types handler p q
   handlers_stand None p q end has = omega (arith, end)
   handlers_stand (Some first) p q end (here, none) = (here, end)
 
-  marks_stand : (mark : Option ℕ) (p q : ℕ) → p + length (marks_code (starts_of types) mark) ≡ q → HasAt code p (marks_code (starts_of types) mark) → MarksAt code b types mark p q
+  marks_stand : (mark : Option ℕ) (p q : ℕ) → p + length (marks_code mark) ≡ q → HasAt code p (marks_code mark) → MarksAt code b types mark p q
   marks_stand None p q end has = omega (arith, end)
   marks_stand (Some mark) p q end has = closed_stands mark p q end has
 
-  leave_stands : (opened : Opened) (p q : ℕ) → p + length (leave_code (starts_of types) opened) ≡ q → HasAt code p (leave_code (starts_of types) opened) → LeaveAt code b types opened p q
+  leave_stands : (opened : Opened) (p q : ℕ) → p + length (leave_code opened) ≡ q → HasAt code p (leave_code opened) → LeaveAt code b types opened p q
   leave_stands opened p q end has =
       let front = handlers_code opened.handler in
-      let back = marks_code (starts_of types) opened.mark in
+      let back = marks_code opened.mark in
       let r = p + length front in
       (r, handlers_stand opened.handler p r refl (has_front code p front back has), marks_stand opened.mark r q (cut p q front back end) (has_back code p front back has))
 
   -- a region is opened, and its handle is named
-  opened_stands : (n global t p q : ℕ) → types.scopes ≡ Some global → n < b.locals → HasRoom types n kinds.Handle → p + length (opened_code (starts_of types) n t) ≡ q → HasAt code p (opened_code (starts_of types) n t)
+  opened_stands : (n place t p q : ℕ) → types.scopes ≡ Some place → n < b.locals → HasRoom types n kinds.Handle → p + length (opened_code (starts_of types) n t) ≡ q → HasAt code p (opened_code (starts_of types) n t)
       → OpenedAt code b types n t p q
-  opened_stands n global t p q counts few room end (ask, (move, (add, rest))) = by types.scopes counts end rest
-    where
-      by : (scopes : Option ℕ) → scopes ≡ Some global
-          → p + length (instructions.Ask (requests.OpenLexical (t + 1)) ∷ instructions.Move t (operands.Slot (t + 2)) ∷ instructions.Binary plain_binary.Add (t + 2) (operands.Slot t) (operands.Word 1) ∷ scopes_code_in scopes (operands.Slot (t + 2)) ++ named_code (starts_of types) 1 n (operands.Slot (t + 1))) ≡ q
-          → HasAt code (p + 1 + 1 + 1) (scopes_code_in scopes (operands.Slot (t + 2)) ++ named_code (starts_of types) 1 n (operands.Slot (t + 1))) → OpenedAt code b types n t p q
-      by None is end has = absurd (none-some global is)
-      by (Some place) is end (store, (named, none)) =
-          let same : place ≡ global = same_Some place global is in
-          (global, counts, ask, move, add, subst (λ g. At code (p + 1 + 1 + 1) (instructions.StoreGlobal g (operands.Slot (t + 2)))) same store, (few, room, named, omega (arith, end)))
+  opened_stands n place t p q counts few room end (ask, (move, (named, none))) = (place, counts, ask, move, (few, room, named, omega (arith, end)))
 
   kept_stands : (scopes : Option ℕ) (t p q : ℕ) → p + length (kept_code_in scopes t) ≡ q → HasAt code p (kept_code_in scopes t) → KeptAt code b types scopes (t + RECORD_WORDS) p q
   kept_stands None t p q end has = omega (arith, end)
-  kept_stands (Some global) t p q end (here, none) = (here, end)
+  kept_stands (Some place) t p q end (here, none) = (here, end)
 
-  restored_stands : (scopes : Option ℕ) (t p q : ℕ) → p + length (restored_code_in (starts_of types) scopes t) ≡ q → HasAt code p (restored_code_in (starts_of types) scopes t) → RestoredAt code b types scopes (t + RECORD_WORDS) p q
+  restored_stands : (scopes : Option ℕ) (t p q : ℕ) → p + length (restored_code_in scopes t) ≡ q → HasAt code p (restored_code_in scopes t) → RestoredAt code b types scopes (t + RECORD_WORDS) p q
   restored_stands None t p q end has = omega (arith, end)
-  restored_stands (Some global) t p q end has = closed_stands (t + RECORD_WORDS) p q end has
+  restored_stands (Some place) t p q end has = closed_stands (t + RECORD_WORDS) p q end has
 
   return_stands : (v : Option Converted) (exits : Exits) (t p q : ℕ) → FitsReturn b types b.result v → p + length (return_code (starts_of types) v p exits t) ≡ q → HasAt code p (return_code (starts_of types) v p exits t)
       → ReturnAt code b types v exits t p
   return_stands None exits t p q numbered end has =
-      let leave = leave_code (starts_of types) exits.in_function in
+      let leave = leave_code exits.in_function in
       let (here, none) = has_back code p leave _ has in
       (t, p + length leave, leave_stands exits.in_function p (p + length leave) refl (has_front code p leave _ has), here)
   return_stands (Some (Convert from to a)) exits t p q numbered end has =
@@ -891,7 +879,7 @@ module _ (code : List Instruction) (b : Numbering) (types : Types) (raised : Blo
       let conversion = conversion_code (starts_of types) from to (span_of a) (operands.Slot s) m in
       let both = front ++ conversion in
       let r = p + length both in
-      let leave = leave_code (starts_of types) exits.in_function in
+      let leave = leave_code exits.in_function in
       let u = p + length (both ++ leave) in
       let has_left = has_front code p (both ++ leave) _ has in
       let has_both = has_front code p both leave has_left in
@@ -1051,11 +1039,11 @@ module _ (code : List Instruction) (b : Numbering) (types : Types) (raised : Blo
         )
     statement_stands (Return v) in_loop exits d p q numbered end has = return_stands v exits d p q numbered end has
     statement_stands Break in_loop exits d p q numbered end has =
-        let leave = leave_code (starts_of types) exits.in_loop in
+        let leave = leave_code exits.in_loop in
         let (here, none) = has_back code p leave (instructions.Jump (break_target exits.head) ∷ []) has in
         (p + length leave, leave_stands exits.in_loop p (p + length leave) refl (has_front code p leave (instructions.Jump (break_target exits.head) ∷ []) has), here)
     statement_stands Continue in_loop exits d p q numbered end has =
-        let leave = leave_code (starts_of types) exits.in_loop in
+        let leave = leave_code exits.in_loop in
         let (here, none) = has_back code p leave (instructions.Jump (continue_target exits.head) ∷ []) has in
         (p + length leave, leave_stands exits.in_loop p (p + length leave) refl (has_front code p leave (instructions.Jump (continue_target exits.head) ∷ []) has), here)
     statement_stands (Throw tag v) in_loop exits t p q (word, numbered) end has =
@@ -1112,7 +1100,7 @@ module _ (code : List Instruction) (b : Numbering) (types : Types) (raised : Blo
         let front = opened_code (starts_of types) n d in
         let m = p + length front in
         let items = items_code (starts_of types) js m (inside_region exits d) (d + 1) in
-        let close = closed_code (starts_of types) d in
+        let close = closed_code d in
         let u = m + length items in
         let has_rest = has_back code p front (items ++ close) has in (
           m,

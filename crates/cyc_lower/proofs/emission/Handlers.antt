@@ -126,7 +126,7 @@ module _ (starts : Starts) (value : Stmt) (b : Box Stmt Heap) (v : Vec Clause He
 -- the record and what is kept behind it have room
 pub record_room : (scopes : Option ℕ) (t : ℕ) → behind_record_in scopes t ≤ t + 6
 record_room None t = omega arith
-record_room (Some global) t = omega arith
+record_room (Some place) t = omega arith
 
 -- ---- lengths
 

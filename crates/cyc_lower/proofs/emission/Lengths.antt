@@ -368,9 +368,9 @@ module _ (starts : Starts) (raises : ℕ) where
         (condition_long (compared_of a).left (compared_of a).right (p + 2) (q + 2) t) (statement_long s (m + 1) (n + 1) q around t)
     statement_long (Return v) p q head exits t = return_long v p q head exits t
     statement_long Break p q head exits t =
-        joined (leave_code starts exits.in_loop) (instructions.Jump (break_target exits.head) ∷ []) (leave_code starts exits.in_loop) (instructions.Jump (break_target head) ∷ []) refl refl
+        joined (leave_code exits.in_loop) (instructions.Jump (break_target exits.head) ∷ []) (leave_code exits.in_loop) (instructions.Jump (break_target head) ∷ []) refl refl
     statement_long Continue p q head exits t =
-        joined (leave_code starts exits.in_loop) (instructions.Jump (continue_target exits.head) ∷ []) (leave_code starts exits.in_loop) (instructions.Jump (continue_target head) ∷ []) refl refl
+        joined (leave_code exits.in_loop) (instructions.Jump (continue_target exits.head) ∷ []) (leave_code exits.in_loop) (instructions.Jump (continue_target head) ∷ []) refl refl
     statement_long (Throw tag v) p q head exits t = joined _ _ _ _ (thrown_long v p q t) refl
     statement_long (Try s cs) p q head exits t =
         let close = instructions.Leave t ∷ [] in
@@ -397,7 +397,7 @@ module _ (starts : Starts) (raises : ℕ) where
     items_long (MoreItems (Declare n ty v) js) p q head exits t = joined _ _ _ _ (declaration_long n v p q t) (items_long js _ _ head exits t)
     items_long (MoreItems (DeclareRegion r n) js) p q head exits t =
         let opened = opened_code starts n t in
-        let closed = closed_code starts t in
+        let closed = closed_code t in
         let within = inside_region exits t in
         let first = items_code starts js (p + length opened) within (t + 1) in
         let second = items_code (other starts raises) js (q + length opened) (record within { head = head }) (t + 1) in

@@ -58,7 +58,7 @@ module _ (source : Program) where
           let (y, at, same) = waits k call own here in
           is_waiting call number y at (ap (λ (l : Locals). l number) same ∙ is)
 
-  module _ (fitting : IsFitting source) (of_words : IsOfWordsProgram source) (few : words_of_all (global_types source.globals) < MOST_GLOBALS) where
+  module _ (fitting : IsFitting source) (of_words : IsOfWordsProgram source) (few : words_of_all (global_types source.globals) ≤ MOST_GLOBALS) where
     whole : (n number j : ℕ) → number < length (types_at source n).locals → j < words_in (types_at source n).locals number → is_pinned (code_of source n) (slot_of (starts_of (types_at source n)) number) ≡ true
         → is_pinned (code_of source n) (slot_of (starts_of (types_at source n)) number + j) ≡ true
     whole n number j inside room pinned =

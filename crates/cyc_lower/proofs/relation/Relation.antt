@@ -262,10 +262,10 @@ behind_records (entry ∷ k) scopes slot = behind_records k scopes slot
 abbrev pub scopes_in : List Entry → ℕ
 scopes_in k = length (lexicals_of k)
 
--- so many are told by the word for it: where there is none, none is ever opened
-abbrev pub IsTold : (scopes : Option ℕ) → Words → (many : ℕ) → Type 0
-IsTold None words many = many ≡ 0
-IsTold (Some place) words many = words place ≡ many
+-- so many may be: none, where the program opens none
+abbrev pub MayBeOpen : (scopes : Option ℕ) → (many : ℕ) → Type 0
+MayBeOpen None many = many ≡ 0
+MayBeOpen (Some place) many = Unit {0}
 
 -- a call that waits: its locals, its first temporary by the end of its locals, and the values that it holds
 pub record Waiting : Type 0 where
@@ -349,7 +349,7 @@ abbrev pub store_by : (closing : Option ℕ) → StoreState → (many : ℕ) →
 store_by None store many = store
 store_by (Some mark) store many = closed_to store many
 
--- The store still has those regions that the source has closed. There is a word then that tells how many are open.
+-- The store still has those regions that the source has closed. The program may open some then.
 abbrev pub HasScopes : Option ℕ → Type 0
 HasScopes None = ⊥
 HasScopes (Some place) = Unit {0}
@@ -898,17 +898,17 @@ module _ (source : Program) where
 
   -- What is said of the counters of arrays, and of the lexical regions that are open: so many entries end them, and so many the source has
   -- open.
-  abbrev pub ScopesBy : (closing : Option ℕ) → (globals : Words) → StoreState → (ended now : ℕ) → Type 0
-  ScopesBy None globals store ended now = IsTold (scopes_of source) globals ended
-  ScopesBy (Some mark) globals store ended now = IsAhead (scopes_of source) store now
+  abbrev pub ScopesBy : (closing : Option ℕ) → StoreState → (ended now : ℕ) → Type 0
+  ScopesBy None store ended now = MayBeOpen (scopes_of source) ended
+  ScopesBy (Some mark) store ended now = IsAhead (scopes_of source) store now
 
-  abbrev pub CountsBy : (closing : Option ℕ) → Environment → List Entry → (globals : Words) → StoreState → (now : ℕ) → Type 0
-  CountsBy closing e k globals store now = AreCounted e.counters k × ScopesBy closing globals store (scopes_in k) now
+  abbrev pub CountsBy : (closing : Option ℕ) → Environment → List Entry → StoreState → (now : ℕ) → Type 0
+  CountsBy closing e k store now = AreCounted e.counters k × ScopesBy closing store (scopes_in k) now
 
   -- what is shared while lexical regions are left, or not
   abbrev pub SharedBy : (closing : Option ℕ) → (pages calls : ℕ) → List Entry → Environment → World → Configuration → Type 0
   SharedBy closing pages calls k e w c =
-      Shared pages calls w (e.home ∷ homes k) (CountsBy closing e k c.globals c.store (scopes w.regions)) c.output c.input (store_by closing c.store (scopes w.regions)) (length c.frames)
+      Shared pages calls w (e.home ∷ homes k) (CountsBy closing e k c.store (scopes w.regions)) c.output c.input (store_by closing c.store (scopes w.regions)) (length c.frames)
 
   abbrev pub SharedAt : (pages calls : ℕ) → List Entry → Environment → World → Configuration → Type 0
   SharedAt pages calls k e w c = SharedBy None pages calls k e w c

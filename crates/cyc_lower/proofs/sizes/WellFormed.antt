@@ -1,6 +1,6 @@
 -- The lowered program is well formed: all that its instructions name is there, and its frames have room.
 use Rattle.std.proofs.Common.{◌≡◌, ℕ, zero, suc, ◌+◌, ◌-◌, ◌≤◌, ◌<◌, Bool, true, false, List, [], ◌∷◌, ◌++◌, length, map, Option, None, Some, slice_get, slice_index_or, All, IsSomeAnd, refl, sym, ap, subst, ◌∙◌, arith, length-append, inl, inr}
-use Rattle.std.specs.List.{AllByRecursion, list_any}
+use Rattle.std.specs.List.{AllByRecursion}
 use Rattle.std.proofs.lemmas.Option.{same_Some, none-some}
 use Rattle.cyc_types.specs.declared.typed.Kind.{Kind}
 use Rattle.cyc_types.specs.declared.typed.Kind.TheVariants as kinds
@@ -40,7 +40,7 @@ use Rattle.cyc_meaning.specs.Pointers.{result_kind as operator_kind}
 use Rattle.cyc_objects.proofs.NumberLemmas.{slice_get-there}
 use Rattle.cyc_lower.proofs.relation.Counters.{found_last}
 use Rattle.cyc_lower.specs.Slots.{counted, starts_of, slot_of, Types, global_of, global_types, slot_in}
-use Rattle.cyc_lower.specs.Lowering.{begun_code, filled_code, ended_code, elements_code, counter_operand, types_of, spare_slots, are_as_wide, converts_there, passed_words, all_passed, source_of, source_slot, moved_by, move_of, unary_operator, binary_operator, operand_of, operand_or, code_unless, slot_or, code_unless_slot, left_with, left_of, value_slot, next_slot, slot_with, left_slot, value_operand, converted_operand, printed_operand, check_code, conversion_code, divisor_code, checked_code, operator_code, truth_code, load_code, low_byte, test_code, is_in, copy_code, expression_code, arguments_code, converted_code, converted_operand_code, printed_code, initial_code, assignment_code, operations_code, discarded_code, failing_comparison, compared_or, first_operand, first_code, second_code, pair_code, condition_code, condition_of, failing_jump, break_target, continue_target, return_code, declaration_code, statement_code, items_code, first_temporary, results_of, lower_function, lower_program, pointer_operator, left_kind, behind_left, pointer_code, outside_loops, inside_loop, index_code, pointer_instructions, stores_code, object_code, made_code, place_operand, place_offset, place_code, address_code, addressed_by, store_address_code, store_code, guard_code, blocks, free_code, right_slot, side_code, read_side, write_side, exchange_code, swap_code, leave_code, tag_operand, clause_code, thrown_code, thrown_operand, caught_code, clauses_code, count_code, span_of, null_of, tested_code, widened_code, conversion_by, saved_code, loaded_code, bounds_code, stepped_code, bounded_code, thinned_code, reached_code, followed_code, followed_operand, span_in, pointer_of, pointer_slot, reached_operand, word_by_word, load_word, store_word, global_code, globals_of, lower_globals, load_at, opened_code, closed_code, named_code, dynamic_code, scopes_code, scopes_code_in, handlers_code, marks_code, kept_code, kept_code_in, restored_code, restored_code_in, behind_record, behind_record_in, inside_try, inside_region, outermost, scopes_of, scopes_if, scopes_words, may_open, closing_code, slot_types, function_code}
+use Rattle.cyc_lower.specs.Lowering.{begun_code, filled_code, ended_code, elements_code, counter_operand, types_of, spare_slots, are_as_wide, converts_there, passed_words, all_passed, source_of, source_slot, moved_by, move_of, unary_operator, binary_operator, operand_of, operand_or, code_unless, slot_or, code_unless_slot, left_with, left_of, value_slot, next_slot, slot_with, left_slot, value_operand, converted_operand, printed_operand, check_code, conversion_code, divisor_code, checked_code, operator_code, truth_code, load_code, low_byte, test_code, is_in, copy_code, expression_code, arguments_code, converted_code, converted_operand_code, printed_code, initial_code, assignment_code, operations_code, discarded_code, failing_comparison, compared_or, first_operand, first_code, second_code, pair_code, condition_code, condition_of, failing_jump, break_target, continue_target, return_code, declaration_code, statement_code, items_code, first_temporary, results_of, lower_function, lower_program, pointer_operator, left_kind, behind_left, pointer_code, outside_loops, inside_loop, index_code, pointer_instructions, stores_code, object_code, made_code, place_operand, place_offset, place_code, address_code, addressed_by, store_address_code, store_code, guard_code, blocks, free_code, right_slot, side_code, read_side, write_side, exchange_code, swap_code, leave_code, tag_operand, clause_code, thrown_code, thrown_operand, caught_code, clauses_code, count_code, span_of, null_of, tested_code, widened_code, conversion_by, saved_code, loaded_code, bounds_code, stepped_code, bounded_code, thinned_code, reached_code, followed_code, followed_operand, span_in, pointer_of, pointer_slot, reached_operand, word_by_word, load_word, store_word, global_code, globals_of, load_at, opened_code, closed_code, named_code, dynamic_code, handlers_code, marks_code, kept_code, kept_code_in, restored_code, restored_code_in, behind_record, behind_record_in, inside_try, inside_region, outermost, scopes_of, closing_code, slot_types, function_code}
 use Rattle.cyc_lower.proofs.slots.Widths.{kind_positive, kind_few, type_words, kind_of_result, result_kind, given, passed_kind, words_in, chain_kind, made_kind, wide_kind, same_kind, more_words, HasGlobal, HasRoom}
 use Rattle.cyc_lower.proofs.relation.Fitting.{FitsPlace, FitsCell, Fits, FitsConverted, FitArguments, FitOperations, FitsReturn, FitsInitial, FitsStatement, FitItems, AreFitting, IsFitting, FitsObject, FitsSide, FitsThrown, FitsCaught, FitClauses}
 use Rattle.cyc_lower.specs.Words.{AreOfWordsItems, AreOfWordsFunctions, IsOfWordsProgram}
@@ -117,10 +117,9 @@ record IsKnown (program : PlainProgram) (n : ℕ) (s : Signature) : Type 0 where
   pub parameters : (routine_at program n).parameters ≡ words_of_all s.parameters
   pub results : (routine_at program n).results ≡ results_of s.result
 
--- All globals are words of the program, and so is the one that tells how many lexical regions are open.
-record AreGlobals (program : PlainProgram) (globals : List Ty) (scopes : Option ℕ) : Type 0 where
+-- all globals are words of the program
+record AreGlobals (program : PlainProgram) (globals : List Ty) : Type 0 where
   pub room : words_of_all globals ≤ length program.globals
-  pub inside : (global : ℕ) → scopes ≡ Some global → global < length program.globals
 
 -- The address of a slot is taken only as that of a whole local, whose slots it is the first of.
 abbrev pub TakesLocal : (locals : List Ty) → Instruction → Type 0
@@ -148,7 +147,7 @@ takes_locals program r locals (i ∷ code) (first, rest) = (by i first, takes_lo
     by (instructions.AddressOf d slot count) (there, few, takes) = takes
     by i inside = tt
 
-module _ (program : PlainProgram) (r : Routine) (b : Numbering) (types : Types) (locals : (n : ℕ) → n < b.locals → slot_of (starts_of types) n + words_in types.locals n ≤ r.slots) (levels : (l slot : ℕ) → slice_get types.counters l ≡ Some slot → slot < r.slots) (globals : AreGlobals program types.globals types.scopes) (called : (n : ℕ) (s : Signature) → slice_get b.functions n ≡ Some s → IsKnown program n s) (results : r.results ≡ results_of b.result) (behind : types.raises + 4 < length r.code) where
+module _ (program : PlainProgram) (r : Routine) (b : Numbering) (types : Types) (locals : (n : ℕ) → n < b.locals → slot_of (starts_of types) n + words_in types.locals n ≤ r.slots) (levels : (l slot : ℕ) → slice_get types.counters l ≡ Some slot → slot < r.slots) (globals : AreGlobals program types.globals) (called : (n : ℕ) (s : Signature) → slice_get b.functions n ≡ Some s → IsKnown program n s) (results : r.results ≡ results_of b.result) (behind : types.raises + 4 < length r.code) where
   abbrev AreIn : List Instruction → Type 0
   AreIn code = AllByRecursion (IsIn program r types.locals) code
 
@@ -676,7 +675,7 @@ module _ (program : PlainProgram) (r : Routine) (b : Numbering) (types : Types) 
 
 module _ (program : PlainProgram) (r : Routine) (b : Numbering) (called : (n : ℕ) (s : Signature) → slice_get b.functions n ≡ Some s → IsKnown program n s) (results : r.results ≡ results_of b.result) where
   mutual
-    expression_in : (types : Types) (locals : (n : ℕ) → n < b.locals → slot_of (starts_of types) n + words_in types.locals n ≤ r.slots) (levels : (l slot : ℕ) → slice_get types.counters l ≡ Some slot → slot < r.slots) (globals : AreGlobals program types.globals types.scopes) (behind : types.raises + 4 < length r.code) → (a : Expression) (p d t : ℕ) → Fits b types a → d + words_of_kind (kind_at program r b types locals levels globals called results behind a) ≤ r.slots → t + expression_need a ≤ r.slots → p + length (expression_code (starts_of types) a p d t) < length r.code → AreIn program r b types locals levels globals called results behind (expression_code (starts_of types) a p d t)
+    expression_in : (types : Types) (locals : (n : ℕ) → n < b.locals → slot_of (starts_of types) n + words_in types.locals n ≤ r.slots) (levels : (l slot : ℕ) → slice_get types.counters l ≡ Some slot → slot < r.slots) (globals : AreGlobals program types.globals) (behind : types.raises + 4 < length r.code) → (a : Expression) (p d t : ℕ) → Fits b types a → d + words_of_kind (kind_at program r b types locals levels globals called results behind a) ≤ r.slots → t + expression_need a ≤ r.slots → p + length (expression_code (starts_of types) a p d t) < length r.code → AreIn program r b types locals levels globals called results behind (expression_code (starts_of types) a p d t)
     expression_in types locals levels globals behind (Number n) p d t numbered room few short = ((omega (arith, room), tt), tt)
     expression_in types locals levels globals behind NullPointer p d t numbered room few short = ((omega (arith, room), tt), tt)
     expression_in types locals levels globals behind (Counter l) p d t numbered room few short =
@@ -810,7 +809,7 @@ module _ (program : PlainProgram) (r : Routine) (b : Numbering) (called : (n : �
         (record { answer_in_range = omega arith; first_in_range = value_in program r b types locals levels globals called results behind a t numbered free; second_in_range = tt }, tt)
 
     -- behind a handle of so many words, which is in the first of these slots where it is in one
-    made_in : (types : Types) (locals : (n : ℕ) → n < b.locals → slot_of (starts_of types) n + words_in types.locals n ≤ r.slots) (levels : (l slot : ℕ) → slice_get types.counters l ≡ Some slot → slot < r.slots) (globals : AreGlobals program types.globals types.scopes) (behind : types.raises + 4 < length r.code) → (i : Initial) (handle : Operand) (words first : ℕ) (ty : Ty) (p d t : ℕ) → FitsObject b types i → IsOperand r handle → d + words_of_kind (made_kind i) ≤ r.slots → t ≤ first + words → first + initial_value_need i words (words_of ty) ≤ r.slots → p + length (made_code (starts_of types) i handle p d t) < length r.code → AreIn program r b types locals levels globals called results behind (made_code (starts_of types) i handle p d t)
+    made_in : (types : Types) (locals : (n : ℕ) → n < b.locals → slot_of (starts_of types) n + words_in types.locals n ≤ r.slots) (levels : (l slot : ℕ) → slice_get types.counters l ≡ Some slot → slot < r.slots) (globals : AreGlobals program types.globals) (behind : types.raises + 4 < length r.code) → (i : Initial) (handle : Operand) (words first : ℕ) (ty : Ty) (p d t : ℕ) → FitsObject b types i → IsOperand r handle → d + words_of_kind (made_kind i) ≤ r.slots → t ≤ first + words → first + initial_value_need i words (words_of ty) ≤ r.slots → p + length (made_code (starts_of types) i handle p d t) < length r.code → AreIn program r b types locals levels globals called results behind (made_code (starts_of types) i handle p d t)
     made_in types locals levels globals behind (Plain kind a) handle words first ty p d t (kind_is, numbered) there room place few short =
         let front = expression_code (starts_of types) a p t t in
         let back = object_code handle (words_of_kind kind) d t in
@@ -861,7 +860,7 @@ module _ (program : PlainProgram) (r : Routine) (b : Numbering) (called : (n : �
         ))
 
     -- a place of what has so many words
-    place_in : (types : Types) (locals : (n : ℕ) → n < b.locals → slot_of (starts_of types) n + words_in types.locals n ≤ r.slots) (levels : (l slot : ℕ) → slice_get types.counters l ≡ Some slot → slot < r.slots) (globals : AreGlobals program types.globals types.scopes) (behind : types.raises + 4 < length r.code) → (x : Dereference) (own p t : ℕ) → FitsCell b types x → 1 ≤ own → t + dereference_need x own ≤ r.slots → p + length (place_code (starts_of types) x p t) < length r.code → AreIn program r b types locals levels globals called results behind (place_code (starts_of types) x p t)
+    place_in : (types : Types) (locals : (n : ℕ) → n < b.locals → slot_of (starts_of types) n + words_in types.locals n ≤ r.slots) (levels : (l slot : ℕ) → slice_get types.counters l ≡ Some slot → slot < r.slots) (globals : AreGlobals program types.globals) (behind : types.raises + 4 < length r.code) → (x : Dereference) (own p t : ℕ) → FitsCell b types x → 1 ≤ own → t + dereference_need x own ≤ r.slots → p + length (place_code (starts_of types) x p t) < length r.code → AreIn program r b types locals levels globals called results behind (place_code (starts_of types) x p t)
     place_in types locals levels globals behind (Target k a ty) own p t (pointer, kind_is, numbered) some few short =
         let slot = value_slot (starts_of types) a t in
         let o = value_operand (starts_of types) a t in
@@ -905,18 +904,18 @@ module _ (program : PlainProgram) (r : Routine) (b : Numbering) (called : (n : �
         (append program r b types locals levels globals called results behind operand back (unless_in program r b types locals levels globals called results behind (operand_of (starts_of types) i) inner m (omega (arith, short, long, long_operand)) (λ less. expression_in types locals levels globals behind i m slot (t + 3) second (slot_fits program r b types locals levels globals called results behind i (t + 3) second free) (omega (arith, few, three)) less))
         ((third, omega (arith, inside), value_in program r b types locals levels globals called results behind i (t + 3) second free), reached_in program r b types locals levels globals called results behind (span_in ty) n (t + 2) t (omega (arith, inside)) third (omega (arith, room, wide))))
 
-    initial_in : (types : Types) (locals : (n : ℕ) → n < b.locals → slot_of (starts_of types) n + words_in types.locals n ≤ r.slots) (levels : (l slot : ℕ) → slice_get types.counters l ≡ Some slot → slot < r.slots) (globals : AreGlobals program types.globals types.scopes) (behind : types.raises + 4 < length r.code) → (c : Converted) (p d t : ℕ) → FitsConverted b types c → d + words_of_kind (passed_kind c) ≤ r.slots → t + converted_words c ≤ r.slots → t + converted_need c ≤ r.slots → p + length (initial_code (starts_of types) c p d t) < length r.code → AreIn program r b types locals levels globals called results behind (initial_code (starts_of types) c p d t)
+    initial_in : (types : Types) (locals : (n : ℕ) → n < b.locals → slot_of (starts_of types) n + words_in types.locals n ≤ r.slots) (levels : (l slot : ℕ) → slice_get types.counters l ≡ Some slot → slot < r.slots) (globals : AreGlobals program types.globals) (behind : types.raises + 4 < length r.code) → (c : Converted) (p d t : ℕ) → FitsConverted b types c → d + words_of_kind (passed_kind c) ≤ r.slots → t + converted_words c ≤ r.slots → t + converted_need c ≤ r.slots → p + length (initial_code (starts_of types) c p d t) < length r.code → AreIn program r b types locals levels globals called results behind (initial_code (starts_of types) c p d t)
     initial_in types locals levels globals behind (Convert from to a) p d t (kind, wide, numbered) room free few short =
         initial_by program r b types locals levels globals called results behind (converts_there from to) from to a p d t kind wide numbered room free refl (λ slot fits less. expression_in types locals levels globals behind a p slot t numbered fits few less) short
 
-    converted_in : (types : Types) (locals : (n : ℕ) → n < b.locals → slot_of (starts_of types) n + words_in types.locals n ≤ r.slots) (levels : (l slot : ℕ) → slice_get types.counters l ≡ Some slot → slot < r.slots) (globals : AreGlobals program types.globals types.scopes) (behind : types.raises + 4 < length r.code) → (c : Converted) (p t : ℕ) → FitsConverted b types c → t + converted_words c ≤ r.slots → t + converted_need c ≤ r.slots → p + length (converted_code (starts_of types) c p t) < length r.code → AreIn program r b types locals levels globals called results behind (converted_code (starts_of types) c p t)
+    converted_in : (types : Types) (locals : (n : ℕ) → n < b.locals → slot_of (starts_of types) n + words_in types.locals n ≤ r.slots) (levels : (l slot : ℕ) → slice_get types.counters l ≡ Some slot → slot < r.slots) (globals : AreGlobals program types.globals) (behind : types.raises + 4 < length r.code) → (c : Converted) (p t : ℕ) → FitsConverted b types c → t + converted_words c ≤ r.slots → t + converted_need c ≤ r.slots → p + length (converted_code (starts_of types) c p t) < length r.code → AreIn program r b types locals levels globals called results behind (converted_code (starts_of types) c p t)
     converted_in types locals levels globals behind (Convert from to a) p t (kind, wide, numbered) room few short =
         let front = expression_code (starts_of types) a p t t in
         let back = conversion_code (starts_of types) from to (span_of a) (operands.Slot t) (p + length front) in
         append program r b types locals levels globals called results behind front back (expression_in types locals levels globals behind a p t t numbered (omega (arith, room, ap words_of_kind kind)) few (omega (arith, short, length-append front back)))
         (conversion_in program r b types locals levels globals called results behind from to (span_of a) (operands.Slot t) (p + length front) (omega (arith, room)) (omega (arith, short, length-append front back)))
 
-    converted_operand_in : (types : Types) (locals : (n : ℕ) → n < b.locals → slot_of (starts_of types) n + words_in types.locals n ≤ r.slots) (levels : (l slot : ℕ) → slice_get types.counters l ≡ Some slot → slot < r.slots) (globals : AreGlobals program types.globals types.scopes) (behind : types.raises + 4 < length r.code) → (c : Converted) (p t : ℕ) → FitsConverted b types c → t + converted_words c ≤ r.slots → t + converted_need c ≤ r.slots → p + length (converted_operand_code (starts_of types) c p t) < length r.code → AreIn program r b types locals levels globals called results behind (converted_operand_code (starts_of types) c p t)
+    converted_operand_in : (types : Types) (locals : (n : ℕ) → n < b.locals → slot_of (starts_of types) n + words_in types.locals n ≤ r.slots) (levels : (l slot : ℕ) → slice_get types.counters l ≡ Some slot → slot < r.slots) (globals : AreGlobals program types.globals) (behind : types.raises + 4 < length r.code) → (c : Converted) (p t : ℕ) → FitsConverted b types c → t + converted_words c ≤ r.slots → t + converted_need c ≤ r.slots → p + length (converted_operand_code (starts_of types) c p t) < length r.code → AreIn program r b types locals levels globals called results behind (converted_operand_code (starts_of types) c p t)
     converted_operand_in types locals levels globals behind (Convert from to a) p t (kind, wide, numbered) room few short =
         let known = source_of (starts_of types) (Convert from to a) in
         let slot = source_slot (starts_of types) (Convert from to a) t in
@@ -929,7 +928,7 @@ module _ (program : PlainProgram) (r : Routine) (b : Numbering) (called : (n : �
         (conversion_in program r b types locals levels globals called results behind from to (span_of a) o (p + length front) (brought_room program r b types locals levels globals called results behind (Convert from to a) t (kind, wide, numbered) room) (omega (arith, short, length-append front back)))
 
     -- the arguments of `putchar`, which all are evaluated with the same temporaries
-    printed_in : (types : Types) (locals : (n : ℕ) → n < b.locals → slot_of (starts_of types) n + words_in types.locals n ≤ r.slots) (levels : (l slot : ℕ) → slice_get types.counters l ≡ Some slot → slot < r.slots) (globals : AreGlobals program types.globals types.scopes) (behind : types.raises + 4 < length r.code) → (cs : Arguments) (p t first before : ℕ) → FitArguments b types cs → t + argument_words cs ≤ r.slots → t ≤ first + before → first + arguments_need cs before ≤ r.slots → p + length (printed_code (starts_of types) cs p t) < length r.code → AreIn program r b types locals levels globals called results behind (printed_code (starts_of types) cs p t)
+    printed_in : (types : Types) (locals : (n : ℕ) → n < b.locals → slot_of (starts_of types) n + words_in types.locals n ≤ r.slots) (levels : (l slot : ℕ) → slice_get types.counters l ≡ Some slot → slot < r.slots) (globals : AreGlobals program types.globals) (behind : types.raises + 4 < length r.code) → (cs : Arguments) (p t first before : ℕ) → FitArguments b types cs → t + argument_words cs ≤ r.slots → t ≤ first + before → first + arguments_need cs before ≤ r.slots → p + length (printed_code (starts_of types) cs p t) < length r.code → AreIn program r b types locals levels globals called results behind (printed_code (starts_of types) cs p t)
     printed_in types locals levels globals behind NoArguments p t first before numbered room place few short = tt
     printed_in types locals levels globals behind (MoreArguments c cs) p t first before (numbered, rest) room place few short =
         let front = converted_operand_code (starts_of types) c p t in
@@ -938,7 +937,7 @@ module _ (program : PlainProgram) (r : Routine) (b : Numbering) (called : (n : �
         (printed_in types locals levels globals behind cs (p + length front) t first (before + converted_words c) rest (omega (arith, room)) (omega (arith, place)) (omega (arith, few)) (omega (arith, short, length-append front back)))
 
     -- the arguments begin at `first`, and those before have so many words
-    arguments_in : (types : Types) (locals : (n : ℕ) → n < b.locals → slot_of (starts_of types) n + words_in types.locals n ≤ r.slots) (levels : (l slot : ℕ) → slice_get types.counters l ≡ Some slot → slot < r.slots) (globals : AreGlobals program types.globals types.scopes) (behind : types.raises + 4 < length r.code) → (cs : Arguments) (p t first before : ℕ) → FitArguments b types cs → t ≤ first + before → first + (before + argument_words cs) ≤ r.slots → first + arguments_need cs before ≤ r.slots → p + length (arguments_code (starts_of types) cs p t) < length r.code → AreIn program r b types locals levels globals called results behind (arguments_code (starts_of types) cs p t)
+    arguments_in : (types : Types) (locals : (n : ℕ) → n < b.locals → slot_of (starts_of types) n + words_in types.locals n ≤ r.slots) (levels : (l slot : ℕ) → slice_get types.counters l ≡ Some slot → slot < r.slots) (globals : AreGlobals program types.globals) (behind : types.raises + 4 < length r.code) → (cs : Arguments) (p t first before : ℕ) → FitArguments b types cs → t ≤ first + before → first + (before + argument_words cs) ≤ r.slots → first + arguments_need cs before ≤ r.slots → p + length (arguments_code (starts_of types) cs p t) < length r.code → AreIn program r b types locals levels globals called results behind (arguments_code (starts_of types) cs p t)
     arguments_in types locals levels globals behind NoArguments p t first before numbered place few needs short = tt
     arguments_in types locals levels globals behind (MoreArguments c cs) p t first before (numbered, rest) place few needs short =
         let front = converted_code (starts_of types) c p t in
@@ -947,7 +946,7 @@ module _ (program : PlainProgram) (r : Routine) (b : Numbering) (called : (n : �
         (converted_in types locals levels globals behind c p t numbered (omega (arith, few, place)) (omega (arith, needs, place)) (omega (arith, short, length-append front back)))
         (arguments_in types locals levels globals behind cs (p + length front) (t + passed_words c) first (before + converted_words c) rest (omega (arith, place, passed_is c, converted_least c)) (omega (arith, few)) (omega (arith, needs)) (omega (arith, short, length-append front back)))
 
-    operations_in : (types : Types) (locals : (n : ℕ) → n < b.locals → slot_of (starts_of types) n + words_in types.locals n ≤ r.slots) (levels : (l slot : ℕ) → slice_get types.counters l ≡ Some slot → slot < r.slots) (globals : AreGlobals program types.globals types.scopes) (behind : types.raises + 4 < length r.code) → (os : Operations) (ty : Ty) (kind : Kind) (p : ℕ) (l : Operand) (d t left : ℕ) → FitOperations b types left ty os → d + words_of_kind (chain_kind kind os) ≤ r.slots → LeftIn program r b types locals levels globals called results behind os l → IsOperand r l → 1 ≤ left → t + operations_need os ty left ≤ r.slots → p + length (operations_code (starts_of types) os p l d t) < length r.code → AreIn program r b types locals levels globals called results behind (operations_code (starts_of types) os p l d t)
+    operations_in : (types : Types) (locals : (n : ℕ) → n < b.locals → slot_of (starts_of types) n + words_in types.locals n ≤ r.slots) (levels : (l slot : ℕ) → slice_get types.counters l ≡ Some slot → slot < r.slots) (globals : AreGlobals program types.globals) (behind : types.raises + 4 < length r.code) → (os : Operations) (ty : Ty) (kind : Kind) (p : ℕ) (l : Operand) (d t left : ℕ) → FitOperations b types left ty os → d + words_of_kind (chain_kind kind os) ≤ r.slots → LeftIn program r b types locals levels globals called results behind os l → IsOperand r l → 1 ≤ left → t + operations_need os ty left ≤ r.slots → p + length (operations_code (starts_of types) os p l d t) < length r.code → AreIn program r b types locals levels globals called results behind (operations_code (starts_of types) os p l d t)
     operations_in types locals levels globals behind NoOperations ty kind p l d t left numbered room all inside some few short = tt
     operations_in types locals levels globals behind (ThenCompute o a os) ty kind p l d t left (numbered, rest) room all inside some few short =
         let inner = expression_code (starts_of types) a p (value_slot (starts_of types) a (suc t)) (suc t) in
@@ -1005,7 +1004,7 @@ module _ (program : PlainProgram) (r : Routine) (b : Numbering) (called : (n : �
         (right_in program r b types locals levels globals called results behind o a ty p l next t left numbered wide next_room all inside (omega (arith, few)) (omega (arith, short, long)) (λ slot fits less. expression_in types locals levels globals behind a p slot (behind_left o t) numbered fits (omega (arith, few, wide)) less))
         (operations_in types locals levels globals behind os ty (operator_kind o) (p + length front) (operands.Slot next) d t (words_of ty) rest room (next_left_in program r b types locals levels globals called results behind os ty d t (words_of ty) rest (omega (arith, few))) next_few (words_positive ty) (omega (arith, few)) (omega (arith, short, long)))
 
-module _ (program : PlainProgram) (r : Routine) (b : Numbering) (types : Types) (locals : (n : ℕ) → n < b.locals → slot_of (starts_of types) n + words_in types.locals n ≤ r.slots) (levels : (l slot : ℕ) → slice_get types.counters l ≡ Some slot → slot < r.slots) (globals : AreGlobals program types.globals types.scopes) (called : (n : ℕ) (s : Signature) → slice_get b.functions n ≡ Some s → IsKnown program n s) (results : r.results ≡ results_of b.result) (behind : types.raises + 4 < length r.code) (no_return : All (λ i. is_return i ≡ false) r.code) where
+module _ (program : PlainProgram) (r : Routine) (b : Numbering) (types : Types) (locals : (n : ℕ) → n < b.locals → slot_of (starts_of types) n + words_in types.locals n ≤ r.slots) (levels : (l slot : ℕ) → slice_get types.counters l ≡ Some slot → slot < r.slots) (globals : AreGlobals program types.globals) (called : (n : ℕ) (s : Signature) → slice_get b.functions n ≡ Some s → IsKnown program n s) (results : r.results ≡ results_of b.result) (behind : types.raises + 4 < length r.code) (no_return : All (λ i. is_return i ≡ false) r.code) where
   assignment_in : (l : Lvalue) (c : Converted) (p t : ℕ) → FitsPlace b types l (passed_kind c) → FitsConverted b types c → t + converted_words c ≤ r.slots → t + converted_need c ≤ r.slots → p + length (assignment_code (starts_of types) l c p t) < length r.code → AreIn program r b types locals levels globals called results behind (assignment_code (starts_of types) l c p t)
   assignment_in (Local w n) c p t (within, own) numbered free few short = initial_in program r b called results types locals levels globals behind c p (slot_of (starts_of types) n) t numbered (omega (arith, locals n within, own)) free few short
   assignment_in (Global n) c p t within numbered free few short =
@@ -1072,10 +1071,6 @@ module _ (program : PlainProgram) (r : Routine) (b : Numbering) (types : Types) 
 
   -- ---- regions
 
-  scopes_in : (known : Option ℕ) (o : Operand) → types.scopes ≡ known → IsOperand r o → AreIn program r b types locals levels globals called results behind (scopes_code_in known o)
-  scopes_in None o is inside = tt
-  scopes_in (Some global) o is inside = ((globals.inside global is, inside), tt)
-
   -- a local of this kind gets a value
   named_in : (kind : Kind) (n : ℕ) (o : Operand) → n < b.locals → HasRoom types n kind → HasOperand program r b types locals levels globals called results behind o (words_of_kind kind) → AreIn program r b types locals levels globals called results behind (named_code (starts_of types) (words_of_kind kind) n o)
   named_in kind n o within room inside = (move_in program r b types locals levels globals called results behind kind (slot_of (starts_of types) n) o (omega (arith, locals n within, room)) inside, tt)
@@ -1085,15 +1080,12 @@ module _ (program : PlainProgram) (r : Routine) (b : Numbering) (types : Types) 
     record { answer_in_range = omega (arith, few); first_in_range = tt; second_in_range = tt },
     (
       (omega (arith, few), omega (arith, few)),
-      (
-        (omega (arith, few), omega (arith, few), tt),
-        append program r b types locals levels globals called results behind (scopes_code (starts_of types) (operands.Slot (t + 2))) _ (scopes_in types.scopes (operands.Slot (t + 2)) refl (omega (arith, few))) (named_in kinds.Handle n (operands.Slot (t + 1)) within room (omega (arith, few))),
-      ),
+      named_in kinds.Handle n (operands.Slot (t + 1)) within room (omega (arith, few)),
     ),
   )
 
-  closed_in : (m : ℕ) → m < r.slots → AreIn program r b types locals levels globals called results behind (closed_code (starts_of types) m)
-  closed_in m inside = (record { answer_in_range = omega arith; first_in_range = inside; second_in_range = tt }, scopes_in types.scopes (operands.Slot m) refl inside)
+  closed_in : (m : ℕ) → m < r.slots → AreIn program r b types locals levels globals called results behind (closed_code m)
+  closed_in m inside = (record { answer_in_range = omega arith; first_in_range = inside; second_in_range = tt }, tt)
 
   dynamic_in : (n t : ℕ) → n < b.locals → HasRoom types n kinds.Key → t < r.slots → AreIn program r b types locals levels globals called results behind (dynamic_code (starts_of types) n t)
   dynamic_in n t within room few =
@@ -1120,29 +1112,29 @@ module _ (program : PlainProgram) (r : Routine) (b : Numbering) (types : Types) 
   handlers_in None inside = tt
   handlers_in (Some first) inside = (inside, tt)
 
-  marks_in : (mark : Option ℕ) → IsMark mark → AreIn program r b types locals levels globals called results behind (marks_code (starts_of types) mark)
+  marks_in : (mark : Option ℕ) → IsMark mark → AreIn program r b types locals levels globals called results behind (marks_code mark)
   marks_in None inside = tt
   marks_in (Some m) inside = closed_in m inside
 
-  leave_in : (opened : Opened) → CanLeave opened → AreIn program r b types locals levels globals called results behind (leave_code (starts_of types) opened)
-  leave_in opened (record_inside, mark_inside) = append program r b types locals levels globals called results behind (handlers_code opened.handler) (marks_code (starts_of types) opened.mark) (handlers_in opened.handler record_inside) (marks_in opened.mark mark_inside)
+  leave_in : (opened : Opened) → CanLeave opened → AreIn program r b types locals levels globals called results behind (leave_code opened)
+  leave_in opened (record_inside, mark_inside) = append program r b types locals levels globals called results behind (handlers_code opened.handler) (marks_code opened.mark) (handlers_in opened.handler record_inside) (marks_in opened.mark mark_inside)
 
   -- what a `try` keeps
-  kept_in : (known : Option ℕ) (t : ℕ) → types.scopes ≡ known → t + RECORD_WORDS < r.slots → AreIn program r b types locals levels globals called results behind (kept_code_in known t)
-  kept_in None t is free = tt
-  kept_in (Some global) t is free = ((free, globals.inside global is), tt)
+  kept_in : (known : Option ℕ) (t : ℕ) → t + RECORD_WORDS < r.slots → AreIn program r b types locals levels globals called results behind (kept_code_in known t)
+  kept_in None t free = tt
+  kept_in (Some place) t free = (free, tt)
 
-  restored_in : (known : Option ℕ) (t : ℕ) → t + RECORD_WORDS < r.slots → AreIn program r b types locals levels globals called results behind (restored_code_in (starts_of types) known t)
+  restored_in : (known : Option ℕ) (t : ℕ) → t + RECORD_WORDS < r.slots → AreIn program r b types locals levels globals called results behind (restored_code_in known t)
   restored_in None t free = tt
-  restored_in (Some global) t free = closed_in (t + RECORD_WORDS) free
+  restored_in (Some place) t free = closed_in (t + RECORD_WORDS) free
 
   record_near : (known : Option ℕ) (t : ℕ) → behind_record_in known t ≤ t + RECORD_WORDS + 1
   record_near None t = omega arith
-  record_near (Some global) t = omega arith
+  record_near (Some place) t = omega arith
 
   return_in : (v : Option Converted) (p : ℕ) (exits : Exits) (t : ℕ) → FitsReturn b types b.result v → HasExits exits → t + initial_need v + spare_slots ≤ r.slots → p + length (return_code (starts_of types) v p exits t) < length r.code
       → AreIn program r b types locals levels globals called results behind (return_code (starts_of types) v p exits t)
-  return_in None p exits t numbered outside few short = append program r b types locals levels globals called results behind (leave_code (starts_of types) exits.in_function) _ (leave_in exits.in_function outside.1) (omega (arith, few, results, results_few b.result), tt)
+  return_in None p exits t numbered outside few short = append program r b types locals levels globals called results behind (leave_code exits.in_function) _ (leave_in exits.in_function outside.1) (omega (arith, few, results, results_few b.result), tt)
   return_in (Some (Convert from to a)) p exits t numbered outside few short =
       let c = Convert from to a in
       let known = source_of (starts_of types) c in
@@ -1150,7 +1142,7 @@ module _ (program : PlainProgram) (r : Routine) (b : Numbering) (types : Types) 
       let inner = expression_code (starts_of types) a p t t in
       let front = code_unless_slot known inner in
       let conversion = conversion_code (starts_of types) from to (span_of a) (operands.Slot s) (p + length front) in
-      let leave = leave_code (starts_of types) exits.in_function in
+      let leave = leave_code exits.in_function in
       let back = instructions.Finish s ∷ [] in
       let long : length (((front ++ conversion) ++ leave) ++ back) ≡ length (front ++ conversion) + length leave + 1
       = length-append ((front ++ conversion) ++ leave) back ∙ ap (λ (n : ℕ). n + 1) (length-append (front ++ conversion) leave) in
@@ -1321,8 +1313,8 @@ module _ (program : PlainProgram) (r : Routine) (b : Numbering) (types : Types) 
           ),
         )
     statement_in (Return v) in_loop p exits t numbered around outside few short = return_in v p exits t numbered outside (omega (arith, few)) short
-    statement_in Break in_loop p exits t numbered around outside few short = append program r b types locals levels globals called results behind (leave_code (starts_of types) exits.in_loop) _ (leave_in exits.in_loop outside.0) (omega (arith, around numbered), tt)
-    statement_in Continue in_loop p exits t numbered around outside few short = append program r b types locals levels globals called results behind (leave_code (starts_of types) exits.in_loop) _ (leave_in exits.in_loop outside.0) (omega (arith, around numbered), tt)
+    statement_in Break in_loop p exits t numbered around outside few short = append program r b types locals levels globals called results behind (leave_code exits.in_loop) _ (leave_in exits.in_loop outside.0) (omega (arith, around numbered), tt)
+    statement_in Continue in_loop p exits t numbered around outside few short = append program r b types locals levels globals called results behind (leave_code exits.in_loop) _ (leave_in exits.in_loop outside.0) (omega (arith, around numbered), tt)
     statement_in (Throw tag v) in_loop p exits t (word, numbered) around outside few short =
         let front = thrown_code (starts_of types) v p t in
         let back = instructions.Throw (tag_operand tag) (thrown_operand (starts_of types) v t) ∷ [] in
@@ -1347,7 +1339,7 @@ module _ (program : PlainProgram) (r : Routine) (b : Numbering) (types : Types) 
         let long_clauses = length-append restored clauses in
         let free : t + RECORD_WORDS < r.slots = omega (arith, few) in
         let room : t + RECORD_WORDS ≤ r.slots = omega (arith, few) in
-        append program r b types locals levels globals called results behind kept begin (kept_in types.scopes t refl free) (
+        append program r b types locals levels globals called results behind kept begin (kept_in types.scopes t free) (
           record { record_in_range = room; handler_in_range = omega (arith, short, long_kept, long); no_return = no_return },
           append program r b types locals levels globals called results behind (body ++ close) over
               (append program r b types locals levels globals called results behind body close (statement_in s in_loop (m + 1) (inside_try exits t) d numbered_s around (exits_inside exits t outside room) (omega (arith, few, near)) (omega (arith, short, long_kept, long, long_body))) (room, tt)) (
@@ -1374,7 +1366,7 @@ module _ (program : PlainProgram) (r : Routine) (b : Numbering) (types : Types) 
     items_in (MoreItems (DeclareRegion region n) js) in_loop p exits t (counting, within, room, rest) around outside few short =
         let front = opened_code (starts_of types) n t in
         let inner = items_code (starts_of types) js (p + length front) (inside_region exits t) (t + 1) in
-        let back = closed_code (starts_of types) t in
+        let back = closed_code t in
         let long = length-append front (inner ++ back) in
         let long_inner = length-append inner back in
         append program r b types locals levels globals called results behind front (inner ++ back) (opened_in n t within room (omega (arith, few)))
@@ -1428,29 +1420,15 @@ signatures_known structs globals scopes (h ∷ hs) zero s there =
 signatures_known structs globals scopes (h ∷ hs) (suc n) s there =
     let (few, parameters, results) = signatures_known structs globals scopes hs n s there in (omega (arith, few), parameters, results)
 
--- so many are all words of the program's globals
-pub all_counted : (source : Program) → length (lower_program source).globals ≡ words_of_all (global_types source.globals) + length (scopes_words (scopes_of source))
-all_counted source = omega (arith, length-append (lower_globals source.globals) (scopes_words (scopes_of source)), globals_counted source.globals)
-
--- the one behind them is there, where there is one
-scopes_there : (may : Bool) (many global : ℕ) → scopes_if may many ≡ Some global → global < many + length (scopes_words (scopes_if may many))
-scopes_there true many global is = omega (arith, same_Some many global is)
-scopes_there false many global is = absurd (none-some global is)
-
-scopes_few : (scopes : Option ℕ) → length (scopes_words scopes) ≤ 1
-scopes_few None = omega arith
-scopes_few (Some global) = omega arith
-
 module _ (source : Program) (is_fitting : IsFitting source) where
   known_functions : (n : ℕ) (s : Signature) → slice_get (signatures_of source.functions) n ≡ Some s → IsKnown (lower_program source) n s
   known_functions n s there =
       let (few, parameters, results) = signatures_known source.structs (globals_of source) (scopes_of source) source.functions n s there in
       record { there = few; parameters = parameters; results = results }
 
-  known_globals : AreGlobals (lower_program source) (global_types source.globals) (scopes_of source)
+  known_globals : AreGlobals (lower_program source) (global_types source.globals)
   known_globals = record {
-    room = omega (arith, all_counted source);
-    inside = λ global is. omega (arith, scopes_there (list_any may_open source.functions) (length (lower_globals source.globals)) global is, length-append (lower_globals source.globals) (scopes_words (scopes_of source)));
+    room = omega (arith, globals_counted source.globals);
   }
 
   -- all instructions of a function's code
@@ -1493,7 +1471,7 @@ module _ (source : Program) (is_fitting : IsFitting source) where
   functions_well [] words numbered_all = tt
   functions_well (h ∷ hs) (own, others) (first, rest) = (function_well h own first, functions_well hs others rest)
 
-  pub well_formed : IsOfWordsProgram source → words_of_all (global_types source.globals) < MOST_GLOBALS → IsWellFormed (lower_program source)
+  pub well_formed : IsOfWordsProgram source → words_of_all (global_types source.globals) ≤ MOST_GLOBALS → IsWellFormed (lower_program source)
   well_formed words few =
       let main = known_functions source.main _ is_fitting.main in
       record {
@@ -1501,5 +1479,5 @@ module _ (source : Program) (is_fitting : IsFitting source) where
         main = main.there;
         main_parameters = main.parameters;
         main_results = main.results;
-        globals = omega (arith, few, all_counted source, scopes_few (scopes_of source));
+        globals = omega (arith, few, globals_counted source.globals);
       }

@@ -62,9 +62,9 @@ use Rattle.cyc_objects.proofs.Pointers.{not-null, part-not-null, pointer-word}
 use Rattle.cyc_objects.specs.Tables.{with_row}
 use Rattle.cyc_objects.proofs.Values.{Grows-row, Is-grows}
 use Rattle.cyc_lower.proofs.relation.Sharing.{shared_declared, row_declared, shared_written, shared_beside}
-use Rattle.cyc_lower.proofs.relation.Relation.{types_on, starts_on, IsWord, IsIn, with_kind, types_at, starts_at, Holds, held, kept, contents, callers, in_place, by_jump, in_temporary, in_local, drops, leaves, copies, DataIn, SharedAt, StoreAt, to_slot, to_jump, ValueStack, ConditionStack, DroppedStack, AheadStack, LandsStack, HandsOnStack, AppliedStack, ReadyAt, as_operand, into_slot, as_right, in_operand, nowhere, ahead, compared, with_left, behind_statement, Related, Matches, code_of, bounds_at, top, floor, PlaceStack, scopes_in, row_of, call_slots, base_of}
+use Rattle.cyc_lower.proofs.relation.Relation.{types_on, starts_on, IsWord, IsIn, with_kind, types_at, starts_at, Holds, held, kept, contents, callers, in_place, by_jump, in_temporary, in_local, drops, leaves, copies, DataIn, SharedAt, StoreAt, to_slot, to_jump, ValueStack, ConditionStack, DroppedStack, AheadStack, LandsStack, HandsOnStack, AppliedStack, ReadyAt, as_operand, into_slot, as_right, in_operand, nowhere, ahead, compared, with_left, behind_statement, Related, Matches, code_of, bounds_at, top, floor, PlaceStack, row_of, call_slots, base_of}
 use Rattle.cyc_lower.proofs.object_steps.Handles.{kept_holds}
-use Rattle.cyc_lower.proofs.relation.Data.{in_words, IsWord-is, one_word, height-least, Holds-same, Holds-above, data_assigned, data_assigned_global, data_declared, data_grows, null_is, points_in, null_at, points_at, floor-least, handlers_beside, data_written, told_beside, Is-same}
+use Rattle.cyc_lower.proofs.relation.Data.{in_words, IsWord-is, one_word, height-least, Holds-same, Holds-above, data_assigned, data_assigned_global, data_declared, data_grows, null_is, points_in, null_at, points_at, floor-least, handlers_beside, data_written, Is-same}
 use Rattle.cyc_lower.proofs.relation.Accesses.{IsWell, is_fitting, is_stored, written_here, written_elsewhere, written_length, is_declared, home_there, is_member}
 use Rattle.cyc_lower.proofs.place_steps.PlaceWords.{stays, member_there, cell_kind, word_is}
 use Rattle.cyc_lower.proofs.place_steps.CellWrites.{cell_is_there, with_word, saves_there, shared_saved, data_saved, above_there, frames_there, word_stays}
@@ -871,7 +871,7 @@ module _ (source : Program) (pages calls : ℕ) where
       hands_through v k e next c after (global_links c words first o) by.some stored.gives shared by.path by.leads
       (handed v to k e next after q by.end (
         shared_written source pages calls k e w after
-            (shared_beside source pages calls k e w c shared globals (told_beside source g n v.kind c.globals globals (scopes_in k) room (λ m out. stored_elsewhere c.active.slots c.globals words first o m (kind_positive v.kind) out) shared.counters.1))
+            (shared_beside source pages calls k e w c shared globals)
             object stored.at v.value stored.object_there stored.cell_there (inr (inl (subst (IsGlobalRow shared.tables (global_types source.globals)) same (facts.0.4 n few).0))),
         (
           data_assigned_global shared.tables source g c.active.base w.objects next.objects e.locals (callers k) c.active.slots c.globals globals c.frames n v room

@@ -104,10 +104,10 @@ lower_items-loop-behind-init t c =
 
 pub lower_items-loop-behind-preserved : goal.lower_items-loop-behind-preserved
 lower_items-loop-behind-preserved t c =
-    closes_next (view_starts c.args.starts.now) _ c.loop-behind.self.code.items c.close_lexical.new.self.code.items c.args.free c.loop-behind.behind _ c.loop-behind-test.true refl c.in_ok-close_lexical.ensures c.loop-behind.invariant
+    closes_next _ c.loop-behind.self.code.items c.close_lexical.new.self.code.items c.args.free c.loop-behind.behind _ c.loop-behind-test.true refl c.in_ok-close_lexical.ensures c.loop-behind.invariant
 
 pub lower_items-returns : goal.lower_items-returns
-lower_items-returns t c = closes_end (view_starts c.args.starts.now) _ c.loop-behind.self.code.items c.args.free c.loop-behind.behind c.loop-behind-test.false c.loop-behind.invariant
+lower_items-returns t c = closes_end _ c.loop-behind.self.code.items c.args.free c.loop-behind.behind c.loop-behind-test.false c.loop-behind.invariant
 
 pub lower_statement-lower_statement-requires-in-Try : goal.lower_statement-lower_statement-requires-in-Try
 lower_statement-lower_statement-requires-in-Try t c =
