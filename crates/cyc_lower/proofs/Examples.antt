@@ -29,7 +29,8 @@ use Rattle.cyc_plain.proofs.RunLaws.{zeros}
 use Rattle.cyc_meaning.specs.State.{status_of as status_of_source}
 use Rattle.cyc_meaning.specs.Run.{limited_run}
 use Rattle.cyc_meaning.specs.FrameCount.{frame_count, expression_need}
-use Rattle.cyc_lower.specs.Lowering.{jump_if_zero, function_code, lower_program, blocks, lower_globals}
+use Rattle.cyc_lower.specs.ValueCode.{jump_if_zero, blocks}
+use Rattle.cyc_lower.specs.Lowering.{function_code, lower_program, lower_globals}
 use Rattle.cyc_meaning.specs.SourceMachine.{status_in}
 use Rattle.cyc_lower.specs.Slots.{starts_from, global_types}
 

@@ -8,7 +8,8 @@ ghost use Rattle.cyc_types.specs.typing.WellTyped.{IsWellTypedProgram};
 ghost use Rattle.cyc_types.specs.Weight.{program_weight};
 ghost use Rattle.cyc_plain.specs.Program.{routine_of};
 ghost use Rattle.cyc_meaning.specs.FrameCount.{frame_count, kept_by_items};
-ghost use Rattle.cyc_lower.specs.Lowering.{items_code, outside_loops, results_of, lower_function, lower_program, is_handle, may_open, scopes_if};
+ghost use Rattle.cyc_lower.specs.ControlCode.{outside_loops};
+ghost use Rattle.cyc_lower.specs.Lowering.{items_code, results_of, lower_function, lower_program, is_handle, may_open, scopes_if};
 ghost use Rattle.cyc_lower.specs.Emission.{most_frame_count, most_locals, view_starts, HaveFewWords};
 ghost use Rattle.cyc_lower.specs.Lowered.{CanBeLowered};
 

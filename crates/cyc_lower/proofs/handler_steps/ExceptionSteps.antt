@@ -33,7 +33,8 @@ use Rattle.cyc_meaning.specs.Step.{inside}
 use Rattle.cyc_meaning.specs.Exceptions.{catches}
 use Rattle.cyc_lower.specs.declared.statements.Exits.{Exits}
 use Rattle.cyc_lower.specs.Slots.{slot_of}
-use Rattle.cyc_lower.specs.Lowering.{tag_operand, lower_program, inside_try, scopes_of}
+use Rattle.cyc_lower.specs.ControlCode.{tag_operand, inside_try}
+use Rattle.cyc_lower.specs.Lowering.{lower_program, scopes_of}
 use Rattle.cyc_objects.specs.Tables.{Tables, with_row, with_handle}
 use Rattle.cyc_objects.specs.Related as objects
 use Rattle.cyc_objects.proofs.Scopes.{scopes-counted, ends-newest}
@@ -44,7 +45,8 @@ use Rattle.cyc_lower.proofs.slots.Widths.{kind_positive, HasRoom, Outside}
 use Rattle.cyc_lower.proofs.relation.Moves.{moved_slots, put_elsewhere, moves, moved_is, moved_elsewhere}
 use Rattle.cyc_lower.proofs.relation.Stands.{CaughtAt, ItemsAt, ClausesAt, KeptAt, RestoredAt}
 use Rattle.cyc_lower.proofs.relation.Sharing.{shared_less, shared_declared, row_declared, shared_opened, shared_closed, shared_left}
-use Rattle.cyc_lower.proofs.relation.Relation.{behind_records, scopes_in, MayBeOpen, IsKept, HasScopes, SharedBy, IsIntact, HandlersStand, DataIn, types_at, starts_at, held, callers, SharedAt, StatementStack, Matches, as_operand, behind_statement, in_place, by_jumps, code_of, bounds_at, floor, Arrives, DataAt, row_of, call_slots}
+use Rattle.cyc_lower.proofs.relation.HeldValues.{behind_records, scopes_in, MayBeOpen, IsKept, IsIntact, held, callers, row_of}
+use Rattle.cyc_lower.proofs.relation.Relation.{HasScopes, SharedBy, HandlersStand, DataIn, types_at, starts_at, SharedAt, StatementStack, Matches, as_operand, behind_statement, in_place, by_jumps, code_of, bounds_at, floor, Arrives, DataAt, call_slots}
 use Rattle.cyc_lower.proofs.relation.Data.{handlers_beside, data_written, data_declared, data_returned, data_grows}
 use Rattle.cyc_lower.proofs.relation.Accesses.{is_declared, is_closed, home_there}
 use Rattle.cyc_lower.proofs.relation.Matched.{Inside, inside_by, inside_within, IsMatched, Executes, executes, by_places, known, elsewhere, output_way, silently, by_one, by_one_printed, by_two, place_in}

@@ -15,10 +15,12 @@ use Rattle.cyc_meaning.specs.State.{World, Environment, Entry, Rest, Join, Loop,
 use Rattle.cyc_meaning.specs.Step.{step}
 use Rattle.cyc_lower.specs.declared.statements.Exits.{Exits}
 use Rattle.cyc_lower.specs.declared.statements.Opened.{Opened}
-use Rattle.cyc_lower.specs.Lowering.{outermost, with_handler, with_mark, scopes_of}
+use Rattle.cyc_lower.specs.ControlCode.{outermost, with_handler, with_mark}
+use Rattle.cyc_lower.specs.Lowering.{scopes_of}
 use Rattle.cyc_lower.proofs.relation.Weights.{weight}
 use Rattle.cyc_lower.proofs.relation.Stands.{HandlersAt, MarksAt}
-use Rattle.cyc_lower.proofs.relation.Relation.{IsIntact, HandlersStand, left_by, SharedAt, SharedBy, StatementStack, Related, Matches, code_of, bounds_at, types_at, floor, scopes_in, MayBeOpen, IsMark, HasScopes, Newest, opened_by, CaughtBy, DataIn}
+use Rattle.cyc_lower.proofs.relation.HeldValues.{IsIntact, left_by, scopes_in, MayBeOpen, Newest}
+use Rattle.cyc_lower.proofs.relation.Relation.{HandlersStand, SharedAt, SharedBy, StatementStack, Related, Matches, code_of, bounds_at, types_at, floor, IsMark, HasScopes, opened_by, CaughtBy, DataIn}
 use Rattle.cyc_lower.proofs.relation.Sharing.{shared_ahead}
 use Rattle.cyc_lower.proofs.relation.Data.{calls_counted, record_below}
 use Rattle.cyc_lower.proofs.relation.Matched.{IsMatched, silently, by_one}

@@ -42,11 +42,14 @@ use Rattle.cyc_objects.proofs.Values.{Grows-row}
 use Rattle.cyc_objects.proofs.Pointers.{pointer-word}
 use Rattle.cyc_objects.proofs.Cells.{element-found}
 use Rattle.cyc_objects.proofs.Making.{blanks-blank, part-made}
-use Rattle.cyc_lower.specs.Lowering.{is_in, most_elements, scale_of, lower_program}
+use Rattle.cyc_lower.specs.ValueCode.{is_in, scale_of}
+use Rattle.cyc_lower.specs.ObjectCode.{most_elements}
+use Rattle.cyc_lower.specs.Lowering.{lower_program}
 use Rattle.cyc_lower.proofs.slots.Widths.{Outside, same_kind, wide_kind}
 use Rattle.cyc_lower.proofs.relation.Stands.{CopyBy, BegunAt, ElementsAt, StoresAt}
 use Rattle.cyc_lower.proofs.object_steps.Handles.{has_handle}
-use Rattle.cyc_lower.proofs.relation.Relation.{IsWord, IsIn, Holds, held, callers, counters_of, arrays_in, IsHandleOf, homes, silent, DataIn, SharedAt, in_temporary, into_slot, LandsMade, ValueStack, Matches, code_of, bounds_at, types_on, floor, top, contents, base_of}
+use Rattle.cyc_lower.proofs.relation.HeldValues.{IsWord, IsIn, Holds, held, callers, counters_of, arrays_in, IsHandleOf, homes, contents}
+use Rattle.cyc_lower.proofs.relation.Relation.{silent, DataIn, SharedAt, in_temporary, into_slot, LandsMade, ValueStack, Matches, code_of, bounds_at, types_on, floor, top, base_of}
 use Rattle.cyc_lower.proofs.relation.Data.{Is-same, height-least, one_word, Holds-same, Holds-grows, data_written, data_grows, variables_grow, contents_made, floor-least, Holds-above, newest_there}
 use Rattle.cyc_lower.proofs.relation.Accesses.{IsWell, is_fitting}
 use Rattle.cyc_lower.proofs.relation.Counters.{counters-many, counted_before}

@@ -27,7 +27,8 @@ use Rattle.cyc_lower.specs.Lowering.{lower_program}
 use Rattle.cyc_lower.proofs.slots.Widths.{HasRoom}
 use Rattle.cyc_lower.proofs.slots.Slots.{slot-room, global-room, globals_counted}
 use Rattle.cyc_lower.proofs.relation.Known.{global-first, global_kind, first_word}
-use Rattle.cyc_lower.proofs.relation.Relation.{Waiting, DataAt, silent, contents, content_of, content_of_cell, with_kind, types_at, starts_at, base_of}
+use Rattle.cyc_lower.proofs.relation.HeldValues.{Waiting, contents, content_of, content_of_cell, with_kind}
+use Rattle.cyc_lower.proofs.relation.Relation.{DataAt, silent, types_at, starts_at, base_of}
 use Rattle.cyc_lower.proofs.relation.Rows.{local-pointer, local-kind}
 use Rattle.cyc_lower.proofs.relation.WaitingData.{frame_at}
 use Rattle.cyc_lower.proofs.relation.Leads.{IsNamed, is_global, is_local, is_waiting, AreNamed, Leads, to_store, to_variable, leads}

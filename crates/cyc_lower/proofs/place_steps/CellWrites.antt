@@ -25,7 +25,8 @@ use Rattle.cyc_lower.proofs.slots.Widths.{same_kind, kind_positive, words_in, Ha
 use Rattle.cyc_lower.proofs.slots.Slots.{global-room, slot-room}
 use Rattle.cyc_lower.proofs.relation.Moves.{put_elsewhere}
 use Rattle.cyc_lower.proofs.relation.Known.{IsVariableRow, row-away, global-first, global_kind, first_word}
-use Rattle.cyc_lower.proofs.relation.Relation.{IsWord, content_of, contents, Waiting, LocalsHold, GlobalsHold, FramesHold, DataAt, DataIn, SharedAt, callers, silent, types_at, CallSlots, call_slots, base_of, starts_at}
+use Rattle.cyc_lower.proofs.relation.HeldValues.{IsWord, content_of, contents, Waiting, LocalsHold, GlobalsHold, callers, CallSlots}
+use Rattle.cyc_lower.proofs.relation.Relation.{FramesHold, DataAt, DataIn, SharedAt, silent, types_at, call_slots, base_of, starts_at}
 use Rattle.cyc_lower.proofs.relation.Data.{IsWord-is, get_set_other, locals_raised, data_assigned_global, data_assigned, handlers_same}
 use Rattle.cyc_lower.proofs.relation.Accesses.{IsWell, is_fitting, written_here, written_elsewhere, written_length}
 use Rattle.cyc_lower.proofs.place_steps.PlaceWords.{cell_kind}

@@ -19,14 +19,17 @@ use Rattle.cyc_meaning.specs.Swaps.{finds_right_object, finds_left_object, swap_
 use Rattle.cyc_objects.specs.Tables.{Tables}
 use Rattle.cyc_objects.specs.Words.{Points, Is}
 use Rattle.cyc_lower.specs.declared.statements.Exits.{Exits}
-use Rattle.cyc_lower.specs.Lowering.{right_slot, move_of, load_word, load_at, lower_program}
+use Rattle.cyc_lower.specs.ValueCode.{move_of, load_word}
+use Rattle.cyc_lower.specs.ObjectCode.{right_slot, load_at}
+use Rattle.cyc_lower.specs.Lowering.{lower_program}
 use Rattle.cyc_lower.specs.Slots.{slot_of, global_of, global_types}
 use Rattle.cyc_lower.proofs.slots.Widths.{same_kind, kind_positive, wide_kind, Outside}
 use Rattle.cyc_lower.proofs.slots.Slots.{slot-room, global-inside}
 use Rattle.cyc_lower.proofs.relation.Moves.{put_elsewhere, moved_slots, moves, moved_elsewhere, moved_is}
 use Rattle.cyc_lower.proofs.relation.Weights.{focus_weight, stack_weight}
 use Rattle.cyc_lower.proofs.relation.Stands.{EachAt, StoresAt, HasSide, SideAt, ReadAt, WriteAt, ExchangeAt, PlaceAt}
-use Rattle.cyc_lower.proofs.relation.Relation.{base_of, floor, IsWord, Holds, held, contents, callers, behind_statement, IsSideAt, IsLeft, WritesAt, StatementStack, DataIn, SharedAt, Matches, code_of, bounds_at, types_at, starts_at, base_of}
+use Rattle.cyc_lower.proofs.relation.HeldValues.{IsWord, Holds, held, contents, callers}
+use Rattle.cyc_lower.proofs.relation.Relation.{base_of, floor, behind_statement, IsSideAt, IsLeft, WritesAt, StatementStack, DataIn, SharedAt, Matches, code_of, bounds_at, types_at, starts_at, base_of}
 use Rattle.cyc_lower.proofs.relation.Data.{Is-same, one_word, data_written, data_assigned, data_assigned_global, handlers_beside, floor-least}
 use Rattle.cyc_lower.proofs.relation.Sharing.{shared_written, shared_beside}
 use Rattle.cyc_lower.proofs.relation.Accesses.{IsWell, is_stored, written_here, written_elsewhere, written_length}

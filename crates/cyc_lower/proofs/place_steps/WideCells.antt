@@ -31,7 +31,8 @@ use Rattle.cyc_lower.proofs.slots.Slots.{global-room, slot-room, slot-apart}
 use Rattle.cyc_lower.proofs.relation.Moves.{put_elsewhere}
 use Rattle.cyc_lower.proofs.relation.Known.{row-away, global-first, global_kind, first_word, IsVariableRow}
 use Rattle.cyc_lower.proofs.place_steps.PlaceWords.{stored_still, three_put, three_words, three_elsewhere, three_written, three_of, cell_kind}
-use Rattle.cyc_lower.proofs.relation.Relation.{content_of, SharedAt, DataAt, DataIn, callers, silent, code_of, types_at, Waiting, base_of, starts_at, contents}
+use Rattle.cyc_lower.proofs.relation.HeldValues.{content_of, callers, Waiting, contents}
+use Rattle.cyc_lower.proofs.relation.Relation.{SharedAt, DataAt, DataIn, silent, code_of, types_at, base_of, starts_at}
 use Rattle.cyc_lower.proofs.relation.Data.{Is-same, get_set_other, data_assigned_global, data_assigned, handlers_same}
 use Rattle.cyc_lower.proofs.relation.Accesses.{written_here, written_elsewhere, written_length}
 use Rattle.cyc_lower.proofs.place_steps.CellReads.{globals_long, IsOwn, AreSame}

@@ -27,7 +27,8 @@ use Rattle.cyc_objects.proofs.Closing.{scopes-closed, closed-behind, closed-at_o
 use Rattle.cyc_objects.proofs.Scopes.{Ends}
 use Rattle.cyc_lower.specs.Lowering.{lower_program, scopes_of}
 use Rattle.cyc_lower.proofs.relation.Stands.{ClosedAt}
-use Rattle.cyc_lower.proofs.relation.Relation.{MayBeOpen, HasScopes, store_by, silent, scopes_in, ScopesBy, SharedBy, SharedAt, Matches, code_of, bounds_at, types_at}
+use Rattle.cyc_lower.proofs.relation.HeldValues.{MayBeOpen, scopes_in}
+use Rattle.cyc_lower.proofs.relation.Relation.{HasScopes, store_by, silent, ScopesBy, SharedBy, SharedAt, Matches, code_of, bounds_at, types_at}
 use Rattle.cyc_lower.proofs.relation.Matched.{Inside, IsMatched, Executes, by_places, place_in, known, elsewhere, output_way, inside_within}
 
 -- what is closed asks for no more pages

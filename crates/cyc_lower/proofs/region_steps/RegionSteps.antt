@@ -28,11 +28,13 @@ use Rattle.cyc_objects.proofs.Values.{Grows-handle}
 use Rattle.cyc_objects.proofs.Variables.{handle-made}
 use Rattle.cyc_objects.proofs.Services.{opened-lexical, refusal-lexical, opened-dynamic, refusal-dynamic}
 use Rattle.cyc_lower.specs.declared.statements.Exits.{Exits}
-use Rattle.cyc_lower.specs.Lowering.{inside_region, scopes_of}
+use Rattle.cyc_lower.specs.ControlCode.{inside_region}
+use Rattle.cyc_lower.specs.Lowering.{scopes_of}
 use Rattle.cyc_lower.proofs.slots.Slots.{slot_types-many}
 use Rattle.cyc_lower.proofs.slots.Widths.{Outside}
 use Rattle.cyc_lower.proofs.relation.Stands.{NamedAt, ClosedAt, ItemsAt}
-use Rattle.cyc_lower.proofs.relation.Relation.{homes, callers, scopes_in, HasScopes, MayBeOpen, SharedAt, StatementStack, Matches, DataIn, code_of, bounds_in, bounds_at, types_in, types_at, floor, behind_statement, IsIn, contents, starts_at, in_operand, ValueStack}
+use Rattle.cyc_lower.proofs.relation.HeldValues.{homes, callers, scopes_in, MayBeOpen, IsIn, contents}
+use Rattle.cyc_lower.proofs.relation.Relation.{HasScopes, SharedAt, StatementStack, Matches, DataIn, code_of, bounds_in, bounds_at, types_in, types_at, floor, behind_statement, starts_at, in_operand, ValueStack}
 use Rattle.cyc_lower.proofs.relation.Data.{data_written, data_grows, variables_grow}
 use Rattle.cyc_lower.proofs.relation.Matched.{IsMatched, silently, shared_within, known, inside_by}
 use Rattle.cyc_lower.proofs.relation.Paths.{runs}

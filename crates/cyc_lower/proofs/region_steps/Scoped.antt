@@ -8,7 +8,8 @@ use Rattle.cyc_objects.specs.Tables.{Tables}
 use Rattle.cyc_objects.specs.Related as objects
 use Rattle.cyc_objects.proofs.Closing.{scopes-same}
 use Rattle.cyc_objects.proofs.Scopes.{scopes-counted, lexicals-within}
-use Rattle.cyc_lower.proofs.relation.Relation.{silent, scopes_in}
+use Rattle.cyc_lower.proofs.relation.HeldValues.{scopes_in}
+use Rattle.cyc_lower.proofs.relation.Relation.{silent}
 
 -- ---- of the source
 

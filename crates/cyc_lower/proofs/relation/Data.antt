@@ -17,7 +17,8 @@ use Rattle.cyc_meaning.specs.Values.{Value, Int, Null, Thin, Handle, Key, Operan
 use Rattle.cyc_meaning.specs.State.{Object, Environment, with_local, Entry, Handler, Caller, Main, calls_in, CloseLexical, Loop}
 use Rattle.cyc_meaning.specs.FrameCount.{words_of_all}
 use Rattle.cyc_lower.specs.Slots.{starts_of, slot_of, global_of, global_types, Types}
-use Rattle.cyc_lower.specs.Lowering.{behind_record_in, scopes_of}
+use Rattle.cyc_lower.specs.ControlCode.{behind_record_in}
+use Rattle.cyc_lower.specs.Lowering.{scopes_of}
 use Rattle.cyc_lower.proofs.slots.Widths.{words_in, HasRoom, HasGlobal, Outside}
 use Rattle.cyc_lower.proofs.slots.Slots.{slot-room, slot-apart, global-room, global-apart, global-inside}
 use Rattle.cyc_plain.specs.declared.instruction.Operand.{Operand as Place}
@@ -26,7 +27,8 @@ use Rattle.cyc_objects.specs.Tables.{Tables, Grows}
 use Rattle.cyc_objects.specs.Words.{Points, Is}
 use Rattle.cyc_objects.proofs.Values.{Is-grows, Is-same as words_same}
 use Rattle.cyc_lower.proofs.relation.Known.{global-row_grows}
-use Rattle.cyc_lower.proofs.relation.Relation.{CallSlots, row_of, IsLocalRow, call_slots, behind_records, scopes_in, IsKept, floor, HandlersStand, callers, IsWord, IsIn, Waiting, AreOfVariables, words_held, height, Holds, HoldsFrom, content_of, contents, LocalsHold, GlobalsHold, FramesHold, DataAt, types_at, starts_at, base_of, left_by}
+use Rattle.cyc_lower.proofs.relation.HeldValues.{CallSlots, row_of, IsLocalRow, behind_records, scopes_in, IsKept, callers, IsWord, IsIn, Waiting, words_held, height, Holds, HoldsFrom, content_of, contents, LocalsHold, GlobalsHold, left_by}
+use Rattle.cyc_lower.proofs.relation.Relation.{call_slots, floor, HandlersStand, AreOfVariables, FramesHold, DataAt, types_at, starts_at, base_of}
 
 -- ---- values in slots
 

@@ -32,7 +32,8 @@ use Rattle.cyc_store.specs.declared.range.TheConstants.{MOST_BLOCK_WORDS}
 use Rattle.cyc_meaning.specs.Values.{kind_of, is_thin, words_of_kind}
 use Rattle.cyc_meaning.specs.FrameCount.{result_words, words_of_all, operand_words}
 use Rattle.cyc_lower.specs.Slots.{Types, counted, global_types}
-use Rattle.cyc_lower.specs.Lowering.{types_of, passed_words, all_passed, results_of, left_kind, scopes_of, is_handle, may_open, scopes_if, words_behind}
+use Rattle.cyc_lower.specs.ValueCode.{passed_words, all_passed, left_kind, words_behind}
+use Rattle.cyc_lower.specs.Lowering.{types_of, results_of, scopes_of, is_handle, may_open, scopes_if}
 use Rattle.cyc_lower.proofs.slots.Widths.{kind_of_result, result_kind, called_kind, given, passed_kind, type_words, HasRoom, HasGlobal, chain_kind, HasField, HasVariable}
 use Rattle.cyc_lower.proofs.slots.Slots.{words-there, words_positive}
 use Rattle.cyc_plain.specs.declared.limits.TheConstants.{RECORD_WORDS}

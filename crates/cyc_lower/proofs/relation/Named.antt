@@ -23,7 +23,8 @@ use Rattle.cyc_lower.proofs.slots.Slots.{type-there, starts-are, words-there}
 use Rattle.cyc_lower.proofs.relation.Fitting.{IsFitting}
 use Rattle.cyc_lower.proofs.relation.Pinned.{pinned-whole, takes_locals}
 use Rattle.cyc_lower.proofs.sizes.WellFormed.{well_formed}
-use Rattle.cyc_lower.proofs.relation.Relation.{Waiting, callers, silent, code_of, types_at}
+use Rattle.cyc_lower.proofs.relation.HeldValues.{Waiting, callers}
+use Rattle.cyc_lower.proofs.relation.Relation.{silent, code_of, types_at}
 use Rattle.cyc_lower.proofs.relation.Leads.{IsNamed, is_global, is_local, is_waiting, AreNamed}
 
 -- a call that waits has these locals

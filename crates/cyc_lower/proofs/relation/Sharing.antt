@@ -16,7 +16,8 @@ use Rattle.cyc_store.proofs.CountLemmas.{demand-part}
 use Rattle.cyc_store.proofs.HolderLemmas.{IsPart-down_to}
 use Rattle.cyc_objects.proofs.Values.{Grows-row, Grows-handle}
 use Rattle.cyc_objects.proofs.Variables.{declared, assigned-away, opened-variables, closed-variables, handle-made}
-use Rattle.cyc_lower.proofs.relation.Relation.{homes, HasScopes, SharedAt, SharedBy, ScopesBy, store_by, scopes_in, silent}
+use Rattle.cyc_lower.proofs.relation.HeldValues.{homes, scopes_in}
+use Rattle.cyc_lower.proofs.relation.Relation.{HasScopes, SharedAt, SharedBy, ScopesBy, store_by, silent}
 use Rattle.cyc_lower.specs.Lowering.{scopes_of}
 use Rattle.cyc_lower.proofs.relation.Counters.{counted_less}
 use Rattle.cyc_lower.proofs.relation.Data.{variables_grow}

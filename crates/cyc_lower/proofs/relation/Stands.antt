@@ -31,7 +31,11 @@ use Rattle.cyc_meaning.specs.Values.{is_thin, words_of_kind, kind_of}
 use Rattle.cyc_lower.specs.declared.statements.Exits.{Exits}
 use Rattle.cyc_lower.specs.declared.statements.Opened.{Opened}
 use Rattle.cyc_lower.specs.Slots.{counted, Types, starts_of, slot_of, field_of, global_of}
-use Rattle.cyc_lower.specs.Lowering.{most_elements, unary_operator, binary_operator, operand_of, source_of, source_slot, failing_comparison, left_with, left_of, value_slot, next_slot, slot_with, left_slot, is_in, move_of, test_jump, are_as_wide, converts_there, passed_words, all_passed, compared_of, low_byte, break_target, continue_target, results_of, behind_left, inside_loop, inside_try, behind_record_in, pointer_operator, raising, jump_if_zero, right_slot, tag_operand, other_jump, goes_on, span_of, span_in, followed_operand, scale_of, pointer_of, reached_operand, load_word, store_word, load_at, inside_region, address_of_global}
+use Rattle.cyc_lower.specs.ValueCode.{unary_operator, binary_operator, failing_comparison, left_with, next_slot, is_in, move_of, test_jump, are_as_wide, converts_there, passed_words, all_passed, low_byte, behind_left, pointer_operator, raising, jump_if_zero, span_of, span_in, followed_operand, scale_of, reached_operand, load_word, store_word, address_of_global}
+use Rattle.cyc_lower.specs.ObjectCode.{most_elements, right_slot, load_at}
+use Rattle.cyc_lower.specs.ControlCode.{compared_of, break_target, continue_target, inside_loop, inside_try, behind_record_in, tag_operand, other_jump, goes_on, inside_region}
+use Rattle.cyc_lower.specs.ExpressionCode.{operand_of, source_of, source_slot, left_of, value_slot, slot_with, left_slot, pointer_of}
+use Rattle.cyc_lower.specs.Lowering.{results_of}
 use Rattle.cyc_lower.proofs.slots.Widths.{kind_of_result, given, passed_kind, HasRoom, HasField, HasGlobal, words_in}
 
 -- ---- expressions

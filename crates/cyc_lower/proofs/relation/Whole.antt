@@ -42,7 +42,8 @@ use Rattle.cyc_meaning.proofs.VariableRuns.{NestsAndNames, both_kept, names_star
 use Rattle.cyc_objects.specs.Tables.{Tables, first_tables}
 use Rattle.cyc_objects.specs.Related as objects
 use Rattle.cyc_objects.proofs.Start.{start-related}
-use Rattle.cyc_lower.proofs.relation.Relation.{IsWord, silent, call_slots, callers, contents, Related, Matches, types_at, starts_at, MayBeOpen}
+use Rattle.cyc_lower.proofs.relation.HeldValues.{IsWord, callers, contents, MayBeOpen}
+use Rattle.cyc_lower.proofs.relation.Relation.{silent, call_slots, Related, Matches, types_at, starts_at}
 use Rattle.cyc_lower.proofs.relation.Fitting.{IsFitting}
 use Rattle.cyc_lower.proofs.relation.Data.{no_locals_hold, IsWord-is}
 use Rattle.cyc_lower.proofs.relation.Accesses.{IsWell}

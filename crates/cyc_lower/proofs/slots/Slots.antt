@@ -13,7 +13,8 @@ use Rattle.cyc_types.specs.Types as types
 use Rattle.cyc_types.specs.TypedTrees.{StructType, Function, GlobalVariable}
 use Rattle.cyc_meaning.specs.FrameCount.{words_of_all}
 use Rattle.cyc_lower.specs.Slots.{global_types, slot_in, starts_from, Types, starts_of, slot_of, global_of}
-use Rattle.cyc_lower.specs.Lowering.{slot_types, first_temporary, lower_global, lower_globals}
+use Rattle.cyc_lower.specs.ValueCode.{slot_types, first_temporary}
+use Rattle.cyc_lower.specs.Lowering.{lower_global, lower_globals}
 use Rattle.cyc_lower.proofs.slots.Widths.{kind_positive, words_in, HasRoom, HasGlobal}
 
 -- ---- words

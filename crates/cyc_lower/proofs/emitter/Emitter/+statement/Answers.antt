@@ -9,7 +9,8 @@ use Rattle.cyc_types.specs.TypedTreeView.{view_expression, view_statement, items
 use Rattle.cyc_meaning.specs.FrameCount.{kept_by_items, kept_by_clauses}
 use Rattle.cyc_plain.specs.declared.instruction.Instruction.{Instruction}
 use Rattle.cyc_plain.specs.declared.instruction.Instruction.TheVariants.{Jump, Leave}
-use Rattle.cyc_lower.specs.Lowering.{items_code, other_jump, statement_code, inside_try}
+use Rattle.cyc_lower.specs.ControlCode.{other_jump, inside_try}
+use Rattle.cyc_lower.specs.Lowering.{items_code, statement_code}
 use Rattle.cyc_lower.specs.declared.statements.Exits.{Exits}
 use Rattle.cyc_lower.specs.declared.statements.Opened.{Opened}
 use Rattle.cyc_lower.specs.Emission.{view_starts}
