@@ -178,7 +178,6 @@ module _ (source : Program) (pages calls : ℕ) (k : List Entry) (e : Environmen
           (three_words c.store.memory address (slots n) (slots (suc n)) (slots (suc (suc n))) shared.related.sound.words (words.0 n) (words.0 (suc n)) (words.0 (suc (suc n))))
           (λ y other. three_elsewhere c.store.memory address (slots n) (slots (suc n)) (slots (suc (suc n))) y (λ j below same. other j (omega (arith, below, ap words_of_kind fat)) same))
           (subst (λ kind. Is shared.tables kind v (words_from all_put address) 0) (sym fat) (three_written shared.tables v c.store.memory address (slots n) (slots (suc n)) (slots (suc (suc n))) in_slots));
-      told = shared.counters.1;
       like = like_same source c.frames;
       above = λ m least. refl;
       value = λ j below. refl;

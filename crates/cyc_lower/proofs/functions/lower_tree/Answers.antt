@@ -23,12 +23,12 @@ new-requires c =
     let starts : c.in_ok-starts.starts.items ≡ globals_of source = c.in_ok-starts.ensures ∙ ap (λ (gs : List Global). starts_from 0 (global_types (map view_global gs))) c.deref.ensures.value in
     let words : c.in_ok-globals.globals.items ≡ lower_globals source.globals
     = c.in_ok-globals.ensures ∙ ap (λ (gs : List Global). lower_globals (map view_global gs)) c.deref-2.ensures.value in
-    let scopes : c.scopes_of.result ≡ scopes_of source
-    = c.scopes_of.ensures ∙ ap (λ (fs : List Function). scopes_if (list_any may_open (map view_function fs))) c.deref-3.ensures.value in
+    let scopes : c.scopes_of-scopes.result ≡ scopes_of source
+    = c.scopes_of-scopes.ensures ∙ ap (λ (fs : List Function). scopes_if (list_any may_open (map view_function fs))) c.deref-3.ensures.value in
     let functions : map routine_of c.in_ok-functions.functions.items ≡ map (lower_function source.structs (globals_of source) (scopes_of source)) source.functions
     = c.in_ok-functions.ensures
-    ∙ ap (λ (ss : List StructType). map (lower_function (map view_struct ss) c.deref-5.result.now c.scopes_of.result) (map view_function c.deref-6.result.now)) c.deref-4.ensures.value
-    ∙ ap (λ (l : List ℕ). map (lower_function source.structs l c.scopes_of.result) (map view_function c.deref-6.result.now)) (c.deref-5.ensures.value ∙ starts)
+    ∙ ap (λ (ss : List StructType). map (lower_function (map view_struct ss) c.deref-5.result.now c.scopes_of-scopes.result) (map view_function c.deref-6.result.now)) c.deref-4.ensures.value
+    ∙ ap (λ (l : List ℕ). map (lower_function source.structs l c.scopes_of-scopes.result) (map view_function c.deref-6.result.now)) (c.deref-5.ensures.value ∙ starts)
     ∙ ap (λ (o : Option ℕ). map (lower_function source.structs (globals_of source) o) (map view_function c.deref-6.result.now)) scopes
     ∙ ap (λ (fs : List Function). map (lower_function source.structs (globals_of source) (scopes_of source)) (map view_function fs)) c.deref-6.ensures.value in
     let same : program_of c.in_ok-functions.functions.items c.in_ok-globals.globals.items c.args.tree.now.main ≡ lower_program source
