@@ -75,21 +75,21 @@ impl Emitter {
     /// A call of the function whose first line is the label.
     pub(crate) fn call(
         &mut self,
-        frames: (&Frame, &Frame),
+        caller: &Frame,
+        callee: &Frame,
         here: usize,
         label: usize,
         arguments: usize,
         count: usize,
     ) -> Result<(), AllocError>
         requires fits { here ≤ most_lines }
-        requires return_address { frames.0.now.return_address ≤ MOST_FRAME_WORDS }
-        requires some { 0 < frames.1.now.words }
-        requires words { frames.1.now.words ≤ MOST_FRAME_WORDS }
-        requires source { AreReached frames.0.now arguments count }
-        requires target { AreReached frames.1.now 0 count }
-        ensures { AddsLines result self.old self.new (calling_code frames.0.now frames.1.now here label arguments count) }
+        requires return_address { caller.now.return_address ≤ MOST_FRAME_WORDS }
+        requires some { 0 < callee.now.words }
+        requires words { callee.now.words ≤ MOST_FRAME_WORDS }
+        requires source { AreReached caller.now arguments count }
+        requires target { AreReached callee.now 0 count }
+        ensures { AddsLines result self.old self.new (calling_code caller.now callee.now here label arguments count) }
     {
-        let (caller, callee) = frames;
         self.branch(BranchOp::NotEqual, CALLS, ZERO, here + 3)?;
         self.enter(caller, callee)?;
         self.arguments(caller, callee, arguments, count)?;
