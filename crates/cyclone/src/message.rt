@@ -1,7 +1,7 @@
 //! The message for a person who reads why a text was refused.
 use crate::flow_cause::Note;
 use cyc_flow::Cause;
-use cyc_terminal::{Shown, excerpt_at, hint, meaning};
+use cyc_terminal::{Shown, excerpt_at, hint_at, meaning};
 use cyc_words::Fault;
 use std::fmt;
 
@@ -38,6 +38,6 @@ impl fmt::Display for Message<'_> {
             };
             write!(f, "{note}")?;
         }
-        write!(f, "    hint: {}\n", hint(code))
+        write!(f, "    hint: {}\n", hint_at(code, self.text, line, column))
     }
 }
