@@ -1,13 +1,13 @@
 //! The lines that call the store.
 ghost use Rattle.std.specs.Prelude.{◌≡◌, ◌≤◌, [], ◌∷◌, OnOk};
 ghost use Rattle.cyc_plain.specs.Requests.{first_operand, second_operand, answer_count, destination_of};
-ghost use Rattle.cyc_select.specs.Selection.{ordinary, store_slot, argument_code, service_number, regions_code, answer_code, ask_code, ask_count};
+ghost use Rattle.cyc_select.specs.Selection.{ordinary, give_code, argument_code, service_number, regions_code, answer_code, ask_code, ask_count};
 ghost use Rattle.cyc_select.specs.Emission.{AddsLines, IsReached, IsArgumentFound, AreReached, IsRequestFound};
 
 use crate::calling::RESULTS;
 use crate::constants::REGIONS;
 use crate::emitter::Emitter;
-use crate::instructions::{add_immediate, small, store_slot, syscall};
+use crate::instructions::{add_immediate, small, syscall};
 use crate::operands::load_count;
 use cyc_frame::Frame;
 use cyc_machine::constants::{
@@ -123,9 +123,9 @@ impl Emitter {
         destination: usize,
     ) -> Result<(), AllocError>
         requires { IsReached frame.now destination }
-        ensures { AddsLines result self.old self.new (ordinary (store_slot frame.now REGIONS destination ∷ [])) }
+        ensures { AddsLines result self.old self.new (ordinary (give_code frame.now REGIONS destination)) }
     {
-        self.ordinary(&[store_slot(frame, REGIONS, destination)])
+        self.give(frame, REGIONS, destination)
     }
 
     /// The store is called.

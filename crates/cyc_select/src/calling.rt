@@ -1,15 +1,16 @@
 //! The lines of calls and returns, and of moves of several words.
 ghost use Rattle.std.specs.Prelude.{◌≡◌, ◌+◌, ◌*◌, ◌<◌, ◌≤◌, [], ◌∷◌, ◌++◌, true, length, OnOk};
-ghost use Rattle.cyc_select.specs.Selection.{load, store_slot, slot_offset, copies, ordinary, load_all, store_all, move_words, calling_code, returned_code, ending_code, returning_code};
+ghost use Rattle.cyc_select.specs.Selection.{load, store_slot, made_in, slot_offset, copies, ordinary, load_all, load_words, store_all, move_words, calling_code, returned_code, ending_code, returning_code};
 ghost use Rattle.cyc_select.specs.Emission.{AddsLines, IsReached, AreReached, most_lines, enter_code};
 
 use crate::code::Line;
-use crate::constants::{CALLS, FIRST, FIRST_RESULT, SECOND_RESULT, THIRD_RESULT, ZERO};
+use crate::constants::{CALLS, FIRST_RESULT, SECOND_RESULT, THIRD_RESULT, ZERO};
 use crate::emitter::Emitter;
 use crate::instructions::{
-    add_immediate, load, load_slot, minus, offset_of, pop_frame, push_frame, small, store,
-    store_slot, syscall,
+    add_immediate, load, load_slot, load_word, minus, offset_of, pop_frame, push_frame, small,
+    store, store_slot, syscall,
 };
+use crate::operands::made_in;
 use cyc_frame::{Frame, MOST_FRAME_WORDS};
 use cyc_isa::BranchOp;
 use cyc_machine::constants::{ARGUMENT, END_FULL, END_RETURNED, RETURN_ADDRESS, SERVICE};
@@ -20,7 +21,8 @@ use std::alloc::AllocError;
 pub(crate) const RESULTS: [u8; 3] = [FIRST_RESULT, SECOND_RESULT, THIRD_RESULT];
 
 impl Emitter {
-    /// One argument, from the caller's slot to the callee's, whose frame is the current one already.
+    /// One argument, from the caller's slot to the callee's, whose frame is the current one already. It comes by the
+    /// register that the callee has it in.
     fn argument(
         &mut self,
         caller: &Frame,
@@ -31,10 +33,11 @@ impl Emitter {
         requires words { callee.now.words ≤ MOST_FRAME_WORDS }
         requires source { IsReached caller.now source }
         requires target { IsReached callee.now slot }
-        ensures { AddsLines result self.old self.new (ordinary (load FIRST (4 * callee.now.words + slot_offset caller.now source) ∷ store_slot callee.now FIRST slot ∷ [])) }
+        ensures { AddsLines result self.old self.new (ordinary (load (made_in callee.now slot) (4 * callee.now.words + slot_offset caller.now source) ∷ store_slot callee.now (made_in callee.now slot) slot ∷ [])) }
     {
         let offset = offset_of(callee.words) + offset_of(caller.first_slot + source);
-        self.ordinary(&[load(FIRST, offset), store_slot(callee, FIRST, slot)])
+        let target = made_in(callee, slot);
+        self.ordinary(&[load(target, offset), store_slot(callee, target, slot)])
     }
 
     /// The arguments, from the caller's slots to the first ones of the callee.
@@ -127,6 +130,19 @@ impl Emitter {
         Ok(())
     }
 
+    /// The same of slots that live in memory alone.
+    fn load_words(&mut self, frame: &Frame, slot: usize, targets: &[u8]) -> Result<(), AllocError>
+        requires { AreReached frame.now slot (length targets.now) }
+        ensures { AddsLines result self.old self.new (ordinary (load_words frame.now slot targets.now)) }
+    {
+        let mut next = slot;
+        for target in targets {
+            self.ordinary(&[load_word(frame, *target, next)])?;
+            next += 1;
+        }
+        Ok(())
+    }
+
     /// Words from slots to slots.
     pub(crate) fn move_words(
         &mut self,
@@ -140,7 +156,7 @@ impl Emitter {
         requires target { AreReached frame.now destination count }
         ensures { AddsLines result self.old self.new (move_words frame.now destination source count) }
     {
-        self.load_all(frame, source, &RESULTS[..count])?;
+        self.load_words(frame, source, &RESULTS[..count])?;
         self.store_all(frame, destination, &RESULTS[..count])
     }
 
@@ -154,13 +170,15 @@ impl Emitter {
         requires return_address { frame.now.return_address ≤ MOST_FRAME_WORDS }
         requires few { results ≤ GREATEST_VALUE }
         requires target { AreReached frame.now slot results }
+        requires homes { AreReached frame.now 0 (length frame.now.homes) }
         ensures { AddsLines result self.old self.new (returned_code frame.now slot results) }
     {
         self.ordinary(&[
             load(RETURN_ADDRESS, offset_of(frame.return_address)),
             add_immediate(CALLS, CALLS, 1),
         ])?;
-        self.store_all(frame, slot, &RESULTS[..results])
+        self.store_all(frame, slot, &RESULTS[..results])?;
+        self.reloads(frame)
     }
 
     /// The end of a run, where `main` was called first.

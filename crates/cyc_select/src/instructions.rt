@@ -1,12 +1,15 @@
 //! Single instructions of the machine, by what they are used for.
 ghost use Rattle.std.specs.Prelude.{◌≡◌, ◌+◌, ◌*◌, ◌<◌, ◌≤◌};
 ghost use Rattle.cyc_isa.specs.Decoding.{register_of, shift_amount_of, trap_code_of};
-ghost use Rattle.cyc_select.specs.Selection.{load, store, load_slot, store_slot, add_immediate, small, or_immediate, minus, is_zero, syscall, load_upper, or_lower, push_frame, pop_frame};
+ghost use Rattle.cyc_select.specs.Selection.{load, store, copy, slot_offset, load_slot, store_slot, add_immediate, small, or_immediate, minus, is_zero, syscall, load_upper, or_lower, push_frame, pop_frame};
 ghost use Rattle.cyc_select.specs.Emission.{IsReached};
 
 use crate::constants::{FRAME, ZERO};
+use crate::operands::value_register;
 use cyc_frame::{Frame, MOST_FRAME_WORDS};
-use cyc_isa::{ExceptionOp, ImmediateOp, Instr, MemoryOp, Register, ShiftAmount, TrapCode};
+use cyc_isa::{
+    ArithmeticOp, ExceptionOp, ImmediateOp, Instr, MemoryOp, Register, ShiftAmount, TrapCode,
+};
 
 /// The register of this number, which counts modulo 32.
 pub(crate) fn register(number: u8) -> Register
@@ -64,12 +67,35 @@ pub(crate) fn store(source: u8, offset: u16) -> Instr
     }
 }
 
-/// A slot of the current frame into a register.
+/// A register into another one.
+pub(crate) fn copy(target: u8, source: u8) -> Instr
+    ensures { result ≡ copy target source }
+{
+    Instr::Arithmetic {
+        op: ArithmeticOp::AddUnsigned,
+        destination: register(target),
+        left: register(source),
+        right: register(ZERO),
+    }
+}
+
+/// A slot's word in the current frame into a register.
+pub(crate) fn load_word(frame: &Frame, target: u8, slot: usize) -> Instr
+    requires { IsReached frame.now slot }
+    ensures { result ≡ load target (slot_offset frame.now slot) }
+{
+    load(target, offset_of(frame.first_slot + slot))
+}
+
+/// A slot's word into a register, from the one that the slot has or from the current frame.
 pub(crate) fn load_slot(frame: &Frame, target: u8, slot: usize) -> Instr
     requires { IsReached frame.now slot }
     ensures { result ≡ load_slot frame.now target slot }
 {
-    load(target, offset_of(frame.first_slot + slot))
+    match value_register(frame, slot) {
+        Some(own) => copy(target, own),
+        None => load_word(frame, target, slot),
+    }
 }
 
 /// A register into a slot of the current frame.

@@ -5,9 +5,9 @@ ghost use Rattle.cyc_select.specs.Emission.{AddsLines, IsReached, IsFound};
 
 use crate::constants::{FIRST, FRAME, SECOND};
 use crate::emitter::Emitter;
-use crate::instructions::{add_immediate, offset_of, register, store_slot};
+use crate::instructions::{add_immediate, offset_of, register};
 use crate::numbers::fits_signed;
-use crate::operands::{operand_count, operand_register};
+use crate::operands::{made_in, operand_count, operand_register};
 use crate::operators::count_of_operation;
 use crate::plan::far_plan;
 use cyc_frame::Frame;
@@ -16,11 +16,11 @@ use cyc_plain::Operand;
 use std::alloc::AllocError;
 
 /// The register that an offset is added to.
-fn address_register(address: Operand, offset: u32) -> u8
-    ensures { result ≡ address_register address offset }
+fn address_register(frame: &Frame, address: Operand, offset: u32) -> u8
+    ensures { result ≡ address_register frame.now address offset }
 {
     if fits_signed(offset) {
-        operand_register(FIRST, address)
+        operand_register(frame, FIRST, address)
     } else {
         FIRST
     }
@@ -38,26 +38,26 @@ fn near_half(offset: u32) -> u16
 }
 
 /// A word of memory is loaded into a register, or stored from one.
-fn at_address(op: MemoryOp, target: u8, address: Operand, offset: u32) -> Instr
-    ensures { result ≡ at_address op target address offset }
+fn at_address(frame: &Frame, op: MemoryOp, target: u8, address: Operand, offset: u32) -> Instr
+    ensures { result ≡ at_address frame.now op target address offset }
 {
     Instr::Memory {
         op,
         target: register(target),
-        base: register(address_register(address, offset)),
+        base: register(address_register(frame, address, offset)),
         offset: near_half(offset),
     }
 }
 
 /// The lines of an address.
-pub(crate) fn address_count(address: Operand, offset: u32) -> usize
-    ensures value { result ≡ address_count address offset }
+pub(crate) fn address_count(frame: &Frame, address: Operand, offset: u32) -> usize
+    ensures value { result ≡ address_count frame.now address offset }
     ensures few { result ≤ 6 }
 {
     if fits_signed(offset) {
-        operand_count(address)
+        operand_count(frame, address)
     } else {
-        count_of_operation(far_plan(address, offset))
+        count_of_operation(frame, far_plan(address, offset))
     }
 }
 
@@ -70,7 +70,7 @@ impl Emitter {
         if fits_signed(offset) {
             return self.operand(frame, FIRST, address);
         }
-        self.operation_of(frame, far_plan(address, offset))
+        self.operation_of(frame, FIRST, far_plan(address, offset))
     }
 
     /// The address of a slot's word comes into a slot.
@@ -84,10 +84,10 @@ impl Emitter {
         requires source { IsReached frame.now slot }
         ensures { AddsLines result self.old self.new (address_of frame.now destination slot) }
     {
-        self.ordinary(&[
-            add_immediate(FIRST, FRAME, offset_of(frame.first_slot + slot)),
-            store_slot(frame, FIRST, destination),
-        ])
+        let target = made_in(frame, destination);
+        let offset = offset_of(frame.first_slot + slot);
+        self.ordinary(&[add_immediate(target, FRAME, offset)])?;
+        self.keep(frame, destination)
     }
 
     /// A word of memory comes into a slot.
@@ -102,11 +102,10 @@ impl Emitter {
         requires address { IsFound frame.now address }
         ensures { AddsLines result self.old self.new (load_word frame.now destination address offset) }
     {
+        let target = made_in(frame, destination);
         self.address(frame, address, offset)?;
-        self.ordinary(&[
-            at_address(MemoryOp::LoadWord, FIRST, address, offset),
-            store_slot(frame, FIRST, destination),
-        ])
+        self.ordinary(&[at_address(frame, MemoryOp::LoadWord, target, address, offset)])?;
+        self.keep(frame, destination)
     }
 
     /// An operand goes into a word of memory.
@@ -123,7 +122,7 @@ impl Emitter {
     {
         self.address(frame, address, offset)?;
         self.operand(frame, SECOND, source)?;
-        let from = operand_register(SECOND, source);
-        self.ordinary(&[at_address(MemoryOp::StoreWord, from, address, offset)])
+        let from = operand_register(frame, SECOND, source);
+        self.ordinary(&[at_address(frame, MemoryOp::StoreWord, from, address, offset)])
     }
 }
