@@ -109,11 +109,7 @@ fn homes_in(
 
 /// Every slot in memory.
 #[tactic(auto, using(crate::proofs::InMemory::memory_homes))]
-pub(crate) fn in_memory(
-    alloc: Global,
-    plain: &Plain,
-    function: &Function,
-) -> Result<Vec<Home>, AllocError>
+fn in_memory(alloc: Global, plain: &Plain, function: &Function) -> Result<Vec<Home>, AllocError>
     ensures { IfOk result (λ homes. AreHomes plain.now (routine_of function.now) homes.items) }
 {
     Ok(vec![in alloc; Home::Memory; function.slots]?)
