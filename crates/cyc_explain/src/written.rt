@@ -1,5 +1,4 @@
 //! Words for types as they are written.
-use crate::names::explain_twice;
 use crate::teller::{Part, Teller};
 use cyc_syntax::{BaseType, Declaration, Ident, PointerKind, WrittenType};
 use cyc_words::Code;
@@ -63,7 +62,9 @@ pub(crate) fn explain_region(teller: &mut Teller<'_>, name: Ident, unknown: &str
     teller.say_of(Code::UnknownName, name.span, unknown, &parts);
     teller.say_of(Code::RegionOrKeyMisused, name.span, misused, &parts);
     if let Some(function) = teller.function {
-        explain_twice(teller, name, Some(function.span));
+        let parts = [Part::Name(name), Part::Name(function)];
+        let text = "`% is the region of the variables of %";
+        teller.say_of(Code::DeclaredTwice, name.span, text, &parts);
     }
 }
 
