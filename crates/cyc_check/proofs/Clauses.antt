@@ -12,6 +12,7 @@ use Rattle.cyc_types.specs.typing.Scopes.{Scope, counted, item_locals, item_regi
 use Rattle.cyc_types.specs.Types.{Int}
 use Rattle.cyc_types.specs.typing.Statements.{exception_among, caught, with_caught, behind_clause, rule_items, rule_clauses}
 use Rattle.cyc_types.specs.Rules.{Checked, and_then, run}
+use Rattle.cyc_types.proofs.RuleLaws.{from_ok}
 use Rattle.cyc_scope.specs.declared.stop.Stop.{Stop}
 use Rattle.cyc_scope.specs.declared.stop.Stop.TheVariants as stops
 use Rattle.cyc_scope.specs.Code.{Stops}
@@ -28,16 +29,13 @@ abbrev put_behind : typed.Clauses → typed.Clauses → typed.Clauses
 put_behind (typed.Case n v r js cs) ds = typed.Case n v r js ds
 put_behind cs ds = ds
 
-same_ok : {A : Type 0} (a b : A) → ◌≡◌ {A = Checked A} (Ok a) (Ok b) → a ≡ b
-same_ok a b e = ap (λ (r : Checked _). elim r [ Ok x ↦ x | Err f ↦ a ]) e
-
 -- of its parts, and of the clauses behind it
 abbrev assembled : Checked ℕ → Checked typed.Items → Option ℕ → ℕ → Checked typed.Clauses → Checked typed.Clauses
 assembled a b v r rest = and_then a (λ n. and_then b (λ js. and_then rest (λ ds. Ok (typed.Case n v r js ds))))
 
 with_rest : (a : Checked ℕ) (b : Checked typed.Items) (v : Option ℕ) (r : ℕ) (c : ClauseCode) (rest : Checked typed.Clauses) → assembled a b v r (Ok typed.NoClauses) ≡ Ok (view_clause c)
     → assembled a b v r rest ≡ and_then rest (λ ds. Ok (view.clauses_of (c ∷ []) ds))
-with_rest (Ok n) (Ok js) v r c (Ok ds) h = ap (λ k. Ok (put_behind k ds)) (same_ok (typed.Case n v r js typed.NoClauses) (view_clause c) h)
+with_rest (Ok n) (Ok js) v r c (Ok ds) h = ap (λ k. Ok (put_behind k ds)) (from_ok (typed.Case n v r js typed.NoClauses) (view_clause c) h)
 with_rest (Ok n) (Ok js) v r c (Err f) h = refl
 with_rest (Ok n) (Err f) v r c rest h = absurd (cc)
 with_rest (Err f) b v r c rest h = absurd (cc)
@@ -193,7 +191,7 @@ default_gives g cs made is d h k =
   where
     last : (items : Checked typed.Items) (q : ℕ) → and_then items (λ js. Ok (typed.Default q js)) ≡ Ok d
         → and_then items (λ ks. Ok (then_default (view.clauses_of made typed.NoClauses) (typed.Default q ks))) ≡ Ok (then_default (view.clauses_of made typed.NoClauses) d)
-    last (Ok js) q e = ap (λ x. Ok (then_default (view.clauses_of made typed.NoClauses) x)) (same_ok (typed.Default q js) d e)
+    last (Ok js) q e = ap (λ x. Ok (then_default (view.clauses_of made typed.NoClauses) x)) (from_ok (typed.Default q js) d e)
     last (Err f) q e = absurd (cc)
 
 pub clauses_stop : (e : Stop) (g : Scope) (cs : List Clause) (is : Items) → Stops e (run (rule_clauses g [] (clauses_of cs NoClauses))) → Stops e (run (rule_clauses g [] (clauses_of cs (Default is))))

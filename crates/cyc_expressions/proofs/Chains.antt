@@ -18,6 +18,7 @@ use Rattle.cyc_words.specs.declared.fault.Fault.{Fault}
 use Rattle.cyc_types.specs.Rules.{Checked, and_then, Rule, gives, unless, run}
 use Rattle.cyc_types.specs.typing.Scopes.{Scope, meaning_of}
 use Rattle.cyc_types.specs.typing.Expressions.{looked, Reached, loaded, rule, rule_looked, rule_all, rule_chain, rule_postfixed, rule_further}
+use Rattle.cyc_types.proofs.RuleLaws.{from_ok}
 use Rattle.cyc_scope.specs.declared.stop.Stop.{Stop}
 use Rattle.cyc_scope.specs.declared.stop.Stop.TheVariants as stops
 use Rattle.cyc_scope.specs.Code.{Stops}
@@ -124,12 +125,9 @@ pub chain_ends : (g : Scope) (p : Place) (k : Option ℕ) (left : ValueType) (xs
     → behind_operations xs (run (rule_chain g p k left (operations_of zs))) ≡ whole → whole ≡ behind_operations xs (run (rule_chain g p k left (operations_of [])))
 chain_ends g p k left xs zs whole is so_far = sym so_far ∙ ap (λ vs. behind_operations xs (run (rule_chain g p k left (operations_of vs)))) is
 
-same_ok : {A : Type 0} (a b : A) → ◌≡◌ {A = Checked A} (Ok a) (Ok b) → a ≡ b
-same_ok a b e = ap (λ (r : Checked _). elim r [ Ok x ↦ x | Err f ↦ a ]) e
-
 -- and its type is that of what is left
 pub chain_whole : (xs : List Operation) (known : Option Fault) (t u : Ty) → unless known t ≡ Ok u → behind_operations xs (unless known (typed.NoOperations, t)) ≡ Ok (view.operations_of xs, u)
-chain_whole xs None t u h = ap (λ os. Ok (os, t)) (then_all_view xs) ∙ ap (λ v. Ok (view.operations_of xs, v)) (same_ok t u h)
+chain_whole xs None t u h = ap (λ os. Ok (os, t)) (then_all_view xs) ∙ ap (λ v. Ok (view.operations_of xs, v)) (from_ok t u h)
 chain_whole xs (Some f) t u h = absurd (cc)
 
 -- ---- what stands for what the rule gives

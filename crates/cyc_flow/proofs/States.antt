@@ -1,6 +1,6 @@
 -- The loops over two lists of what is known, and the meeting of states.
-use Rattle.std.proofs.Common.{◌≡◌, ℕ, ◌+◌, ◌<◌, ◌≤◌, min, Bool, true, false, ◌&&◌, List, [], ◌∷◌, ◌++◌, length, get_or, take, drop, map, replicate, refl, sym, ap, subst, ◌∙◌, arith}
-use Rattle.std.proofs.lemmas.List.{drop_more, length-drop}
+use Rattle.std.proofs.Common.{◌≡◌, ℕ, ◌+◌, ◌≤◌, min, Bool, true, false, ◌&&◌, List, [], ◌∷◌, ◌++◌, length, take, drop, map, replicate, refl, sym, ap, subst, ◌∙◌, arith}
+use Rattle.std.proofs.lemmas.List.{length-drop}
 use Rattle.cyc_flow.specs.declared.state.Fullness.{Fullness as FullnessCode}
 use Rattle.cyc_types.specs.Types.{Ty}
 use Rattle.cyc_types.specs.flow.States.{Fullness, lower_each, is_as_full, are_as_full}
@@ -9,10 +9,6 @@ use Rattle.cyc_flow.specs.Code.{view_fullness}
 
 abbrev views : List FullnessCode → List Fullness
 views = map view_fullness
-
--- one element on
-pub next : {X : Type 0} (xs : List X) (i : ℕ) (x : X) → i < length xs → x ≡ get_or xs i x → drop i xs ≡ x ∷ drop (i + 1) xs
-next xs i x h e = drop_more xs i x h ∙ ap (λ y. y ∷ drop (i + 1) xs) (sym e)
 
 -- ---- the lower of each
 

@@ -3,6 +3,9 @@ use Rattle.std.proofs.Common.{◌≡◌, ℕ, zero, suc, ◌+◌, ◌<◌, ◌�
 use Rattle.std.specs.List.{list_any}
 use Rattle.std.proofs.lemmas.Bool.{eq-eqb}
 use Rattle.std.proofs.lemmas.Bool.Decides.{nat_tests}
+use Rattle.std.proofs.lemmas.List.{drop_all}
+use Rattle.std.proofs.lemmas.List.Folds.{list_any-append}
+use Rattle.cyc_words.proofs.Lists.{drop_read}
 use Rattle.cyc_types.specs.declared.region.Region.{Region}
 use Rattle.cyc_types.specs.declared.region.Region.TheVariants.{Heap, Unique, Variable}
 use Rattle.cyc_types.specs.Regions.{region_eq}
@@ -14,7 +17,6 @@ use Rattle.cyc_types.specs.Types.{Ty, Int, Pointer, Handle, Key, Struct}
 use Rattle.cyc_types.specs.typing.Expressions.{all_paired, paired, paired_argument, paired_arguments, first_place, first_places, is_unique_for_variable}
 use Rattle.cyc_forms.specs.Forms.{value_in}
 use Rattle.cyc_forms.specs.Instances.{noted_at, noted_place, noted_places}
-use Rattle.cyc_forms.proofs.Lists.{drop_all, read}
 
 pub noted_append : (table : List (Option Region)) (ps qs : List (Region × Region)) → noted_places table (ps ++ qs) ≡ noted_places (noted_places table ps) qs
 noted_append table [] qs = refl
@@ -26,7 +28,7 @@ none_paired (r ∷ rs) = refl
 
 -- where the regions end
 pub paired_past : (rs ss : List Region) (i : ℕ) → length ss ≤ i → all_paired (drop i rs) (drop i ss) ≡ []
-paired_past rs ss i le = ap (all_paired (drop i rs)) (drop_all ss i le) ∙ none_paired (drop i rs)
+paired_past rs ss i le = ap (all_paired (drop i rs)) (drop_all i ss le) ∙ none_paired (drop i rs)
 
 none_given : (ts : List Ty) → paired_arguments ts [] ≡ []
 none_given [] = refl
@@ -35,15 +37,19 @@ none_given (t ∷ ts) = refl
 module _ (ts : List TyCode) (cs : List ConvertedCode) (i : ℕ) where
   -- where the values end
   pub given_past : length cs ≤ i → paired_arguments (map view_ty (drop i ts)) (map value_in (drop i cs)) ≡ []
-  given_past le = ap (λ xs. paired_arguments (map view_ty (drop i ts)) (map value_in xs)) (drop_all cs i le) ∙ none_given (map view_ty (drop i ts))
+  given_past le = ap (λ xs. paired_arguments (map view_ty (drop i ts)) (map value_in xs)) (drop_all i cs le) ∙ none_given (map view_ty (drop i ts))
 
   pub given_next : (table : List (Option Region)) (t : TyCode) (c : ConvertedCode) → i < length ts → t ≡ get_or ts i t → i < length cs → c ≡ get_or cs i c
       → noted_places table (paired_arguments (map view_ty (drop i ts)) (map value_in (drop i cs)))
       ≡ noted_places (noted_places table (paired_argument (view_ty t) (type_of (value_in c)))) (paired_arguments (map view_ty (drop (i + 1) ts)) (map value_in (drop (i + 1) cs)))
   given_next table t c lt_t is_t lt_c is_c =
-      ap (λ xs. noted_places table (paired_arguments (map view_ty xs) (map value_in (drop i cs)))) (read ts i t lt_t is_t)
-      ∙ ap (λ xs. noted_places table (paired_arguments (map view_ty (t ∷ drop (i + 1) ts)) (map value_in xs))) (read cs i c lt_c is_c)
+      ap (λ xs. noted_places table (paired_arguments (map view_ty xs) (map value_in (drop i cs)))) (drop_read ts i t lt_t is_t)
+      ∙ ap (λ xs. noted_places table (paired_arguments (map view_ty (t ∷ drop (i + 1) ts)) (map value_in xs))) (drop_read cs i c lt_c is_c)
       ∙ noted_append table (paired_argument (view_ty t) (type_of (value_in c))) (paired_arguments (map view_ty (drop (i + 1) ts)) (map value_in (drop (i + 1) cs)))
+
+-- std's law, by a name that code can cite
+pub any_append : {A : Type 0} (test : A → Bool) (ps qs : List A) → list_any test (ps ++ qs) ≡ (list_any test ps || list_any test qs)
+any_append test ps qs = list_any-append test ps qs
 
 pub paired_int : (t : Ty) → paired t Int ≡ []
 paired_int Int = refl
@@ -51,14 +57,6 @@ paired_int (Pointer k t r) = refl
 paired_int (Handle r) = refl
 paired_int (Key r) = refl
 paired_int (Struct n rs) = refl
-
-pub any_append : {A : Type 0} (test : A → Bool) (ps qs : List A) → list_any test (ps ++ qs) ≡ (list_any test ps || list_any test qs)
-any_append test [] qs = refl
-any_append test (p ∷ ps) qs = either (test p) (list_any test ps) (list_any test qs) (list_any test (ps ++ qs)) (any_append test ps qs)
-  where
-    either : (a b c d : Bool) → d ≡ (b || c) → (a || d) ≡ ((a || b) || c)
-    either true b c d h = refl
-    either false b c d h = h
 
 pub no_unique_int : (t : Ty) → list_any is_unique_for_variable (paired t Int) ≡ false
 no_unique_int t = ap (list_any is_unique_for_variable) (paired_int t)

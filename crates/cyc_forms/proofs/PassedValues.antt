@@ -2,10 +2,11 @@
 use Rattle.std.proofs.Common.{◌≡◌, ℕ, zero, suc, nat_eq, not, ◌+◌, ◌<◌, ◌≤◌, List, [], ◌∷◌, ◌++◌, length, map, take, drop, get_or, slice_get, option_map, Option, Some, None, Ok, refl, sym, ap, ◌∙◌, arith}
 use Rattle.std.specs.List.{list_any}
 use Rattle.std.proofs.lemmas.Bool.{eqb-true}
-use Rattle.std.proofs.lemmas.List.{length-map}
+use Rattle.std.proofs.lemmas.List.{length-map, drop_all}
 use Rattle.std.proofs.lemmas.Option.{same_Some}
 use Rattle.cyc_words.specs.declared.fault.Fault.{Fault}
 use Rattle.cyc_words.specs.declared.fault.Code.TheVariants as codes
+use Rattle.cyc_words.proofs.Lists.{drop_read}
 use Rattle.cyc_syntax.specs.declared.tree.Expr.{Expr}
 use Rattle.cyc_syntax.specs.Symbols.{Place}
 use Rattle.cyc_syntax.specs.Trees.{Expression, Expressions, NoExpressions, MoreExpressions, place_of}
@@ -27,7 +28,7 @@ use Rattle.cyc_types.specs.typing.Expressions.{conversion, passed, passed_demand
 use Rattle.cyc_types.proofs.RuleLaws.{settled_append, settled_kept}
 use Rattle.cyc_forms.specs.Forms.{value_in}
 use Rattle.cyc_forms.specs.Passing.{with_kinds, with_kinds_at, all_with_kinds}
-use Rattle.cyc_forms.proofs.Lists.{read, lost, drop_all}
+use Rattle.cyc_forms.proofs.Lists.{lost}
 
 -- ---- what is asked of each, as far as there are all three
 
@@ -47,9 +48,9 @@ module _ (one : Expression → typed.Expression → Ty → List Demand) (many : 
       → i < length es → e ≡ get_or es i e → i < length cs → c ≡ get_or cs i c → i < length ts → t ≡ get_or ts i t
       → settled known (asked (drop i es) (drop i cs) (drop i ts)) ≡ settled (settled known (one (view_expression e) (value_in c) (view_ty t))) (asked (drop (i + 1) es) (drop (i + 1) cs) (drop (i + 1) ts))
   asked_next known es cs ts i e c t lt_e is_e lt_c is_c lt_t is_t =
-      ap (λ xs. settled known (asked xs (drop i cs) (drop i ts))) (read es i e lt_e is_e)
-      ∙ ap (λ xs. settled known (asked (e ∷ drop (i + 1) es) xs (drop i ts))) (read cs i c lt_c is_c)
-      ∙ ap (λ xs. settled known (asked (e ∷ drop (i + 1) es) (c ∷ drop (i + 1) cs) xs)) (read ts i t lt_t is_t)
+      ap (λ xs. settled known (asked xs (drop i cs) (drop i ts))) (drop_read es i e lt_e is_e)
+      ∙ ap (λ xs. settled known (asked (e ∷ drop (i + 1) es) xs (drop i ts))) (drop_read cs i c lt_c is_c)
+      ∙ ap (λ xs. settled known (asked (e ∷ drop (i + 1) es) (c ∷ drop (i + 1) cs) xs)) (drop_read ts i t lt_t is_t)
       ∙ ap (settled known) (asks.step (view_expression e) (expressions_of (drop (i + 1) es)) (value_in c) (map value_in (drop (i + 1) cs)) (view_ty t) (map view_ty (drop (i + 1) ts)))
       ∙ settled_append known (one (view_expression e) (value_in c) (view_ty t)) (asked (drop (i + 1) es) (drop (i + 1) cs) (drop (i + 1) ts))
 
@@ -64,7 +65,7 @@ module _ (one : Expression → typed.Expression → Ty → List Demand) (many : 
 
   pub asked_no_type : (known : Option Fault) (es : List Expr) (cs : List ConvertedCode) (ts : List TyCode) (i : ℕ) → length ts ≤ i → settled known (asked (drop i es) (drop i cs) (drop i ts)) ≡ known
   asked_no_type known es cs ts i le =
-      ap (λ xs. settled known (asked (drop i es) (drop i cs) xs)) (drop_all ts i le) ∙ ap (settled known) (asks.no_types (expressions_of (drop i es)) (map value_in (drop i cs)))
+      ap (λ xs. settled known (asked (drop i es) (drop i cs) xs)) (drop_all i ts le) ∙ ap (settled known) (asks.no_types (expressions_of (drop i es)) (map value_in (drop i cs)))
 
 -- a conversion is asked of each
 abbrev pub one_passed : RegionContext → Expression → typed.Expression → Ty → List Demand

@@ -1,6 +1,7 @@
 -- The equality of types, as the code computes it and as a test.
-use Rattle.std.proofs.Common.{◌≡◌, Bool, true, false, ◌&&◌, nat_eq, IsTrue, ◌↔◌, List, [], ◌∷◌, refl, sym, subst}
-use Rattle.std.proofs.lemmas.Bool.{eq-eqb}
+use Rattle.std.proofs.Common.{◌≡◌, Bool, true, false, ◌&&◌, nat_eq, IsTrue, ◌↔◌, List, [], ◌∷◌, refl, subst}
+use Rattle.std.proofs.lemmas.Bool.{eq-eqb, and_from}
+use Rattle.cyc_words.proofs.Booleans.{same_tests}
 use Rattle.cyc_syntax.specs.declared.tree.PointerKind.{PointerKind}
 use Rattle.cyc_syntax.specs.declared.tree.PointerKind.TheVariants.{Nullable, NonNull, Fat}
 use Rattle.cyc_types.specs.declared.region.Region.{Region}
@@ -10,9 +11,6 @@ use Rattle.cyc_types.specs.typing.Tests.{mark_eq, regions_eq, ty_eq}
 use Rattle.cyc_types.proofs.RegionLemmas.{region_eq-refl}
 use Rattle.cyc_types.proofs.typing.TestLemmas.{ty_eq-true}
 
-both : (a b : Bool) → a ≡ true → b ≡ true → (a && b) ≡ true
-both a b h k = cc
-
 mark_eq-refl : (k : PointerKind) → mark_eq k k ≡ true
 mark_eq-refl Nullable = refl
 mark_eq-refl NonNull = refl
@@ -20,19 +18,14 @@ mark_eq-refl Fat = refl
 
 regions_eq-refl : (rs : List Region) → regions_eq rs rs ≡ true
 regions_eq-refl [] = refl
-regions_eq-refl (r ∷ rs) = both (region_eq r r) (regions_eq rs rs) (region_eq-refl r) (regions_eq-refl rs)
+regions_eq-refl (r ∷ rs) = and_from (region_eq r r) (regions_eq rs rs) (region_eq-refl r) (regions_eq-refl rs)
 
 ty_eq-refl : (t : Ty) → ty_eq t t ≡ true
 ty_eq-refl Int = refl
-ty_eq-refl (Pointer k t r) = both (mark_eq k k) (ty_eq t t && region_eq r r) (mark_eq-refl k) (both (ty_eq t t) (region_eq r r) (ty_eq-refl t) (region_eq-refl r))
+ty_eq-refl (Pointer k t r) = and_from (mark_eq k k) (ty_eq t t && region_eq r r) (mark_eq-refl k) (and_from (ty_eq t t) (region_eq r r) (ty_eq-refl t) (region_eq-refl r))
 ty_eq-refl (Handle r) = region_eq-refl r
 ty_eq-refl (Key r) = region_eq-refl r
-ty_eq-refl (Struct n rs) = both (nat_eq n n) (regions_eq rs rs) (eq-eqb n n refl) (regions_eq-refl rs)
-
-same_tests : (a b : Bool) → (a ≡ true → b ≡ true) → (b ≡ true → a ≡ true) → a ≡ b
-same_tests true b to from = sym (to refl)
-same_tests false true to from = from refl
-same_tests false false to from = refl
+ty_eq-refl (Struct n rs) = and_from (nat_eq n n) (regions_eq rs rs) (eq-eqb n n refl) (regions_eq-refl rs)
 
 -- what decides whether two types are equal is the test
 pub same_types : (t u : Ty) (b : Bool) → IsTrue b ↔ (t ≡ u) → b ≡ ty_eq t u

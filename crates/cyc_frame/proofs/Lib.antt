@@ -1,2 +1,3 @@
 -- frames are frames, and what is refused is the first that is too large
 pub mod Sound
+pub mod InMemory

@@ -1,24 +1,27 @@
 -- Frames are frames, and what is refused is the first that is too large.
-use Rattle.std.proofs.Common.{◌≡◌, ℕ, zero, suc, ◌+◌, ◌<◌, ◌≤◌, Bool, false, List, [], ◌∷◌, length, map, Some, None, Result, Ok, Err, refl, sym, ap, subst, ◌∙◌, arith, inl, inr}
+use Rattle.std.proofs.Common.{◌≡◌, ℕ, zero, suc, ◌+◌, ◌<◌, ◌≤◌, Bool, false, List, [], ◌∷◌, ◌++◌, length, map, Some, None, Result, Ok, Err, refl, sym, ap, subst, ◌∙◌, arith, inl, inr}
 use Rattle.std.specs.Prelude.{if◌then◌else◌, slice_index_or, ◌⊎◌, Option}
 use Rattle.std.proofs.lemmas.Bool.{cases_lt, lt-ltb}
-use Rattle.std.proofs.lemmas.List.{length-map}
-use Rattle.cyc_frame.specs.declared.frame.Frame.{Frame}
+use Rattle.std.proofs.lemmas.List.{length-append}
+use Rattle.cyc_frame.specs.Frame.{Frame}
 use Rattle.cyc_words.specs.declared.fault.Fault.{Fault}
 use Rattle.cyc_words.specs.declared.fault.Code.TheVariants as faults
 use Rattle.cyc_words.specs.declared.span.Span.{Span}
 use Rattle.cyc_plain.specs.declared.program.Function.{Function}
 use Rattle.cyc_plain.specs.declared.limits.TheConstants.{LAYOUT_WORDS}
 use Rattle.cyc_plain.specs.Program.{Routine, Program, no_routine, routine_of, routine_at}
-use Rattle.cyc_plain.specs.WellFormed.{IsRoutine, IsWellFormed}
+use Rattle.cyc_plain.specs.WellFormed.{IsWellFormed}
 use Rattle.cyc_words.specs.Decision.{Decides}
 use Rattle.cyc_words.specs.Fault.{memory_fault}
 use Rattle.cyc_words.proofs.Decisions.{IsDecided, decides}
 use Rattle.cyc_frame.specs.declared.frame.TheConstants.{MOST_FRAME_WORDS}
-use Rattle.cyc_frame.specs.Layout.{AreFrames, HasSmallFrames, IsAccepted, IsFrame, IsTooLarge, first_too_large, frame_at, frame_of, is_too_large}
+use Rattle.cyc_frame.specs.declared.home.Home.{Home}
+use Rattle.cyc_frame.specs.Homes.{AreHomes}
+use Rattle.cyc_frame.specs.Layout.{AreFirstFrames, AreFrames, HasSmallFrames, IsAccepted, IsFrame, IsTooLarge, first_too_large, frame_at, is_too_large}
 
-pub is_frame : (r : Routine) → r.slots + LAYOUT_WORDS ≤ r.frame_count → r.frame_count ≤ MOST_FRAME_WORDS → IsFrame r (frame_of r)
-is_frame r fits small = record {
+pub is_frame : (r : Routine) (homes : List Home) → r.slots + LAYOUT_WORDS ≤ r.frame_count → r.frame_count ≤ MOST_FRAME_WORDS
+    → IsFrame r (record { words = LAYOUT_WORDS + r.slots; return_address = 0; first_slot = LAYOUT_WORDS; homes = homes })
+is_frame r homes fits small = record {
   apart = λ a b a_below b_below same. omega (arith, same);
   inside = λ slot below. omega (arith, below);
   first_inside = omega arith;
@@ -111,41 +114,44 @@ one_first program f g a b = elim (cases_lt a.function b.function) [
 
 -- ---- the frames
 
-frame_at-frames : (routines : List Routine) (k : ℕ) → k < length routines → frame_at (map frame_of routines) k ≡ frame_of (slice_index_or routines k no_routine)
-frame_at-frames [] k below = absurd (omega arith)
-frame_at-frames (r ∷ routines) zero below = refl
-frame_at-frames (r ∷ routines) (suc k) below = frame_at-frames routines k (omega arith)
+module _ (program : Program) (well : IsWellFormed program) (small : HasSmallFrames program) where
+  -- what each function's frame asks of the function
+  pub fits : (k : ℕ) (r : Routine) → k < length program.functions → r ≡ routine_at program k → r.slots + LAYOUT_WORDS ≤ r.frame_count
+  fits k r below is = subst (λ (r : Routine). r.slots + LAYOUT_WORDS ≤ r.frame_count) (sym is) (well.functions k no_routine below).frame
 
-pub frames_stand : (program : Program) → IsWellFormed program → HasSmallFrames program → AreFrames program (map frame_of program.functions)
-frames_stand program well small = record { as_many = length-map program.functions frame_of; each = each }
+  pub fits_small : (k : ℕ) (r : Routine) → k < length program.functions → r ≡ routine_at program k → r.frame_count ≤ MOST_FRAME_WORDS
+  fits_small k r below is = subst (λ (r : Routine). r.frame_count ≤ MOST_FRAME_WORDS) (sym is) (small k below)
+
+frame_before : (frames : List Frame) (frame : Frame) (k : ℕ) → k < length frames → frame_at (frames ++ frame ∷ []) k ≡ frame_at frames k
+frame_before [] frame k below = absurd (omega arith)
+frame_before (f ∷ frames) frame zero below = refl
+frame_before (f ∷ frames) frame (suc k) below = frame_before frames frame k (omega arith)
+
+frame_last : (frames : List Frame) (frame : Frame) → frame_at (frames ++ frame ∷ []) (length frames) ≡ frame
+frame_last [] frame = refl
+frame_last (f ∷ frames) frame = frame_last frames frame
+
+pub no_frames : (program : Program) → AreFirstFrames program 0 []
+no_frames program = record { as_many = refl; each = λ k below. absurd (omega arith); homes = λ k below. absurd (omega arith) }
+
+-- a frame more
+pub more_frames : (program : Program) (count : ℕ) (frames : List Frame) (frame : Frame) (r : Routine) → AreFirstFrames program count frames
+    → r ≡ routine_at program count → IsFrame r frame → AreHomes program r frame.homes → AreFirstFrames program (count + 1) (frames ++ frame ∷ [])
+more_frames program count frames frame r are is framed homes = record {
+  as_many = omega (arith, length-append frames (frame ∷ []), are.as_many);
+  each = λ k below. of (λ (k : ℕ) (f : Frame). IsFrame (routine_at program k) f) are.each (subst (λ (r : Routine). IsFrame r frame) is framed) k below;
+  homes = λ k below. of (λ (k : ℕ) (f : Frame). AreHomes program (routine_at program k) f.homes) are.homes (subst (λ (r : Routine). AreHomes program r frame.homes) is homes) k below;
+}
   where
-    each : (k : ℕ) → k < length program.functions → IsFrame (routine_at program k) (frame_at (map frame_of program.functions) k)
-    each k below =
-        let routine : IsRoutine program (routine_at program k) = well.functions k no_routine below in
-        subst (IsFrame (routine_at program k)) (sym (frame_at-frames program.functions k below))
-        (is_frame (routine_at program k) routine.frame (small k below))
-
--- slots are few
-pub few_slots : (program : Program) → IsWellFormed program → HasSmallFrames program → (k : ℕ) → k < length program.functions → (routine_at program k).slots ≤ MOST_FRAME_WORDS
-few_slots program well small k below =
-    let routine : IsRoutine program (routine_at program k) = well.functions k no_routine below in
-    omega (arith, routine.frame, small k below)
-
--- the same of the code's functions
-pub slots_fit : (functions : List Function) → ((k : ℕ) → k < length (map routine_of functions) → (slice_index_or (map routine_of functions) k no_routine).slots ≤ MOST_FRAME_WORDS)
-    → (k : ℕ) (d : Function) → k < length functions → (slice_index_or functions k d).slots ≤ MOST_FRAME_WORDS
-slots_fit [] few k d below = absurd (omega arith)
-slots_fit (f ∷ functions) few zero d below = few 0 (omega arith)
-slots_fit (f ∷ functions) few (suc k) d below = slots_fit functions (λ j j_below. few (suc j) (omega arith)) k d (omega arith)
-
--- what `frames_of` asks of the code's functions
-pub all_slots_fit : (program : Program) (functions : List Function) → IsWellFormed program → map routine_of functions ≡ program.functions
-    → first_too_large (map routine_of functions) ≡ None → (k : ℕ) (d : Function) → k < length functions → (slice_index_or functions k d).slots ≤ MOST_FRAME_WORDS
-all_slots_fit program functions well are none =
-    let small : HasSmallFrames program = none_large program (ap first_too_large (sym are) ∙ none) in
-    slots_fit functions (
-    subst (λ (routines : List Routine). (k : ℕ) → k < length routines → (slice_index_or routines k no_routine).slots ≤ MOST_FRAME_WORDS) (sym are)
-    (few_slots program well small))
+    of : (P : ℕ → Frame → Type 0) → ((k : ℕ) → k < count → P k (frame_at frames k)) → P count frame
+        → (k : ℕ) → k < count + 1 → P k (frame_at (frames ++ frame ∷ []) k)
+    of P before last k below = elim (cases_lt k count) [
+      | inl first ↦ subst (P k) (sym (frame_before frames frame k (omega (arith, first, are.as_many)))) (before k first)
+      | inr not_first ↦
+          let same : k ≡ length frames = omega (arith, below, not_first, are.as_many) in
+          subst (λ (j : ℕ). P j (frame_at (frames ++ frame ∷ []) j)) (sym same)
+          (subst (P (length frames)) (sym (frame_last frames frame)) (subst (λ (j : ℕ). P j frame) (sym are.as_many) last))
+    ]
 
 -- ---- answers
 
@@ -171,14 +177,11 @@ module _ (program : Program) (functions : List Function) (are : map routine_of f
   too_large place fault some code line column =
       refused program fault (inr (some_large program place fault (ap first_too_large (sym are) ∙ some) code line column))
 
-  -- the frames that were made
-  are_frames : IsWellFormed program → (frames : List Frame) → frames ≡ map frame_of (map routine_of functions)
-      → first_too_large (map routine_of functions) ≡ None → AreFrames program frames
-  are_frames well frames made none =
-      subst (AreFrames program) (sym (made ∙ ap (map frame_of) are)) (frames_stand program well (none_large program (ap first_too_large (sym are) ∙ none)))
+  pub small_frames : first_too_large (map routine_of functions) ≡ None → HasSmallFrames program
+  small_frames none = none_large program (ap first_too_large (sym are) ∙ none)
 
-  pub framed : IsWellFormed program → (frames : List Frame) → frames ≡ map frame_of (map routine_of functions)
+  pub framed : (frames : List Frame) → AreFirstFrames program (length program.functions) frames
       → first_too_large (map routine_of functions) ≡ None → Answers program (Ok frames)
-  framed well frames made none =
+  framed frames made none =
       decides (IsAccepted program) AreFrames (IsTooLarge program) (IsTooLarge program) (is_decided program) (Ok frames)
-      (program, (refl, none_large program (ap first_too_large (sym are) ∙ none)), are_frames well frames made none) tt
+      (program, (refl, small_frames none), record { as_many = made.as_many; each = made.each; homes = made.homes }) tt

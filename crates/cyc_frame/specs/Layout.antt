@@ -4,9 +4,9 @@ use Rattle.std.specs.Prelude.{◌≡◌, ◌≢◌, ℕ, ◌+◌, ◌<◌, ◌�
 use Rattle.cyc_words.specs.declared.fault.Code.TheVariants as faults
 use Rattle.cyc_words.specs.declared.fault.Fault.{Fault}
 use Rattle.cyc_words.specs.declared.span.Span.{Span}
-use Rattle.cyc_plain.specs.declared.limits.TheConstants.{LAYOUT_WORDS}
 use Rattle.cyc_plain.specs.Program.{Routine, Program, routine_at}
-use Rattle.cyc_frame.specs.declared.frame.Frame.{Frame}
+use Rattle.cyc_frame.specs.Frame.{Frame}
+use Rattle.cyc_frame.specs.Homes.{AreHomes}
 use Rattle.cyc_frame.specs.declared.frame.TheConstants.{MOST_FRAME_WORDS}
 
 -- the word of a frame that holds a slot
@@ -28,17 +28,19 @@ pub record IsFrame (r : Routine) (frame : Frame) : Type 0 where
 -- the frame of the function of this index; where there is none, an empty one
 abbrev pub frame_at : List Frame → ℕ → Frame
 frame_at frames function =
-    slice_index_or frames function (record { words = 0; return_address = 0; first_slot = 0 })
+    slice_index_or frames function (record { words = 0; return_address = 0; first_slot = 0; homes = [] })
+
+-- frames of the first functions, so many of them, with homes of their slots
+pub record AreFirstFrames (program : Program) (count : ℕ) (frames : List Frame) : Type 0 where
+  pub as_many : length frames ≡ count
+  pub each : (k : ℕ) → k < count → IsFrame (routine_at program k) (frame_at frames k)
+  pub homes : (k : ℕ) → k < count → AreHomes program (routine_at program k) (frame_at frames k).homes
 
 -- there is a frame for each function
 pub record AreFrames (program : Program) (frames : List Frame) : Type 0 where
   pub as_many : length frames ≡ length program.functions
   pub each : (k : ℕ) → k < length program.functions → IsFrame (routine_at program k) (frame_at frames k)
-
--- The frame of a function: the words that are kept for the layout, of which the first is for the return address, and
--- then the slots in order.
-abbrev pub frame_of : Routine → Frame
-frame_of r = record { words = LAYOUT_WORDS + r.slots; return_address = 0; first_slot = LAYOUT_WORDS }
+  pub homes : (k : ℕ) → k < length program.functions → AreHomes program (routine_at program k) (frame_at frames k).homes
 
 -- where the name stands of the first function whose frame is too large
 abbrev pub is_too_large : Routine → Bool

@@ -1,10 +1,16 @@
 //! The frames of a program's functions.
+ghost use Rattle.std.specs.Prelude.{◌≡◌};
+ghost use Rattle.cyc_frame.specs.Homes.{home_of};
+
+use crate::home::Home;
+use std::marker::Model;
 
 /// A frame has at most so many words, since the machine's stack has so many for each call.
 pub const MOST_FRAME_WORDS: usize = 256;
 
-/// How the words of a function's frame are used. A word is named by its number from the frame's lowest address on.
-#[derive(Clone, Copy, Debug, PartialEq, Eq)]
+/// How the words of a function's frame are used, and where its slots live. A word is named by its number from the frame's
+/// lowest address on.
+#[derive(Drop)]
 pub struct Frame {
     /// How many words the frame has.
     pub words: usize,
@@ -12,4 +18,31 @@ pub struct Frame {
     pub return_address: usize,
     /// The word of the function's slot 0. The other slots follow it in order.
     pub first_slot: usize,
+    /// The home of each slot, by its number.
+    pub homes: Vec<Home>,
+}
+
+impl Model for Frame {
+    ghost use Rattle.cyc_frame.specs.Frame.{Frame};
+
+    ghost Value = { Frame };
+
+    ghost view = { λ a. record {
+      words = a.words;
+      return_address = a.return_address;
+      first_slot = a.first_slot;
+      homes = a.homes.items;
+    } };
+}
+
+impl Frame {
+    /// The home of this slot. Where there is no such slot, memory.
+    pub fn home(&self, slot: usize) -> Home
+        ensures { result ≡ home_of self.now.homes slot }
+    {
+        match self.homes.get(slot) {
+            Some(home) => *home,
+            None => Home::Memory,
+        }
+    }
 }

@@ -1,12 +1,14 @@
 //! The layout of a program's frames.
 
-ghost use Rattle.std.specs.Prelude.{◌≡◌, ◌≤◌, map, All, IfOk};
+ghost use Rattle.std.specs.Prelude.{◌≡◌, ◌+◌, ◌≤◌, length, map, IfOk};
 ghost use Rattle.cyc_words.specs.Decision.{Decides};
 ghost use Rattle.cyc_plain.specs.Program.{routine_of};
-ghost use Rattle.cyc_frame.specs.Layout.{AreFrames, IsAccepted, IsTooLarge, first_too_large, frame_of};
+ghost use Rattle.cyc_frame.specs.Homes.{AreHomes};
+ghost use Rattle.cyc_frame.specs.Layout.{AreFirstFrames, AreFrames, HasSmallFrames, IsAccepted, IsFrame, IsTooLarge, first_too_large};
 
 use crate::frame::{Frame, MOST_FRAME_WORDS};
 use crate::frames::Frames;
+use crate::home::Home;
 use cyc_plain::{Function, LAYOUT_WORDS, Plain};
 use cyc_words::{Code, Fault, Span};
 use std::alloc::{AllocError, Global};
@@ -23,24 +25,41 @@ fn first_too_large(functions: &[Function]) -> Option<Span>
     None
 }
 
-fn frame_of(function: &Function) -> Frame
-    requires { function.now.slots ≤ MOST_FRAME_WORDS }
-    ensures { result ≡ frame_of (routine_of function.now) }
+/// Every slot lives in memory.
+#[tactic(auto, using(crate::proofs::InMemory::memory_homes))]
+fn homes_of(alloc: Global, plain: &Plain, function: &Function) -> Result<Vec<Home>, AllocError>
+    ensures { IfOk result (λ homes. AreHomes plain.now (routine_of function.now) homes.items) }
 {
-    Frame {
+    Ok(vec![in alloc; Home::Memory; function.slots]?)
+}
+
+/// The frame of a function: the words that are kept for the layout, of which the first is for the return address, and
+/// then the slots in order.
+#[tactic(auto, using(crate::proofs::Sound::is_frame))]
+fn frame_of(alloc: Global, plain: &Plain, function: &Function) -> Result<Frame, AllocError>
+    requires fits { function.now.slots + LAYOUT_WORDS ≤ function.now.frame_count }
+    requires small { function.now.frame_count ≤ MOST_FRAME_WORDS }
+    ensures frame { IfOk result (λ frame. IsFrame (routine_of function.now) frame) }
+    ensures homes { IfOk result (λ frame. AreHomes plain.now (routine_of function.now) frame.homes) }
+{
+    let homes = homes_of(alloc, plain, function)?;
+    Ok(Frame {
         words: LAYOUT_WORDS + function.slots,
         return_address: 0,
         first_slot: LAYOUT_WORDS,
-    }
+        homes,
+    })
 }
 
-fn frames_of(alloc: Global, functions: &[Function]) -> Result<Vec<Frame>, AllocError>
-    requires { All (λ f. f.slots ≤ MOST_FRAME_WORDS) functions.now }
-    ensures { IfOk result (λ frames. frames.items ≡ map frame_of (map routine_of functions.now)) }
+fn frames_of(alloc: Global, plain: &Plain) -> Result<Vec<Frame>, AllocError>
+    requires { HasSmallFrames plain.now }
+    ensures { IfOk result (λ frames. AreFirstFrames plain.now (length plain.now.functions) frames.items) }
 {
+    let functions = plain.functions();
     let mut frames = Vec::new(alloc);
-    for function in functions {
-        frames.push(frame_of(function))?;
+    for number in 0..functions.len() {
+        let frame = frame_of(alloc, plain, plain.function(number))?;
+        frames.push(frame)?;
     }
     Ok(frames)
 }
@@ -56,6 +75,6 @@ pub fn layout(alloc: Global, plain: &Plain) -> Result<Frames, Fault>
     if let Some(place) = first_too_large(functions) {
         return Err(Fault::new(Code::FrameTooLarge, place.line, place.column));
     }
-    let frames = frames_of(alloc, functions)?;
+    let frames = frames_of(alloc, plain)?;
     Ok(Frames::new(frames))
 }

@@ -26,10 +26,6 @@ told m n = go (nat_eq m n) refl
 pub same_told : (n : ℕ) → nat_eq n n ≡ true
 same_told n = grind (arith, nat_tests)
 
-pub not_true : (b : Bool) → not b ≡ true → b ≡ false
-not_true true h = absurd (cc)
-not_true false h = refl
-
 pub not_false : (b : Bool) → b ≡ false → not b ≡ true
 not_false b h = ap not h
 

@@ -1,9 +1,10 @@
 -- A state fits a guard where just what the guard has for locked is locked, and all that it relies on holds a value. Where code is never
 -- run (`never`), no more is known than that.
 use Rattle.std.proofs.Common.{◌≡◌, ◌⊎◌, ℕ, Bool, true, false, cond, not, ◌||◌, nat_eq, List, [], ◌∷◌, ◌++◌, Option, Some, None, get_or, slice_set, inl, inr, refl, sym, ap, subst, ◌∙◌}
+use Rattle.std.proofs.lemmas.Bool.{not-true}
 use Rattle.cyc_types.specs.flow.States.{Fullness, Vacant, Locked, Full, State, Unreached, Reached, lower, meet, fullness, with_fullness, with_each, is_vacant, is_locked, emptied}
 use Rattle.cyc_guard.specs.Held.{Held, Holds, IsAtLeast, updated, Guard, peeking}
-use Rattle.cyc_guard.proofs.Bools.{Told, same, other, told, not_true, not_false, or_false, or_true, or_assoc, refuted, has, has_append}
+use Rattle.cyc_guard.proofs.Bools.{Told, same, other, told, not_false, or_false, or_true, or_assoc, refuted, has, has_append}
 use Rattle.cyc_guard.proofs.States.{is_full, held_of, set_there, set_other, set_at, lower_at, at_least_trans, emptied_one, emptied_never, Emptied, emptied_at, refilled_never, Refilled, refilled_at}
 
 abbrev pub FitsAt : Guard → ℕ → Fullness → Type 0
@@ -42,7 +43,7 @@ vacant_fits p n h k = (sym h, λ s. absurd (cc))
 
 -- the rules say that it is not locked
 pub not_locked : (p : Guard) (as' : List Fullness) (n : ℕ) → FitsEach p as' → not (is_locked (get_or as' n Vacant)) ≡ true → p.locked n ≡ false
-not_locked p as' n h k = sym (h n).0 ∙ not_true (is_locked (get_or as' n Vacant)) k
+not_locked p as' n h k = sym (h n).0 ∙ not-true (is_locked (get_or as' n Vacant)) k
 
 pub not_relied : (p : Guard) (n : ℕ) (ns : List ℕ) → Rests p ns → has ns n ≡ true → p.locked n ≡ false → p.relied n ≡ false
 not_relied p n ns r h k = refuted (p.relied n) (p.locked n) (λ s. r n s h) k
@@ -217,7 +218,7 @@ lent p false n m Unreached h new v l = record { never = true; leaves = tt; fits 
 lent p false n m (Reached as') h new v l = record {
   never = false;
   leaves = leaves_lent p m (not_locked p as' m h l);
-  fits = fits_set (lending m p) (slice_set as' m Locked) n Full (fits_lent p as' m h (not_true (is_vacant (get_or as' m Vacant)) v)) (full_fits (lending m p) n new);
+  fits = fits_set (lending m p) (slice_set as' m Locked) n Full (fits_lent p as' m h (not-true (is_vacant (get_or as' m Vacant)) v)) (full_fits (lending m p) n new);
 }
 
 -- ---- pending peeks

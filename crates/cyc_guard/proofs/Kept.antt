@@ -1,6 +1,6 @@
 -- What the rules derive is guarded: each state of the rules, taken for what holds a value in it, is one that the guarded form may choose.
 use Rattle.std.proofs.Common.{◌≡◌, ℕ, Bool, true, false, cond, not, ◌&&◌, ◌||◌, nat_eq, List, [], ◌∷◌, ◌++◌, Option, Some, None, get_or, refl, sym, ap, subst, ◌∙◌}
-use Rattle.std.proofs.lemmas.Bool.{and_parts}
+use Rattle.std.proofs.lemmas.Bool.{and_parts, not-true}
 use Rattle.cyc_types.specs.TypedTrees.{Lvalue, Local, Global, Expression, Number, NullPointer, HeapRegion, Counter, Copy, Move, Peek, Load, AddressOf, AddressOfCell, NumberOfElements, FreeUnique, FreeKey, Call, Unary, Binary, Assign, Store, New, Dereference, Target, Member, Element, Placement, OnHeap, AsUnique, ByHandle, Initial, Plain, Fields, Array, Converted, Convert, Arguments, NoArguments, MoreArguments, Operations, NoOperations, ThenCompute, ThenTest, ThenPointer, ThenPointerPeek, Side, VariableSide, CellSide, Statement, Block, Empty, Evaluate, Swap, If, While, Return, Break, Continue, Throw, Try, Items, NoItems, MoreItems, Item, Execute, Declare, DeclareRegion, OpenRegion, DeclareAlias, DeclareKey, Clauses, NoClauses, Default, Case}
 use Rattle.cyc_types.specs.Rules.{Demand, Derives, AllKept}
 use Rattle.cyc_types.specs.flow.States.{Fullness, State, Unreached, Reached, Vacant, Locked, Full, meet, fullness, with_fullness, with_each, is_vacant, is_locked, emptied}
@@ -11,7 +11,7 @@ use Rattle.cyc_types.specs.flow.Statements as published
 use Rattle.cyc_guard.specs.Held.{Held, IsAtLeast, with_held, and_held, Guard, peeking, relying, IsSeen, IsUsable, IsAssignable, IsSpared, IsReliable, at_catch}
 use Rattle.cyc_guard.specs.Expressions.{KeepsUse, KeepsAssignment, Keeps, KeepsPlace, KeepsPlacement, KeepsInitial, KeepsConverted, KeepsArguments, KeepsOperations}
 use Rattle.cyc_guard.specs.Statements.{Exits, KeepsValue, KeepsThrown, KeepsSide, IsSwappable, KeepsBreak, KeepsContinue, behind_item, KeepsDeclaration, KeepsLoan, KeepsStatement, KeepsItems, KeepsItem, KeepsClauses}
-use Rattle.cyc_guard.proofs.Bools.{not_true, or_false, or_true, has, has_append, has_last}
+use Rattle.cyc_guard.proofs.Bools.{or_false, or_true, has, has_append, has_last}
 use Rattle.cyc_guard.proofs.States.{is_full, held_of, at_least_same, at_least_trans, meet_left, meet_right, tested, filled_at_least, emptied_at_least, lent_at_least, emptied_one, emptied_never, Emptied, emptied_at}
 use Rattle.cyc_guard.proofs.Fitting.{FitsAt, Fits, Rests, not_locked, not_relied, fits_meet, emptied_fits, Leaves, leaves_none, leaves_append, unlocked, unlocked_at_least, peeking_fits, peeking_rests}
 use Rattle.cyc_guard.proofs.Numbers.{IsFresh, AreFresh, IsFreshItem, AreFreshClauses}
@@ -43,13 +43,13 @@ module _ (p : Guard) (q : List ℕ) (n : ℕ) where
 
   usable_kept : (f : State) → Fits p false f → Waits p q → not (is_vacant (fullness f n)) ≡ true → not (is_locked (fullness f n)) ≡ true → is_free q n f ≡ true → IsUsable p n (held_of f)
   usable_kept Unreached h w k l m = tt
-  usable_kept (Reached as') h w k l m = (k, not_locked p as' n h l, w n ∙ not_true (has q n) m)
+  usable_kept (Reached as') h w k l m = (k, not_locked p as' n h l, w n ∙ not-true (has q n) m)
 
   assignable_kept : (f : State) → Fits p false f → Waits p q → (not (is_locked (fullness f n)) && is_free q n f) ≡ true → IsAssignable p n (held_of f)
   assignable_kept Unreached h w k = tt
   assignable_kept (Reached as') h w k =
       let parts : (not (is_locked (get_or as' n Vacant)) ≡ true) × (not (has q n) ≡ true) = and_parts (not (is_locked (get_or as' n Vacant))) (not (has q n)) k in
-      (not_locked p as' n h parts.0, w n ∙ not_true (has q n) parts.1)
+      (not_locked p as' n h parts.0, w n ∙ not-true (has q n) parts.1)
 
   spared_kept : (f : State) (ns : List ℕ) → Fits p false f → Rests p ns → has ns n ≡ true → not (is_locked (fullness f n)) ≡ true → IsSpared p n (held_of f)
   spared_kept Unreached ns h r m l = tt
@@ -286,7 +286,7 @@ caught_at p ts (Reached as') h r =
       relied = is_full x.left;
       reliable = (more, known);
       more = more;
-      fits = λ n. ((h n).0, λ s. not_true (is_vacant (get_or as' n Vacant)) (known n s));
+      fits = λ n. ((h n).0, λ s. not-true (is_vacant (get_or as' n Vacant)) (known n s));
       rests = λ n s k. sym (h n).0 ∙ was_locked (get_or as' n Vacant) (subst (λ t. not (is_vacant (emptied_one t (get_or as' n Vacant))) ≡ true) k (left n s));
       start = sym (ap held_of x.is);
     }

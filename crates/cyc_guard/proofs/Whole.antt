@@ -1,6 +1,6 @@
 -- The whole program.
 use Rattle.std.proofs.Common.{◌≡◌, ℕ, zero, suc, ◌<◌, true, false, not, nat_lt, List, [], ◌∷◌, ◌++◌, Option, Some, None, get_or, length, refl, sym, subst, arith}
-use Rattle.std.proofs.lemmas.Bool.Decides.{nat_tests}
+use Rattle.cyc_words.proofs.Numbers.{lt-nat_lt, nat_lt-true}
 use Rattle.cyc_types.specs.Types.{Ty}
 use Rattle.cyc_types.specs.TypedTrees.{Function}
 use Rattle.cyc_types.specs.Rules.{Derives, AllKept}
@@ -28,16 +28,10 @@ fits_start [] us n = subst (FitsAt no_guard n) (sym (vacant_start us n)) (fits_v
 fits_start (t ∷ ts) us zero = (refl, λ s. refl)
 fits_start (t ∷ ts) us (suc n) = let h : FitsAt no_guard n (get_or (each_is Full ts ++ each_is Vacant us) n Vacant) = fits_start ts us n in (h.0, λ s. absurd (cc))
 
-below : (m n : ℕ) → m < n → nat_lt m n ≡ true
-below m n h = grind (arith, nat_tests)
-
-below_of : (m n : ℕ) → nat_lt m n ≡ true → m < n
-below_of m n h = grind (arith, nat_tests)
-
 full_start : (ts us : List Ty) (n : ℕ) → is_full (each_is Full ts ++ each_is Vacant us) n ≡ true → nat_lt n (length ts) ≡ true
 full_start [] us n h = let k : not (is_vacant Vacant) ≡ true = subst (λ a. not (is_vacant a) ≡ true) (vacant_start us n) h in absurd (cc)
-full_start (t ∷ ts) us zero h = below zero (suc (length ts)) (omega arith)
-full_start (t ∷ ts) us (suc n) h = let k : n < length ts = below_of n (length ts) (full_start ts us n h) in below (suc n) (suc (length ts)) (omega arith)
+full_start (t ∷ ts) us zero h = lt-nat_lt zero (suc (length ts)) (omega arith)
+full_start (t ∷ ts) us (suc n) h = let k : n < length ts = nat_lt-true n (length ts) (full_start ts us n h) in lt-nat_lt (suc n) (suc (length ts)) (omega arith)
 
 -- ---- its end
 

@@ -12,3 +12,5 @@ pub mod Sound
 -- the text of an instruction, and what other crates cite of effects
 pub mod TextLemmas
 pub mod EffectLemmas
+-- which registers are set
+pub mod UseLemmas

@@ -1,13 +1,17 @@
 //! Laws of the definitions in `specs/`. Each function does nothing: its contract is the law, and so it is proved with
 //! the crate. The lemmas behind them stand in `proofs/` for other proofs to cite.
 
-ghost use Rattle.std.specs.Prelude.{◌≡◌, ℕ, ◌+◌, ◌*◌, ◌/◌, ◌%◌, ◌^◌, ◌<◌, pos, ◌+ℤ◌, ◌*ℤ◌, ◌++◌, ◌↔◌, Some, IsSome};
+ghost use Rattle.std.specs.Prelude.{◌≡◌, ◌≢◌, ℕ, true, false, ◌+◌, ◌*◌, ◌/◌, ◌%◌, ◌^◌, ◌<◌, pos, ◌+ℤ◌, ◌*ℤ◌, ◌++◌, ◌↔◌, Some, IsSome};
 ghost use Rattle.cyc_words.specs.Word.{IsWord, IsHalf, unsigned, signed_half};
 ghost use Rattle.cyc_isa.specs.Field.{HasFields};
 ghost use Rattle.cyc_isa.specs.Encoding.{row_of, operands_of, word_of, IsEncodable, IsInstance, IsInstruction};
 ghost use Rattle.cyc_isa.specs.Decoding.{decode_of};
 ghost use Rattle.cyc_isa.specs.Effect.{immediate_result, load_upper_result, arithmetic_result, shift_result, high_result, low_result, memory_address, slot_address, branch_target, jump_target};
+ghost use Rattle.cyc_isa.specs.Uses.{writes};
 ghost use Rattle.cyc_isa.specs.declared.instr.Instr.{Instr};
+ghost use Rattle.cyc_isa.specs.declared.instr.Instr.TheVariants.{Exception};
+ghost use Rattle.cyc_isa.specs.declared.operand.TrapCode.{TrapCode};
+ghost use Rattle.cyc_isa.specs.declared.instr.ExceptionOp.{ExceptionOp};
 ghost use Rattle.cyc_isa.specs.declared.instr.ImmediateOp.{ImmediateOp};
 ghost use Rattle.cyc_isa.specs.declared.instr.ArithmeticOp.{ArithmeticOp};
 ghost use Rattle.cyc_isa.specs.declared.instr.ShiftOp.{ShiftOp};
@@ -50,4 +54,11 @@ pub fn results_are_words()
     ensures address { (b h : ℕ) → IsWord (memory_address b h) }
     ensures branch { (addr h : ℕ) → IsWord (branch_target addr h) }
     ensures jump { (addr x : ℕ) → x < 2 ^ 26 → IsWord (jump_target addr x) }
+{}
+
+/// Register 0 is never set, and no instruction but `syscall` sets two registers.
+pub fn registers_are_set_alone()
+    ensures zero { (i : Instr) → writes i 0 ≡ false }
+    ensures alone { (i : Instr) (m n : ℕ) → ((op : ExceptionOp) (code : TrapCode) → i ≢ Exception op code)
+        → writes i m ≡ true → writes i n ≡ true → m ≡ n }
 {}

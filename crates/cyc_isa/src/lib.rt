@@ -8,6 +8,7 @@ pub mod laws;
 pub mod operand;
 mod table;
 mod text;
+mod uses;
 
 pub use decoding::decode;
 pub use encoding::encode;
@@ -17,3 +18,4 @@ pub use instr::{
 };
 pub use operand::{JumpIndex, Register, ShiftAmount, TrapCode};
 pub use text::write_text;
+pub use uses::{reads, writes};

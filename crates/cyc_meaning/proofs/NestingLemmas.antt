@@ -5,7 +5,7 @@ use Rattle.std.specs.List.{list_any}
 use Rattle.std.proofs.lemmas.Bool.{eq-eqb, eqb-true, false_from_ne_true, cases_eq}
 use Rattle.std.proofs.lemmas.List.{length-set}
 use Rattle.cyc_meaning.specs.Values.{Cell, block_size}
-use Rattle.cyc_meaning.specs.State.{Sort, Stack, Lexical, Dynamic, Region, World, Found, Closed, Missing, found_region, region_at, globals_number, new_region, stack_region, opened, opened_as, closed, Environment, no_locals, Entry, CloseRegion, CloseLexical, Caller}
+use Rattle.cyc_meaning.specs.State.{Sort, Stack, Lexical, Dynamic, Region, World, Found, Closed, Missing, found_region, is_open, region_at, globals_number, new_region, stack_region, opened, opened_as, closed, Environment, no_locals, Entry, CloseRegion, CloseLexical, Caller}
 use Rattle.cyc_meaning.specs.Parts.{inside, region_end}
 use Rattle.cyc_meaning.specs.Objects.{made_in}
 use Rattle.cyc_meaning.specs.Nesting.{ends_of, IsScoped, IsFound, AreOpen, AreBelow, IsHome, lexicals_of, is_scope, is_open_scope, AreScopes, IsNested}
@@ -13,7 +13,7 @@ use Rattle.cyc_meaning.proofs.ListLemmas.{slice_get-end, slice_get-set_other}
 
 -- ---- what is found
 
-region_is : (o : Option Region) (r : Region) → found_region o ≡ Found r → o ≡ Some r
+pub region_is : (o : Option Region) (r : Region) → found_region o ≡ Found r → o ≡ Some r
 region_is None r found = absurd (let e : Missing ≡ Found r = found in cc)
 region_is (Some s) r found = go s.is_open refl
   where
@@ -25,6 +25,10 @@ region_is (Some s) r found = go s.is_open refl
 
 pub region_found : (w : World) (number : ℕ) (r : Region) → region_at w number ≡ Found r → slice_get w.regions number ≡ Some r
 region_found w number r found = region_is (slice_get w.regions number) r found
+
+pub open_region : (o : Option Region) → is_open o ≡ true → (r : Region) × (o ≡ Some r) × (r.is_open ≡ true)
+open_region None opens = absurd (let e : false ≡ true = opens in cc)
+open_region (Some r) opens = (r, refl, opens)
 
 -- ---- regions
 

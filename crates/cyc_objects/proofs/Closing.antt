@@ -2,16 +2,18 @@
 use Rattle.std.proofs.Common.{◌≡◌, ℕ, zero, suc, ◌+◌, ◌*◌, ◌≤◌, Bool, true, false, List, [], ◌∷◌, set, Option, None, Some, refl, sym, ap, subst, ◌∙◌, inl, inr, arith}
 use Rattle.std.specs.Prelude.{◌≢◌, nat_le, if◌then◌else◌, slice_get}
 use Rattle.std.proofs.lemmas.Bool.{cases_Bool, cond-true, cond-false, le-leb}
+use Rattle.cyc_words.proofs.Numbers.{when_equal}
 use Rattle.cyc_store.specs.Lookup.{lookup, without, AreDistinct}
 use Rattle.cyc_store.specs.State as stores
 use Rattle.cyc_store.specs.State.{Block, address_of, Home, handle_of, StoreState, homes, block_in, block_at, is_lexical, lexical_count, down_to}
 use Rattle.cyc_store.specs.Services.{CloseTo, BadMark, Choice, served, any_choice, refusal, IsAllowed}
 use Rattle.cyc_store.specs.Soundness.{IsSound}
-use Rattle.cyc_store.proofs.LookupLemmas.{when_equal, when_other, same_some, IsPart, is_kept, lookup-part}
+use Rattle.cyc_store.proofs.LookupLemmas.{when_other, same_some, IsPart, is_kept, lookup-part}
 use Rattle.cyc_store.proofs.HolderLemmas.{covers_from, IsPart-down_to}
 use Rattle.cyc_store.proofs.ServiceLemmas.{served-sound}
 use Rattle.cyc_meaning.specs.State.{Sort, Heap, Globals, Stack, Lexical, Dynamic, Region, World, has_pages, closed}
 use Rattle.cyc_meaning.specs.Nesting.{is_scope}
+use Rattle.cyc_store.proofs.KeptUnwinding.{step-in, step-by, down_to-lower}
 use Rattle.cyc_objects.specs.Tables.{Tables}
 use Rattle.cyc_objects.specs.Related.{sort_of, has_home, Regions, no_regions, passed, taken, Related, scopes, IsNewest, closed_to}
 use Rattle.cyc_objects.proofs.Values.{Grows-same}
@@ -24,13 +26,6 @@ use Rattle.cyc_objects.proofs.Services.{region-closed}
 down-lexical : (r : Home) (rs : List Home) → is_lexical r.sort ≡ true → down_to 0 (r ∷ rs) ≡ down_to 0 rs
 down-lexical r rs lexical = cond-true (is_lexical r.sort) (down_to 0 rs) (r ∷ down_to 0 rs) lexical
 
-down-kept : (mark : ℕ) (r : Home) (rs : List Home) → is_lexical r.sort ≡ true → down_to (suc mark) (r ∷ rs) ≡ r ∷ down_to mark rs
-down-kept mark r rs lexical = cond-true (is_lexical r.sort) (r ∷ down_to mark rs) (r ∷ down_to (suc mark) rs) lexical
-
-down-other : (mark : ℕ) (r : Home) (rs : List Home) → is_lexical r.sort ≡ false → down_to mark (r ∷ rs) ≡ r ∷ down_to mark rs
-down-other zero r rs other = cond-false (is_lexical r.sort) (down_to 0 rs) (r ∷ down_to 0 rs) other
-down-other (suc mark) r rs other = cond-false (is_lexical r.sort) (r ∷ down_to mark rs) (r ∷ down_to (suc mark) rs) other
-
 count-lexical : (r : Home) (rs : List Home) → is_lexical r.sort ≡ true → lexical_count (r ∷ rs) ≡ suc (lexical_count rs)
 count-lexical r rs lexical = cond-true (is_lexical r.sort) (suc (lexical_count rs)) (lexical_count rs) lexical
 
@@ -40,38 +35,14 @@ count-other r rs other = cond-false (is_lexical r.sort) (suc (lexical_count rs))
 down-both : (m k : ℕ) (r : Home) (rs : List Home) → is_lexical r.sort ≡ false → down_to m (down_to k rs) ≡ down_to m rs
     → down_to m (down_to k (r ∷ rs)) ≡ down_to m (r ∷ rs)
 down-both m k r rs other rest =
-    ap (down_to m) (down-other k r rs other) ∙ (down-other m r (down_to k rs) other ∙ (ap (λ l. r ∷ l) rest ∙ sym (down-other m r rs other)))
-
--- a lower mark after a higher one is the lower one
-pub down-less : (m k : ℕ) (rs : List Home) → m ≤ k → down_to m (down_to k rs) ≡ down_to m rs
-down-less zero zero [] less = refl
-down-less zero (suc k) [] less = refl
-down-less (suc m) zero [] less = absurd (omega (arith, less))
-down-less (suc m) (suc k) [] less = refl
-down-less zero zero (r ∷ rs) less = elim (cases_Bool (is_lexical r.sort)) [
-  | inl lexical ↦ ap (down_to 0) (down-lexical r rs lexical) ∙ (down-less 0 0 rs less ∙ sym (down-lexical r rs lexical))
-  | inr other ↦ down-both 0 0 r rs other (down-less 0 0 rs less)
-]
-down-less zero (suc k) (r ∷ rs) less = elim (cases_Bool (is_lexical r.sort)) [
-  | inl lexical ↦
-      ap (down_to 0) (down-kept k r rs lexical)
-      ∙ (down-lexical r (down_to k rs) lexical ∙ (down-less 0 k rs (omega arith) ∙ sym (down-lexical r rs lexical)))
-  | inr other ↦ down-both 0 (suc k) r rs other (down-less 0 (suc k) rs less)
-]
-down-less (suc m) zero (r ∷ rs) less = absurd (omega (arith, less))
-down-less (suc m) (suc k) (r ∷ rs) less = elim (cases_Bool (is_lexical r.sort)) [
-  | inl lexical ↦
-      ap (down_to (suc m)) (down-kept k r rs lexical)
-      ∙ (down-kept m r (down_to k rs) lexical ∙ (ap (λ l. r ∷ l) (down-less m k rs (omega (arith, less))) ∙ sym (down-kept m r rs lexical)))
-  | inr other ↦ down-both (suc m) (suc k) r rs other (down-less (suc m) (suc k) rs less)
-]
+    ap (down_to m) (step-by k r rs other) ∙ (step-by m r (down_to k rs) other ∙ (ap (λ l. r ∷ l) rest ∙ sym (step-by m r rs other)))
 
 -- a mark that all are below
 pub down-all : (rs : List Home) → down_to (lexical_count rs) rs ≡ rs
 down-all [] = refl
 down-all (r ∷ rs) = elim (cases_Bool (is_lexical r.sort)) [
-  | inl lexical ↦ ap (λ n. down_to n (r ∷ rs)) (count-lexical r rs lexical) ∙ (down-kept (lexical_count rs) r rs lexical ∙ ap (λ l. r ∷ l) (down-all rs))
-  | inr other ↦ ap (λ n. down_to n (r ∷ rs)) (count-other r rs other) ∙ (down-other (lexical_count rs) r rs other ∙ ap (λ l. r ∷ l) (down-all rs))
+  | inl lexical ↦ ap (λ n. down_to n (r ∷ rs)) (count-lexical r rs lexical) ∙ (step-in (lexical_count rs) r rs lexical ∙ ap (λ l. r ∷ l) (down-all rs))
+  | inr other ↦ ap (λ n. down_to n (r ∷ rs)) (count-other r rs other) ∙ (step-by (lexical_count rs) r rs other ∙ ap (λ l. r ∷ l) (down-all rs))
 ]
 
 -- ---- lexical regions of the source and of the store
@@ -178,10 +149,10 @@ down-newest (taken {handle = h} {r = q} {home = o} {regions = rs} {open_homes = 
           let rest_count : lexical_count os ≡ suc k = scopes-same rest ∙ more in
           let one : m ≡ suc k = one-less m (lexical_count os) k (sym count ∙ count-lexical o os lexical) rest_count in
           ap (λ l. o ∷ l) (down-newest rest distinct.1 n g k r there scope entry (newest-rest q rs n newest) rest_count)
-          ∙ sym (ap (λ j. down_to j (o ∷ os)) one ∙ down-kept k o os lexical)
+          ∙ sym (ap (λ j. down_to j (o ∷ os)) one ∙ step-in k o os lexical)
       | inr away ↦
           ap (λ l. o ∷ l) (down-newest rest distinct.1 n g m r there scope entry (newest-rest q rs n newest) (sym (count-other o os away) ∙ count))
-          ∙ sym (down-other m o os away)
+          ∙ sym (step-by m o os away)
     ]
   where
     one-less : (m j k : ℕ) → suc m ≡ suc j → j ≡ suc k → m ≡ suc k
@@ -203,7 +174,7 @@ closed-behind {t} {w} s m n r related count there scope newest =
     let lexicals : lexical_count (down_to (suc m) s.regions) ≡ suc m = scopes-same related.regions ∙ count in
     let same : without handle_of (down_to (suc m) s.regions) is.handle ≡ down_to m s.regions =
     down-newest related.regions related.sound.regions.handles.1 n is.handle m r there scope is.entry newest lexicals
-    ∙ down-less m (suc m) s.regions (omega arith) in
+    ∙ down_to-lower m (suc m) s.regions (omega arith) in
     let after : IsSound (record s { regions = down_to m (down_to (suc m) s.regions) }) =
     served-sound (closed_to s (suc m)) (CloseTo m) (any_choice (closed_to s (suc m))) related.sound
     (cond-true (nat_le m (lexical_count (down_to (suc m) s.regions))) None (Some BadMark)
@@ -211,7 +182,7 @@ closed-behind {t} {w} s m n r related count there scope newest =
     (record { may = tt; keeps = λ x h before later. refl; words = related.sound.words }) in
     subst (λ l. Related t (closed w n r) (record s { regions = l })) same
     (region-closed related n is.handle r s.memory there kept (scope-ends r.sort r.is_open scope) is.entry
-    (subst (λ l. IsSound (record s { regions = l })) (down-less m (suc m) s.regions (omega arith) ∙ sym same) after)
+    (subst (λ l. IsSound (record s { regions = l })) (down_to-lower m (suc m) s.regions (omega arith) ∙ sym same) after)
     (record { words = λ h a b here stays j below. refl }))
 
 -- the store closes what the source has closed

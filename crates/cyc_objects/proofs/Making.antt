@@ -7,13 +7,14 @@ use Rattle.std.proofs.lemmas.List.{length_push}
 use Rattle.std.proofs.lemmas.Bool.{cases_eq, cases_Bool, cond-true, cond-false}
 use Rattle.cyc_types.specs.declared.typed.Kind.{Kind}
 use Rattle.cyc_words.specs.Demand.{page_words, class_of, demand_of}
+use Rattle.cyc_words.proofs.Numbers.{when_equal}
 use Rattle.cyc_store.specs.Lookup.{lookup, changed}
 use Rattle.cyc_store.specs.State as stores
 use Rattle.cyc_store.specs.State.{Block, Home, handle_of, StoreState, homes, covers, block_at, sizes_in, with_block, made_in, made_unique, room, demand}
 use Rattle.cyc_store.specs.Services.{Allocate, BadHandle, BadSize, Allocated, Choice, block_of, served, any_choice, is_full, full_at, is_size, refusal, IsPlaced, IsApart, Keeps, IsAllowed, ServesBy, Serves}
 use Rattle.cyc_store.specs.Soundness.{IsSound}
 use Rattle.cyc_store.specs.declared.range.TheConstants.{MOST_PAGES, UNIQUE}
-use Rattle.cyc_store.proofs.LookupLemmas.{when_equal, when_other, not_both, same_some, lookup-here, lookup-there}
+use Rattle.cyc_store.proofs.LookupLemmas.{when_other, not_both, same_some, lookup-here, lookup-there}
 use Rattle.cyc_store.proofs.HolderLemmas.{covers_first}
 use Rattle.cyc_store.proofs.CountLemmas.{class_of-bound, class_of-holds, live_in-append_same, live_in-append_other}
 use Rattle.cyc_store.proofs.SlotCounts.{class-power}

@@ -1,10 +1,11 @@
 -- Pointers and their words: conversions, tests for null, and arithmetic. All of it holds of pointers to what is no more, too.
 use Rattle.std.proofs.Common.{◌≡◌, ℕ, zero, suc, ◌+◌, ◌-◌, ◌*◌, ◌^◌, ◌<◌, ◌≤◌, Bool, true, false, not, List, ◌∷◌, length, Option, Some, refl, sym, ap, subst, ◌∙◌, arith, add-zero}
 use Rattle.std.specs.Prelude.{◌==◌, ◌≢◌, nat_le, if◌then◌else◌, slice_get}
+use Rattle.cyc_words.proofs.Numbers.{when_equal}
 use Rattle.cyc_types.specs.declared.typed.Kind.{Kind}
 use Rattle.cyc_types.specs.declared.typed.Kind.TheVariants as kinds
 use Rattle.cyc_store.specs.State.{put}
-use Rattle.cyc_store.proofs.LookupLemmas.{when_equal, when_other, same_some}
+use Rattle.cyc_store.proofs.LookupLemmas.{when_other, same_some}
 use Rattle.cyc_meaning.specs.Values.{Value, Int, Null, Thin, Fat, is_thin, words_of_kind, kinds_of}
 use Rattle.cyc_meaning.specs.Operators.{Gives, Raises, truth}
 use Rattle.cyc_meaning.specs.Pointers.{moved, element_count, null_test}

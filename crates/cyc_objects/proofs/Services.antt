@@ -5,6 +5,7 @@ use Rattle.std.specs.Prelude.{◌==◌, ◌≢◌, nat_lt, if◌then◌else◌, 
 use Rattle.std.proofs.lemmas.Bool.{cases_eq, cond-true}
 use Rattle.cyc_types.specs.declared.typed.Kind.{Kind}
 use Rattle.cyc_words.specs.Demand.{class_of, demand_of}
+use Rattle.cyc_words.proofs.Numbers.{when_equal}
 use Rattle.cyc_store.specs.Lookup.{lookup, without, AreDistinct}
 use Rattle.cyc_store.specs.State as stores
 use Rattle.cyc_store.specs.State.{Memory, Block, address_of, Home, handle_of, empty_home, StoreState, homes, block_in, block_at, room}
@@ -12,7 +13,7 @@ use Rattle.cyc_store.specs.Services.{OpenLexical, OpenDynamic, CloseDynamic, Fre
 use Rattle.cyc_store.specs.Services as services
 use Rattle.cyc_store.specs.Soundness.{IsSound}
 use Rattle.cyc_store.specs.declared.range.TheConstants.{HEAP, UNIQUE}
-use Rattle.cyc_store.proofs.LookupLemmas.{when_equal, when_other, not_both, same_some, lookup-here, lookup-there}
+use Rattle.cyc_store.proofs.LookupLemmas.{when_other, not_both, same_some, lookup-here, lookup-there}
 use Rattle.cyc_store.proofs.ServiceLemmas.{served-sound}
 use Rattle.cyc_meaning.specs.Values.{kinds_of, block_size}
 use Rattle.cyc_meaning.specs.State.{Sort, Lexical, Dynamic, Region, Owner, InRegion, Unique, Object, World, heap_number, has_pages, new_region, opened_as, closed, counted}

@@ -1,5 +1,6 @@
 -- What the parsers of statements and items answer is what the symbols spell, formed as the grammar asks.
 use Rattle.std.proofs.Common.{◌≡◌, ℕ, zero, suc, ◌≤◌, ◌<◌, Bool, true, false, ◌&&◌, ◌||◌, List, [], ◌∷◌, ◌++◌, length, Option, Some, refl, sym, ap, ◌∙◌, arith, append-nil, append_assoc, true≢false}
+use Rattle.cyc_words.proofs.Booleans.{and_right}
 use Rattle.cyc_syntax.specs.declared.tokens.Keyword.TheVariants as words
 use Rattle.cyc_syntax.specs.declared.tokens.Sign.TheVariants as signs
 use Rattle.cyc_syntax.specs.Symbols.{Place, Terminal, Identifier, Word, Mark, Symbol}
@@ -37,10 +38,6 @@ unary_of (New p i) is u = is
 unary_of (RegionNew p h i) is u = is
 unary_of (Binary e os) is u = absurd (cc)
 unary_of (Assign a b) is u = absurd (cc)
-
-and_right : (a b : Bool) → (a && b) ≡ true → b ≡ true
-and_right true b h = h
-and_right false b h = absurd (cc)
 
 -- ---- parts with brackets of their own, where one level of room may be left
 

@@ -1,6 +1,7 @@
 -- Lists with commas are read as they are written, up to their limit.
 use Rattle.std.proofs.Common.{◌≡◌, ℕ, zero, suc, ◌+◌, ◌≤◌, ◌<◌, Bool, false, List, [], ◌∷◌, ◌++◌, Some, Ok, Err, refl, sym, ap, subst, ◌∙◌, arith}
 use Rattle.std.specs.List.{AllByRecursion}
+use Rattle.cyc_words.proofs.Numbers.{lt-nat_lt, le-nat_lt}
 use Rattle.cyc_syntax.specs.declared.tokens.Sign.TheVariants as signs
 use Rattle.cyc_syntax.specs.Symbols.{Terminal, Mark, Symbol}
 use Rattle.cyc_syntax.specs.Yields.{Leaf, Yield, item_number, each, more, separated}
@@ -8,11 +9,11 @@ use Rattle.cyc_syntax.specs.Grammar.{max_nesting, max_items}
 use Rattle.cyc_parse.specs.Parsing.{Parser, TooLong, refuse_item, pure, sign, sees, starts, if_starts, next, more_items}
 use Rattle.cyc_parse.specs.Parsing as parsing
 use Rattle.cyc_parse.specs.Declarations.{more_of, some_of}
-use Rattle.cyc_parse.proofs.Rules.{Front, judge, Reads, Fits, Starts, Always, leaf_of, front-next, refuse_item-is, then_reads, last_reads, pure_reads, sign_reads, sees_reads, unseen_reads, starts_reads, unstarted_reads, number_reads, within, beyond}
+use Rattle.cyc_parse.proofs.Rules.{Front, judge, Reads, Fits, Starts, Always, leaf_of, front-next, refuse_item-is, then_reads, last_reads, pure_reads, sign_reads, sees_reads, unseen_reads, starts_reads, unstarted_reads, number_reads}
 
 judge-long : {A : Type 0} (leaf : Leaf) (i : ℕ) (ys : Yield) (t : Symbol) (ts : List Symbol) (outcome : parsing.Outcome A) → leaf.nesting ≤ max_nesting → max_items < i
     → judge (record leaf { item = i } ∷ ys) (t ∷ ts) outcome ≡ Err (record { reason = TooLong; left = t ∷ ts })
-judge-long leaf i ys t ts outcome shallow many = rw (within max_nesting leaf.nesting shallow, beyond max_items i many) refl
+judge-long leaf i ys t ts outcome shallow many = rw (le-nat_lt max_nesting leaf.nesting shallow, lt-nat_lt max_items i many) refl
 
 -- the item that is one too many
 pub long_reads : {A : Type 0} (begins : Terminal → Bool) (d i : ℕ) (xs ys : Yield) {x : A} {Ends : List Symbol → Type 0} → d ≤ max_nesting → max_items < i → Starts begins d xs

@@ -2,20 +2,21 @@
 use Rattle.std.specs.Prelude.{◌≡◌, Bool, true, false, cond, nat_lt, List, [], ◌∷◌, Ok, Err}
 use Rattle.std.specs.List.{AllByRecursion}
 use Rattle.std.proofs.Common.{sym, ◌∙◌, ap, refl}
+use Rattle.cyc_words.proofs.Numbers.{le-nat_lt}
 use Rattle.cyc_syntax.specs.Symbols.{Symbol}
 use Rattle.cyc_syntax.specs.Trees.{Declaration}
 use Rattle.cyc_syntax.specs.Yields.{Yield}
 use Rattle.cyc_syntax.specs.Yields as yields
 use Rattle.cyc_syntax.specs.Grammar.{HasTree, IsWithin, IsWithinLimits, max_nesting, max_items}
 use Rattle.cyc_parse.specs.Parsing.{Outcome, Refusal, TooDeep, TooLong}
-use Rattle.cyc_parse.proofs.Rules.{judge, within}
+use Rattle.cyc_parse.proofs.Rules.{judge}
 use Rattle.cyc_parse.proofs.Completeness.{program_of-complete}
 
 -- leaves that keep the limits change no outcome
 pub judge-within : {A : Type 0} (leaves : Yield) (ts : List Symbol) (outcome : Outcome A) → AllByRecursion IsWithin leaves → judge leaves ts outcome ≡ outcome
 judge-within [] ts outcome all = refl
 judge-within (l ∷ ls) [] outcome all = refl
-judge-within (l ∷ ls) (t ∷ ts) outcome (one, more) = rw (within max_nesting l.nesting one.nesting, within max_items l.item one.item) (judge-within ls ts outcome more)
+judge-within (l ∷ ls) (t ∷ ts) outcome (one, more) = rw (le-nat_lt max_nesting l.nesting one.nesting, le-nat_lt max_items l.item one.item) (judge-within ls ts outcome more)
 
 -- an outcome that is not refused for a limit is the one that was there
 chosen : {A : Type 0} (b : Bool) (e : Refusal) (outcome : Outcome A) (y : A × List Symbol) → cond b (Err e) outcome ≡ Ok y → outcome ≡ Ok y

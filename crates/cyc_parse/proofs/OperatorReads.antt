@@ -1,6 +1,7 @@
 -- Chains of binary operators are read by their levels.
 use Rattle.std.proofs.Common.{◌≡◌, ℕ, zero, suc, ◌+◌, ◌≤◌, ◌<◌, Bool, true, false, cond, ◌&&◌, is_some, List, ◌∷◌, ◌++◌, Some, Ok, Err, refl, sym, ap, subst, ◌∙◌, arith}
 use Rattle.std.proofs.lemmas.Bool.{eq-eqb}
+use Rattle.cyc_words.proofs.Booleans.{and_false}
 use Rattle.cyc_syntax.specs.declared.tokens.Sign.TheVariants as signs
 use Rattle.cyc_syntax.specs.declared.tree.BinaryOperator.{BinaryOperator}
 use Rattle.cyc_syntax.specs.declared.tree.BinaryOperator.TheVariants as operators
@@ -63,10 +64,6 @@ at_its_level o k same = ap (of_level k) (operator-sign o) ∙ rw (eq-eqb (level 
 begins_no_region : (t : Terminal) → begins_expression t ≡ true → begins_region t ≡ false
 begins_no_region (RegionName r) h = absurd (cc)
 begins_no_region _ h = refl
-
-and_false : (b : Bool) → (b && false) ≡ false
-and_false true = refl
-and_false false = refl
 
 pub stops_operator : (k d i : ℕ) (o : BinaryOperator) (p : Place) (e : Expression) (ys : Yield) (mid rest : List Symbol) → level o ≡ suc k
     → Front (record { terminal = Mark (operator_sign o); place = Some p; nesting = d; item = i } ∷ (yields.expression d e ++ ys)) mid rest → Stops k mid

@@ -2,6 +2,7 @@
 use Rattle.std.proofs.Common.{◌≡◌, ℕ, suc, ◌+◌, ◌<◌, Bool, true, false, cond, List, [], ◌∷◌, ◌++◌, length, Ok, Err, refl, sym, ap, subst, ◌∙◌, arith, append_assoc, append-nil, length-append, ltb-true, ltb-false}
 use Rattle.std.specs.Prelude.{nat_lt}
 use Rattle.std.specs.List.{AllByRecursion}
+use Rattle.cyc_words.proofs.Numbers.{lt-nat_lt, le-nat_lt}
 use Rattle.cyc_syntax.specs.Symbols.{Symbol}
 use Rattle.cyc_syntax.specs.Trees.{Declaration}
 use Rattle.cyc_syntax.specs.Yields.{Leaf, Yield}
@@ -10,7 +11,7 @@ use Rattle.cyc_syntax.specs.Grammar.{IsSpelled, HasTree, IsWithin, IsWithinLimit
 use Rattle.cyc_parse.specs.Parsing.{Outcome, Refusal, Reason, Unexpected, TooDeep, TooLong}
 use Rattle.cyc_parse.specs.Declarations.{program, program_of}
 use Rattle.cyc_parse.specs.Refusals.{Breaks, BreaksFirst, IsAlike, Holds, IsRefused}
-use Rattle.cyc_parse.proofs.Rules.{judge, within, beyond}
+use Rattle.cyc_parse.proofs.Rules.{judge}
 use Rattle.cyc_parse.proofs.Soundness.{limit_begun}
 use Rattle.cyc_parse.proofs.Completeness.{program_of-complete}
 use Rattle.cyc_parse.proofs.OneTree.{judge-within}
@@ -155,13 +156,13 @@ within_limits_answered ts tree has small = program_of-complete ts tree has ∙ j
 
 judge_breaks : {A : Type 0} (before : Yield) (leaf : Leaf) (behind : Yield) (front : List Symbol) (s : Symbol) (back : List Symbol) (why : Reason) (outcome : Outcome A)
     → length before ≡ length front → AllByRecursion IsWithin before → Breaks why leaf → judge (before ++ leaf ∷ behind) (front ++ s ∷ back) outcome ≡ Err (record { reason = why; left = s ∷ back })
-judge_breaks [] leaf behind [] s back TooDeep outcome same all deep = rw (beyond max_nesting leaf.nesting deep) refl
-judge_breaks [] leaf behind [] s back TooLong outcome same all (shallow, many) = rw (within max_nesting leaf.nesting shallow, beyond max_items leaf.item many) refl
+judge_breaks [] leaf behind [] s back TooDeep outcome same all deep = rw (lt-nat_lt max_nesting leaf.nesting deep) refl
+judge_breaks [] leaf behind [] s back TooLong outcome same all (shallow, many) = rw (le-nat_lt max_nesting leaf.nesting shallow, lt-nat_lt max_items leaf.item many) refl
 judge_breaks [] leaf behind [] s back Unexpected outcome same all no_limit = absurd no_limit
 judge_breaks [] leaf behind (t ∷ front) s back why outcome same all breaks = absurd (omega (arith, same))
 judge_breaks (l ∷ ls) leaf behind [] s back why outcome same all breaks = absurd (omega (arith, same))
 judge_breaks (l ∷ ls) leaf behind (t ∷ front) s back why outcome same (one, all) breaks =
-    rw (within max_nesting l.nesting one.nesting, within max_items l.item one.item) (judge_breaks ls leaf behind front s back why outcome (omega (arith, same)) all breaks)
+    rw (le-nat_lt max_nesting l.nesting one.nesting, le-nat_lt max_items l.item one.item) (judge_breaks ls leaf behind front s back why outcome (omega (arith, same)) all breaks)
 
 -- where a tree breaks a limit, its symbols are refused for the first that it breaks, there
 pub first_limit_refused : (front back : List Symbol) (s : Symbol) (tree : List Declaration) (why : Reason) → HasTree (front ++ s ∷ back) tree → BreaksFirst why (yields.program tree) (length front)

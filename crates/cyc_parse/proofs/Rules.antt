@@ -1,9 +1,10 @@
 -- What a parser does on symbols that begin with a yield, and the rules by which this follows for parsers made of
 -- parsers.
-use Rattle.std.proofs.Common.{◌≡◌, ℕ, zero, suc, ◌+◌, ◌≤◌, ◌<◌, Bool, true, false, cond, List, [], ◌∷◌, ◌++◌, Option, Some, None, Ok, Err, refl, sym, ap, subst, ◌∙◌, arith, le-ltb, lt-ltb, append-nil, append_assoc, length, zero-le, suc-le-suc}
+use Rattle.std.proofs.Common.{◌≡◌, ℕ, zero, suc, ◌+◌, ◌≤◌, ◌<◌, Bool, true, false, cond, List, [], ◌∷◌, ◌++◌, Option, Some, None, Ok, Err, refl, sym, ap, subst, ◌∙◌, arith, append-nil, append_assoc, length, zero-le, suc-le-suc}
 use Rattle.std.specs.Option.{IfSome}
 use Rattle.std.specs.Prelude.{nat_lt}
 use denote.Enum.Bare.{true_same}
+use Rattle.cyc_words.proofs.Numbers.{lt-nat_lt, le-nat_lt}
 use Rattle.cyc_syntax.specs.declared.tokens.Keyword.{Keyword}
 use Rattle.cyc_syntax.specs.declared.tokens.Sign.{Sign}
 use Rattle.cyc_syntax.specs.contracts.tokens.Keyword as keywords
@@ -104,19 +105,13 @@ reads_before Ends h weaker = record { reads = λ ts rest front ends. h.reads ts 
 abbrev pub Fits : ℕ → ℕ → Type 0
 Fits room d = room + d ≡ suc max_nesting
 
-pub within : (limit n : ℕ) → n ≤ limit → nat_lt limit n ≡ false
-within limit n h = le-ltb limit n h
-
-pub beyond : (limit n : ℕ) → limit < n → nat_lt limit n ≡ true
-beyond limit n h = lt-ltb limit n h
-
 pub judge-within : {A : Type 0} (leaf : Leaf) (ys : Yield) (t : Symbol) (more : List Symbol) (outcome : Outcome A) → leaf.nesting ≤ max_nesting → leaf.item ≤ max_items
     → judge (leaf ∷ ys) (t ∷ more) outcome ≡ judge ys more outcome
-judge-within leaf ys t more outcome shallow few = rw (within max_nesting leaf.nesting shallow, within max_items leaf.item few) refl
+judge-within leaf ys t more outcome shallow few = rw (le-nat_lt max_nesting leaf.nesting shallow, le-nat_lt max_items leaf.item few) refl
 
 pub judge-deep : {A : Type 0} (leaf : Leaf) (ys : Yield) (t : Symbol) (more : List Symbol) (outcome : Outcome A) → max_nesting < leaf.nesting
     → judge (leaf ∷ ys) (t ∷ more) outcome ≡ Err (record { reason = TooDeep; left = t ∷ more })
-judge-deep leaf ys t more outcome deep = rw (beyond max_nesting leaf.nesting deep) refl
+judge-deep leaf ys t more outcome deep = rw (lt-nat_lt max_nesting leaf.nesting deep) refl
 
 accept_reads : {B C : Type 0} (room : ℕ) (b : B) (f : B → Parser C) (leaf : Leaf) (ys : Yield) (t : Symbol) (more : List Symbol) (outcome : Outcome C)
     → Fits room leaf.nesting → leaf.item ≤ max_items → f b more ≡ judge ys more outcome
@@ -269,7 +264,7 @@ deep_reads begins d {x = x} {Ends = Ends} deep s = subst (λ (xs : Yield). Reads
 
 judge-number : {A : Type 0} (leaf : Leaf) (i : ℕ) (ys : Yield) (t : Symbol) (more : List Symbol) (outcome : Outcome A) → leaf.item ≤ max_items → i ≤ max_items
     → judge (leaf ∷ ys) (t ∷ more) outcome ≡ judge (record leaf { item = i } ∷ ys) (t ∷ more) outcome
-judge-number leaf i ys t more outcome few few' = rw (within max_items leaf.item few, within max_items i few') refl
+judge-number leaf i ys t more outcome few few' = rw (le-nat_lt max_items leaf.item few, le-nat_lt max_items i few') refl
 
 number_first : {A : Type 0} {p : Parser A} {x : A} {Ends : List Symbol → Type 0} (i : ℕ) (leaf : Leaf) (ys : Yield) → leaf.item ≤ max_items → i ≤ max_items → Reads p x (leaf ∷ ys) Ends → Reads p x (record leaf { item = i } ∷ ys) Ends
 number_first {p = p} {x = x} i leaf ys few few' h = record {
@@ -320,7 +315,7 @@ sign_reads_item room d i s f fits few next = token_reads room (is_sign s) only_p
 pub long_leaf_reads : {A : Type 0} {x : A} {Ends : List Symbol → Type 0} (leaf : Leaf) (ys : Yield) → leaf.nesting ≤ max_nesting → max_items < leaf.item → Reads (refuse TooLong) x (leaf ∷ ys) Ends
 long_leaf_reads {x = x} leaf ys shallow many = record {
   reads = λ ts rest (t, more, e, is_leaf, front) ends.
-      subst (λ (w : List Symbol). refuse TooLong w ≡ judge (leaf ∷ ys) w (Ok (x, rest))) (sym e) (rw (within max_nesting leaf.nesting shallow, beyond max_items leaf.item many) refl);
+      subst (λ (w : List Symbol). refuse TooLong w ≡ judge (leaf ∷ ys) w (Ok (x, rest))) (sym e) (rw (le-nat_lt max_nesting leaf.nesting shallow, lt-nat_lt max_items leaf.item many) refl);
 }
 
 -- a parser of which nothing is made

@@ -98,6 +98,7 @@ module _ (program : Program) (choice : Choice) (c : Configuration) (lie : AreBel
   performs (instructions.WriteByte source) may = lie
   performs (instructions.AddressOf destination slot count) may = lie
   performs (instructions.LoadGlobal destination global) may = lie
+  performs (instructions.CountLexical destination) may = lie
   performs (instructions.StoreGlobal global source) may = lie
   performs (instructions.Load destination address offset) may = loaded destination (memory_at program c (add_of (operand_word c.active.slots address) offset))
   performs (instructions.Store address offset source) may =

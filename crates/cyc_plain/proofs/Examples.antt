@@ -372,6 +372,15 @@ dynamic_region_is_closed_once = refl
 close_to_leaves_dynamic_regions : after_calls 4 (open_dynamic 0 ∷ close_to (Word 0) ∷ close_dynamic (Slot 0) ∷ Return 0 ∷ []) ≡ Ended (Returned (pos 7))
 close_to_leaves_dynamic_regions = refl
 
+open_regions_are_counted : after_calls 4 (open_lexical 0 ∷ open_lexical 0 ∷ instructions.CountLexical 2 ∷ Return 2 ∷ []) ≡ Ended (Returned (pos 2))
+open_regions_are_counted = refl
+
+closed_regions_are_not_counted : after_calls 5 (open_lexical 0 ∷ open_lexical 2 ∷ close_to (Slot 3) ∷ instructions.CountLexical 2 ∷ Return 2 ∷ []) ≡ Ended (Returned (pos 1))
+closed_regions_are_not_counted = refl
+
+dynamic_regions_are_not_counted : after_calls 3 (open_dynamic 0 ∷ instructions.CountLexical 2 ∷ Return 2 ∷ []) ≡ Ended (Returned (pos 0))
+dynamic_regions_are_not_counted = refl
+
 block_is_freed_once : after_calls 3 (allocate (Word 2) (Word 3) ∷ free (Slot 2) ∷ free (Slot 2) ∷ Return 0 ∷ []) ≡ Failed
 block_is_freed_once = refl
 

@@ -203,6 +203,7 @@ module _ (program : Program) (well : IsWellFormed program) (choice : Choice) (c 
   performs (instructions.AddressOf destination slot count) at range = (behind _ at refl, handling, waiting)
   performs (instructions.LoadGlobal destination global) at range = (behind _ at refl, handling, waiting)
   performs (instructions.StoreGlobal global source) at range = (behind _ at refl, handling, waiting)
+  performs (instructions.CountLexical destination) at range = (behind _ at refl, handling, waiting)
   performs (instructions.Ask request) at range =
       served (destination_of request) (call_in c.active.slots request) (refusal c.store (call_in c.active.slots request)) (behind (instructions.Ask request) at refl)
   performs (instructions.Try first handler) at range =
@@ -308,6 +309,7 @@ fails program choice c (instructions.WriteByte source) at range failed = absurd 
 fails program choice c (instructions.AddressOf destination slot count) at range failed = absurd (not_failed c failed)
 fails program choice c (instructions.LoadGlobal destination global) at range failed = absurd (not_failed c failed)
 fails program choice c (instructions.StoreGlobal global source) at range failed = absurd (not_failed c failed)
+fails program choice c (instructions.CountLexical destination) at range failed = absurd (not_failed c failed)
 fails program choice c (instructions.MoveWords destination source count) at range failed = absurd (not_failed c failed)
 fails program choice c (instructions.Load destination address offset) at range failed =
     loads_stop program c destination address offset (memory_at program c (add_of (operand_word c.active.slots address) offset)) refl at failed

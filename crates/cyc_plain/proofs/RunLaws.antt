@@ -142,6 +142,7 @@ performs program choice c (instructions.Return value) = returned c value (routin
 performs program choice c (instructions.ReadByte destination) = (IsPrefix-refl c.output, one_read c.input)
 performs program choice c (instructions.WriteByte source) = (IsPrefix-append c.output _, ([], refl))
 performs program choice c (instructions.LoadGlobal destination global) = same c
+performs program choice c (instructions.CountLexical destination) = same c
 performs program choice c (instructions.StoreGlobal global source) = same c
 performs program choice c (instructions.Load destination address offset) = loaded c destination _
 performs program choice c (instructions.Store address offset source) =

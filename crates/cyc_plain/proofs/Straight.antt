@@ -71,6 +71,7 @@ is_one program choice c (instructions.WriteByte source) straight = record { give
 is_one program choice c (instructions.AddressOf destination slot count) straight = record { gives = λ other. refl; keeps = record { function = refl; next = refl; frames = refl; store = refl } }
 is_one program choice c (instructions.LoadGlobal destination global) straight = record { gives = λ other. refl; keeps = record { function = refl; next = refl; frames = refl; store = refl } }
 is_one program choice c (instructions.StoreGlobal global source) straight = record { gives = λ other. refl; keeps = record { function = refl; next = refl; frames = refl; store = refl } }
+is_one program choice c (instructions.CountLexical destination) straight = record { gives = λ other. refl; keeps = record { function = refl; next = refl; frames = refl; store = refl } }
 is_one program choice c i straight = absurd (let e : false ≡ true = straight in cc)
 
 -- ---- places

@@ -233,6 +233,7 @@ module _ (program : Program) (choice : Choice) (allowed : AreWords choice.conten
   performs (instructions.AddressOf destination slot count) w serves =
       given destination (add_of c.active.base (4 * slot)) (IsWord-add_of c.active.base (4 * slot))
   performs (instructions.LoadGlobal destination global) w serves = given destination (c.globals global) (globals global)
+  performs (instructions.CountLexical destination) w serves = given destination (stores.lexical_count c.store.regions % 2 ^ 32) (omega arith)
   performs (instructions.StoreGlobal global source) w serves =
       (slots, frames, put_words c.globals global (operand_word c.active.slots source) globals (known source w), store, input)
   performs (instructions.Load destination address offset) w serves =

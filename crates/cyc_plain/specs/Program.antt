@@ -77,6 +77,7 @@ instruction_size (instructions.StoreGlobal global source) = 5
 instruction_size (instructions.Load destination address offset) = 10
 instruction_size (instructions.Store address offset source) = 10
 instruction_size (instructions.Ask request) = request_size request
+instruction_size (instructions.CountLexical destination) = 3
 instruction_size (instructions.Try first handler) = 20
 instruction_size (instructions.Leave first) = 5
 instruction_size (instructions.Throw tag value) = 24

@@ -3,7 +3,7 @@
 use Rattle.std.specs.Prelude.{◌≡◌, ℕ, zero, suc, ◌+◌, ◌-◌, ◌*◌, ◌%◌, ◌^◌, Bool, ◌==◌, ◌&&◌, nat_le, List, [], ◌∷◌, ◌++◌, drop, Option, Some, None, unwrap_or, slice_get, slice_index, if◌then◌else◌}
 use Rattle.cyc_words.specs.Word.{IsWord, signed, add_of}
 use Rattle.cyc_words.specs.Ending.{Returned, Uncaught, Full}
-use Rattle.cyc_store.specs.State.{StoreState}
+use Rattle.cyc_store.specs.State.{StoreState, lexical_count}
 use Rattle.cyc_store.specs.Services as services
 use Rattle.cyc_store.specs.Services.{Call, Answer, Refusal, refusal, served, answer}
 use Rattle.cyc_plain.specs.declared.instruction.Instruction.{Instruction}
@@ -213,6 +213,8 @@ performed program choice c (instructions.Store address offset source) =
 performed program choice c (instructions.Ask request) =
     asks choice.serving c (destination_of request) (call_in c.active.slots request)
     (refusal c.store (call_in c.active.slots request))
+performed program choice c (instructions.CountLexical destination) =
+    gives c destination (lexical_count c.store.regions % 2 ^ 32)
 performed program choice c (instructions.Try first handler) = tries choice c first handler c.active.handlers
 performed program choice c (instructions.Leave first) = closes c first c.active.handlers
 performed program choice c (instructions.Throw tag value) =

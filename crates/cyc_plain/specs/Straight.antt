@@ -34,6 +34,7 @@ is_straight (instructions.WriteByte source) = true
 is_straight (instructions.AddressOf destination slot count) = true
 is_straight (instructions.LoadGlobal destination global) = true
 is_straight (instructions.StoreGlobal global source) = true
+is_straight (instructions.CountLexical destination) = true
 is_straight instruction = false
 
 abbrev pub AreStraight : List Instruction → Type 0

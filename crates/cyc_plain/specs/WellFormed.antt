@@ -86,6 +86,7 @@ IsInRange program r (instructions.StoreGlobal global source) =
 IsInRange program r (instructions.Load destination address offset) = (destination < r.slots) × IsOperand r address
 IsInRange program r (instructions.Store address offset source) = IsOperand r address × IsOperand r source
 IsInRange program r (instructions.Ask request) = IsRequestInRange r request
+IsInRange program r (instructions.CountLexical destination) = destination < r.slots
 IsInRange program r (instructions.Try first handler) = IsTryInRange r first handler
 IsInRange program r (instructions.Leave first) = HasSlots r first RECORD_WORDS
 IsInRange program r (instructions.Throw tag value) = IsOperand r tag × IsOperand r value

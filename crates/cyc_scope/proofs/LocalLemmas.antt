@@ -1,11 +1,14 @@
 -- The table finds the newest local, and what is newest stays found as locals come and go.
-use Rattle.std.proofs.Common.{◌≡◌, ◌≢◌, ℕ, zero, suc, ◌+◌, ◌≤◌, ◌<◌, Bool, true, false, cond, nat_eq, ◌&&◌, ◌||◌, List, [], ◌∷◌, ◌++◌, length, map, reverse, drop, get_or, Option, Some, None, option_map, refl, sym, ap, ◌∙◌, arith}
+use Rattle.std.proofs.Common.{◌≡◌, ℕ, zero, suc, ◌+◌, ◌≤◌, ◌<◌, Bool, true, false, cond, nat_eq, ◌&&◌, ◌||◌, List, [], ◌∷◌, ◌++◌, length, map, reverse, Option, Some, None, option_map, refl, sym, ap, ◌∙◌, arith}
 use Rattle.std.specs.List.{slice_get}
 use Rattle.std.proofs.lemmas.List.{reverse-append, reverse-reverse, length-map, length-reverse}
 use Rattle.std.proofs.lemmas.Bool.{eqb-true, eq-eqb}
 use Rattle.std.proofs.lemmas.Option.{same_Some}
 use denote.Ref.{Bor}
 use Rattle.std.specs.Slice.{IsItemAt}
+use Rattle.cyc_words.proofs.Booleans.{and_false}
+use Rattle.cyc_words.proofs.Lists.{get_or_within, slice_get_last, slice_get_before}
+use Rattle.cyc_words.proofs.Numbers.{nat_eq-false}
 use Rattle.cyc_syntax.specs.Trees.{Named}
 use Rattle.cyc_types.specs.typing.Scopes.{LocalVariable, Meaning, Declared, meaning_in, local_meaning, meaning_among, is_declared_in}
 use Rattle.cyc_scope.specs.declared.locals.Binding.{Binding}
@@ -15,15 +18,6 @@ use Rattle.cyc_scope.specs.Entries.{view_binding, locals_of, local_names, newest
 use Rattle.cyc_scope.proofs.TableLemmas.{lent, seen_through}
 
 -- ---- lists from their end
-
-slice_last : {A : Type 0} (xs : List A) (x : A) → slice_get (xs ++ x ∷ []) (length xs) ≡ Some x
-slice_last [] x = refl
-slice_last (y ∷ ys) x = slice_last ys x
-
-slice_before : {A : Type 0} (xs : List A) (x : A) (i : ℕ) → i < length xs → slice_get (xs ++ x ∷ []) i ≡ slice_get xs i
-slice_before [] x i lt = absurd (omega (arith, lt))
-slice_before (y ∷ ys) x zero lt = refl
-slice_before (y ∷ ys) x (suc i) lt = slice_before ys x i (omega (arith, lt))
 
 pub as_many : (bs : List Binding) → length (locals_of bs) ≡ length bs
 as_many bs = length-map (reverse bs) view_binding ∙ length-reverse bs
@@ -56,10 +50,10 @@ place_in (r ∷ rs) x i e = by_test (place_in rs x i) (nat_eq (view_binding r).n
         → option_map view_binding (slice_get (reverse (r ∷ rs)) i) ≡ cond t (Some (view_binding r)) (newest (map view_binding rs) x)
     by_test h true e =
         let at : i ≡ length (reverse rs) = sym (same_Some (length names) i e) ∙ many in
-        ap (λ bs. option_map view_binding (slice_get bs i)) back ∙ ap (λ (k : ℕ). option_map view_binding (slice_get (reverse rs ++ r ∷ []) k)) at ∙ ap (option_map view_binding) (slice_last (reverse rs) r)
+        ap (λ bs. option_map view_binding (slice_get bs i)) back ∙ ap (λ (k : ℕ). option_map view_binding (slice_get (reverse rs ++ r ∷ []) k)) at ∙ ap (option_map view_binding) (slice_get_last (reverse rs) r)
     by_test h false e =
         let less = within names x i e in
-        ap (λ bs. option_map view_binding (slice_get bs i)) back ∙ ap (option_map view_binding) (slice_before (reverse rs) r i (omega (arith, less, many))) ∙ h e
+        ap (λ bs. option_map view_binding (slice_get bs i)) back ∙ ap (option_map view_binding) (slice_get_before (reverse rs) r i (omega (arith, less, many))) ∙ h e
 
 newest_found : (bs : List Binding) (x i : ℕ) → newest_place (local_names (locals_of bs)) x ≡ Some i → option_map view_binding (slice_get bs i) ≡ newest (locals_of bs) x
 newest_found bs x i e = ap (λ cs. option_map view_binding (slice_get cs i)) (sym (reverse-reverse bs)) ∙ place_in (reverse bs) x i e
@@ -100,13 +94,6 @@ meaning_lost vs x ds e = meaning_newest vs x ds ∙ ap (λ o. meaning_by o (mean
 
 -- ---- whether the innermost block declares a name
 
-differ : (a b : ℕ) → nat_eq a b ≡ false → a ≢ b
-differ a b f e = let g = eq-eqb a b e in cc
-
-never : (t : Bool) → (t && false) ≡ false
-never true = refl
-never false = refl
-
 -- what blocks around a block declare, it does not
 below : (q r x : ℕ) (vs : List LocalVariable) → Descends q vs → q < r → is_declared_in r vs x ≡ false
 below q r x [] d lt = refl
@@ -114,7 +101,7 @@ below q r x (v ∷ vs) d lt = by_test (below v.region r x vs d.1 (omega (arith, 
   where
     by_test : is_declared_in r vs x ≡ false → (t : Bool) → nat_eq v.region r ≡ t → ((nat_eq v.name x && t) || is_declared_in r vs x) ≡ false
     by_test h true f = let g = eqb-true v.region r f in absurd (omega (arith, g, d.0, lt))
-    by_test h false f = ap (λ (b : Bool). b || is_declared_in r vs x) (never (nat_eq v.name x)) ∙ h
+    by_test h false f = ap (λ (b : Bool). b || is_declared_in r vs x) (and_false (nat_eq v.name x)) ∙ h
 
 pub widened : (q r : ℕ) (vs : List LocalVariable) → q ≤ r → Descends q vs → Descends r vs
 widened q r [] le d = tt
@@ -126,7 +113,7 @@ declared_found r x (v ∷ vs) l d e = by_test (declared_found r x vs l (widened 
   where
     by_region : (t : Bool) → nat_eq v.region r ≡ t → (t || is_declared_in r vs x) ≡ t
     by_region true f = refl
-    by_region false f = let g = differ v.region r f in below v.region r x vs d.1 (omega (arith, d.0, g))
+    by_region false f = let g = nat_eq-false v.region r f in below v.region r x vs d.1 (omega (arith, d.0, g))
 
     by_test : (newest vs x ≡ Some l → is_declared_in r vs x ≡ nat_eq l.region r)
         → (t : Bool) → cond t (Some v) (newest vs x) ≡ Some l → ((t && nat_eq v.region r) || is_declared_in r vs x) ≡ nat_eq l.region r
@@ -143,25 +130,10 @@ declared_lost r x (v ∷ vs) e = by_test (declared_lost r x vs) (nat_eq v.name x
 
 -- ---- one local less
 
-drop_next : {A : Type 0} (k : ℕ) (xs : List A) → drop 1 (drop k xs) ≡ drop (suc k) xs
-drop_next zero xs = refl
-drop_next (suc k) [] = refl
-drop_next (suc k) (x ∷ xs) = drop_next k xs
-
-pub drop_one_more : {A : Type 0} (k : ℕ) (xs : List A) → drop 1 (drop k xs) ≡ drop (k + 1) xs
-drop_one_more k xs =
-    let next : suc k ≡ k + 1 = omega arith in
-    drop_next k xs ∙ ap (λ (n : ℕ). drop n xs) next
-
-known_in : {A : Type 0} (xs : List (Option A)) (n : ℕ) (y : A) → get_or xs n None ≡ Some y → n < length xs
-known_in [] n y e = cc
-known_in (x ∷ xs) zero y e = omega arith
-known_in (x ∷ xs) (suc n) y e = omega (arith, known_in xs n y e)
-
 -- a name that a binding has, has a place in the table
 pub in_range : (table : List (Option ℕ)) (bs old : List Binding) (b : Binding) → Finds table old → old ≡ bs ++ b ∷ [] → b.local.name < length table
 in_range table bs old b f e =
-    known_in table b.local.name (length (local_names (locals_of bs)))
+    get_or_within table b.local.name (length (local_names (locals_of bs)))
     (f.0 b.local.name ∙ ap (λ vs. newest_place (local_names vs) b.local.name) front
     ∙ ap (λ t. cond t (Some (length (local_names (locals_of bs)))) (newest_place (local_names (locals_of bs)) b.local.name)) (eq-eqb b.local.name b.local.name refl))
   where

@@ -187,7 +187,7 @@ impl Locals {
     }
 
     /// Forgets all locals but this number of the oldest.
-    #[tactic(auto, using(crate::proofs::LocalLemmas::drop_one_more))]
+    #[tactic(auto, using(cyc_words::proofs::Lists::drop_one_more))]
     pub(crate) fn close(&mut self, count: usize)
         ensures { self.new ≡ drop (length self.old - count) self.old }
     {

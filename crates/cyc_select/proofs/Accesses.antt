@@ -72,11 +72,11 @@ module _ (globals stack : ℕ) (frame : Frame) (r : Words) (w : Contents) (slots
 
   are_taken : (count : ℕ) → count ≤ 3 → source + count ≤ number → AreTaken count
   are_taken zero few fits = record {
-    keeps = record { safe = tt; memory = refl; zero = refl; base = refl; left = refl; back = refl; newest = refl };
+    keeps = record { safe = tt; memory = refl; zero = refl; base = refl; left = refl; back = refl; lasts = refl };
     taken = λ k below. absurd (omega (arith, below));
   }
   are_taken (suc zero) few fits = record {
-    keeps = record { safe = ((refl, cell source (omega (arith, fits))), tt); memory = refl; zero = refl; base = refl; left = refl; back = refl; newest = refl };
+    keeps = record { safe = ((refl, cell source (omega (arith, fits))), tt); memory = refl; zero = refl; base = refl; left = refl; back = refl; lasts = refl };
     taken = λ k below. one_taken k (after_r (load_all frame source (result_registers 1)) r w) below (word_of source 0 (omega arith) (omega (arith, fits)));
   }
   are_taken (suc (suc zero)) few fits = record {
@@ -87,7 +87,7 @@ module _ (globals stack : ℕ) (frame : Frame) (r : Words) (w : Contents) (slots
       base = refl;
       left = refl;
       back = refl;
-      newest = refl;
+      lasts = refl;
     };
     taken = λ k below.
         two_taken k (after_r (load_all frame source (result_registers 2)) r w) below (word_of source 0 (omega arith) (omega (arith, fits)))
@@ -101,7 +101,7 @@ module _ (globals stack : ℕ) (frame : Frame) (r : Words) (w : Contents) (slots
       base = refl;
       left = refl;
       back = refl;
-      newest = refl;
+      lasts = refl;
     };
     taken = λ k below.
         three_taken k (after_r (load_all frame source (result_registers 3)) r w) below (word_of source 0 (omega arith) (omega (arith, fits)))
@@ -208,7 +208,7 @@ module _ (program : Program) (well : IsWellFormed program) (frames : List Frame)
       let some = length_registers count in_range.few in
       let hi : ℕ = here + 2 * length registers in
       let take = are_taken globals_length (words_per_call * calls) frame r w c.active.slots source slots cell_at slot_is count in_range.few in_range.source_in_range in
-      let in_q = standing_registers program well frames fit addresses pages calls few c r w base (r RETURN_ADDRESS) (suc (length c.frames)) c.active.slots s q take.keeps.zero take.keeps.base take.keeps.left take.keeps.newest in
+      let in_q = standing_registers program well frames fit addresses pages calls few c r w base (r RETURN_ADDRESS) (suc (length c.frames)) c.active.slots s q take.keeps.zero take.keeps.base take.keeps.left take.keeps.lasts in
       let in_v = subst (λ (x : Contents). Standing program frames addresses pages calls c q x base (r RETURN_ADDRESS) (suc (length c.frames)) c.active.slots) (sym take.keeps.memory) in_q in
       let puts = stored program well frames fit addresses pages calls few c q base (r RETURN_ADDRESS) (suc (length c.frames)) destination source c.active.slots c.active.slots count v in_range.few in_range.destination_in_range take.taken in_v in
       let m : Contents = after_w js q v in
@@ -272,7 +272,7 @@ module _ (program : Program) (well : IsWellFormed program) (frames : List Frame)
       (λ f after.
       walk_end code formed addresses globals_length (words_per_call * calls) (here + length is + 1 + 1) hi c.output _ (Running f) (omega (arith, long))
       (reached_gives program well frames fit code formed addresses pages calls few c (plain.Load destination address offset) at_i refl r w base s destination word c.input (here + length is + 1 + 1) f p (after_w put_one p v)
-      below (ap (loads c destination) found) s.input (omega (arith, long)) reaches.keeps.zero reaches.keeps.base reaches.keeps.left reaches.keeps.back reaches.keeps.newest puts after)))))
+      below (ap (loads c destination) found) s.input (omega (arith, long)) reaches.keeps.zero reaches.keeps.base reaches.keeps.left reaches.keeps.back reaches.keeps.lasts puts after)))))
 
   pub load_goes : (destination : ℕ) (address : Operand) (offset : ℕ) → IsAt (plain.Load destination address offset) → destination < slots → IsThere address → IsWord offset
       → (performed program zeros c (plain.Load destination address offset) ≡ states.Stuck c.output c.input → ⊥)
@@ -321,7 +321,7 @@ module _ (program : Program) (well : IsWellFormed program) (frames : List Frame)
       let d : Configuration = advanced c' in
       let left = memory-left program c a word in
       let one = its.standing word (is_word source from_there) in
-      let two = standing_registers program well frames fit addresses pages calls few c' r (placed its.sort w a word) base (r RETURN_ADDRESS) (suc (length c.frames)) c'.active.slots one p (keeps.zero ∙ reaches.keeps.zero) (keeps.base ∙ reaches.keeps.base) (keeps.left ∙ reaches.keeps.left) (keeps.newest ∙ reaches.keeps.newest) in
+      let two = standing_registers program well frames fit addresses pages calls few c' r (placed its.sort w a word) base (r RETURN_ADDRESS) (suc (length c.frames)) c'.active.slots one p (keeps.zero ∙ reaches.keeps.zero) (keeps.base ∙ reaches.keeps.base) (keeps.left ∙ reaches.keeps.left) (keeps.lasts ∙ reaches.keeps.lasts) in
       let three = standing_at program well frames fit addresses pages calls few c' p (placed its.sort w a word) base (r RETURN_ADDRESS) (suc (length c.frames)) c'.active.slots two d refl refl refl refl refl refl one.input in
       let with_back = subst (λ (b : ℕ). Standing program frames addresses pages calls d p (placed its.sort w a word) base b (suc (length c.frames)) d.active.slots) (sym (keeps.back ∙ reaches.keeps.back)) three in
       let with_depth = subst (λ (n : ℕ). Standing program frames addresses pages calls d p (placed its.sort w a word) base (p RETURN_ADDRESS) (suc n) d.active.slots) (sym left.depth) with_back in

@@ -3,9 +3,22 @@ use Rattle.std.proofs.Common.{◌≡◌, ◌≢◌, ℕ, ◌<◌, List, [], ◌�
 use Rattle.cyc_isa.specs.declared.instr.Instr.{Instr}
 use Rattle.cyc_machine.specs.declared.constants.TheConstants.{RETURN_ADDRESS}
 use Rattle.cyc_plain.specs.State.{Words}
-use Rattle.cyc_select.specs.declared.constants.TheConstants.{ZERO, FRAME, CALLS, HANDLERS}
+use Rattle.cyc_select.specs.declared.constants.TheConstants.{ZERO, FRAME, CALLS, HANDLERS, REGIONS}
 use Rattle.cyc_select.proofs.Views.{Contents, does_r, does_w}
 use Rattle.cyc_select.proofs.Walks.{after_r, after_w, AreSafe, after_r-append, after_w-append}
+
+-- what stays in registers from call to call: the address of the newest handler's record, and how many lexical regions are open
+abbrev pub lasting : Words → ℕ × ℕ
+lasting r = (r HANDLERS, r REGIONS)
+
+pub lasting_same : (q r : Words) → q HANDLERS ≡ r HANDLERS → q REGIONS ≡ r REGIONS → lasting q ≡ lasting r
+lasting_same q r newest counted = λ i. (newest i, counted i)
+
+pub newest_lasts : (q r : Words) → lasting q ≡ lasting r → q HANDLERS ≡ r HANDLERS
+newest_lasts q r same = ap (λ (p : ℕ × ℕ). p.0) same
+
+pub count_lasts : (q r : Words) → lasting q ≡ lasting r → q REGIONS ≡ r REGIONS
+count_lasts q r same = ap (λ (p : ℕ × ℕ). p.1) same
 
 module _ (globals stack : ℕ) where
   -- Instructions that write one register: where they have been executed, a word is in this register, and any other is as before.
@@ -23,7 +36,7 @@ module _ (globals stack : ℕ) where
     pub base : after_r is r w FRAME ≡ r FRAME
     pub left : after_r is r w CALLS ≡ r CALLS
     pub back : after_r is r w RETURN_ADDRESS ≡ r RETURN_ADDRESS
-    pub newest : after_r is r w HANDLERS ≡ r HANDLERS
+    pub lasts : lasting (after_r is r w) ≡ lasting r
 
   -- a register that no call keeps
   pub record IsScratch (n : ℕ) : Type 0 where
@@ -32,6 +45,7 @@ module _ (globals stack : ℕ) where
     pub not_left : CALLS ≢ n
     pub not_back : RETURN_ADDRESS ≢ n
     pub not_newest : HANDLERS ≢ n
+    pub not_counted : REGIONS ≢ n
 
   pub puts_keeps : (is : List Instr) (r : Words) (w : Contents) (target at word : ℕ) → IsScratch target → Puts is r w target at word → Keeps is r w
   puts_keeps is r w target at word scratch puts = record {
@@ -41,7 +55,7 @@ module _ (globals stack : ℕ) where
     base = puts.others FRAME (omega arith) scratch.not_base;
     left = puts.others CALLS (omega arith) scratch.not_left;
     back = puts.others RETURN_ADDRESS (omega arith) scratch.not_back;
-    newest = puts.others HANDLERS (omega arith) scratch.not_newest;
+    lasts = lasting_same (after_r is r w) r (puts.others HANDLERS (omega arith) scratch.not_newest) (puts.others REGIONS (omega arith) scratch.not_counted);
   }
 
   -- ---- one block behind another
@@ -61,5 +75,5 @@ module _ (globals stack : ℕ) where
     base = after_both is js r w FRAME ∙ (second.base ∙ first.base);
     left = after_both is js r w CALLS ∙ (second.left ∙ first.left);
     back = after_both is js r w RETURN_ADDRESS ∙ (second.back ∙ first.back);
-    newest = after_both is js r w HANDLERS ∙ (second.newest ∙ first.newest);
+    lasts = ap lasting (after_r-append is js r w) ∙ (second.lasts ∙ first.lasts);
   }

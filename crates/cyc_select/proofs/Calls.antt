@@ -2,7 +2,7 @@
 use Rattle.std.proofs.Common.{◌≡◌, ◌≢◌, ℕ, zero, suc, ◌+◌, ◌-◌, ◌*◌, ◌%◌, ◌<◌, ◌≤◌, Bool, false, not, List, [], ◌∷◌, ◌++◌, length, Some, slice_get, refl, sym, ap, subst, ◌∙◌, arith, inl, inr}
 use Rattle.std.specs.Prelude.{◌==◌, if◌then◌else◌, nat_le}
 use Rattle.std.proofs.lemmas.Bool.{cases_eq, cases_lt, eq-eqb, ne_eqb, and_right, lt-leb}
-use Rattle.cyc_select.specs.declared.constants.TheConstants.{CALLS, FRAME, HANDLERS}
+use Rattle.cyc_select.specs.declared.constants.TheConstants.{CALLS, FRAME, HANDLERS, REGIONS}
 use Rattle.cyc_machine.specs.declared.constants.TheConstants.{RETURN_ADDRESS}
 use Rattle.cyc_words.specs.Ending.{Full}
 use Rattle.cyc_words.specs.Word.{add_of, sign_extended}
@@ -48,6 +48,17 @@ length-copies caller callee source slot (suc count) =
     let rest = length-copies caller callee (suc source) (suc slot) count in
     let e : suc (suc (length (copies caller callee (suc source) (suc slot) count))) ≡ 2 * suc count = omega (arith, rest) in
     e
+
+-- the last of the lines of a call
+pub call_last : (code : Labelled) (caller callee : Frame) (here label arguments count : ℕ) → Stands code here (calling_code caller callee here label arguments count)
+    → slice_get code.lines (here + 6 + 2 * count) ≡ Some (lines.Call label)
+call_last code caller callee here label arguments count stands =
+    let passed : List Instr = copies caller callee arguments 0 count in
+    let entry : List Instr = small 2 11 ∷ syscall ∷ store RETURN_ADDRESS (4 * caller.return_address) ∷ add_immediate CALLS CALLS (minus 1) ∷ push_frame callee ∷ [] in
+    let at_passed : Stands code (here + 6) (ordinary passed ++ lines.Call label ∷ []) =
+    stands_back code here (lines.Branch (conditions.Registers branch.NotEqual (register_of CALLS) (register_of 0)) (here + 3) ∷ ordinary entry) (ordinary passed ++ lines.Call label ∷ []) stands in
+    let long : length (ordinary passed) ≡ 2 * count = length_ordinary passed ∙ length-copies caller callee arguments 0 count in
+    subst (λ (n : ℕ). slice_get code.lines (here + 6 + n) ≡ Some (lines.Call label)) long (stands_back code (here + 6) (ordinary passed) (lines.Call label ∷ []) at_passed).0
 
 module _ (program : Program) (well : IsWellFormed program) (frames : List Frame) (fit : AreFrames program frames) (code : Labelled) (formed : IsFormed code) (addresses : ℕ → ℕ) (pages calls : ℕ) (few : calls ≤ 4096)
     (lie : AreAddresses code addresses) (c : Configuration) (run : labelled.Configuration) (r : Words) (w : Contents) (base : ℕ)
@@ -277,6 +288,7 @@ module _ (program : Program) (well : IsWellFormed program) (frames : List Frame)
       input = s.input;
       store = copied_now.store ∙ s1.store;
       laid = s.laid;
+      counted = copied_now.kept REGIONS (λ e. absurd (omega (arith, e))) ∙ s.counted;
     }
       where
         left_is : (n : ℕ) → n ≡ r CALLS - 1 → n + suc (suc (length c.frames)) ≡ calls

@@ -125,6 +125,7 @@ module _ (globals stack : ℕ) where
     not_left = λ e. absurd (omega (arith, e));
     not_back = λ e. absurd (omega (arith, e));
     not_newest = λ e. absurd (omega (arith, e));
+    not_counted = λ e. absurd (omega (arith, e));
   }
 
   pub argument_scratch : IsScratch globals stack ARGUMENT
@@ -134,6 +135,7 @@ module _ (globals stack : ℕ) where
     not_left = λ e. absurd (omega (arith, e));
     not_back = λ e. absurd (omega (arith, e));
     not_newest = λ e. absurd (omega (arith, e));
+    not_counted = λ e. absurd (omega (arith, e));
   }
 
   pub second_scratch : IsScratch globals stack SECOND
@@ -143,6 +145,7 @@ module _ (globals stack : ℕ) where
     not_left = λ e. absurd (omega (arith, e));
     not_back = λ e. absurd (omega (arith, e));
     not_newest = λ e. absurd (omega (arith, e));
+    not_counted = λ e. absurd (omega (arith, e));
   }
 
   below_32 : (n : ℕ) → n % 32 < 32
@@ -286,7 +289,7 @@ module _ (globals stack : ℕ) where
         let kept = puts_keeps globals stack c q m FIRST _ _ first_scratch first in
         let second = load_puts frame base w slots (after_r c q m) (after_w c q m) (kept.zero ∙ zero) (kept.base ∙ same) (kept.memory ∙ memory) SECOND refl right right_held in
         let both = keeps_append globals stack c d q m kept (puts_keeps globals stack d (after_r c q m) (after_w c q m) SECOND _ _ second_scratch second) in
-        let third : Keeps globals stack e (after_r (c ++ d) q m) (after_w (c ++ d) q m) = record { safe = (refl, tt); memory = refl; zero = refl; base = refl; left = refl; back = refl; newest = refl } in
+        let third : Keeps globals stack e (after_r (c ++ d) q m) (after_w (c ++ d) q m) = record { safe = (refl, tt); memory = refl; zero = refl; base = refl; left = refl; back = refl; lasts = refl } in
         record {
           keeps = keeps_append globals stack (c ++ d) e q m both third;
           dividend =

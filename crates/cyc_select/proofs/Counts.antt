@@ -1,5 +1,5 @@
 -- How many lines operands, plans and tests have, as they are counted: so many, and few.
-use Rattle.std.proofs.Common.{◌≡◌, ℕ, zero, suc, ◌+◌, ◌%◌, ◌^◌, ◌≤◌, Bool, true, false, List, [], ◌∷◌, length, Option, None, Some, refl, ap, ◌∙◌, arith, length-append}
+use Rattle.std.proofs.Common.{◌≡◌, ℕ, zero, suc, ◌+◌, ◌*◌, ◌%◌, ◌^◌, ◌≤◌, Bool, true, false, List, [], ◌∷◌, length, Option, None, Some, refl, ap, ◌∙◌, arith, length-append}
 use Rattle.std.specs.Prelude.{◌==◌, nat_lt, if◌then◌else◌}
 use Rattle.cyc_isa.specs.declared.instr.Instr.{Instr}
 use Rattle.cyc_isa.specs.declared.instr.ArithmeticOp.{ArithmeticOp}
@@ -13,7 +13,7 @@ use Rattle.cyc_plain.specs.declared.instruction.Operand.{Operand}
 use Rattle.cyc_plain.specs.declared.instruction.Operand.TheVariants as operands
 use Rattle.cyc_plain.specs.declared.instruction.Request.{Request}
 use Rattle.cyc_plain.specs.declared.instruction.Request.TheVariants as requests
-use Rattle.cyc_plain.specs.Requests.{answer_count, destination_of, operand_size}
+use Rattle.cyc_plain.specs.Requests.{first_operand, answer_count, destination_of, operand_size}
 use Rattle.cyc_frame.specs.declared.frame.Frame.{Frame}
 use Rattle.cyc_select.specs.declared.constants.TheConstants.{FIRST, SECOND, THIRD, ZERO}
 use Rattle.cyc_select.specs.declared.plan.Operation.{Operation}
@@ -25,7 +25,7 @@ use Rattle.cyc_select.specs.declared.plan.Test.{Test}
 use Rattle.cyc_select.specs.declared.plan.Test.TheVariants as tests
 use Rattle.cyc_select.specs.Plans.{arithmetic_plan, immediate_plan, immediate_or, zero_plan, differs_plan, equal_plan, unary_plan, binary_plan}
 use Rattle.cyc_select.specs.Numbers.{fits_signed, negated_half, is_word, is_zero_word}
-use Rattle.cyc_select.specs.Selection.{load_all, store_all, result_registers, argument_code, argument_count, service_number, answer_code, small, or_immediate, load_upper, constant, is_tested, word_code, load_code, operand_code, operand_register, operation_code, outcome_code, operands_code, operation_of, computed_code, plan_code, test_code, loads_code, divided_code, store_slot, add_immediate, minus, word_count, load_count, operand_count, far_plan, address_code, address_count, operation_count, outcome_count, count_of_operation, plan_count, test_count, operator_count}
+use Rattle.cyc_select.specs.Selection.{load_all, store_all, result_registers, argument_code, argument_count, service_number, answer_code, regions_code, regions_count, small, or_immediate, load_upper, constant, is_tested, word_code, load_code, operand_code, operand_register, operation_code, outcome_code, operands_code, operation_of, computed_code, plan_code, test_code, loads_code, divided_code, store_slot, add_immediate, minus, word_count, load_count, operand_count, far_plan, address_code, address_count, operation_count, outcome_count, count_of_operation, plan_count, test_count, operator_count}
 
 -- ---- few
 
@@ -121,6 +121,15 @@ pub argument_small : (o : Option Operand) → argument_count o ≤ operand_size 
 argument_small None = omega arith
 argument_small (Some operand) = omega (arith, load_small operand)
 
+-- and so much do those have that count regions, with the first word that is taken
+pub regions_small : (request : Request) → argument_count (first_operand request) + regions_count request ≤ operand_size (first_operand request) + 2 * answer_count request
+regions_small (requests.OpenLexical destination) = omega arith
+regions_small (requests.CloseTo mark) = omega (arith, load_small mark)
+regions_small (requests.OpenDynamic destination) = omega arith
+regions_small (requests.CloseDynamic handle) = omega (arith, load_small handle)
+regions_small (requests.Allocate destination handle words) = omega (arith, load_small handle)
+regions_small (requests.Free address) = omega (arith, load_small address)
+
 pub answer_few : (request : Request) → answer_count request ≤ 2
 answer_few (requests.OpenLexical destination) = omega arith
 answer_few (requests.CloseTo mark) = omega arith
@@ -136,6 +145,14 @@ service_small (requests.OpenDynamic destination) = omega arith
 service_small (requests.CloseDynamic handle) = omega arith
 service_small (requests.Allocate destination handle words) = omega arith
 service_small (requests.Free address) = omega arith
+
+pub length_regions : (request : Request) → length (regions_code request) ≡ regions_count request
+length_regions (requests.OpenLexical destination) = refl
+length_regions (requests.CloseTo mark) = refl
+length_regions (requests.OpenDynamic destination) = refl
+length_regions (requests.CloseDynamic handle) = refl
+length_regions (requests.Allocate destination handle words) = refl
+length_regions (requests.Free address) = refl
 
 -- ---- so many
 

@@ -48,7 +48,7 @@ three_words : lines_of (MoveWords 0 3 3 ∷ []) ≡ 6
 three_words = refl
 
 -- a region for a block of two words, from its handle and its mark in the slots 0 and 1 to its end
-block_in_a_region : lines_of (Ask (OpenLexical 0) ∷ Ask (Allocate 2 (Slot 0) (Word 2)) ∷ Ask (CloseTo (Slot 1)) ∷ []) ≡ 12
+block_in_a_region : lines_of (Ask (OpenLexical 0) ∷ Ask (Allocate 2 (Slot 0) (Word 2)) ∷ Ask (CloseTo (Slot 1)) ∷ []) ≡ 14
 block_in_a_region = refl
 
 -- a slot is stored by its address

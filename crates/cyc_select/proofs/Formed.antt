@@ -21,6 +21,8 @@ use Rattle.cyc_isa.specs.declared.instr.MoveFromOp.{MoveFromOp}
 use Rattle.cyc_machine.specs.declared.constants.TheConstants.{ARGUMENT, END_UNCAUGHT, PUT_BYTE, SECOND_ARGUMENT, SERVICE}
 use Rattle.cyc_plain.specs.Program.{Routine, Program, CodePlace, no_routine, routine_at}
 use Rattle.cyc_plain.specs.Step.{instruction_at}
+use Rattle.cyc_plain.specs.declared.instruction.Request.{Request}
+use Rattle.cyc_plain.specs.declared.instruction.Request.TheVariants as requests
 use Rattle.cyc_plain.specs.Requests.{first_operand, second_operand, answer_count, destination_of}
 use Rattle.cyc_plain.specs.WellFormed.{IsOperand, IsArgument, IsInRange, IsWellFormed, HasWords, IsOfWord, IsArgumentOfWord, HasWord}
 use Rattle.cyc_plain.proofs.Placed.{holds_at, routine_in, below_of_get, has_code}
@@ -41,7 +43,7 @@ use Rattle.cyc_select.specs.declared.plan.Test.TheVariants as tests
 use Rattle.cyc_select.specs.Plans.{unary_plan, binary_plan, test_of}
 use Rattle.cyc_select.specs.Labelled.{Labelled, IsFormed, IsFormedLine}
 use Rattle.cyc_select.specs.Numbers.{fits_signed, is_zero_word}
-use Rattle.cyc_select.specs.Selection.{slot_offset, ordinary, result_registers, argument_code, service_number, answer_code, unwound_code, far_plan, address_code, near_half, at_address, copies, load_all, store_all, store_slot, pop_frame, load_upper, constant, or_immediate, is_tested, part_of, plan_count, small, syscall, add_immediate, minus, upper_of_global, at_global, word_code, load_code, load_count, operand_code, operand_register, operands_code, operation_code, outcome_code, operation_of, computed_code, plan_code, test_code, branch_line, quotient_code, loads_code, divided_code, divide_code, ending_code, ending_count, operator_code, operator_count, body, behind, body_count, count_of, function_count, functions_count, function_line, instruction_line, code_lines, function_lines, start_lines, select_of}
+use Rattle.cyc_select.specs.Selection.{slot_offset, ordinary, result_registers, argument_code, service_number, answer_code, regions_code, unwound_code, far_plan, address_code, near_half, at_address, copies, load_all, store_all, store_slot, pop_frame, load_upper, constant, or_immediate, is_tested, part_of, plan_count, small, syscall, add_immediate, minus, upper_of_global, at_global, word_code, load_code, load_count, operand_code, operand_register, operands_code, operation_code, outcome_code, operation_of, computed_code, plan_code, test_code, branch_line, quotient_code, loads_code, divided_code, divide_code, ending_code, ending_count, operator_code, operator_count, body, behind, body_count, count_of, function_count, functions_count, function_line, instruction_line, code_lines, function_lines, start_lines, select_of}
 use Rattle.cyc_select.proofs.Lines.{line_first}
 use Rattle.cyc_select.proofs.Plans.{AllOfTest, all_unary, all_binary, all_test}
 use Rattle.cyc_select.proofs.Counts.{length_registers, answer_few, service_small}
@@ -130,6 +132,7 @@ count_some program function (plain.MoveWords destination source count) in_range 
 count_some program function (plain.Load destination address offset) in_range = omega arith
 count_some program function (plain.Store address offset source) in_range = omega arith
 count_some program function (plain.Ask request) in_range = omega arith
+count_some program function (plain.CountLexical destination) in_range = omega arith
 count_some program function (plain.Try first handler) in_range = omega arith
 count_some program function (plain.Leave first) in_range = omega arith
 count_some program function (plain.Throw tag value) in_range = omega arith
@@ -206,6 +209,14 @@ module _ (program : Program) (well : IsWellFormed program) (words : HasWords pro
     formed_append : (xs ys : List Instr) → Formed (ordinary xs) → Formed (ordinary ys) → Formed (ordinary (xs ++ ys))
     formed_append [] ys first second = second
     formed_append (x ∷ xs) ys (one, rest) second = (one, formed_append xs ys rest second)
+
+    regions_formed : (request : Request) → Formed (ordinary (regions_code request))
+    regions_formed (requests.OpenLexical destination) = ((refl, (omega arith)), tt)
+    regions_formed (requests.CloseTo mark) = ((refl, (omega arith)), tt)
+    regions_formed (requests.OpenDynamic destination) = tt
+    regions_formed (requests.CloseDynamic handle) = tt
+    regions_formed (requests.Allocate destination handle words) = tt
+    regions_formed (requests.Free address) = tt
 
     high_fits : (word : ℕ) → IsWord word → word / 2 ^ 16 < 2 ^ 16
     high_fits word is_word = omega (arith, is_word)
@@ -418,11 +429,18 @@ module _ (program : Program) (well : IsWellFormed program) (words : HasWords pro
         (formed_append js last (operand_formed SECOND source (b, also)) ((refl, near_fits offset), tt))
     body_formed (plain.Ask request) n in_range (fits, also) long =
         let js : List Instr = argument_code frame SECOND_ARGUMENT (second_operand request) in
-        let last : List Instr = small SERVICE (service_number request) ∷ syscall ∷ answer_code frame request in
+        let last : List Instr = small SERVICE (service_number request) ∷ syscall ∷ (regions_code request ++ answer_code frame request) in
         let registers = length_registers (answer_count request) (omega (arith, answer_few request)) in
         formed_append (argument_code frame ARGUMENT (first_operand request)) (js ++ last) (argument_formed ARGUMENT (first_operand request) in_range.first_in_range fits)
-        (formed_append js last (argument_formed SECOND_ARGUMENT (second_operand request) in_range.second_in_range also)
-        ((refl, omega (arith, service_small request)), ((refl, tt), stores_formed (destination_of request) (result_registers (answer_count request)) (omega (arith, registers, in_range.answer_in_range)))))
+        (formed_append js last (argument_formed SECOND_ARGUMENT (second_operand request) in_range.second_in_range also) (
+          (refl, omega (arith, service_small request)),
+          (
+            (refl, tt),
+            formed_append (regions_code request) (answer_code frame request) (regions_formed request)
+                (stores_formed (destination_of request) (result_registers (answer_count request)) (omega (arith, registers, in_range.answer_in_range))),
+          ),
+        ))
+    body_formed (plain.CountLexical destination) n below fits long = ((refl, slot_fits destination below), tt)
     body_formed (plain.Try first handler) n in_range fits long =
         let inside : first + 4 ≤ slots = in_range.record_in_range in (
           (refl, slot_fits first (omega (arith, inside))),
@@ -481,6 +499,7 @@ module _ (program : Program) (well : IsWellFormed program) (words : HasWords pro
     behind_formed (plain.Load destination address offset) in_range = tt
     behind_formed (plain.Store address offset source) in_range = tt
     behind_formed (plain.Ask request) in_range = tt
+    behind_formed (plain.CountLexical destination) in_range = tt
     behind_formed (plain.Try first handler) in_range = tt
     behind_formed (plain.Leave first) in_range = tt
     behind_formed (plain.Throw tag value) in_range = tt

@@ -23,15 +23,15 @@ use Rattle.cyc_plain.proofs.SlotLaws.{put-same, put-other, copied-inside, copied
 use Rattle.cyc_plain.proofs.RunLaws.{zeros, zeros_at, over_within, lies_at}
 use Rattle.cyc_frame.specs.Layout.{AreFrames, slot_word, frame_at}
 use Rattle.cyc_frame.specs.declared.frame.Frame.{Frame}
-use Rattle.cyc_select.specs.declared.constants.TheConstants.{CALLS, FRAME, HANDLERS, ZERO}
+use Rattle.cyc_select.specs.declared.constants.TheConstants.{CALLS, FRAME, HANDLERS, REGIONS, ZERO}
 use Rattle.cyc_select.specs.declared.code.Condition.TheVariants as conditions
 use Rattle.cyc_select.specs.declared.code.Line.{Line}
 use Rattle.cyc_select.specs.declared.code.Line.TheVariants as lines
 use Rattle.cyc_select.specs.Labelled.{Labelled, IsFormed, AreAddresses}
 use Rattle.cyc_select.specs.Machine as labelled
-use Rattle.cyc_select.specs.Machine.{State, Running, Ended}
+use Rattle.cyc_select.specs.Machine.{State, Running, Ended, IsReturnPoint}
 use Rattle.cyc_select.specs.Selection.{ordinary, small, syscall, load, load_code, load_count, slot_offset, store_all, recorded_code, caught_code, opened_code, unwound_code, body, instruction_line}
-use Rattle.cyc_select.proofs.Blocks.{Puts}
+use Rattle.cyc_select.proofs.Blocks.{lasting, newest_lasts, count_lasts, Puts}
 use Rattle.cyc_select.proofs.Calls.{length_ordinary}
 use Rattle.cyc_select.proofs.Cells.{IsCell}
 use Rattle.cyc_select.proofs.Computing.{IsHeld, load_puts}
@@ -129,7 +129,7 @@ holds_four slots first contents intact =
 module _ (program : Program) (well : IsWellFormed program) (frames : List Frame) (fit : AreFrames program frames) (code : Labelled) (formed : IsFormed code) (addresses : ℕ → ℕ) (pages calls : ℕ) (few : calls ≤ 4096)
     (lie : AreAddresses code addresses) (c : Configuration)
     (range_of : (function index first handler : ℕ) → instruction_at program (record { function = function; index = index }) ≡ Some (plain.Try first handler) → IsTryInRange (routine_at program function) first handler)
-    (lands_inside : (function index first handler : ℕ) → instruction_at program (record { function = function; index = index }) ≡ Some (plain.Try first handler) → instruction_line program function index + 5 < length code.lines) where
+    (lands_at : (function index first handler : ℕ) → instruction_at program (record { function = function; index = index }) ≡ Some (plain.Try first handler) → IsReturnPoint code (instruction_line program function index + 5)) where
   abbrev frame : Frame
   frame = frame_at frames c.active.function
 
@@ -269,7 +269,7 @@ module _ (program : Program) (well : IsWellFormed program) (frames : List Frame)
         slot_word_is program well frames fit addresses pages calls few c r w base (r RETURN_ADDRESS) (suc (length c.frames)) c.active.slots s first below ∙ (holds_four c.active.slots first found.contents found.intact).zeroth in
         let next : Configuration = advanced (record c { active = record c.active { handlers = found.rest } }) in
         let c0 : Configuration = record c { active = record c.active { handlers = found.rest } } in
-        let in_rest = standing_handlers program well frames fit addresses pages calls few c r w base (r RETURN_ADDRESS) (suc (length c.frames)) c.active.slots s found.rest q refl refl refl
+        let in_rest = standing_handlers program well frames fit addresses pages calls few c r w base (r RETURN_ADDRESS) (suc (length c.frames)) c.active.slots s found.rest q refl refl refl refl
         (subst (λ (n : ℕ). IsNewest program frames addresses calls n base c.active.function found.rest c.frames) (sym is) found.newest)
         (kept_here frame w base (r RETURN_ADDRESS) found.rest found.kept) in
         let at_next = standing_at program well frames fit addresses pages calls few c0 q w base (r RETURN_ADDRESS) (suc (length c.frames)) c.active.slots in_rest next refl refl refl refl refl refl s.input in
@@ -308,7 +308,7 @@ module _ (program : Program) (well : IsWellFormed program) (frames : List Frame)
       pub one : IsRecord program frames addresses calls (q HANDLERS) low call.function (suc (length waiting)) index first contents
       pub others : IsNewest program frames addresses calls (contents 0) low call.function rest waiting
       pub kept : w.words (low + 4 * (frame_at frames call.function).return_address) ≡ back
-      pub same : q HANDLERS ≡ r HANDLERS
+      pub same : lasting q ≡ lasting r
       pub intact : is_intact call.slots first contents ≡ true
       pub does : t ≡ states.Running (record c { active = record call { next = index; slots = put (put call.slots first tag) (suc first) value; handlers = Caught ∷ rest }; frames = waiting })
 
@@ -324,7 +324,7 @@ module _ (program : Program) (well : IsWellFormed program) (frames : List Frame)
 
       -- in one call, or beyond it
       in_call : (call : Activation) (waiting : List states.Frame) (q : Words) (low back : ℕ) (beyond : states.State)
-          → Standing program frames addresses pages calls (record c { active = call; frames = waiting }) q w low back (suc (length waiting)) call.slots → q HANDLERS ≡ r HANDLERS
+          → Standing program frames addresses pages calls (record c { active = call; frames = waiting }) q w low back (suc (length waiting)) call.slots → lasting q ≡ lasting r
           → (call.handlers ≡ [] → Search tag value beyond) → (handlers : List Handler) → call.handlers ≡ handlers
           → IsNewest program frames addresses calls (q HANDLERS) low call.function handlers waiting → IsKept (frame_at frames call.function) w low back handlers
           → Search tag value (lands c tag value call waiting beyond handlers)
@@ -377,13 +377,14 @@ module _ (program : Program) (well : IsWellFormed program) (frames : List Frame)
             based = stands.based.1;
             store = stands.store;
             laid = stands.laid;
+            counted = stands.counted;
           }
 
-      search : (waiting : List states.Frame) (call : Activation) (q : Words) (low back : ℕ) → q HANDLERS ≡ r HANDLERS
+      search : (waiting : List states.Frame) (call : Activation) (q : Words) (low back : ℕ) → lasting q ≡ lasting r
           → Standing program frames addresses pages calls (record c { active = call; frames = waiting }) q w low back (suc (length waiting)) call.slots → Search tag value (throws c tag value call waiting)
       search [] call q low back same stands =
           in_call call [] q low back (states.Ended (Uncaught tag (signed value)) c.output c.input) stands same
-          (λ none. nobody (sym same ∙ subst (λ (hs : List Handler). IsNewest program frames addresses calls (q HANDLERS) low call.function hs []) none stands.newest) refl)
+          (λ none. nobody (sym (newest_lasts q r same) ∙ subst (λ (hs : List Handler). IsNewest program frames addresses calls (q HANDLERS) low call.function hs []) none stands.newest) refl)
           call.handlers refl stands.newest stands.kept
       search (f ∷ waiting) call q low back same stands =
           in_call call (f ∷ waiting) q low back (throws c tag value f.caller waiting) stands same
@@ -405,7 +406,7 @@ module _ (program : Program) (well : IsWellFormed program) (frames : List Frame)
         its_lies = lies program well frames fit addresses pages calls few there it.q w it.low it.back (suc (length it.waiting)) it.call.slots it.stands
 
         record_at : r HANDLERS ≡ it.low + slot_offset its it.first
-        record_at = sym it.same ∙ it.one.at
+        record_at = sym (newest_lasts it.q r it.same) ∙ it.one.at
 
         -- a word of it
         address_is : (k : ℕ) → k < 4 → memory_address (r HANDLERS) (4 * k) ≡ it.low + slot_offset its (it.first + k)
@@ -432,7 +433,7 @@ module _ (program : Program) (well : IsWellFormed program) (frames : List Frame)
         some none = absurd (omega (arith, none, record_at, its_lies.above_low, it.stands.deep))
 
         -- where it goes on, with registers that have the record's words
-        module _ (final : Words) (zero_is : final 0 ≡ 0) (previous_is : final HANDLERS ≡ it.contents 0) (base_is : final FRAME ≡ it.contents 1) (left_is : final CALLS ≡ it.contents 3)
+        module _ (final : Words) (zero_is : final 0 ≡ 0) (previous_is : final HANDLERS ≡ it.contents 0) (base_is : final FRAME ≡ it.contents 1) (left_is : final CALLS ≡ it.contents 3) (count_is : final REGIONS ≡ r REGIONS)
             (tag_is : final 4 ≡ tag) (value_is : final 5 ≡ value) (g : labelled.Configuration)
             (at_line : At program well frames fit code formed addresses pages calls few (instruction_line program it.call.function it.index + 5) c.output c.input final w g) where
           abbrev next : Configuration
@@ -473,6 +474,7 @@ module _ (program : Program) (well : IsWellFormed program) (frames : List Frame)
               based = it.stands.based;
               store = it.stands.store;
               laid = it.stands.laid;
+              counted = count_is ∙ (sym (count_lasts it.q r it.same) ∙ it.stands.counted);
             };
             slots =
                 ap (λ (x : ℕ). put (put it.call.slots it.first x) (suc it.first) value) (sym tag_is)
@@ -550,6 +552,9 @@ module _ (program : Program) (well : IsWellFormed program) (frames : List Frame)
 
       p_newest : p HANDLERS ≡ r HANDLERS
       p_newest = kept HANDLERS (omega arith) (λ e. absurd (omega (arith, e))) (λ e. absurd (omega (arith, e)))
+
+      p_count : p REGIONS ≡ r REGIONS
+      p_count = kept REGIONS (omega arith) (λ e. absurd (omega (arith, e))) (λ e. absurd (omega (arith, e)))
 
       p_tag : p 4 ≡ word_in tag
       p_tag = second.others ARGUMENT (omega arith) (λ e. absurd (omega (arith, e))) ∙ first.result
@@ -631,14 +636,14 @@ module _ (program : Program) (well : IsWellFormed program) (frames : List Frame)
             (λ f unwound.
             walk_return code formed addresses globals_length (words_per_call * calls) 0 (label + 4) (label + 4) hi c.output c.input _ final w f (instruction_line program it.call.function it.index + 5) lie unwound
             (stands_back code label (ordinary unwound_code) (lines.Return ∷ []) unwound_stands).0 (omega arith)
-            (lands_inside it.call.function it.index it.first it.one.handler it.one.opened) (back_word ∙ it.one.line)
+            (lands_at it.call.function it.index it.first it.one.handler it.one.opened) (back_word ∙ it.one.line)
             (λ g thrown.
             walk_end code formed addresses globals_length (words_per_call * calls) (suc (label + 4)) hi c.output _ (Running g) (omega arith)
             (reached program well frames fit code formed addresses pages calls few c zeros (plain.Throw tag value)
             (states.Running (record c { active = record it.call { next = it.index; slots = put (put it.call.slots it.first (word_in tag)) (suc it.first) (word_in value); handlers = Caught ∷ it.rest }; frames = it.waiting }))
             (Running g) (zeros_at program c (plain.Throw tag value) at_i refl) at_i it.does
             (within program well frames fit code formed addresses pages calls few (record c { active = record it.call { next = it.index; slots = put (put it.call.slots it.first (word_in tag)) (suc it.first) (word_in value); handlers = Caught ∷ it.rest }; frames = it.waiting }) s.laid.paged it.stands.deep)
-            (inr (inr (landed (word_in tag) (word_in value) (performed program zeros c (plain.Throw tag value)) it final p_zero previous_word base_word left_word p_tag p_value g thrown)))))))))
+            (inr (inr (landed (word_in tag) (word_in value) (performed program zeros c (plain.Throw tag value)) it final p_zero previous_word base_word left_word p_count p_tag p_value g thrown)))))))))
 
       pub throw_goes : Goes 1 here hi (Running run)
       throw_goes = by (search (word_in tag) (word_in value) c.frames c.active r base (r RETURN_ADDRESS) refl s)
@@ -718,7 +723,7 @@ module _ (program : Program) (well : IsWellFormed program) (frames : List Frame)
       landing_is = ap addresses (let e : here + 4 + 1 ≡ here + 5 = omega arith in e)
 
       landing_word : IsWord landing
-      landing_word = omega (arith, landing_is, lie.below (here + 5) (lands_inside c.active.function c.active.next first handler at_i))
+      landing_word = omega (arith, landing_is, lie.below (here + 5) (lands_at c.active.function c.active.next first handler at_i).inside)
 
       abbrev r1 : Words
       r1 = put r RETURN_ADDRESS (addresses (here + 4 + 1))
@@ -802,6 +807,7 @@ module _ (program : Program) (well : IsWellFormed program) (frames : List Frame)
         based = s.based;
         store = s5.store;
         laid = s.laid;
+        counted = s.counted;
       }
 
       call_stands : Stands code (here + 4) (lines.Call (here + 9) ∷ between ++ ordinary after)

@@ -47,7 +47,7 @@ executes_grows code addresses c (lines.Ordinary i) new does = ordinary_grows (is
 executes_grows code addresses c (lines.Branch condition label) new is = subst (Grows c) (sym is) (IsPrefix-refl c.output)
 executes_grows code addresses c (lines.Jump label) new is = subst (Grows c) (sym is) (IsPrefix-refl c.output)
 executes_grows code addresses c (lines.Call label) new is = subst (Grows c) (sym is) (IsPrefix-refl c.output)
-executes_grows code addresses c lines.Return new (inl (line, below, lies, is)) = subst (Grows c) (sym is) (IsPrefix-refl c.output)
+executes_grows code addresses c lines.Return new (inl (line, point, lies, is)) = subst (Grows c) (sym is) (IsPrefix-refl c.output)
 executes_grows code addresses c lines.Return new (inr (nowhere, is)) = subst (Grows c) (sym is) (IsPrefix-refl c.output)
 
 line_grows : (code : Labelled) (addresses : ℕ → ℕ) (c : Configuration) (line : Option Line) (new : State) → ExecutesAt code addresses c line new → Grows c new

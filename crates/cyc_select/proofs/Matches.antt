@@ -3,7 +3,7 @@ use Rattle.std.proofs.Common.{◌≡◌, ℕ, suc, ◌+◌, ◌*◌, ◌<◌, �
 use Rattle.std.specs.Prelude.{◌⊎◌, slice_index}
 use Rattle.std.specs.List.{AllByRecursion}
 use Rattle.std.proofs.lemmas.Bool.{and_from, le-leb}
-use Rattle.cyc_select.specs.declared.constants.TheConstants.{CALLS, FRAME, HANDLERS}
+use Rattle.cyc_select.specs.declared.constants.TheConstants.{CALLS, FRAME}
 use Rattle.cyc_machine.specs.declared.constants.TheConstants.{RETURN_ADDRESS}
 use Rattle.cyc_words.specs.Word.{IsWord}
 use Rattle.cyc_isa.specs.Effect.{memory_address}
@@ -23,6 +23,7 @@ use Rattle.cyc_select.specs.Labelled.{Labelled, IsFormed}
 use Rattle.cyc_select.specs.Machine as labelled
 use Rattle.cyc_select.specs.Machine.{State, Running, Ended}
 use Rattle.cyc_select.specs.Selection.{slot_offset, instruction_line, count_of}
+use Rattle.cyc_select.proofs.Blocks.{lasting}
 use Rattle.cyc_select.proofs.Lines.{line_next}
 use Rattle.cyc_select.proofs.Views.{Contents, written}
 use Rattle.cyc_select.proofs.Walks.{Now, now_at}
@@ -114,17 +115,17 @@ module _ (program : Program) (well : IsWellFormed program) (frames : List Frame)
         → performed program zeros c i ≡ gives (record c { input = input }) destination word
         → AllByRecursion IsWord input
         → line ≡ instruction_line program c.active.function c.active.next + count_of program c.active.function i
-        → r' 0 ≡ r 0 → r' FRAME ≡ r FRAME → r' CALLS ≡ r CALLS → r' RETURN_ADDRESS ≡ r RETURN_ADDRESS → r' HANDLERS ≡ r HANDLERS
+        → r' 0 ≡ r 0 → r' FRAME ≡ r FRAME → r' CALLS ≡ r CALLS → r' RETURN_ADDRESS ≡ r RETURN_ADDRESS → lasting r' ≡ lasting r
         → w' ≡ written w (memory_address (r FRAME) (slot_offset (frame_at frames c.active.function) destination)) word
         → At line c.output input r' w' run → Reached c (Running run)
-    reached_gives destination word input line run r' w' below does fine line_is zero_same base_same left_same back_same newest_same puts now =
+    reached_gives destination word input line run r' w' below does fine line_is zero_same base_same left_same back_same lasts_same puts now =
         let d : Configuration = record c { active = record c.active { next = c.active.next + 1; slots = put c.active.slots destination word }; input = input } in
         let address = slot_address program well frames fit addresses pages calls few c r w base (r RETURN_ADDRESS) (suc (length c.frames)) c.active.slots s destination below in
         let put_slot = standing_slot program well frames fit addresses pages calls few c r w base (r RETURN_ADDRESS) (suc (length c.frames)) c.active.slots s destination word below in
         let in_w' : Standing program frames addresses pages calls c r w' base (r RETURN_ADDRESS) (suc (length c.frames)) (put c.active.slots destination word) =
         subst (λ (x : Contents). Standing program frames addresses pages calls c r x base (r RETURN_ADDRESS) (suc (length c.frames)) (put c.active.slots destination word))
         (sym (puts ∙ ap (λ (a : ℕ). written w a word) address)) put_slot in
-        let in_r' = standing_registers program well frames fit addresses pages calls few c r w' base (r RETURN_ADDRESS) (suc (length c.frames)) (put c.active.slots destination word) in_w' r' zero_same base_same left_same newest_same in
+        let in_r' = standing_registers program well frames fit addresses pages calls few c r w' base (r RETURN_ADDRESS) (suc (length c.frames)) (put c.active.slots destination word) in_w' r' zero_same base_same left_same lasts_same in
         let there = standing_at program well frames fit addresses pages calls few c r' w' base (r RETURN_ADDRESS) (suc (length c.frames)) (put c.active.slots destination word) in_r' d refl refl refl refl refl refl fine in
         let with_back = subst (λ (b : ℕ). Standing program frames addresses pages calls d r' w' base b (suc (length c.frames)) (put c.active.slots destination word)) (sym back_same) there in
         let line_same : line ≡ instruction_line program c.active.function (c.active.next + 1) = line_is ∙ sym (line_next program c.active.function c.active.next i at) in
@@ -144,10 +145,10 @@ module _ (program : Program) (well : IsWellFormed program) (frames : List Frame)
         → d.active.function ≡ c.active.function → d.active.base ≡ c.active.base → d.active.handlers ≡ c.active.handlers → d.active.slots ≡ c.active.slots → d.frames ≡ c.frames → d.globals ≡ c.globals → d.store ≡ c.store → d.input ≡ c.input
         → performed program zeros c i ≡ states.Running d
         → line ≡ instruction_line program d.active.function d.active.next
-        → r' 0 ≡ r 0 → r' FRAME ≡ r FRAME → r' CALLS ≡ r CALLS → r' RETURN_ADDRESS ≡ r RETURN_ADDRESS → r' HANDLERS ≡ r HANDLERS → w' ≡ w
+        → r' 0 ≡ r 0 → r' FRAME ≡ r FRAME → r' CALLS ≡ r CALLS → r' RETURN_ADDRESS ≡ r RETURN_ADDRESS → lasting r' ≡ lasting r → w' ≡ w
         → At line d.output d.input r' w' run → Reached c (Running run)
-    reached_at d line run r' w' function_same place_same handlers_same slots_same frames_same globals_same store_same input_same does line_is zero_same base_same left_same back_same newest_same unchanged now =
-        let in_r' = standing_registers program well frames fit addresses pages calls few c r w base (r RETURN_ADDRESS) (suc (length c.frames)) c.active.slots s r' zero_same base_same left_same newest_same in
+    reached_at d line run r' w' function_same place_same handlers_same slots_same frames_same globals_same store_same input_same does line_is zero_same base_same left_same back_same lasts_same unchanged now =
+        let in_r' = standing_registers program well frames fit addresses pages calls few c r w base (r RETURN_ADDRESS) (suc (length c.frames)) c.active.slots s r' zero_same base_same left_same lasts_same in
         let fine : AllByRecursion IsWord d.input = subst (λ (l : List ℕ). AllByRecursion IsWord l) (sym input_same) s.input in
         let there = standing_at program well frames fit addresses pages calls few c r' w base (r RETURN_ADDRESS) (suc (length c.frames)) c.active.slots in_r' d function_same place_same handlers_same frames_same globals_same store_same fine in
         let with_slots = subst (λ (x : Words). Standing program frames addresses pages calls d r' w base (r RETURN_ADDRESS) (suc (length c.frames)) x) (sym slots_same) there in

@@ -7,7 +7,7 @@ use Rattle.cyc_plain.specs.declared.instruction.BinaryOperator.{BinaryOperator}
 use Rattle.cyc_plain.specs.declared.instruction.BinaryOperator.TheVariants as binary
 use Rattle.cyc_plain.specs.declared.instruction.Instruction.{Instruction}
 use Rattle.cyc_plain.specs.declared.instruction.Instruction.TheVariants as plain
-use Rattle.cyc_plain.specs.Requests.{first_operand, second_operand}
+use Rattle.cyc_plain.specs.Requests.{second_operand}
 use Rattle.cyc_plain.specs.Program.{Program, Routine, no_routine, routine_at, operator_size, instruction_size, size}
 use Rattle.cyc_plain.specs.WellFormed.{IsMoveInRange, IsRoutine, IsWellFormed}
 use Rattle.cyc_plain.specs.declared.limits.TheConstants.{GREATEST_VALUE, MOST_SIZE}
@@ -18,7 +18,7 @@ use Rattle.cyc_select.specs.declared.constants.TheConstants.{START_LINES}
 use Rattle.cyc_select.specs.Selection.{result_registers, ending_count, count_of, function_count, functions_count, function_line, instruction_line, code_lines, function_lines}
 use Rattle.cyc_select.specs.Plans.{test_of}
 use Rattle.cyc_select.specs.Emission.{AreReached, AreFew, most_lines, instruction_lines, function_starts, AreReady, AreTables}
-use Rattle.cyc_select.proofs.Counts.{length_registers, registers_few, argument_small, word_small, load_small, operand_small, address_small, unary_small, test_small, operator_small}
+use Rattle.cyc_select.proofs.Counts.{length_registers, registers_few, argument_small, regions_small, word_small, load_small, operand_small, address_small, unary_small, test_small, operator_small}
 
 -- ---- an instruction has few lines for each unit of its size
 
@@ -51,7 +51,8 @@ count_small program function few (plain.StoreGlobal global source) = omega (arit
 count_small program function few (plain.MoveWords destination source count) = omega (arith, registers_few count)
 count_small program function few (plain.Load destination address offset) = omega (arith, address_small address offset)
 count_small program function few (plain.Store address offset source) = omega (arith, address_small address offset, operand_small source)
-count_small program function few (plain.Ask request) = omega (arith, argument_small (first_operand request), argument_small (second_operand request))
+count_small program function few (plain.Ask request) = omega (arith, regions_small request, argument_small (second_operand request))
+count_small program function few (plain.CountLexical destination) = omega arith
 count_small program function few (plain.Try first handler) = omega arith
 count_small program function few (plain.Leave first) = omega arith
 count_small program function few (plain.Throw tag value) = omega (arith, load_small tag, load_small value)

@@ -45,6 +45,7 @@ leaves_none program (plain.MoveWords destination source count) last = refl
 leaves_none program (plain.Load destination address offset) last = refl
 leaves_none program (plain.Store address offset source) last = refl
 leaves_none program (plain.Ask request) last = refl
+leaves_none program (plain.CountLexical destination) last = refl
 leaves_none program (plain.Try first handler) last = refl
 leaves_none program (plain.Leave first) last = refl
 leaves_none program (plain.Throw tag value) last = refl

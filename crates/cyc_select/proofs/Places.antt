@@ -321,6 +321,7 @@ module _ (program : Program) (well : IsWellFormed program) (frames : List Frame)
               based = based_waiting program a new frames base c.active.function c.active.base c.frames s.based;
               store = s.store;
               laid = s.laid;
+              counted = s.counted;
             });
       }
 

@@ -1,14 +1,15 @@
 -- The instruction that calls the store.
-use Rattle.std.proofs.Common.{◌≡◌, ◌≢◌, ℕ, suc, ◌+◌, ◌*◌, ◌%◌, ◌<◌, ◌≤◌, List, [], ◌∷◌, ◌++◌, length, Option, None, Some, refl, sym, ap, subst, ◌∙◌, arith, inl}
+use Rattle.std.proofs.Common.{◌≡◌, ◌≢◌, ℕ, suc, ◌+◌, ◌*◌, ◌%◌, ◌^◌, ◌<◌, ◌≤◌, List, [], ◌∷◌, ◌++◌, length, length-append, Option, None, Some, refl, sym, ap, subst, ◌∙◌, arith, inl}
 use Rattle.cyc_words.specs.Ending.{Full}
 use Rattle.cyc_words.specs.Word.{add_of, sign_extended}
 use Rattle.cyc_isa.specs.Effect.{memory_address}
 use Rattle.cyc_isa.specs.declared.instr.Instr.{Instr}
 use Rattle.cyc_machine.specs.State.{globals_length, words_per_call}
 use Rattle.cyc_machine.specs.declared.constants.TheConstants.{ARGUMENT, RETURN_ADDRESS, SECOND_ARGUMENT, SERVICE}
-use Rattle.cyc_store.specs.State.{StoreState}
+use Rattle.cyc_store.specs.State.{StoreState, lexical_count}
 use Rattle.cyc_store.specs.Services as services
 use Rattle.cyc_store.specs.Services.{Call, Answer, refusal, served, answer}
+use Rattle.cyc_store.specs.Soundness.{IsSound}
 use Rattle.cyc_store.proofs.LookupLemmas.{same_some}
 use Rattle.cyc_plain.specs.declared.instruction.Instruction.{Instruction}
 use Rattle.cyc_plain.specs.declared.instruction.Instruction.TheVariants as plain
@@ -26,21 +27,22 @@ use Rattle.cyc_plain.proofs.SlotLaws.{put-other}
 use Rattle.cyc_plain.proofs.RunLaws.{zeros, zeros_refused, over_within, lies_at}
 use Rattle.cyc_frame.specs.Layout.{AreFrames, frame_at}
 use Rattle.cyc_frame.specs.declared.frame.Frame.{Frame}
-use Rattle.cyc_select.specs.declared.constants.TheConstants.{CALLS, FRAME, HANDLERS}
+use Rattle.cyc_select.specs.declared.constants.TheConstants.{CALLS, FRAME, HANDLERS, REGIONS}
 use Rattle.cyc_select.specs.Labelled.{Labelled, IsFormed}
 use Rattle.cyc_select.specs.Machine as labelled
 use Rattle.cyc_select.specs.Machine.{State, Running, Ended}
-use Rattle.cyc_select.specs.Selection.{ordinary, small, syscall, slot_offset, store_all, result_registers, argument_code, argument_count, service_number, answer_code, ask_count, body, instruction_line}
+use Rattle.cyc_select.specs.Selection.{ordinary, small, syscall, slot_offset, store_all, result_registers, argument_code, argument_count, service_number, answer_code, regions_code, regions_count, ask_count, body, instruction_line}
+use Rattle.cyc_select.proofs.Blocks.{safe_append}
 use Rattle.cyc_select.proofs.Computing.{IsHeld, load_puts}
-use Rattle.cyc_select.proofs.Counts.{service_small, length_argument, length_answer, length_registers, answer_few}
+use Rattle.cyc_select.proofs.Counts.{service_small, length_argument, length_answer, length_regions, length_registers, answer_few}
 use Rattle.cyc_select.proofs.Effects.{call_by}
 use Rattle.cyc_select.proofs.Lines.{line_next}
 use Rattle.cyc_select.proofs.Matches.{At, Reached, reached, within}
 use Rattle.cyc_select.proofs.Operations.{add_small}
-use Rattle.cyc_select.proofs.Standing.{Standing, slot_address, slot_cell, slot_word_is, standing_registers, standing_at, standing_slot, standing_store}
-use Rattle.cyc_select.proofs.Stores.{IsLaid, served_laid, served_words}
+use Rattle.cyc_select.proofs.Standing.{Standing, slot_address, slot_cell, slot_word_is, standing_at, standing_slot, standing_store}
+use Rattle.cyc_select.proofs.Stores.{lexical_opened, lexical_besides, lexical_left, lexical_made, lexical_closed, marks_few, IsLaid, served_laid, served_words}
 use Rattle.cyc_select.proofs.Views.{Contents, IsWritable, written, answered_r}
-use Rattle.cyc_select.proofs.Walks.{Stands, stands_first, stands_behind, after_r, after_w, AreSafe, Walk, now_at, now_is, walk_few, walk_block, walk_served, walk_no_room, comes_block, lines_from, lines_rise}
+use Rattle.cyc_select.proofs.Walks.{Stands, stands_first, stands_behind, after_r, after_w, AreSafe, after_r-append, after_w-append, Walk, now_at, now_is, walk_few, walk_block, walk_served, walk_no_room, comes_block, lines_from, lines_rise}
 
 -- ---- what is asked, and what is answered
 
@@ -60,16 +62,60 @@ abbrev pub put_all : (slot : ℕ) → List ℕ → (q slots : Words) → Words
 put_all slot [] q slots = slots
 put_all slot (source ∷ sources) q slots = put_all (suc slot) sources q (put slots slot (q (source % 32)))
 
--- and these are what the store answers
-told_is : (request : Request) (store : StoreState) (slots q : Words) (choice : services.Choice)
-    → put_all (destination_of request) (result_registers (answer_count request)) (answered_r (answer store (call_in slots request) choice) q) slots
+-- and these are what the store answers, also behind the lines that count regions
+told_is : (request : Request) (store : StoreState) (slots q : Words) (m : Contents) (choice : services.Choice)
+    → put_all (destination_of request) (result_registers (answer_count request)) (after_r (regions_code request) (answered_r (answer store (call_in slots request) choice) q) m) slots
     ≡ told (answer store (call_in slots request) choice) (destination_of request) slots
-told_is (requests.OpenLexical destination) store slots q choice = refl
-told_is (requests.CloseTo mark) store slots q choice = refl
-told_is (requests.OpenDynamic destination) store slots q choice = refl
-told_is (requests.CloseDynamic handle) store slots q choice = refl
-told_is (requests.Allocate destination handle words) store slots q choice = refl
-told_is (requests.Free address) store slots q choice = refl
+told_is (requests.OpenLexical destination) store slots q m choice = refl
+told_is (requests.CloseTo mark) store slots q m choice = refl
+told_is (requests.OpenDynamic destination) store slots q m choice = refl
+told_is (requests.CloseDynamic handle) store slots q m choice = refl
+told_is (requests.Allocate destination handle words) store slots q m choice = refl
+told_is (requests.Free address) store slots q m choice = refl
+
+-- ---- how many lexical regions are open
+
+regions_safe : (globals stack : ℕ) (request : Request) (q : Words) (m : Contents) → AreSafe globals stack (regions_code request) q m
+regions_safe globals stack (requests.OpenLexical destination) q m = (refl, tt)
+regions_safe globals stack (requests.CloseTo mark) q m = (refl, tt)
+regions_safe globals stack (requests.OpenDynamic destination) q m = tt
+regions_safe globals stack (requests.CloseDynamic handle) q m = tt
+regions_safe globals stack (requests.Allocate destination handle words) q m = tt
+regions_safe globals stack (requests.Free address) q m = tt
+
+regions_memory : (request : Request) (q : Words) (m : Contents) → after_w (regions_code request) q m ≡ m
+regions_memory (requests.OpenLexical destination) q m = refl
+regions_memory (requests.CloseTo mark) q m = refl
+regions_memory (requests.OpenDynamic destination) q m = refl
+regions_memory (requests.CloseDynamic handle) q m = refl
+regions_memory (requests.Allocate destination handle words) q m = refl
+regions_memory (requests.Free address) q m = refl
+
+regions_others : (request : Request) (q : Words) (m : Contents) (n : ℕ) → n ≢ REGIONS → after_r (regions_code request) q m n ≡ q n
+regions_others (requests.OpenLexical destination) q m n other = put-other q REGIONS n _ other
+regions_others (requests.CloseTo mark) q m n other = put-other q REGIONS n _ other
+regions_others (requests.OpenDynamic destination) q m n other = refl
+regions_others (requests.CloseDynamic handle) q m n other = refl
+regions_others (requests.Allocate destination handle words) q m n other = refl
+regions_others (requests.Free address) q m n other = refl
+
+-- behind these lines a register tells it of what the store holds then
+regions_told : (request : Request) (store : StoreState) (slots q : Words) (m : Contents) (choice : services.Choice) → IsSound store → refusal store (call_in slots request) ≡ None
+    → ((operand : Operand) → first_operand request ≡ Some operand → q 4 ≡ operand_word slots operand) → q REGIONS ≡ lexical_count store.regions % 2 ^ 32
+    → after_r (regions_code request) (answered_r (answer store (call_in slots request) choice) q) m REGIONS ≡ lexical_count (served store (call_in slots request) choice).regions % 2 ^ 32
+unfolding sign_extended
+regions_told (requests.OpenLexical destination) store slots q m choice sound free first before =
+    ap (λ (n : ℕ). n % 2 ^ 32) (sym (lexical_opened store.regions choice.handle))
+regions_told (requests.CloseTo mark) store slots q m choice sound free first before =
+    let same : q 4 + 0 ≡ operand_word slots mark = omega (arith, first mark refl) in
+    ap (λ (n : ℕ). n % 2 ^ 32) (same ∙ sym (lexical_left (operand_word slots mark) store.regions (marks_few store (operand_word slots mark) free)))
+regions_told (requests.OpenDynamic destination) store slots q m choice sound free first before =
+    before ∙ ap (λ (n : ℕ). n % 2 ^ 32) (sym (lexical_besides store.regions choice.handle))
+regions_told (requests.CloseDynamic handle) store slots q m choice sound free first before =
+    before ∙ ap (λ (n : ℕ). n % 2 ^ 32) (sym (lexical_closed store (operand_word slots handle) sound free))
+regions_told (requests.Allocate destination handle words) store slots q m choice sound free first before =
+    before ∙ ap (λ (n : ℕ). n % 2 ^ 32) (sym (lexical_made store (operand_word slots handle) (services.block_of (operand_word slots handle) (operand_word slots words) choice)))
+regions_told (requests.Free address) store slots q m choice sound free first before = before
 
 -- other registers are as before
 answered-other : (a : Answer) (q : Words) (n : ℕ) → n ≢ 2 → n ≢ 3 → answered_r a q n ≡ q n
@@ -179,8 +225,11 @@ module _ (program : Program) (well : IsWellFormed program) (frames : List Frame)
     abbrev answers : List Instr
     answers = answer_code frame request
 
+    abbrev counts : List Instr
+    counts = regions_code request
+
     abbrev last : List Instr
-    last = small SERVICE (service_number request) ∷ syscall ∷ answer_code frame request
+    last = small SERVICE (service_number request) ∷ syscall ∷ (regions_code request ++ answer_code frame request)
 
     abbrev hi : ℕ
     hi = here + ask_count request
@@ -194,8 +243,8 @@ module _ (program : Program) (well : IsWellFormed program) (frames : List Frame)
     more : length js ≡ argument_count (second_operand request)
     more = length_argument frame SECOND_ARGUMENT (second_operand request)
 
-    stored_few : length answers ≡ answer_count request
-    stored_few = length_answer frame request
+    stored_few : length (counts ++ answers) ≡ regions_count request + answer_count request
+    stored_few = omega (arith, length-append counts answers, length_regions request, length_answer frame request)
 
     first : HasArgument is ARGUMENT (first_operand request) r w
     first = has_argument ARGUMENT refl refl (first_operand request) in_range.first_in_range fits.0 r w s.zero_is refl refl
@@ -295,37 +344,48 @@ module _ (program : Program) (well : IsWellFormed program) (frames : List Frame)
       abbrev w1 : Contents
       w1 = record w { store = served c.store call chosen }
 
-      abbrev final : Words
-      final = answered_r (answer c.store call chosen) ready
+      -- what the registers hold behind the service, and behind the lines that count regions
+      abbrev answered : Words
+      answered = answered_r (answer c.store call chosen) ready
 
-      final_keeps : (n : ℕ) → n < 32 → n ≢ 2 → n ≢ 3 → n ≢ ARGUMENT → n ≢ SECOND_ARGUMENT → final n ≡ r n
-      final_keeps n below two three four five =
-          answered-other given ready n two three
-          ∙ (put-other p SERVICE n (add_of (p 0) (sign_extended (service_number request))) two ∙ kept n below four five)
+      abbrev final : Words
+      final = after_r counts answered w1
+
+      final_keeps : (n : ℕ) → n < 32 → n ≢ 2 → n ≢ 3 → n ≢ ARGUMENT → n ≢ SECOND_ARGUMENT → n ≢ REGIONS → final n ≡ r n
+      final_keeps n below two three four five count =
+          regions_others request answered w1 n count
+          ∙ (answered-other given ready n two three
+          ∙ (put-other p SERVICE n (add_of (p 0) (sign_extended (service_number request))) two ∙ kept n below four five))
 
       zero_kept : final 0 ≡ r 0
-      zero_kept = final_keeps 0 (omega arith) (λ e. absurd (omega (arith, e))) (λ e. absurd (omega (arith, e))) (λ e. absurd (omega (arith, e))) (λ e. absurd (omega (arith, e)))
+      zero_kept = final_keeps 0 (omega arith) (λ e. absurd (omega (arith, e))) (λ e. absurd (omega (arith, e))) (λ e. absurd (omega (arith, e))) (λ e. absurd (omega (arith, e))) (λ e. absurd (omega (arith, e)))
 
       base_kept : final FRAME ≡ r FRAME
-      base_kept = final_keeps FRAME (omega arith) (λ e. absurd (omega (arith, e))) (λ e. absurd (omega (arith, e))) (λ e. absurd (omega (arith, e))) (λ e. absurd (omega (arith, e)))
+      base_kept = final_keeps FRAME (omega arith) (λ e. absurd (omega (arith, e))) (λ e. absurd (omega (arith, e))) (λ e. absurd (omega (arith, e))) (λ e. absurd (omega (arith, e))) (λ e. absurd (omega (arith, e)))
 
       left_kept : final CALLS ≡ r CALLS
-      left_kept = final_keeps CALLS (omega arith) (λ e. absurd (omega (arith, e))) (λ e. absurd (omega (arith, e))) (λ e. absurd (omega (arith, e))) (λ e. absurd (omega (arith, e)))
+      left_kept = final_keeps CALLS (omega arith) (λ e. absurd (omega (arith, e))) (λ e. absurd (omega (arith, e))) (λ e. absurd (omega (arith, e))) (λ e. absurd (omega (arith, e))) (λ e. absurd (omega (arith, e)))
 
       newest_kept : final HANDLERS ≡ r HANDLERS
-      newest_kept = final_keeps HANDLERS (omega arith) (λ e. absurd (omega (arith, e))) (λ e. absurd (omega (arith, e))) (λ e. absurd (omega (arith, e))) (λ e. absurd (omega (arith, e)))
+      newest_kept = final_keeps HANDLERS (omega arith) (λ e. absurd (omega (arith, e))) (λ e. absurd (omega (arith, e))) (λ e. absurd (omega (arith, e))) (λ e. absurd (omega (arith, e))) (λ e. absurd (omega (arith, e)))
 
       back_kept : final RETURN_ADDRESS ≡ r RETURN_ADDRESS
-      back_kept = final_keeps RETURN_ADDRESS (omega arith) (λ e. absurd (omega (arith, e))) (λ e. absurd (omega (arith, e))) (λ e. absurd (omega (arith, e))) (λ e. absurd (omega (arith, e)))
+      back_kept = final_keeps RETURN_ADDRESS (omega arith) (λ e. absurd (omega (arith, e))) (λ e. absurd (omega (arith, e))) (λ e. absurd (omega (arith, e))) (λ e. absurd (omega (arith, e))) (λ e. absurd (omega (arith, e)))
 
       laid : IsLaid pages (served c.store call chosen)
       laid = served_laid pages c.store call chosen free allowed s.laid
 
+      count_told : final REGIONS ≡ lexical_count (served c.store call chosen).regions % 2 ^ 32
+      count_told =
+          regions_told request c.store c.active.slots ready w1 chosen s.laid.sound free
+          (λ operand e. second.others ARGUMENT (omega arith) (λ x. absurd (omega (arith, x))) ∙ first.result operand e)
+          (put-other p SERVICE REGIONS (add_of (p 0) (sign_extended (service_number request))) (λ e. absurd (omega (arith, e)))
+          ∙ (kept REGIONS (omega arith) (λ e. absurd (omega (arith, e))) (λ e. absurd (omega (arith, e))) ∙ s.counted))
+
       in_final : Standing program frames addresses pages calls c1 final w1 base (r RETURN_ADDRESS) (suc (length c.frames)) c.active.slots
       in_final =
-          standing_registers program well frames fit addresses pages calls few c1 r w1 base (r RETURN_ADDRESS) (suc (length c.frames)) c.active.slots
-          (standing_store program well frames fit addresses pages calls few c r w base (r RETURN_ADDRESS) (suc (length c.frames)) c.active.slots s (served c.store call chosen) laid)
-          final zero_kept base_kept left_kept newest_kept
+          standing_store program well frames fit addresses pages calls few c r w base (r RETURN_ADDRESS) (suc (length c.frames)) c.active.slots s (served c.store call chosen)
+          final zero_kept base_kept left_kept newest_kept count_told laid
 
       stored : AreStored program well frames fit addresses pages calls few c1 final base (r RETURN_ADDRESS) (suc (length c.frames)) (destination_of request) (result_registers (answer_count request)) w1 c.active.slots
       stored =
@@ -341,14 +401,26 @@ module _ (program : Program) (well : IsWellFormed program) (frames : List Frame)
       ends_at : Standing program frames addresses pages calls next final m base (final RETURN_ADDRESS) (suc (length c.frames)) there
       ends_at =
           let in_slots : Standing program frames addresses pages calls c1 final m base (r RETURN_ADDRESS) (suc (length c.frames)) there =
-          subst (λ (x : Words). Standing program frames addresses pages calls c1 final m base (r RETURN_ADDRESS) (suc (length c.frames)) x) (told_is request c.store c.active.slots ready chosen) stored.standing in
+          subst (λ (x : Words). Standing program frames addresses pages calls c1 final m base (r RETURN_ADDRESS) (suc (length c.frames)) x) (told_is request c.store c.active.slots ready w1 chosen) stored.standing in
           let at_next = standing_at program well frames fit addresses pages calls few c1 final m base (r RETURN_ADDRESS) (suc (length c.frames)) there in_slots next refl refl refl refl refl refl s.input in
           subst (λ (b : ℕ). Standing program frames addresses pages calls next final m base b (suc (length c.frames)) there) (sym back_kept) at_next
 
-      line_is : called + 1 + length answers ≡ instruction_line program c.active.function (c.active.next + 1)
+      -- both blocks, one behind the other
+      block_safe : AreSafe globals_length (words_per_call * calls) (counts ++ answers) answered w1
+      block_safe =
+          safe_append globals_length (words_per_call * calls) counts answers answered w1 (regions_safe globals_length (words_per_call * calls) request answered w1)
+          (subst (AreSafe globals_length (words_per_call * calls) answers final) (sym (regions_memory request answered w1)) stored.safe)
+
+      block_registers : after_r (counts ++ answers) answered w1 ≡ final
+      block_registers = after_r-append counts answers answered w1 ∙ (ap (after_r answers final) (regions_memory request answered w1) ∙ stored.same)
+
+      block_memory : after_w (counts ++ answers) answered w1 ≡ m
+      block_memory = after_w-append counts answers answered w1 ∙ ap (after_w answers final) (regions_memory request answered w1)
+
+      line_is : called + 1 + length (counts ++ answers) ≡ instruction_line program c.active.function (c.active.next + 1)
       line_is = omega (arith, line_next program c.active.function c.active.next (plain.Ask request) at_i, long, more, stored_few)
 
-      reaches : (d : labelled.Configuration) → At program well frames fit code formed addresses pages calls few (called + 1 + length answers) c.output c.input (after_r answers final w1) m d
+      reaches : (d : labelled.Configuration) → At program well frames fit code formed addresses pages calls few (called + 1 + length (counts ++ answers)) c.output c.input (after_r (counts ++ answers) answered w1) (after_w (counts ++ answers) answered w1) d
           → Reached program well frames fit code formed addresses pages calls few c (Running d)
       reaches d later =
           reached program well frames fit code formed addresses pages calls few c choice (plain.Ask request) (states.Running next) (Running d) is_allowed at_i does
@@ -359,8 +431,8 @@ module _ (program : Program) (well : IsWellFormed program) (frames : List Frame)
             w = m;
             base = base;
             is = refl;
-            now = now_at code formed addresses globals_length (words_per_call * calls) (called + 1 + length answers) (instruction_line program c.active.function (c.active.next + 1)) c.output c.input final m d line_is
-                (now_is code formed addresses globals_length (words_per_call * calls) (called + 1 + length answers) c.output c.input (after_r answers final w1) m final m d stored.same refl later);
+            now = now_at code formed addresses globals_length (words_per_call * calls) (called + 1 + length (counts ++ answers)) (instruction_line program c.active.function (c.active.next + 1)) c.output c.input final m d line_is
+                (now_is code formed addresses globals_length (words_per_call * calls) (called + 1 + length (counts ++ answers)) c.output c.input (after_r (counts ++ answers) answered w1) (after_w (counts ++ answers) answered w1) final m d block_registers block_memory later);
             standing = ends_at;
           }))
 
@@ -369,11 +441,11 @@ module _ (program : Program) (well : IsWellFormed program) (frames : List Frame)
         called_goes 1 (omega arith)
         (λ d later.
         walk_served code formed addresses globals_length (words_per_call * calls) request called called hi c.output c.input _ ready w d call c.store later last_lines.1.0 (omega arith) number call_is s.store
-        0 (lines_from code formed addresses globals_length (words_per_call * calls) (called + 1) answers) free (λ chosen allowed. served_words pages c.store call chosen allowed s.laid) (omega arith)
-        (lines_rise code formed addresses globals_length (words_per_call * calls) answers (suc called) (called + 1) hi (omega arith) (omega (arith, long, more, stored_few)))
+        0 (lines_from code formed addresses globals_length (words_per_call * calls) (called + 1) (counts ++ answers)) free (λ chosen allowed. served_words pages c.store call chosen allowed s.laid) (omega arith)
+        (lines_rise code formed addresses globals_length (words_per_call * calls) (counts ++ answers) (suc called) (called + 1) hi (omega arith) (omega (arith, long, more, stored_few)))
         (λ chosen allowed e served_now.
-        comes_block code formed addresses globals_length (words_per_call * calls) answers (called + 1) c.output c.input _ (answered_r (answer c.store call chosen) ready) (record w { store = served c.store call chosen }) e served_now last_lines.1.1
-        (stored free chosen allowed).safe (λ f after. reaches free chosen allowed f after)))
+        comes_block code formed addresses globals_length (words_per_call * calls) (counts ++ answers) (called + 1) c.output c.input _ (answered_r (answer c.store call chosen) ready) (record w { store = served c.store call chosen }) e served_now last_lines.1.1
+        (block_safe free chosen allowed) (λ f after. reaches free chosen allowed f after)))
 
     pub ask_goes : (performed program zeros c (plain.Ask request) ≡ states.Stuck c.output c.input → IsAllowed program (states.Running c) zeros → ⊥) → Goes 1 here hi (Running run)
     ask_goes never = go (refusal c.store call) refl

@@ -2,7 +2,7 @@
 use Rattle.std.proofs.Common.{◌≡◌, ◌≢◌, ℕ, zero, suc, ◌+◌, ◌-◌, ◌*◌, ◌%◌, ◌<◌, ◌≤◌, Bool, true, false, not, List, [], ◌∷◌, ◌++◌, length, Some, slice_get, refl, sym, ap, subst, ◌∙◌, arith, inl, inr}
 use Rattle.std.specs.Prelude.{◌==◌, if◌then◌else◌}
 use Rattle.std.proofs.lemmas.Bool.{cases_eq, cases_lt, cases_Bool, eq-eqb, ne_eqb}
-use Rattle.cyc_select.specs.declared.constants.TheConstants.{CALLS, FRAME, HANDLERS}
+use Rattle.cyc_select.specs.declared.constants.TheConstants.{CALLS, FRAME, HANDLERS, REGIONS}
 use Rattle.cyc_machine.specs.declared.constants.TheConstants.{RETURN_ADDRESS}
 use Rattle.cyc_words.specs.Ending.{Returned}
 use Rattle.cyc_words.specs.Word.{signed, add_of, sign_extended}
@@ -27,7 +27,7 @@ use Rattle.cyc_select.specs.declared.code.Condition.TheVariants as conditions
 use Rattle.cyc_select.specs.declared.code.Line.TheVariants as lines
 use Rattle.cyc_select.specs.Labelled.{Labelled, IsFormed, AreAddresses}
 use Rattle.cyc_select.specs.Machine as labelled
-use Rattle.cyc_select.specs.Machine.{State, Running, Ended}
+use Rattle.cyc_select.specs.Machine.{State, Running, Ended, IsReturnPoint}
 use Rattle.cyc_select.specs.Selection.{slot_offset, load, small, add_immediate, load_slot, load_all, store_all, pop_frame, result_registers, ordinary, syscall, ending_code, ending_count, returning_code, behind, instruction_line}
 use Rattle.cyc_select.proofs.Calls.{length_ordinary}
 use Rattle.cyc_select.proofs.Cells.{IsCell}
@@ -59,6 +59,7 @@ record AreLoaded (globals stack : ℕ) (frame : Frame) (value count : ℕ) (r : 
   pub left_same : after_r (loaded frame value count) r w CALLS ≡ r CALLS
   pub back_same : after_r (loaded frame value count) r w RETURN_ADDRESS ≡ r RETURN_ADDRESS
   pub newest_same : after_r (loaded frame value count) r w HANDLERS ≡ r HANDLERS
+  pub count_same : after_r (loaded frame value count) r w REGIONS ≡ r REGIONS
   pub unchanged : after_w (loaded frame value count) r w ≡ w
   pub returned : (k : ℕ) → k < count → after_r (loaded frame value count) r w (result_register k) ≡ slots (value + k)
 
@@ -100,6 +101,7 @@ module _ (globals stack : ℕ) (frame : Frame) (r : Words) (w : Contents) (slots
     left_same = refl;
     back_same = refl;
     newest_same = refl;
+    count_same = refl;
     unchanged = refl;
     returned = λ k below. absurd (omega (arith, below));
   }
@@ -110,6 +112,7 @@ module _ (globals stack : ℕ) (frame : Frame) (r : Words) (w : Contents) (slots
     left_same = refl;
     back_same = refl;
     newest_same = refl;
+    count_same = refl;
     unchanged = refl;
     returned = λ k below. one_is k (after_r (loaded frame value 1) r w) below (first_is (omega (arith, fits)));
   }
@@ -120,6 +123,7 @@ module _ (globals stack : ℕ) (frame : Frame) (r : Words) (w : Contents) (slots
     left_same = refl;
     back_same = refl;
     newest_same = refl;
+    count_same = refl;
     unchanged = refl;
     returned = λ k below. two_are k (after_r (loaded frame value 2) r w) below (first_is (omega (arith, fits))) (second_is (omega (arith, fits)));
   }
@@ -130,6 +134,7 @@ module _ (globals stack : ℕ) (frame : Frame) (r : Words) (w : Contents) (slots
     left_same = refl;
     back_same = refl;
     newest_same = refl;
+    count_same = refl;
     unchanged = refl;
     returned = λ k below. three_are k (after_r (loaded frame value 3) r w) below (first_is (omega (arith, fits))) (second_is (omega (arith, fits))) (third_is (omega (arith, fits)));
   }
@@ -142,8 +147,8 @@ module _ (program : Program) (well : IsWellFormed program) (frames : List Frame)
     (i : Instruction) (value : ℕ) (at_i : instruction_at program (states.place_of (states.Running c)) ≡ Some i) (free : calls_nothing i ≡ true)
     (does : performed program zeros c i ≡ returns c value (routine_at program c.active.function).results c.frames) (none_open : c.active.handlers ≡ [])
     (in_range : HasSlots (routine_at program c.active.function) value (routine_at program c.active.function).results)
-    (inside : (function index callee arguments count result : ℕ) → instruction_at program (record { function = function; index = index }) ≡ Some (plain.Call callee arguments count result)
-    → behind_line program function index callee arguments count result < length code.lines)
+    (returns_to : (function index callee arguments count result : ℕ) → instruction_at program (record { function = function; index = index }) ≡ Some (plain.Call callee arguments count result)
+    → IsReturnPoint code (behind_line program function index callee arguments count result))
     (stands : Stands code (instruction_line program c.active.function c.active.next) (returning_code (c.active.function == program.main) (frame_at frames c.active.function) (instruction_line program c.active.function c.active.next) value (routine_at program c.active.function).results)) where
   abbrev here : ℕ
   here = instruction_line program c.active.function c.active.next
@@ -233,6 +238,7 @@ module _ (program : Program) (well : IsWellFormed program) (frames : List Frame)
         based = (subst (λ (fs : List states.Frame). AreBased frames base c.active.function c.active.base fs) under s.based).1;
         store = s.store;
         laid = s.laid;
+        counted = load.count_same ∙ s.counted;
       } in
       walk_few code formed addresses globals_length (words_per_call * calls) 1 (size + 1) line hi c.output _ (Running d) (omega arith)
       (walk_block code formed addresses globals_length (words_per_call * calls) (loaded frame value results) 1 line line hi c.output c.input _ r w d later
@@ -241,7 +247,7 @@ module _ (program : Program) (well : IsWellFormed program) (frames : List Frame)
       walk_return code formed addresses globals_length (words_per_call * calls) 0 (line + size) (line + size) hi c.output c.input _ (after_r (loaded frame value results) r w) (after_w (loaded frame value results) r w) e
       (behind_line program f.caller.function index c.active.function arguments count f.result) lie after
       (subst (λ (n : ℕ). slice_get code.lines (line + n) ≡ Some lines.Return) same_size (stands_back code line (ordinary (loaded frame value results)) (lines.Return ∷ []) stands_here).0)
-      (omega arith) (inside f.caller.function index c.active.function arguments count f.result at) (load.back_same ∙ is_back)
+      (omega arith) (returns_to f.caller.function index c.active.function arguments count f.result at) (load.back_same ∙ is_back)
       (λ g returned.
       walk_end code formed addresses globals_length (words_per_call * calls) (suc (line + size)) hi c.output _ (Running g) (omega (arith, far, same_size))
       (reached program well frames fit code formed addresses pages calls few c zeros i (states.Running next_state) (Running g) (zeros_at program c i at_i free) at_i is_returned
@@ -295,7 +301,7 @@ module _ (program : Program) (well : IsWellFormed program) (frames : List Frame)
       later)
   main_goes main stands_here (f ∷ waiting) under (arguments, count, index, known, at, next, is_back, holds, chain) =
       let line : ℕ = behind_line program f.caller.function index c.active.function arguments count f.result in
-      let high = lie.from (behind_line program f.caller.function index c.active.function arguments count f.result) (inside f.caller.function index c.active.function arguments count f.result at) in
+      let high = lie.from (behind_line program f.caller.function index c.active.function arguments count f.result) (returns_to f.caller.function index c.active.function arguments count f.result at).inside in
       let other : r RETURN_ADDRESS ≢ r 0 = λ e. absurd (omega (arith, e, s.zero_is, is_back, high)) in
       let leaps : (if not (r RETURN_ADDRESS == r 0) then here + 4 else here + 1) ≡ here + 4 = ap (λ (b : Bool). if not b then here + 4 else here + 1) (ne_eqb (r RETURN_ADDRESS) (r 0) other) in
       walk_branch code formed addresses globals_length (words_per_call * calls) 0 here here (here + (4 + results + 2)) c.output c.input _ r w run (conditions.Registers branch.NotEqual (register_of RETURN_ADDRESS) (register_of 0)) (here + 4) (here + 4) now stands_here.0 (omega arith) leaps
@@ -373,6 +379,7 @@ module _ (program : Program) (well : IsWellFormed program) (frames : List Frame)
     based = s.based;
     store = s.store;
     laid = s.laid;
+    counted = s.counted;
   }
 
   -- the registers hold the values from this one on
@@ -478,6 +485,7 @@ module _ (program : Program) (well : IsWellFormed program) (frames : List Frame)
     based = b.standing.based;
     store = b.standing.store;
     laid = b.standing.laid;
+    counted = b.standing.counted;
   }
     where
       one_less : (n : ℕ) → n ≡ b.r CALLS + 1 → n + suc (length c.frames) ≡ calls

@@ -33,11 +33,11 @@ use Rattle.cyc_frame.specs.Layout.{AreFrames, frame_at}
 use Rattle.cyc_frame.specs.declared.frame.Frame.{Frame}
 use Rattle.cyc_select.specs.Labelled.{Labelled, IsFormed, AreAddresses}
 use Rattle.cyc_select.specs.Machine as labelled
-use Rattle.cyc_select.specs.Machine.{State, Running, Ended, machine}
+use Rattle.cyc_select.specs.Machine.{State, Running, Ended, IsReturnPoint, machine}
 use Rattle.cyc_select.specs.declared.constants.TheConstants.{HANDLERS}
 use Rattle.cyc_select.specs.declared.code.Line.{Line}
 use Rattle.cyc_select.specs.declared.code.Line.TheVariants as lines
-use Rattle.cyc_select.specs.Selection.{recorded_code, caught_code, opened_code, body, behind, body_count, behind_count, load_count, ordinary, divide_code, plan_code, plan_count, is_tested, part_of, count_of, operator_count, instruction_line}
+use Rattle.cyc_select.specs.Selection.{recorded_code, caught_code, opened_code, body, behind, body_count, behind_count, load_count, ordinary, calling_code, divide_code, plan_code, plan_count, is_tested, part_of, count_of, operator_count, function_line, instruction_line}
 use Rattle.cyc_select.proofs.Lines.{line_next}
 use Rattle.cyc_select.specs.Numbers.{is_plain_divisor}
 use Rattle.cyc_select.specs.Plans.{binary_plan}
@@ -48,11 +48,11 @@ use Rattle.cyc_select.proofs.Views.{Contents}
 use Rattle.cyc_select.proofs.Walks.{Stands, stands_front, stands_back, Rises, rising_distinct, rising_inside, comes_map, Quiet, Walk}
 use Rattle.cyc_select.proofs.Standing.{IsNewest, Standing, behind_line}
 use Rattle.cyc_select.proofs.Matches.{At, Ready, Matches, Reached}
-use Rattle.cyc_select.proofs.Simple.{address_goes, move_goes, unary_goes, binary_goes, divide_goes, jump_goes, branch_goes, read_goes, write_goes, load_global_goes, store_global_goes, uncaught_goes}
+use Rattle.cyc_select.proofs.Simple.{address_goes, move_goes, unary_goes, binary_goes, divide_goes, jump_goes, branch_goes, read_goes, write_goes, load_global_goes, count_lexical_goes, store_global_goes, uncaught_goes}
 use Rattle.cyc_select.proofs.Accesses.{move_words_goes, load_goes, store_goes}
 use Rattle.cyc_select.proofs.Requests.{ask_goes}
 use Rattle.cyc_select.proofs.Handlers.{catch_goes, leave_goes, throw_goes, try_goes}
-use Rattle.cyc_select.proofs.Calls.{call_goes}
+use Rattle.cyc_select.proofs.Calls.{call_last, call_goes}
 use Rattle.cyc_select.proofs.Returns.{return_goes, behind_goes}
 
 -- ---- the lines of each place
@@ -103,9 +103,19 @@ module _ (program : Program) (well : IsWellFormed program) (words : HasWords pro
       subst (λ (n : ℕ). Stands code (instruction_line program function index + n) (behind program frames function (plain.Call callee arguments count result))) (long function line i)
       (stands_back code line (body program frames function line i) (behind program frames function i) (stand function index i at))
 
-  behind_inside : (function index callee arguments count result : ℕ) → instruction_at program (record { function = function; index = index }) ≡ Some (plain.Call callee arguments count result)
-      → behind_line program function index callee arguments count result < length code.lines
-  behind_inside function index callee arguments count result at = below_of_get code.lines _ _ (behind_stands function index callee arguments count result at).0
+  returns_to : (function index callee arguments count result : ℕ) → instruction_at program (record { function = function; index = index }) ≡ Some (plain.Call callee arguments count result)
+      → IsReturnPoint code (behind_line program function index callee arguments count result)
+  returns_to function index callee arguments count result at =
+      let line : ℕ = instruction_line program function index in
+      let calling : List Line = calling_code (frame_at frames function) (frame_at frames callee) line (function_line program callee) arguments count in
+      record {
+        inside = below_of_get code.lines _ _ (behind_stands function index callee arguments count result at).0;
+        call = line + 6 + 2 * count;
+        label = function_line program callee;
+        behind = omega arith;
+        calls = call_last code (frame_at frames function) (frame_at frames callee) line (function_line program callee) arguments count
+            (stands_front code line calling (behind program frames function (plain.Call callee arguments count result)) (stand function index (plain.Call callee arguments count result) at));
+      }
 
   in_range_of : (function index : ℕ) (i : Instruction) → instruction_at program (record { function = function; index = index }) ≡ Some i → IsInRange program (routine_at program function) i
   in_range_of function index i at =
@@ -132,9 +142,20 @@ module _ (program : Program) (well : IsWellFormed program) (words : HasWords pro
       (let e : line + 4 + 1 ≡ line + 5 = omega arith in e)
       (stands_front code (line + 4 + 1) between (ordinary (opened_code (frame_at frames function) first)) (stands_back code line (ordinary (recorded_code (frame_at frames function) first)) rest whole).1)
 
-  lands_inside : (function index first handler : ℕ) → instruction_at program (record { function = function; index = index }) ≡ Some (plain.Try first handler)
-      → instruction_line program function index + 5 < length code.lines
-  lands_inside function index first handler at = below_of_get code.lines _ _ (caught_stands function index first handler at).0
+  lands_at : (function index first handler : ℕ) → instruction_at program (record { function = function; index = index }) ≡ Some (plain.Try first handler)
+      → IsReturnPoint code (instruction_line program function index + 5)
+  lands_at function index first handler at =
+      let line : ℕ = instruction_line program function index in
+      let between : List Line = ordinary (caught_code (frame_at frames function) first) ++ lines.Jump (instruction_line program function handler) ∷ [] in
+      let rest : List Line = lines.Call (line + 9) ∷ between ++ ordinary (opened_code (frame_at frames function) first) in
+      let whole = stands_front code line (body program frames function line (plain.Try first handler)) [] (stand function index (plain.Try first handler) at) in
+      record {
+        inside = below_of_get code.lines _ _ (caught_stands function index first handler at).0;
+        call = line + 4;
+        label = line + 9;
+        behind = omega arith;
+        calls = (stands_back code line (ordinary (recorded_code (frame_at frames function) first)) rest whole).0;
+      }
 
   few_results : (function : ℕ) → (routine_at program function).results ≤ 3
   few_results function = elim (cases_lt function (length program.functions)) [
@@ -246,7 +267,7 @@ module _ (program : Program) (well : IsWellFormed program) (words : HasWords pro
         → Goes (body_count program c.active.function (plain.Finish value))
     finish_goes value at in_range stands [] none =
         return_goes program well frames fit code formed addresses pages calls few lie c run r w base now s (plain.Finish value) value at refl
-        (ap (finishes c value (routine_at program c.active.function).results) none) none in_range behind_inside stands
+        (ap (finishes c value (routine_at program c.active.function).results) none) none in_range returns_to stands
     finish_goes value at in_range stands (h ∷ handlers) some =
         absurd (stops_not (plain.Finish value) at (zeros_at program c (plain.Finish value) at refl) (ap (finishes c value (routine_at program c.active.function).results) some))
 
@@ -257,9 +278,9 @@ module _ (program : Program) (well : IsWellFormed program) (words : HasWords pro
     instruction_goes (plain.Jump target) at below fits stands = jump_goes program well frames fit code formed addresses pages calls few c run r w base now s target at stands
     instruction_goes (plain.Branch comparison left right target) at (a, b, below) (fits, also) stands = branch_goes program well frames fit code formed addresses pages calls few c run r w base now s comparison left right target at (a, fits) (b, also) stands
     instruction_goes (plain.Call callee arguments count result) at in_range fits stands =
-        call_goes program well frames fit code formed addresses pages calls few lie c run r w base now s callee arguments count result at in_range (behind_inside c.active.function c.active.next callee arguments count result at) stands
+        call_goes program well frames fit code formed addresses pages calls few lie c run r w base now s callee arguments count result at in_range (returns_to c.active.function c.active.next callee arguments count result at).inside stands
     instruction_goes (plain.Return value) at in_range fits stands =
-        return_goes program well frames fit code formed addresses pages calls few lie c run r w base now s (plain.Return value) value at refl refl (none_open at) in_range behind_inside stands
+        return_goes program well frames fit code formed addresses pages calls few lie c run r w base now s (plain.Return value) value at refl refl (none_open at) in_range returns_to stands
     instruction_goes (plain.ReadByte destination) at below fits stands = read_goes program well frames fit code formed addresses pages calls few c run r w base now s destination at below stands
     instruction_goes (plain.WriteByte source) at below fits stands = write_goes program well frames fit code formed addresses pages calls few c run r w base now s source at (below, fits) stands
     instruction_goes (plain.AddressOf destination slot count) at (a, some, named) fits stands =
@@ -274,11 +295,12 @@ module _ (program : Program) (well : IsWellFormed program) (words : HasWords pro
     instruction_goes (plain.Ask request) at in_range fits stands =
         ask_goes program well frames fit code formed addresses pages calls few c run r w base now s request at in_range fits stands
         (λ stops allowed. stops_not (plain.Ask request) at allowed stops)
-    instruction_goes (plain.Try first handler) at in_range fits stands = try_goes program well frames fit code formed addresses pages calls few lie c range_of lands_inside run r w base now s first handler at in_range stands
+    instruction_goes (plain.CountLexical destination) at below fits stands = count_lexical_goes program well frames fit code formed addresses pages calls few c run r w base now s destination at below stands
+    instruction_goes (plain.Try first handler) at in_range fits stands = try_goes program well frames fit code formed addresses pages calls few lie c range_of lands_at run r w base now s first handler at in_range stands
     instruction_goes (plain.Leave first) at in_range fits stands =
-        leave_goes program well frames fit code formed addresses pages calls few lie c range_of lands_inside run r w base now s first at in_range (stops_not (plain.Leave first) at (zeros_at program c (plain.Leave first) at refl)) stands
+        leave_goes program well frames fit code formed addresses pages calls few lie c range_of lands_at run r w base now s first at in_range (stops_not (plain.Leave first) at (zeros_at program c (plain.Leave first) at refl)) stands
     instruction_goes (plain.Throw tag value) at (a, b) (fits, also) stands =
-        throw_goes program well frames fit code formed addresses pages calls few lie c range_of lands_inside run r w base now s tag value at (a, fits) (b, also) (stops_not (plain.Throw tag value) at (zeros_at program c (plain.Throw tag value) at refl)) stands
+        throw_goes program well frames fit code formed addresses pages calls few lie c range_of lands_at run r w base now s tag value at (a, fits) (b, also) (stops_not (plain.Throw tag value) at (zeros_at program c (plain.Throw tag value) at refl)) stands
     instruction_goes (plain.Finish value) at in_range fits stands = finish_goes value at in_range stands c.active.handlers refl
     instruction_goes (plain.Uncaught tag value) at below (tag_fits, value_fits) stands = uncaught_goes program well frames fit code formed addresses pages calls few c run r w base now s tag value at (below, value_fits) tag_fits stands
 
@@ -360,7 +382,7 @@ module _ (program : Program) (well : IsWellFormed program) (words : HasWords pro
   known_goes c t (inr (inr landed)) never i at =
       let place : instruction_at program (states.place_of (states.Running c)) ≡ Some (plain.Try landed.first landed.handler) = landed.opened in
       stepped c t landed.run (instruction_line program c.active.function c.active.next + 5) 12 (plain.Try landed.first landed.handler) place refl (omega arith) landed.is
-      (catch_goes program well frames fit code formed addresses pages calls few lie c range_of lands_inside t landed (caught_stands c.active.function c.active.next landed.first landed.handler landed.opened))
+      (catch_goes program well frames fit code formed addresses pages calls few lie c range_of lands_at t landed (caught_stands c.active.function c.active.next landed.first landed.handler landed.opened))
   known_goes c t (inr (inl back)) never i at =
       let in_range = in_range_of c.active.function back.index (plain.Call back.callee back.arguments back.count back.result) back.call in
       stepped c t back.run (behind_line program c.active.function back.index back.callee back.arguments back.count back.result) (body_count program c.active.function i) i at refl

@@ -38,7 +38,7 @@ use Rattle.cyc_select.specs.declared.code.Line.{Line}
 use Rattle.cyc_select.specs.declared.code.Condition.{Condition}
 use Rattle.cyc_select.specs.declared.code.Condition.TheVariants as conditions
 use Rattle.cyc_select.specs.declared.code.Line.TheVariants as lines
-use Rattle.cyc_select.specs.declared.constants.TheConstants.{FIRST, SECOND, THIRD, ZERO, CALLS, FRAME, HANDLERS}
+use Rattle.cyc_select.specs.declared.constants.TheConstants.{FIRST, SECOND, THIRD, ZERO, CALLS, FRAME, HANDLERS, REGIONS}
 use Rattle.cyc_select.specs.declared.plan.Plan.{Plan}
 use Rattle.cyc_select.specs.declared.plan.Test.{Test}
 use Rattle.cyc_select.specs.declared.plan.Test.TheVariants as tests
@@ -48,7 +48,8 @@ use Rattle.cyc_select.specs.Machine as labelled
 use Rattle.cyc_select.specs.Machine.{State, Running, Ended, holds_of}
 use Rattle.cyc_select.specs.Numbers.{is_zero_word}
 use Rattle.cyc_select.specs.Selection.{add_immediate, store_slot, slot_offset, small, arithmetic_of, ordinary, syscall, upper_of_global, at_global, word_code, load_code, operand_code, operand_register, operands_code, operation_of, computed_code, plan_code, branch_on, branch_code, divided_code, divide_code, word_count, load_count, operand_count, plan_count, test_count, is_tested, body, body_count, count_of, instruction_line}
-use Rattle.cyc_select.proofs.Blocks.{Keeps, puts_keeps, after_both, safe_append}
+use Rattle.cyc_store.specs.State.{lexical_count}
+use Rattle.cyc_select.proofs.Blocks.{lasting, lasting_same, Keeps, puts_keeps, after_both, safe_append}
 use Rattle.cyc_select.proofs.Calls.{length_ordinary}
 use Rattle.cyc_select.proofs.Cells.{IsCell}
 use Rattle.cyc_select.proofs.Computing.{IsHeld, IsComputable, word_puts, load_puts, operand_puts, operands_put, operation_leaves, plan_leaves, divided_put, first_scratch, argument_scratch}
@@ -142,7 +143,7 @@ module _ (program : Program) (well : IsWellFormed program) (frames : List Frame)
       (λ d later.
       walk_end code formed addresses globals_length (words_per_call * calls) (here + length all) (here + count) c.output _ (Running d) (omega (arith, enough))
       (reached_gives program well frames fit code formed addresses pages calls few c i at_i free r w base s destination word c.input (here + length all) d (after_r all r w) (after_w all r w)
-      below does s.input (omega (arith, enough, counted)) (same 0 ∙ keeps.zero) (same FRAME ∙ keeps.base) (same CALLS ∙ keeps.left) (same RETURN_ADDRESS ∙ keeps.back) (same HANDLERS ∙ keeps.newest) puts later)))
+      below does s.input (omega (arith, enough, counted)) (same 0 ∙ keeps.zero) (same FRAME ∙ keeps.base) (same CALLS ∙ keeps.left) (same RETURN_ADDRESS ∙ keeps.back) (lasting_same (after_r all r w) (after_r is r w) (same HANDLERS) (same REGIONS) ∙ keeps.lasts) puts later)))
 
   -- ---- values
 
@@ -240,10 +241,10 @@ module _ (program : Program) (well : IsWellFormed program) (frames : List Frame)
     loads = load_count left + load_count right
 
     divided : (q : Words) (d : labelled.Configuration) → At program well frames fit code formed addresses pages calls few (here + loads + 4) c.output c.input q w d → Stands code (here + loads + 4) (ordinary (divides which destination))
-        → q 0 ≡ r 0 → q FRAME ≡ r FRAME → q CALLS ≡ r CALLS → q RETURN_ADDRESS ≡ r RETURN_ADDRESS → q HANDLERS ≡ r HANDLERS → q SECOND ≢ 0 → (q FIRST ≡ 2 ^ 31 → q SECOND ≡ 2 ^ 32 - 1 → ⊥)
+        → q 0 ≡ r 0 → q FRAME ≡ r FRAME → q CALLS ≡ r CALLS → q RETURN_ADDRESS ≡ r RETURN_ADDRESS → lasting q ≡ lasting r → q SECOND ≢ 0 → (q FIRST ≡ 2 ^ 31 → q SECOND ≡ 2 ^ 32 - 1 → ⊥)
         → result_of which (q FIRST) (q SECOND) ≡ result_of which (word_of left) (word_of right)
         → Goes 0 (here + loads + 4) (here + (loads + 7)) (Running d)
-    divided q d now_d stands zero_same base_same left_same back_same newest_same divisor least result =
+    divided q d now_d stands zero_same base_same left_same back_same lasts_same divisor least result =
         walk_few code formed addresses globals_length (words_per_call * calls) 0 (3 + 0) (here + loads + 4) (here + (loads + 7)) c.output _ (Running d) (omega arith)
         (walk_block code formed addresses globals_length (words_per_call * calls) (divides which destination) 0 (here + loads + 4) (here + loads + 4) (here + (loads + 7)) c.output c.input _ q w d now_d stands
         (divides_safe which destination q divisor least (subst (λ (x : ℕ). IsCell globals_length (words_per_call * calls) (memory_address x (slot_offset frame destination))) (sym base_same) (cell destination below)))
@@ -256,7 +257,7 @@ module _ (program : Program) (well : IsWellFormed program) (frames : List Frame)
         (divides_kept which destination q FRAME (omega arith) (λ x. absurd (omega (arith, x))) ∙ base_same)
         (divides_kept which destination q CALLS (omega arith) (λ x. absurd (omega (arith, x))) ∙ left_same)
         (divides_kept which destination q RETURN_ADDRESS (omega arith) (λ x. absurd (omega (arith, x))) ∙ back_same)
-        (divides_kept which destination q HANDLERS (omega arith) (λ x. absurd (omega (arith, x))) ∙ newest_same)
+        (lasting_same (after_r (divides which destination) q w) q (divides_kept which destination q HANDLERS (omega arith) (λ x. absurd (omega (arith, x)))) (divides_kept which destination q REGIONS (omega arith) (λ x. absurd (omega (arith, x)))) ∙ lasts_same)
         (divides_written which destination q ∙ (ap (λ (x : ℕ). written w (memory_address x (slot_offset frame destination)) (result_of which (q FIRST) (q SECOND))) base_same ∙ ap (into destination) result))
         later)))
 
@@ -272,7 +273,7 @@ module _ (program : Program) (well : IsWellFormed program) (frames : List Frame)
     -- behind the operands, with the registers that they left
     module _ (q : Words) (d : labelled.Configuration) (later : At program well frames fit code formed addresses pages calls few (here + loads + 1) c.output c.input q w d)
         (stands : Stands code (here + loads + 1) (lines.Branch (conditions.Registers branch.NotEqual (register_of SECOND) (register_of THIRD)) (here + loads + 4) ∷ last))
-        (zero_same : q 0 ≡ r 0) (base_same : q FRAME ≡ r FRAME) (left_same : q CALLS ≡ r CALLS) (back_same : q RETURN_ADDRESS ≡ r RETURN_ADDRESS) (newest_same : q HANDLERS ≡ r HANDLERS)
+        (zero_same : q 0 ≡ r 0) (base_same : q FRAME ≡ r FRAME) (left_same : q CALLS ≡ r CALLS) (back_same : q RETURN_ADDRESS ≡ r RETURN_ADDRESS) (lasts_same : lasting q ≡ lasting r)
         (dividend : q FIRST ≡ word_of left) (divisor : q SECOND ≡ word_of right) (third : q THIRD ≡ 2 ^ 32 - 1) where
       four : here + loads + 1 + 1 + 2 ≡ here + loads + 4
       four = omega arith
@@ -294,7 +295,7 @@ module _ (program : Program) (well : IsWellFormed program) (frames : List Frame)
           (stands_front code (here + loads + 1 + 1) (ordinary changed) (ordinary (divides which destination)) stands.1) (refl, (refl, tt)) (omega arith)
           (λ f there.
           walk_from code formed addresses globals_length (words_per_call * calls) 0 (here + loads + 1 + 1 + 2) (here + loads + 4) (here + (loads + 7)) c.output _ (Running f) (omega arith)
-          (divided (after_r changed q w) f (now_at code formed addresses globals_length (words_per_call * calls) (here + loads + 1 + 1 + 2) (here + loads + 4) c.output c.input _ _ f four there) last_stands zero_same base_same left_same back_same newest_same
+          (divided (after_r changed q w) f (now_at code formed addresses globals_length (words_per_call * calls) (here + loads + 1 + 1 + 2) (here + loads + 4) c.output c.input _ _ f four there) last_stands zero_same base_same left_same back_same lasts_same
           (λ e. absurd (omega (arith, e, one_is)))
           (λ e1 e2. absurd (omega (arith, e2, one_is)))
           (ap (λ (x : ℕ). result_of which (sub_of x (q FIRST)) (add_of (q 0) (sign_extended 1))) (zero_same ∙ s.zero_is)
@@ -310,7 +311,7 @@ module _ (program : Program) (well : IsWellFormed program) (frames : List Frame)
           walk_branch code formed addresses globals_length (words_per_call * calls) 0 (here + loads + 1) (here + loads + 1) (here + (loads + 7)) c.output c.input _ q w d (conditions.Registers branch.NotEqual (register_of SECOND) (register_of THIRD)) (here + loads + 4) (here + loads + 4) later stands.0 (omega arith) leaps
           (λ e after.
           walk_from code formed addresses globals_length (words_per_call * calls) 0 (suc (here + loads + 1)) (here + loads + 4) (here + (loads + 7)) c.output _ (Running e) (omega arith)
-          (divided q e after last_stands zero_same base_same left_same back_same newest_same
+          (divided q e after last_stands zero_same base_same left_same back_same lasts_same
           (λ e. nonzero (sym divisor ∙ e)) (λ e1 e2. other (sym divisor ∙ e2))
           (ap (λ (x : ℕ). result_of which x (q SECOND)) dividend ∙ ap (result_of which (word_of left)) divisor)))
 
@@ -337,7 +338,7 @@ module _ (program : Program) (well : IsWellFormed program) (frames : List Frame)
         (either_goes (after_r tested r w) d
         (now_at code formed addresses globals_length (words_per_call * calls) (here + length tested) (here + loads + 1) c.output c.input _ _ d there
         (now_is code formed addresses globals_length (words_per_call * calls) (here + length tested) c.output c.input _ _ _ _ d refl put_all.keeps.memory later))
-        behind_here put_all.keeps.zero put_all.keeps.base put_all.keeps.left put_all.keeps.back put_all.keeps.newest put_all.dividend put_all.divisor put_all.minus_one)))
+        behind_here put_all.keeps.zero put_all.keeps.base put_all.keeps.left put_all.keeps.back put_all.keeps.lasts put_all.dividend put_all.divisor put_all.minus_one)))
 
   -- ---- jumps
 
@@ -374,7 +375,7 @@ module _ (program : Program) (well : IsWellFormed program) (frames : List Frame)
       (λ e after.
       walk_end code formed addresses globals_length (words_per_call * calls) (suc (here + length is)) (here + count) c.output _ (Running e) (omega (arith, long))
       (reached_at program well frames fit code formed addresses pages calls few c i at_i free r w base s (at c (if taken then target else c.active.next + 1)) (line (if taken then target else c.active.next + 1)) e (after_r is r w) (after_w is r w)
-      refl refl refl refl refl refl refl refl does refl keeps.zero keeps.base keeps.left keeps.back keeps.newest keeps.memory after))))
+      refl refl refl refl refl refl refl refl does refl keeps.zero keeps.base keeps.left keeps.back keeps.lasts keeps.memory after))))
 
   abbrev IsTestThere : Test → Type 0
   IsTestThere = AllOfTest Held zero_held IsPlanThere (λ op left right outcome l t. (l, t, tt)) (λ op left half outcome fits l. (l, zero_held, tt))
@@ -455,7 +456,7 @@ module _ (program : Program) (well : IsWellFormed program) (frames : List Frame)
       (λ f printed.
       reached_at program well frames fit code formed addresses pages calls few c (plain.WriteByte source) at_i refl r w base s
       (record c { active = record c.active { next = c.active.next + 1 }; output = c.output ++ word_of source % 256 ∷ [] }) (here + length is + 1 + 1) f (put (after_r is r w) 2 (add_of (after_r is r w 0) (sign_extended 2))) (after_w is r w) refl refl refl refl refl refl refl refl refl
-      (omega (arith, line_next program c.active.function c.active.next (plain.WriteByte source) at_i, long)) keeps.zero keeps.base keeps.left keeps.back keeps.newest keeps.memory
+      (omega (arith, line_next program c.active.function c.active.next (plain.WriteByte source) at_i, long)) keeps.zero keeps.base keeps.left keeps.back keeps.lasts keeps.memory
       (subst (λ (x : ℕ). At program well frames fit code formed addresses pages calls few (here + length is + 1 + 1) (c.output ++ x % 256 ∷ []) c.input (put (after_r is r w) 2 (add_of (after_r is r w 0) (sign_extended 2))) (after_w is r w) f) puts.result printed)))))
 
   -- ---- globals
@@ -472,8 +473,17 @@ module _ (program : Program) (well : IsWellFormed program) (frames : List Frame)
       → Stands code here (body program frames c.active.function here (plain.LoadGlobal destination global)) → Goes 1 here (here + 3) (Running run)
   load_global_goes destination global at_i below global_below stands =
       gives_by (plain.LoadGlobal destination global) at_i refl (upper_of_global global ∷ at_global LoadWord FIRST global ∷ []) FIRST destination (c.globals global) 3
-      (record { safe = (refl, ((refl, global_stands global global_below), tt)); memory = refl; zero = refl; base = refl; left = refl; back = refl; newest = refl })
+      (record { safe = (refl, ((refl, global_stands global global_below), tt)); memory = refl; zero = refl; base = refl; left = refl; back = refl; lasts = refl })
       (ap w.words (global_memory global global_below) ∙ s.globals global global_below) below refl (omega arith) (omega arith) stands
+
+  -- ---- how many lexical regions are open
+
+  pub count_lexical_goes : (destination : ℕ) → IsAt (plain.CountLexical destination) → destination < slots
+      → Stands code here (body program frames c.active.function here (plain.CountLexical destination)) → Goes 1 here (here + 1) (Running run)
+  count_lexical_goes destination at_i below stands =
+      gives_by (plain.CountLexical destination) at_i refl [] REGIONS destination (lexical_count c.store.regions % 2 ^ 32) 1
+      (record { safe = tt; memory = refl; zero = refl; base = refl; left = refl; back = refl; lasts = refl })
+      s.counted below refl refl refl stands
 
   not_second : (b : Bool) → (if b then ZERO else FIRST) % 32 ≢ SECOND
   not_second true same = absurd (omega (arith, same))
@@ -498,7 +508,7 @@ module _ (program : Program) (well : IsWellFormed program) (frames : List Frame)
       ∙ (ap (λ (a : ℕ). written w a (q (operand_register FIRST source % 32))) (global_memory global global_below) ∙ ap (written w (data_base + 4 * global)) stored) in
       let one = standing_global program well frames fit addresses pages calls few c r w base (r RETURN_ADDRESS) (suc (length c.frames)) c.active.slots s global (word_of source) global_below in
       let c' : Configuration = record c { globals = put c.globals global (word_of source) } in
-      let two = standing_registers program well frames fit addresses pages calls few c' r (written w (data_base + 4 * global) (word_of source)) base (r RETURN_ADDRESS) (suc (length c.frames)) c.active.slots one q keeps.zero keeps.base keeps.left keeps.newest in
+      let two = standing_registers program well frames fit addresses pages calls few c' r (written w (data_base + 4 * global) (word_of source)) base (r RETURN_ADDRESS) (suc (length c.frames)) c.active.slots one q keeps.zero keeps.base keeps.left keeps.lasts in
       let three = standing_at program well frames fit addresses pages calls few c' q (written w (data_base + 4 * global) (word_of source)) base (r RETURN_ADDRESS) (suc (length c.frames)) c.active.slots two d refl refl refl refl refl refl s.input in
       let with_back = subst (λ (b : ℕ). Standing program frames addresses pages calls d q (written w (data_base + 4 * global) (word_of source)) base b (suc (length c.frames)) c.active.slots) (sym keeps.back) three in
       let four = subst (λ (x : Contents). Standing program frames addresses pages calls d q x base (q RETURN_ADDRESS) (suc (length c.frames)) c.active.slots) (sym puts) with_back in
@@ -536,7 +546,7 @@ module _ (program : Program) (well : IsWellFormed program) (frames : List Frame)
       ∙ add_small base (slot_offset frame slot) (omega (arith, inside, own.within, own.small)) (omega (arith, inside, lie.below_end)) in
       let same : base + slot_offset frame slot ≡ add_of c.active.base (4 * slot) = omega (arith, place, inside, lie.below_end) in
       gives_by (plain.AddressOf destination slot count) at_i refl (add_immediate FIRST FRAME (slot_offset frame slot) ∷ []) FIRST destination (add_of c.active.base (4 * slot)) 2
-      (record { safe = (refl, tt); memory = refl; zero = refl; base = refl; left = refl; back = refl; newest = refl })
+      (record { safe = (refl, tt); memory = refl; zero = refl; base = refl; left = refl; back = refl; lasts = refl })
       (sum ∙ same) below refl (omega arith) (omega arith) stands
 
   -- ---- the end by an exception

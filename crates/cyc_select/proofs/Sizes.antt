@@ -27,11 +27,11 @@ use Rattle.cyc_select.specs.declared.plan.Test.TheVariants as tests
 use Rattle.cyc_select.specs.Plans.{unary_plan, binary_plan, test_of}
 use Rattle.cyc_select.specs.Labelled.{Labelled, words_of, all_words}
 use Rattle.cyc_select.specs.Selected.{words_at}
-use Rattle.cyc_select.specs.Selection.{ordinary, argument_code, service_number, answer_code, unwound_code, address_code, at_address, copies, load_all, store_all, store_slot, upper_of_global, at_global, word_code, load_code, load_count, operand_code, operand_register, plan_code, test_code, branch_line, branch_code, quotient_code, divided_code, divide_code, is_tested, part_of, result_registers, ending_code, operator_code, body, behind, count_of, function_count, function_line, instruction_line, code_lines, function_lines, small, syscall, store, add_immediate, minus, push_frame, load}
+use Rattle.cyc_select.specs.Selection.{ordinary, argument_code, service_number, answer_code, regions_code, unwound_code, address_code, at_address, copies, load_all, store_all, store_slot, upper_of_global, at_global, word_code, load_code, load_count, operand_code, operand_register, plan_code, test_code, branch_line, branch_code, quotient_code, divided_code, divide_code, is_tested, part_of, result_registers, ending_code, operator_code, body, behind, count_of, function_count, function_line, instruction_line, code_lines, function_lines, small, syscall, store, add_immediate, minus, push_frame, load}
 use Rattle.cyc_isa.specs.Decoding.{register_of}
 use Rattle.cyc_isa.specs.declared.instr.BranchOp.TheVariants as branch
 use Rattle.cyc_select.proofs.Calls.{length-copies}
-use Rattle.cyc_select.proofs.Counts.{argument_small, length_argument, length_answer, length_loads, length_stores, length_registers, registers_few, word_small, load_small, operand_small, address_small, plan_small, unary_small, test_small, length_word, length_load, length_operand, length_address, length_plan, length_test, length_divided}
+use Rattle.cyc_select.proofs.Counts.{argument_small, regions_small, length_argument, length_answer, length_regions, length_loads, length_stores, length_registers, registers_few, word_small, load_small, operand_small, address_small, plan_small, unary_small, test_small, length_word, length_load, length_operand, length_address, length_plan, length_test, length_divided}
 use Rattle.cyc_select.proofs.Returns.{loaded, length_loaded}
 use Rattle.cyc_select.proofs.Walks.{Stands}
 
@@ -138,8 +138,9 @@ module _ (program : Program) (frames : List Frame) (few_results : (function : �
   body_words function here (plain.Ask request) =
       let is : List Instr = argument_code (frame_at frames function) ARGUMENT (first_operand request) in
       let js : List Instr = argument_code (frame_at frames function) SECOND_ARGUMENT (second_operand request) in
-      let last : List Instr = small SERVICE (service_number request) ∷ syscall ∷ answer_code (frame_at frames function) request in
-      omega (arith, words_ordinary (is ++ (js ++ last)), length-append is (js ++ last), length-append js last, length_argument (frame_at frames function) ARGUMENT (first_operand request), length_argument (frame_at frames function) SECOND_ARGUMENT (second_operand request), length_answer (frame_at frames function) request, argument_small (first_operand request), argument_small (second_operand request))
+      let last : List Instr = small SERVICE (service_number request) ∷ syscall ∷ (regions_code request ++ answer_code (frame_at frames function) request) in
+      omega (arith, words_ordinary (is ++ (js ++ last)), length-append is (js ++ last), length-append js last, length_argument (frame_at frames function) ARGUMENT (first_operand request), length_argument (frame_at frames function) SECOND_ARGUMENT (second_operand request), length-append (regions_code request) (answer_code (frame_at frames function) request), length_regions request, length_answer (frame_at frames function) request, regions_small request, argument_small (second_operand request))
+  body_words function here (plain.CountLexical destination) = omega arith
   body_words function here (plain.Try first handler) = omega arith
   body_words function here (plain.Leave first) = omega arith
   body_words function here (plain.Throw tag value) =

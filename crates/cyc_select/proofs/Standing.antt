@@ -1,12 +1,12 @@
 -- How a plain program's calls stand in the memory of the labelled machine: their frames lie one below another from the
 -- end of the stack on, each with its slots and, where it waits, its return address.
-use Rattle.std.proofs.Common.{◌≡◌, ◌≢◌, ℕ, zero, suc, ◌+◌, ◌*◌, ◌%◌, ◌<◌, ◌≤◌, List, [], ◌∷◌, length, Some, refl, sym, ap, subst, ◌∙◌, arith, inl, inr}
+use Rattle.std.proofs.Common.{◌≡◌, ◌≢◌, ℕ, zero, suc, ◌+◌, ◌*◌, ◌%◌, ◌^◌, ◌<◌, ◌≤◌, List, [], ◌∷◌, length, Some, refl, sym, ap, subst, ◌∙◌, arith, inl, inr}
 use Rattle.std.specs.List.{AllByRecursion}
-use Rattle.cyc_select.specs.declared.constants.TheConstants.{CALLS, FRAME, HANDLERS}
+use Rattle.cyc_select.specs.declared.constants.TheConstants.{CALLS, FRAME, HANDLERS, REGIONS}
 use Rattle.cyc_words.specs.Word.{IsWord}
 use Rattle.cyc_isa.specs.Effect.{memory_address}
 use Rattle.cyc_machine.specs.State.{data_base, stack_end, globals_length, words_per_call}
-use Rattle.cyc_store.specs.State.{StoreState, saved}
+use Rattle.cyc_store.specs.State.{Home, StoreState, lexical_count, saved}
 use Rattle.cyc_plain.specs.declared.instruction.Instruction.TheVariants as plain
 use Rattle.cyc_plain.specs.Program.{Routine, Program, routine_at}
 use Rattle.cyc_plain.specs.State as states
@@ -18,9 +18,10 @@ use Rattle.std.proofs.lemmas.Bool.{cases_eq}
 use Rattle.cyc_frame.specs.Layout.{IsFrame, AreFrames, slot_word, frame_at}
 use Rattle.cyc_frame.specs.declared.frame.Frame.{Frame}
 use Rattle.cyc_select.specs.Selection.{slot_offset, instruction_line, body_count}
+use Rattle.cyc_select.proofs.Blocks.{lasting, newest_lasts, count_lasts}
 use Rattle.cyc_select.proofs.Cells.{IsCell}
 use Rattle.cyc_select.proofs.Operations.{address_at}
-use Rattle.cyc_select.proofs.Stores.{IsLaid, saved_laid}
+use Rattle.cyc_select.proofs.Stores.{IsLaid, saved_laid, saved_regions}
 use Rattle.cyc_select.proofs.Views.{Contents, written, saved_in}
 
 -- the slots of a function's call whose frame lies at this address
@@ -168,6 +169,7 @@ pub record Standing (program : Program) (frames : List Frame) (addresses : ℕ �
   pub based : AreBased frames base c.active.function c.active.base c.frames
   pub store : w.store ≡ c.store
   pub laid : IsLaid pages c.store
+  pub counted : r REGIONS ≡ lexical_count c.store.regions % 2 ^ 32
 
 module _ (program : Program) (well : IsWellFormed program) (frames : List Frame) (fit : AreFrames program frames) (addresses : ℕ → ℕ) (pages calls : ℕ) (few : calls ≤ 4096) where
   abbrev data_words : ℕ
@@ -214,8 +216,8 @@ module _ (program : Program) (well : IsWellFormed program) (frames : List Frame)
     -- ---- changes
 
     -- other registers
-    pub standing_registers : (r' : Words) → r' 0 ≡ r 0 → r' FRAME ≡ r FRAME → r' CALLS ≡ r CALLS → r' HANDLERS ≡ r HANDLERS → Standing program frames addresses pages calls c r' w base back depth slots
-    standing_registers r' zero_same base_same left_same newest_same = record {
+    pub standing_registers : (r' : Words) → r' 0 ≡ r 0 → r' FRAME ≡ r FRAME → r' CALLS ≡ r CALLS → lasting r' ≡ lasting r → Standing program frames addresses pages calls c r' w base back depth slots
+    standing_registers r' zero_same base_same left_same lasts_same = record {
       known = s.known;
       base_is = base_same ∙ s.base_is;
       zero_is = zero_same ∙ s.zero_is;
@@ -225,11 +227,12 @@ module _ (program : Program) (well : IsWellFormed program) (frames : List Frame)
       chain = s.chain;
       globals = s.globals;
       input = s.input;
-      newest = subst (λ (n : ℕ). IsNewest program frames addresses calls n base c.active.function c.active.handlers c.frames) (sym newest_same) s.newest;
+      newest = subst (λ (n : ℕ). IsNewest program frames addresses calls n base c.active.function c.active.handlers c.frames) (sym (newest_lasts r' r lasts_same)) s.newest;
       kept = s.kept;
       based = s.based;
       store = s.store;
       laid = s.laid;
+      counted = count_lasts r' r lasts_same ∙ s.counted;
     }
 
     -- the same call, at another place
@@ -259,13 +262,14 @@ module _ (program : Program) (well : IsWellFormed program) (frames : List Frame)
           (subst (λ (fs : List states.Frame). AreBased frames base c.active.function c.active.base fs) (sym frames_same) s.based));
       store = s.store ∙ sym store_same;
       laid = subst (IsLaid pages) (sym store_same) s.laid;
+      counted = s.counted ∙ ap (λ (x : StoreState). lexical_count x.regions % 2 ^ 32) (sym store_same);
     }
 
     -- other handlers, and other registers
-    pub standing_handlers : (handlers : List states.Handler) (r' : Words) → r' 0 ≡ r 0 → r' FRAME ≡ r FRAME → r' CALLS ≡ r CALLS
+    pub standing_handlers : (handlers : List states.Handler) (r' : Words) → r' 0 ≡ r 0 → r' FRAME ≡ r FRAME → r' CALLS ≡ r CALLS → r' REGIONS ≡ r REGIONS
         → IsNewest program frames addresses calls (r' HANDLERS) base c.active.function handlers c.frames → IsKept (frame_at frames c.active.function) w base back handlers
         → Standing program frames addresses pages calls (record c { active = record c.active { handlers = handlers } }) r' w base back depth slots
-    standing_handlers handlers r' zero_same base_same left_same newest kept = record {
+    standing_handlers handlers r' zero_same base_same left_same count_same newest kept = record {
       known = s.known;
       base_is = base_same ∙ s.base_is;
       zero_is = zero_same ∙ s.zero_is;
@@ -280,6 +284,7 @@ module _ (program : Program) (well : IsWellFormed program) (frames : List Frame)
       based = s.based;
       store = s.store;
       laid = s.laid;
+      counted = count_same ∙ s.counted;
     }
 
     -- a word of the frame and the data are apart
@@ -330,6 +335,7 @@ module _ (program : Program) (well : IsWellFormed program) (frames : List Frame)
       based = s.based;
       store = s.store;
       laid = s.laid;
+      counted = s.counted;
     }
 
     -- the word for the return address written
@@ -355,26 +361,29 @@ module _ (program : Program) (well : IsWellFormed program) (frames : List Frame)
       based = s.based;
       store = s.store;
       laid = s.laid;
+      counted = s.counted;
     }
 
-    -- another store
-    pub standing_store : (store : StoreState) → IsLaid pages store
-        → Standing program frames addresses pages calls (record c { store = store }) r (record w { store = store }) base back depth slots
-    standing_store store laid = record {
+    -- another store, and other registers, of which one tells how many lexical regions that has
+    pub standing_store : (store : StoreState) (r' : Words) → r' 0 ≡ r 0 → r' FRAME ≡ r FRAME → r' CALLS ≡ r CALLS → r' HANDLERS ≡ r HANDLERS
+        → r' REGIONS ≡ lexical_count store.regions % 2 ^ 32 → IsLaid pages store
+        → Standing program frames addresses pages calls (record c { store = store }) r' (record w { store = store }) base back depth slots
+    standing_store store r' zero_same base_same left_same newest_same counted laid = record {
       known = s.known;
-      base_is = s.base_is;
-      zero_is = s.zero_is;
-      left = s.left;
+      base_is = base_same ∙ s.base_is;
+      zero_is = zero_same ∙ s.zero_is;
+      left = ap (λ (n : ℕ). n + depth) left_same ∙ s.left;
       deep = s.deep;
       holds = s.holds;
       chain = chain_kept program frames fit addresses w (record w { store = store }) base back c.active.function c.frames (λ a from. refl) s.chain;
       globals = s.globals;
       input = s.input;
-      newest = s.newest;
+      newest = subst (λ (n : ℕ). IsNewest program frames addresses calls n base c.active.function c.active.handlers c.frames) (sym newest_same) s.newest;
       kept = kept_in (frame_at frames c.active.function) w (record w { store = store }) base back c.active.handlers refl s.kept;
       based = s.based;
       store = refl;
       laid = laid;
+      counted = counted;
     }
 
     -- a word of a live block written
@@ -395,6 +404,7 @@ module _ (program : Program) (well : IsWellFormed program) (frames : List Frame)
       based = s.based;
       store = ap (λ (x : StoreState). saved x address word) s.store;
       laid = saved_laid pages c.store address word is_word s.laid;
+      counted = s.counted ∙ ap (λ (rs : List Home). lexical_count rs % 2 ^ 32) (sym (saved_regions c.store address word));
     }
 
     -- a global written
@@ -427,4 +437,5 @@ module _ (program : Program) (well : IsWellFormed program) (frames : List Frame)
       based = s.based;
       store = s.store;
       laid = s.laid;
+      counted = s.counted;
     }

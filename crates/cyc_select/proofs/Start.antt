@@ -38,7 +38,7 @@ use Rattle.cyc_select.proofs.Operations.{take_small}
 use Rattle.cyc_select.proofs.Views.{Contents, View}
 use Rattle.cyc_select.proofs.Walks.{Stands, stands_front, stands_back, Rises, comes_map, Quiet, Walk, Now, now_at, walk_end, walk_few, walk_block, walk_jump, after_r}
 use Rattle.cyc_select.proofs.Standing.{Standing, slots_fit}
-use Rattle.cyc_select.proofs.Stores.{new_laid}
+use Rattle.cyc_select.proofs.Stores.{new_laid, new_counted}
 use Rattle.cyc_select.proofs.Matches.{Matches}
 use Rattle.cyc_select.proofs.Runs.{own_of, matching, all_steps}
 
@@ -276,6 +276,7 @@ module _ (program : Program) (well : IsWellFormed program) (words : HasWords pro
     input = bytes_words input bytes;
     store = refl;
     laid = new_laid pages store new (omega (arith, allowed.enough_pages)) allowed.few_pages;
+    counted = sym (new_counted pages store new);
   }
     where
       left_one : (n : ℕ) → n ≡ calls - 1 → n + 1 ≡ calls

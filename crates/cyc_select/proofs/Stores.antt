@@ -1,21 +1,23 @@
 -- What is asked of the store that a run has, and what its calls leave of it.
-use Rattle.std.proofs.Common.{◌≡◌, ℕ, suc, ◌+◌, ◌*◌, ◌%◌, ◌<◌, ◌≤◌, Bool, true, false, List, [], ◌∷◌, ◌++◌, Option, None, Some, refl, sym, subst, ◌∙◌, arith, inl, inr}
+use Rattle.std.proofs.Common.{◌≡◌, ℕ, zero, suc, ◌+◌, ◌*◌, ◌%◌, ◌^◌, ◌<◌, ◌≤◌, Bool, true, false, List, [], ◌∷◌, ◌++◌, length, Option, None, Some, refl, sym, ap, subst, ◌∙◌, arith, inl, inr}
 use Rattle.std.specs.Prelude.{◌==◌, ◌&&◌, nat_le, nat_lt, if◌then◌else◌}
 use Rattle.std.specs.List.{AllByRecursion}
-use Rattle.std.proofs.lemmas.Bool.{cases_eq, eqb-true, leb-true, ltb-true}
+use Rattle.std.proofs.lemmas.Bool.{cases_eq, cond-true, cond-false, eqb-true, leb-true, ltb-true}
 use Rattle.cyc_words.specs.Word.{IsWord}
 use Rattle.cyc_words.specs.Demand.{page_words, pages_from, region_pages, demand_of}
-use Rattle.cyc_store.specs.Lookup.{changed}
+use Rattle.cyc_store.specs.Lookup.{lookup, changed, without}
 use Rattle.cyc_store.specs.State as stores
-use Rattle.cyc_store.specs.State.{Block, address_of, Lexical, Dynamic, Home, handle_of, empty_home, StoreState, homes, covers, Holder, holder_in, or_else, holder, word_in, word_at, saved, sizes_of, sizes_in, demand, is_lexical, lexical_count, with_block, made_in, made_unique}
+use Rattle.cyc_store.specs.State.{Block, address_of, Sort, Lexical, Dynamic, Home, handle_of, empty_home, down_to, StoreState, homes, covers, Holder, holder_in, or_else, holder, word_in, word_at, saved, sizes_of, sizes_in, demand, is_lexical, lexical_count, with_block, made_in, made_unique}
 use Rattle.cyc_store.specs.New.{IsNew}
 use Rattle.cyc_store.specs.Services as services
-use Rattle.cyc_store.specs.Services.{Call, OpenLexical, CloseTo, OpenDynamic, CloseDynamic, Allocate, Free, refusal, served, answer, made, block_of, IsPlaced, MayChoose, ServesBy}
+use Rattle.cyc_store.specs.Services.{Call, OpenLexical, CloseTo, OpenDynamic, CloseDynamic, Allocate, Free, Refusal, BadMark, BadHandle, is_dynamic, names_dynamic, refusal, served, answer, made, block_of, IsPlaced, MayChoose, ServesBy}
 use Rattle.cyc_store.specs.Soundness.{IsSound}
 use Rattle.cyc_store.specs.declared.range.TheConstants.{STORE_BASE, PAGE_WORDS, MOST_PAGES, UNIQUE}
 use Rattle.cyc_store.proofs.LookupLemmas.{IsPart, is_empty, is_left, is_kept, IsPart-without, when_equal, when_other, same_some}
 use Rattle.cyc_store.proofs.HolderLemmas.{IsPart-down_to}
-use Rattle.cyc_store.proofs.ServiceLemmas.{start-sound, saved-sound, served-sound, serves-pages}
+use Rattle.cyc_store.proofs.KeptClosing.{lexical-without}
+use Rattle.cyc_store.proofs.KeptServices.{lexical-length}
+use Rattle.cyc_store.proofs.ServiceLemmas.{then-none, start-sound, saved-sound, served-sound, serves-pages}
 use Rattle.cyc_plain.specs.Step.{HasAnswerWords}
 use Rattle.cyc_select.proofs.Cells.{IsLive}
 
@@ -142,6 +144,75 @@ lexical_few (r ∷ rs) classes =
     either true n pages rest some more = omega (arith, some, more)
     either false n pages rest some more = omega (arith, some, more)
 
+-- how many are open behind a call
+
+pub lexical_opened : (rs : List Home) (handle : ℕ) → lexical_count (rs ++ empty_home handle Lexical ∷ []) ≡ lexical_count rs + 1
+lexical_opened [] handle = refl
+lexical_opened (r ∷ rs) handle = either (is_lexical r.sort) _ _ (lexical_opened rs handle)
+  where
+    either : (b : Bool) (n m : ℕ) → n ≡ m + 1 → (if b then suc n else n) ≡ (if b then suc m else m) + 1
+    either true n m same = omega (arith, same)
+    either false n m same = omega (arith, same)
+
+pub lexical_besides : (rs : List Home) (handle : ℕ) → lexical_count (rs ++ empty_home handle Dynamic ∷ []) ≡ lexical_count rs
+lexical_besides [] handle = refl
+lexical_besides (r ∷ rs) handle = ap (λ (n : ℕ). if is_lexical r.sort then suc n else n) (lexical_besides rs handle)
+
+pub lexical_left : (mark : ℕ) (rs : List Home) → mark ≤ lexical_count rs → lexical_count (down_to mark rs) ≡ mark
+lexical_left mark [] few = omega (arith, few)
+lexical_left mark (r ∷ rs) few = by mark (is_lexical r.sort) refl few (λ m least. lexical_left m rs least)
+  where
+    by : (mark : ℕ) (b : Bool) → is_lexical r.sort ≡ b → mark ≤ (if is_lexical r.sort then suc (lexical_count rs) else lexical_count rs)
+        → ((m : ℕ) → m ≤ lexical_count rs → lexical_count (down_to m rs) ≡ m) → lexical_count (down_to mark (r ∷ rs)) ≡ mark
+    by zero true is few left =
+        ap lexical_count (cond-true (is_lexical r.sort) (down_to 0 rs) (r ∷ down_to 0 rs) is) ∙ left 0 (omega arith)
+    by (suc mark) true is few left =
+        ap lexical_count (cond-true (is_lexical r.sort) (r ∷ down_to mark rs) (r ∷ down_to (suc mark) rs) is)
+        ∙ (cond-true (is_lexical r.sort) (suc (lexical_count (down_to mark rs))) (lexical_count (down_to mark rs)) is
+        ∙ ap suc (left mark (omega (arith, subst (λ n. suc mark ≤ n) (cond-true (is_lexical r.sort) (suc (lexical_count rs)) (lexical_count rs) is) few))))
+    by zero false is few left =
+        ap lexical_count (cond-false (is_lexical r.sort) (down_to 0 rs) (r ∷ down_to 0 rs) is)
+        ∙ (cond-false (is_lexical r.sort) (suc (lexical_count (down_to 0 rs))) (lexical_count (down_to 0 rs)) is ∙ left 0 (omega arith))
+    by (suc mark) false is few left =
+        ap lexical_count (cond-false (is_lexical r.sort) (r ∷ down_to mark rs) (r ∷ down_to (suc mark) rs) is)
+        ∙ (cond-false (is_lexical r.sort) (suc (lexical_count (down_to (suc mark) rs))) (lexical_count (down_to (suc mark) rs)) is
+        ∙ left (suc mark) (subst (λ n. suc mark ≤ n) (cond-false (is_lexical r.sort) (suc (lexical_count rs)) (lexical_count rs) is) few))
+
+lexical_changed : (rs : List Home) (handle : ℕ) (b : Block) → lexical_count (changed handle_of (with_block b) rs handle) ≡ lexical_count rs
+lexical_changed [] handle b = refl
+lexical_changed (r ∷ rs) handle b = elim (cases_eq r.handle handle) [
+  | inl same ↦ ap lexical_count (when_equal r.handle handle (with_block b r ∷ rs) (r ∷ changed handle_of (with_block b) rs handle) same)
+  | inr other ↦
+      ap lexical_count (when_other r.handle handle (with_block b r ∷ rs) (r ∷ changed handle_of (with_block b) rs handle) other)
+      ∙ ap (λ (n : ℕ). if is_lexical r.sort then suc n else n) (lexical_changed rs handle b)
+]
+
+pub lexical_made : (s : StoreState) (handle : ℕ) (b : Block) → lexical_count (made s handle b).regions ≡ lexical_count s.regions
+lexical_made s handle b = by (handle == UNIQUE)
+  where
+    by : (unique : Bool) → lexical_count (if unique then made_unique s b else made_in s handle b).regions ≡ lexical_count s.regions
+    by true = refl
+    by false = lexical_changed s.regions handle b
+
+pub lexical_closed : (s : StoreState) (handle : ℕ) → IsSound s → refusal s (CloseDynamic handle) ≡ None → lexical_count (without handle_of s.regions handle) ≡ lexical_count s.regions
+lexical_closed s handle sound free =
+    let (named, nothing) = then-none (names_dynamic (lookup handle_of s.regions handle)) None BadHandle free in
+    let (r, there, dynamic) = known (lookup handle_of s.regions handle) named in
+    sym (lexical-length (without handle_of s.regions handle))
+    ∙ (ap length (lexical-without s.regions handle r sound.regions.handles.1 there (not_lexical r.sort dynamic)) ∙ lexical-length s.regions)
+  where
+    known : (o : Option Home) → names_dynamic o ≡ true → (r : Home) × (o ≡ Some r) × (is_dynamic r.sort ≡ true)
+    known None is = absurd (let e : false ≡ true = is in cc)
+    known (Some r) is = (r, refl, is)
+
+    not_lexical : (sort : Sort) → is_dynamic sort ≡ true → is_lexical sort ≡ false
+    not_lexical Lexical is = absurd (let e : false ≡ true = is in cc)
+    not_lexical Dynamic is = refl
+    not_lexical sort is = refl
+
+pub marks_few : (s : StoreState) (mark : ℕ) → refusal s (CloseTo mark) ≡ None → mark ≤ lexical_count s.regions
+marks_few s mark free = leb-true mark (lexical_count s.regions) (then-none (nat_le mark (lexical_count s.regions)) None BadMark free).0
+
 -- ---- the store
 
 -- A sound store of these pages: its blocks lie in them, its words are words, and its demand is within them.
@@ -157,7 +228,18 @@ pub new_laid : (pages : ℕ) (store : StoreState) → IsNew pages store → 1 �
 new_laid pages store (memory, words, is) some few =
     subst (IsLaid pages) (sym is) (record { has = refl; few = few; placed = (tt, (tt, tt)); paged = some; sound = start-sound pages memory words some })
 
--- a word of a live block is written
+-- in which no lexical region is open
+pub new_counted : (pages : ℕ) (store : StoreState) → IsNew pages store → lexical_count store.regions % 2 ^ 32 ≡ 0
+new_counted pages store (memory, words, is) = ap (λ (s : StoreState). lexical_count s.regions % 2 ^ 32) is
+
+-- a word of a live block is written, which opens and closes no region
+pub saved_regions : (store : StoreState) (address word : ℕ) → (saved store address word).regions ≡ store.regions
+saved_regions store address word = go (word_at store address)
+  where
+    go : (found : Option ℕ) → (stores.has_saved store address word found).regions ≡ store.regions
+    go None = refl
+    go (Some old) = refl
+
 pub saved_laid : (pages : ℕ) (store : StoreState) (address word : ℕ) → IsWord word → IsLaid pages store → IsLaid pages (saved store address word)
 saved_laid pages store address word is_word laid = go (word_at store address) (saved-sound store address word laid.sound is_word)
   where

@@ -25,9 +25,9 @@ use Rattle.cyc_select.specs.declared.code.Line.TheVariants as lines
 use Rattle.cyc_select.specs.declared.plan.Plan.{Plan}
 use Rattle.cyc_select.specs.Labelled.{Labelled}
 use Rattle.cyc_select.specs.Plans.{unary_plan, binary_plan, test_of}
-use Rattle.cyc_select.specs.Selection.{ordinary, argument_code, service_number, answer_code, unwound_code, address_code, at_address, copies, load_all, store_all, store_slot, small, syscall, upper_of_global, at_global, word_code, load_code, load_count, operand_code, operand_register, plan_code, plan_count, test_code, branch_line, quotient_code, divided_code, divide_code, is_tested, part_of, result_registers, ending_code, ending_count, operator_code, operator_count, body, behind, body_count, behind_count, count_of, function_count, functions_count, function_line, instruction_line, code_lines, function_lines, start_lines, select_of}
+use Rattle.cyc_select.specs.Selection.{ordinary, argument_code, service_number, answer_code, regions_code, unwound_code, address_code, at_address, copies, load_all, store_all, store_slot, small, syscall, upper_of_global, at_global, word_code, load_code, load_count, operand_code, operand_register, plan_code, plan_count, test_code, branch_line, quotient_code, divided_code, divide_code, is_tested, part_of, result_registers, ending_code, ending_count, operator_code, operator_count, body, behind, body_count, behind_count, count_of, function_count, functions_count, function_line, instruction_line, code_lines, function_lines, start_lines, select_of}
 use Rattle.cyc_select.proofs.Calls.{length_ordinary, length-copies}
-use Rattle.cyc_select.proofs.Counts.{length_argument, length_answer, length_loads, length_stores, length_registers, length_word, length_load, length_operand, length_address, length_plan, length_test, length_divided}
+use Rattle.cyc_select.proofs.Counts.{length_argument, length_answer, length_regions, length_loads, length_stores, length_registers, length_word, length_load, length_operand, length_address, length_plan, length_test, length_divided}
 use Rattle.cyc_select.proofs.Returns.{loaded, length_loaded}
 use Rattle.cyc_select.proofs.Walks.{Stands, stands_front, stands_back}
 
@@ -114,8 +114,9 @@ module _ (program : Program) (frames : List Frame) (few_results : (function : �
   length_body function here (plain.Ask request) =
       let is : List Instr = argument_code (frame_at frames function) ARGUMENT (first_operand request) in
       let js : List Instr = argument_code (frame_at frames function) SECOND_ARGUMENT (second_operand request) in
-      let last : List Instr = small SERVICE (service_number request) ∷ syscall ∷ answer_code (frame_at frames function) request in
-      omega (arith, length_ordinary (is ++ (js ++ last)), length-append is (js ++ last), length-append js last, length_argument (frame_at frames function) ARGUMENT (first_operand request), length_argument (frame_at frames function) SECOND_ARGUMENT (second_operand request), length_answer (frame_at frames function) request)
+      let last : List Instr = small SERVICE (service_number request) ∷ syscall ∷ (regions_code request ++ answer_code (frame_at frames function) request) in
+      omega (arith, length_ordinary (is ++ (js ++ last)), length-append is (js ++ last), length-append js last, length_argument (frame_at frames function) ARGUMENT (first_operand request), length_argument (frame_at frames function) SECOND_ARGUMENT (second_operand request), length-append (regions_code request) (answer_code (frame_at frames function) request), length_regions request, length_answer (frame_at frames function) request)
+  length_body function here (plain.CountLexical destination) = refl
   length_body function here (plain.Try first handler) = refl
   length_body function here (plain.Leave first) = refl
   length_body function here (plain.Throw tag value) =
@@ -149,6 +150,7 @@ module _ (program : Program) (frames : List Frame) (few_results : (function : �
   length_behind function (plain.Load destination address offset) = refl
   length_behind function (plain.Store address offset source) = refl
   length_behind function (plain.Ask request) = refl
+  length_behind function (plain.CountLexical destination) = refl
   length_behind function (plain.Try first handler) = refl
   length_behind function (plain.Leave first) = refl
   length_behind function (plain.Throw tag value) = refl

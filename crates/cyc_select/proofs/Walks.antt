@@ -31,7 +31,7 @@ use Rattle.cyc_select.specs.Labelled.{Labelled, IsFormed, IsFormedLine, is_ordin
 use Rattle.cyc_words.specs.Ending.{Ending, Returned, Uncaught, Full}
 use Rattle.cyc_words.specs.Word.{IsWord, signed}
 use Rattle.cyc_isa.specs.Decoding.{trap_code_of}
-use Rattle.cyc_select.specs.Machine.{Configuration, State, Running, Ended, Step, Executes, ExecutesAt, Performs, PerformsOrdinary, machine, status_of, output_of, linked, at, word_in, holds_of}
+use Rattle.cyc_select.specs.Machine.{Configuration, State, Running, Ended, Step, Executes, ExecutesAt, Performs, PerformsOrdinary, machine, status_of, output_of, linked, at, word_in, holds_of, IsReturnPoint}
 use Rattle.cyc_select.specs.Selection.{ordinary, syscall, service_number}
 use Rattle.cyc_select.proofs.Cells.{IsLive}
 use Rattle.cyc_select.proofs.Views.{Contents, saved_in, View, does_r, does_w, IsSafe, IsWritable, moved, answered_r, view_at, view_seen, view_put, view_answered}
@@ -354,15 +354,15 @@ module _ (code : Labelled) (formed : IsFormed code) (addresses : ℕ → ℕ) (g
       (rest (at (linked addresses c) label) (record { view = view; r_words = put_words r RETURN_ADDRESS (addresses (k + 1)) now.r_words word; w_words = now.w_words; at_line = refl; output = now.output; input = now.input })))
 
   pub walk_return : (n k lo hi : ℕ) (out input : List ℕ) (Goal : State → Type 0) (r : Words) (w : Contents) (c : Configuration) (line : ℕ)
-      → AreAddresses code addresses → Now k out input r w c → slice_get code.lines k ≡ Some lines.Return → lo ≤ k → line < length code.lines → r RETURN_ADDRESS ≡ addresses line
+      → AreAddresses code addresses → Now k out input r w c → slice_get code.lines k ≡ Some lines.Return → lo ≤ k → IsReturnPoint code line → r RETURN_ADDRESS ≡ addresses line
       → ((d : Configuration) → Now line out input r w d → Walk n (suc k) hi out Goal (Running d))
       → Walk (suc n) lo hi out Goal (Running c)
-  walk_return n k lo hi out input Goal r w c line lie now stands from inside is_address rest =
+  walk_return n k lo hi out input Goal r w c line lie now stands from point is_address rest =
       let holds : word_in c RETURN_ADDRESS ≡ addresses line = now.view.reg RETURN_ADDRESS (omega arith) ∙ is_address in
       walk_step n lo hi out Goal c (Running (at c line)) (omega (arith, from, now.at_line)) now.output
       (λ next step. elim (executes_line c lines.Return next (stands_now k out input r w c lines.Return now stands) step) [
-        | inl (other, below, lies, is) ↦ is ∙ ap (λ (x : ℕ). Running (at c x)) (lie.apart other line below inside (lies ∙ holds))
-        | inr (nowhere, is) ↦ absurd (nowhere line inside (sym holds))
+        | inl (other, found, lies, is) ↦ is ∙ ap (λ (x : ℕ). Running (at c x)) (lie.apart other line found.inside point.inside (lies ∙ holds))
+        | inr (nowhere, is) ↦ absurd (nowhere line point (sym holds))
       ])
       (walk_from n (suc c.line) (suc k) hi out Goal (Running (at c line)) (omega (arith, now.at_line)) (rest (at c line) (at_now k line out input r w c now)))
 

@@ -21,7 +21,7 @@ use Rattle.cyc_isa.specs.declared.instr.MultiplyDivideOp.{MultiplyDivideOp}
 use Rattle.cyc_isa.specs.declared.instr.MultiplyDivideOp.TheVariants.{Divide}
 use Rattle.cyc_isa.specs.declared.instr.ArithmeticOp.{ArithmeticOp}
 use Rattle.cyc_isa.specs.declared.instr.ArithmeticOp.TheVariants as arithmetic
-use Rattle.cyc_machine.specs.declared.constants.TheConstants.{ALLOCATE, ARGUMENT, CLOSE_DYNAMIC, CLOSE_LEXICAL, END_FULL, END_RETURNED, END_UNCAUGHT, FREE, GET_BYTE, OPEN_DYNAMIC, OPEN_LEXICAL, PUT_BYTE, RETURN_ADDRESS, SECOND_ARGUMENT, SERVICE}
+use Rattle.cyc_machine.specs.declared.constants.TheConstants.{ALLOCATE, ARGUMENT, CLOSE_DYNAMIC, CLOSE_LEXICAL, END_FULL, END_RETURNED, END_UNCAUGHT, FREE, GET_BYTE, OPEN_DYNAMIC, OPEN_LEXICAL, PUT_BYTE, RETURN_ADDRESS, SECOND_ANSWER, SECOND_ARGUMENT, SERVICE}
 use Rattle.cyc_machine.specs.State.{data_base}
 use Rattle.cyc_plain.specs.declared.instruction.Instruction.{Instruction}
 use Rattle.cyc_plain.specs.declared.instruction.Instruction.TheVariants as plain
@@ -35,7 +35,7 @@ use Rattle.cyc_plain.specs.Requests.{first_operand, second_operand, answer_count
 use Rattle.cyc_plain.specs.Program.{Routine, Program, routine_at}
 use Rattle.cyc_frame.specs.Layout.{slot_word, frame_at}
 use Rattle.cyc_frame.specs.declared.frame.Frame.{Frame}
-use Rattle.cyc_select.specs.declared.constants.TheConstants.{ZERO, FIRST_RESULT, SECOND_RESULT, THIRD_RESULT, FIRST, SECOND, THIRD, FRAME, CALLS, HANDLERS, START_LINES}
+use Rattle.cyc_select.specs.declared.constants.TheConstants.{ZERO, FIRST_RESULT, SECOND_RESULT, THIRD_RESULT, FIRST, SECOND, THIRD, FRAME, CALLS, HANDLERS, REGIONS, START_LINES}
 use Rattle.cyc_select.specs.declared.code.Line.{Line}
 use Rattle.cyc_select.specs.declared.code.Condition.TheVariants as conditions
 use Rattle.cyc_select.specs.declared.code.Line.TheVariants as lines
@@ -362,9 +362,18 @@ abbrev pub argument_count : Option Operand → ℕ
 argument_count None = 0
 argument_count (Some operand) = load_count operand
 
+-- those that count the lexical regions that are open then
+abbrev pub regions_count : Request → ℕ
+regions_count (requests.OpenLexical destination) = 1
+regions_count (requests.CloseTo mark) = 1
+regions_count (requests.OpenDynamic destination) = 0
+regions_count (requests.CloseDynamic handle) = 0
+regions_count (requests.Allocate destination handle words) = 0
+regions_count (requests.Free address) = 0
+
 abbrev pub ask_count : Request → ℕ
 ask_count request =
-    argument_count (first_operand request) + argument_count (second_operand request) + 2 + answer_count request
+    argument_count (first_operand request) + argument_count (second_operand request) + 2 + regions_count request + answer_count request
 
 -- the lines of an instruction up to what it does
 abbrev pub body_count : Program → (function : ℕ) → Instruction → ℕ
@@ -386,6 +395,7 @@ body_count program function (plain.Load destination address offset) = address_co
 body_count program function (plain.Store address offset source) =
     address_count address offset + operand_count source + 1
 body_count program function (plain.Ask request) = ask_count request
+body_count program function (plain.CountLexical destination) = 1
 body_count program function (plain.Try first handler) = 12
 body_count program function (plain.Leave first) = 1
 body_count program function (plain.Throw tag value) = load_count tag + load_count value + 8
@@ -486,13 +496,22 @@ service_number (requests.Free address) = FREE
 abbrev pub answer_code : Frame → Request → List Instr
 answer_code frame request = store_all frame (destination_of request) (result_registers (answer_count request))
 
+-- A register tells how many lexical regions are open: one more than before one was opened, and as many as the mark where others were closed.
+abbrev pub regions_code : Request → List Instr
+regions_code (requests.OpenLexical destination) = add_immediate REGIONS SECOND_ANSWER 1 ∷ []
+regions_code (requests.CloseTo mark) = add_immediate REGIONS ARGUMENT 0 ∷ []
+regions_code (requests.OpenDynamic destination) = []
+regions_code (requests.CloseDynamic handle) = []
+regions_code (requests.Allocate destination handle words) = []
+regions_code (requests.Free address) = []
+
 -- a call of the store
 abbrev pub ask_code : Frame → Request → List Line
 ask_code frame request =
     ordinary (
     argument_code frame ARGUMENT (first_operand request)
     ++ (argument_code frame SECOND_ARGUMENT (second_operand request)
-    ++ small SERVICE (service_number request) ∷ syscall ∷ answer_code frame request))
+    ++ small SERVICE (service_number request) ∷ syscall ∷ (regions_code request ++ answer_code frame request)))
 
 -- the end of a run with an exception that nothing caught
 abbrev pub uncaught_code : Frame → (tag : ℕ) → Operand → List Line
@@ -618,6 +637,8 @@ body program frames function here (plain.Load destination address offset) =
 body program frames function here (plain.Store address offset source) =
     store_word (frame_at frames function) address offset source
 body program frames function here (plain.Ask request) = ask_code (frame_at frames function) request
+body program frames function here (plain.CountLexical destination) =
+    ordinary (store_slot (frame_at frames function) REGIONS destination ∷ [])
 body program frames function here (plain.Try first handler) =
     try_code (frame_at frames function) here first (instruction_line program function handler)
 body program frames function here (plain.Leave first) =

@@ -1,17 +1,18 @@
 //! The lines that call the store.
-ghost use Rattle.std.specs.Prelude.{◌≡◌, ◌≤◌, OnOk};
+ghost use Rattle.std.specs.Prelude.{◌≡◌, ◌≤◌, [], ◌∷◌, OnOk};
 ghost use Rattle.cyc_plain.specs.Requests.{first_operand, second_operand, answer_count, destination_of};
-ghost use Rattle.cyc_select.specs.Selection.{ordinary, argument_code, service_number, answer_code, ask_code, ask_count};
-ghost use Rattle.cyc_select.specs.Emission.{AddsLines, IsArgumentFound, AreReached, IsRequestFound};
+ghost use Rattle.cyc_select.specs.Selection.{ordinary, store_slot, argument_code, service_number, regions_code, answer_code, ask_code, ask_count};
+ghost use Rattle.cyc_select.specs.Emission.{AddsLines, IsReached, IsArgumentFound, AreReached, IsRequestFound};
 
 use crate::calling::RESULTS;
+use crate::constants::REGIONS;
 use crate::emitter::Emitter;
-use crate::instructions::{small, syscall};
+use crate::instructions::{add_immediate, small, store_slot, syscall};
 use crate::operands::load_count;
 use cyc_frame::Frame;
 use cyc_machine::constants::{
     ALLOCATE, ARGUMENT, CLOSE_DYNAMIC, CLOSE_LEXICAL, FREE, OPEN_DYNAMIC, OPEN_LEXICAL,
-    SECOND_ARGUMENT, SERVICE,
+    SECOND_ANSWER, SECOND_ARGUMENT, SERVICE,
 };
 use cyc_plain::Request;
 use std::alloc::AllocError;
@@ -36,8 +37,8 @@ pub(crate) fn ask_count(request: Request) -> usize
     ensures few { result ≤ 7 }
 {
     match request {
-        Request::OpenLexical { .. } => 4,
-        Request::CloseTo { mark } => load_count(mark) + 2,
+        Request::OpenLexical { .. } => 5,
+        Request::CloseTo { mark } => load_count(mark) + 3,
         Request::OpenDynamic { .. } => 3,
         Request::CloseDynamic { handle } => load_count(handle) + 2,
         Request::Allocate { handle, words, .. } => load_count(handle) + load_count(words) + 3,
@@ -72,6 +73,22 @@ impl Emitter {
         }
     }
 
+    /// A register tells how many lexical regions are open then.
+    fn regions(&mut self, request: Request) -> Result<(), AllocError>
+        ensures { AddsLines result self.old self.new (ordinary (regions_code request)) }
+    {
+        match request {
+            Request::OpenLexical { .. } => {
+                self.ordinary(&[add_immediate(REGIONS, SECOND_ANSWER, 1)])
+            }
+            Request::CloseTo { .. } => self.ordinary(&[add_immediate(REGIONS, ARGUMENT, 0)]),
+            Request::OpenDynamic { .. } => Ok(()),
+            Request::CloseDynamic { .. } => Ok(()),
+            Request::Allocate { .. } => Ok(()),
+            Request::Free { .. } => Ok(()),
+        }
+    }
+
     /// What the store answers comes into slots.
     fn answer(&mut self, frame: Frame, request: Request) -> Result<(), AllocError>
         requires { AreReached frame (destination_of request) (answer_count request) }
@@ -99,6 +116,18 @@ impl Emitter {
         }
     }
 
+    /// How many lexical regions are open comes into a slot.
+    pub(crate) fn count_lexical(
+        &mut self,
+        frame: Frame,
+        destination: usize,
+    ) -> Result<(), AllocError>
+        requires { IsReached frame destination }
+        ensures { AddsLines result self.old self.new (ordinary (store_slot frame REGIONS destination ∷ [])) }
+    {
+        self.ordinary(&[store_slot(frame, REGIONS, destination)])
+    }
+
     /// The store is called.
     pub(crate) fn ask(&mut self, frame: Frame, request: Request) -> Result<(), AllocError>
         requires { IsRequestFound frame request }
@@ -107,6 +136,7 @@ impl Emitter {
         self.first_argument(frame, request)?;
         self.second_argument(frame, request)?;
         self.ordinary(&[small(SERVICE, service_number(request)), syscall()])?;
+        self.regions(request)?;
         self.answer(frame, request)
     }
 }

@@ -82,6 +82,7 @@ impl Emitter {
             } => self.load_global(frame, destination, global),
             Instruction::StoreGlobal { global, source } => self.store_global(frame, global, source),
             Instruction::Ask { request } => self.ask(frame, request),
+            Instruction::CountLexical { destination } => self.count_lexical(frame, destination),
             Instruction::Try { first, handler } => {
                 self.open_handler(frame, here, first, tables.line(handler))
             }

@@ -33,6 +33,9 @@ pub const CALLS: u8 = 30;
 /// The register with the address of the newest handler's record, or 0 where no handler is open.
 pub const HANDLERS: u8 = 28;
 
+/// The register with how many lexical regions are open.
+pub const REGIONS: u8 = 27;
+
 /// How many lines the start has.
 pub const START_LINES: usize = 3;
 

@@ -89,6 +89,7 @@ fn body_count(plain: &Plain, function: usize, instruction: Instruction) -> usize
         Instruction::WriteByte { source } => load_count(source) + 2,
         Instruction::StoreGlobal { source, .. } => operand_count(source) + 2,
         Instruction::Ask { request } => ask_count(request),
+        Instruction::CountLexical { .. } => 1,
         Instruction::Try { .. } => 12,
         Instruction::Leave { .. } => 1,
         Instruction::Throw { tag, value } => load_count(tag) + load_count(value) + 8,

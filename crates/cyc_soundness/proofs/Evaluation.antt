@@ -1,6 +1,7 @@
 -- EVALUATION of a typed expression, and what waits for its value: each step leads to a typed state.
 use Rattle.std.proofs.Common.{◌≡◌, ◌≢◌, ◌⊎◌, inl, inr, ℕ, ◌≤◌, zero, suc, Bool, true, false, not, List, [], ◌∷◌, map, Option, Some, None, slice_get, refl, sym, ap, subst, ◌∙◌, arith}
 use Rattle.std.specs.Prelude.{◌+◌, nat_lt, if◌then◌else◌, option_map, ◌||◌}
+use Rattle.std.proofs.lemmas.Bool.{not-true, and_from}
 use Rattle.cyc_syntax.specs.declared.tree.PointerKind.{PointerKind}
 use Rattle.cyc_syntax.specs.declared.tree.PointerKind.TheVariants as marks
 use Rattle.cyc_types.specs.declared.typed.Kind.{Kind}
@@ -40,7 +41,7 @@ use Rattle.cyc_soundness.specs.Frames.{IsAmong, Bound, local_type, InScope, Vari
 use Rattle.cyc_soundness.specs.Classes.{Relied, frees_of, and_looked, IsSpared, HasScopes, InExpression, InArguments, InOperations, Source, SparesAssigned}
 use Rattle.cyc_soundness.specs.Stacks.{KeepsUnique, IsCommonLife, IsPlainValue, IsChained, Evaluates, Val, Go, turned, relied_at, IsCalled, null, IsStack, IsFocus, IsWell}
 use Rattle.cyc_soundness.specs.Stacks as stacks
-use Rattle.cyc_soundness.proofs.Numbers.{some_same, both}
+use Rattle.cyc_soundness.proofs.Numbers.{some_same}
 use Rattle.cyc_soundness.proofs.TypeLemmas.{place_type, target_typed, is_kind_same, kind_read, kind_meant}
 use Rattle.cyc_soundness.proofs.FlowLemmas.{full_set, used_full, implies_self, meet_first, meet_second, vacant_implied, holds_implied, reached_with}
 use Rattle.cyc_soundness.proofs.WorldLemmas.{type_grown, result_grown}
@@ -53,10 +54,6 @@ use Rattle.cyc_soundness.proofs.Cells.{lasting_common, open_object, plain_claims
 use Rattle.cyc_soundness.proofs.Looking.{looked_expression, looked_converted, peeked_so}
 use Rattle.cyc_soundness.proofs.Objects.{makes_on}
 use Rattle.cyc_soundness.proofs.Places.{gives_same, looked_result, looked_part, takes, gives, gives_by, converted_leads, moved_comes}
-
-pub not_true : (b : Bool) → not b ≡ true → b ≡ false
-not_true true e = absurd (let k : false ≡ true = e in cc)
-not_true false e = refl
 
 pub of_map : {A B : Type 0} (f : A → B) (xs : List A) (i : ℕ) (y : B) → slice_get (map f xs) i ≡ Some y → (x : A) × (slice_get xs i ≡ Some x) × (f x ≡ y)
 of_map f [] i y found = absurd (let e : None ≡ Some y = found in cc)
@@ -393,7 +390,7 @@ module _ (p : Source) where
         subst (λ o. IsWell p (counts o k e w)) (sym counted)
         (hands k (read_value bs t) (Value lives.Int) (record { kind = kinds.Int; value = values.Int index }) f h live holds same (ap (read_value bs) is) (refl, tt) (tt, tt) stack)
     evaluate (Copy (Local place n) u) k c t f h q opens live stands holds (inl ((has, there), moved, same)) (demands, known) kept stack =
-        copies k c n u t f h opens live stands holds has (not_true (is_vacant (fullness f n)) demands.0) moved (subst (λ z. Implies f z) (sym known) (implies_self f)) same stack
+        copies k c n u t f h opens live stands holds has (not-true (is_vacant (fullness f n)) demands.0) moved (subst (λ z. Implies f z) (sym known) (implies_self f)) same stack
     evaluate (Copy (Global n) u) k c t f h q opens live stands holds (inl (there, moved, same)) (demands, known) kept stack =
         from_global k c n u t h opens live stands (subst (λ z. Holds g z bs) (sym known) holds) there moved same stack
     evaluate (Move place n u) k c t f h q opens live stands holds (inl ((has, there), moved, same)) (demands, known) kept stack =
@@ -546,7 +543,7 @@ module _ (p : Source) where
         let l = bound_to p.reading (lives_in bs) c.locals bs n v m stands.scope (place_local c.locals n v m has) in
         let b = l.bound in
         let at : e.locals n ≡ Some b.object = ap e.locals (sym l.number) ∙ among_bound e l.among bound in
-        let full : IsFull g b.object = among_set g f l.among holds.1 (subst (λ m. IsSet f m) (sym l.number) (not_true (is_vacant (fullness f n)) demands.0)) in
+        let full : IsFull g b.object = among_set g f l.among holds.1 (subst (λ m. IsSet f m) (sym l.number) (not-true (is_vacant (fullness f n)) demands.0)) in
         let life : b.life ≡ lives_in bs r = homed p.reading (lives_in bs) m b.life kept l.life ∙ ap (lives_in bs) (sym region) in
         let y = local_type g.depth b in
         let part = part_at g w typed b.object y (read bs v) 0 (among_variable g l.among variables) (ap (λ z. Some z) l.of_type) full in
@@ -775,7 +772,7 @@ module _ (p : Source) where
     converted_on from to target v k c s t f live agrees keeps holds is comes conv from_is to_is same stack =
         let leads_so : leads_to w target (followed v.value) ≡ true = ap (λ z. leads_to w z (followed v.value)) same ∙ converted_leads g w typed (lives_in bs) c s t v conv is in
         subst (λ (b : Bool). IsWell p (if b then computed to (conversion to v.value) k e w else wrong w))
-        (sym (both (is_kind v.kind from) (leads_to w target (followed v.value)) (is_kind_same v.kind from (kind_given g (lives_in bs) c s t v conv is ∙ sym from_is)) leads_so))
+        (sym (and_from (is_kind v.kind from) (leads_to w target (followed v.value)) (is_kind_same v.kind from (kind_given g (lives_in bs) c s t v conv is ∙ sym from_is)) leads_so))
         (subst (λ z. IsWell p (computed z (conversion z v.value) k e w)) (sym to_is)
         (gives_by p g x bs e w typed globals bound variables k (tests.kind_of t) (read bs t) f (conversion (tests.kind_of t) v.value) live holds (sym (kind_read (lives_in bs) t)) (converted_by g (lives_in bs) c s t v agrees conv is)
         (λ z given. converted_claims g (stacks.operands_in k) (lives_in bs) c s t v z keeps conv is given comes) stack))

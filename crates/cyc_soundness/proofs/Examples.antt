@@ -4,6 +4,7 @@ use Rattle.std.proofs.Common.{◌≡◌, ℕ, suc, List, [], ◌∷◌, ◌<◌,
 use Rattle.std.specs.Prelude.{codes}
 use Rattle.cyc_words.specs.Word.{slt_of}
 use Rattle.cyc_words.specs.Ending.{Returned}
+use Rattle.cyc_words.proofs.Numbers.{below_next}
 use Rattle.cyc_syntax.specs.declared.tree.PointerKind.{PointerKind}
 use Rattle.cyc_syntax.specs.declared.tree.PointerKind.TheVariants as marks
 use Rattle.cyc_syntax.specs.declared.tree.PrefixOperator.TheVariants as prefixes
@@ -272,9 +273,6 @@ returned a = MoreItems (Execute (Return (at 44) (Some a))) NoItems
 abbrev assigned : Expression → Expression → Items → Items
 assigned a b is = MoreItems (Execute (Evaluate (Assign a b))) is
 
-less : (n : ℕ) → n < suc n
-less n = omega arith
-
 -- int main(){ int x = 3; int @p = &x; *p = *p + 4; return x; }
 address_of_local : EndsByScope (check_of texts (
     main (
@@ -283,7 +281,7 @@ address_of_local : EndsByScope (check_of texts (
     (assigned (behind 2) (plus (behind 2) (Number (at 8) 4))
     (returned (Variable (named 3 9))))))
     ∷ [])) (HasEnded (Returned (pos 7)))
-address_of_local = (refl, (((tt, tt, ((tt, less 0), tt, ((tt, ((tt, (tt, tt)))), (tt, tt)))), tt), tt, tt), refl)
+address_of_local = (refl, (((tt, tt, ((tt, below_next 0), tt, ((tt, ((tt, (tt, tt)))), (tt, tt)))), tt), tt, tt), refl)
 
 -- int main(){ int x = 3; int @p = &x; { int y = 5; *p = y; } return x; }
 outer_from_inside : EndsByScope (check_of texts (
@@ -295,7 +293,7 @@ outer_from_inside : EndsByScope (check_of texts (
     (assigned (behind 2) (Variable (named 4 11)) NoItems)) (at 12))))
     (returned (Variable (named 3 13))))))
     ∷ [])) (HasEnded (Returned (pos 5)))
-outer_from_inside = (refl, (((tt, tt, ((tt, less 0), tt, ((tt, tt, ((tt, tt), tt)), (tt, tt)))), tt), tt, tt), refl)
+outer_from_inside = (refl, (((tt, tt, ((tt, below_next 0), tt, ((tt, tt, ((tt, tt), tt)), (tt, tt)))), tt), tt, tt), refl)
 
 -- int main(){ r:{ int x = 4; int @`r p = &x; return *p; } }
 labelled : EndsByScope (check_of texts (
@@ -305,7 +303,7 @@ labelled : EndsByScope (check_of texts (
     (MoreItems (Local (into 8) (named 2 9) (Some (address 3)))
     (returned (behind 2)))) (at 10)))) NoItems)
     ∷ [])) (HasEnded (Returned (pos 4)))
-labelled = (refl, ((((tt, tt, ((tt, less 1), tt, (tt, tt))), tt), tt), tt, tt), refl)
+labelled = (refl, ((((tt, tt, ((tt, below_next 1), tt, (tt, tt))), tt), tt), tt, tt), refl)
 
 -- int f(region_t<`r> h){ int @`r p = rnew(h) 6; return *p; } int main(){ region<`r> h; return f(h); }
 lexical : EndsByScope (check_of texts (
@@ -314,7 +312,7 @@ lexical : EndsByScope (check_of texts (
     (returned (behind 2))) (at 12))
     ∷ main (MoreItems (Region (named 8 13) (named 9 14) None) (returned (Call (named 7 15) (MoreExpressions (Variable (named 9 16)) NoExpressions))))
     ∷ [])) (HasEnded (Returned (pos 6)))
-lexical = (refl, ((((tt, less 1), (tt, tt), (tt, tt)), ((tt, ((tt, tt), tt)), tt)), tt, tt), refl)
+lexical = (refl, ((((tt, below_next 1), (tt, tt), (tt, tt)), ((tt, ((tt, tt), tt)), tt)), tt, tt), refl)
 
 -- int main(){ int n = 0; while (n < 6) { region<`r> h; int @p = rnew(h) 3; n = n + *p; } return n; }
 opened_again : EndsByScope (check_of texts (
@@ -327,7 +325,7 @@ opened_again : EndsByScope (check_of texts (
     (returned (Variable (named 4 21)))))
     ∷ [])) (HasEnded (Returned (pos 6)))
 unfolding slt_of
-opened_again = (refl, (((tt, tt, (((tt, (tt, tt)), (tt, ((tt, less 2), (tt, tt), ((tt, (tt, (tt, tt))), tt)))), (tt, tt))), tt), tt, tt), refl)
+opened_again = (refl, (((tt, tt, (((tt, (tt, tt)), (tt, ((tt, below_next 2), (tt, tt), ((tt, (tt, (tt, tt))), tt)))), (tt, tt))), tt), tt, tt), refl)
 
 -- int main(){ try { region<`r> h; int *p = NULL; return *p; } catch { default: return 9; } }
 left_by_exception : EndsByScope (check_of texts (
@@ -362,7 +360,7 @@ opened_twice : EndsWithLoans (check_of texts (
     (block (opened (assigned (Variable (named 2 9)) (RegionNew (at 10) (Variable (named 9 11)) (Plain (Number (at 12) 4))) NoItems))
     (block (opened (returned (behind 2))) NoItems))))
     ∷ [])) (HasEnded (Returned (pos 4)))
-opened_twice = (refl, (((refl, ((tt, less 1), tt, ((refl, tt, ((tt, (tt, tt)), tt)), ((refl, tt, (tt, tt)), tt)))), tt), tt, tt), refl)
+opened_twice = (refl, (((refl, ((tt, below_next 1), tt, ((refl, tt, ((tt, (tt, tt)), tt)), ((refl, tt, (tt, tt)), tt)))), tt), tt, tt), refl)
 
 -- int main(){ int @`U p = rnew(unique_region) 5; { let alias <`r> int @`r x = p; *x = *x + 1; } return *p; }
 shared : EndsWithLoans (check_of texts (

@@ -1,5 +1,6 @@
 -- STATEMENTS and the items of blocks: each step leads to a typed state.
 use Rattle.std.proofs.Common.{◌≡◌, inl, ℕ, suc, ◌+◌, ◌≤◌, ◌<◌, Bool, true, false, List, [], ◌∷◌, length, Option, Some, None, refl, sym, ap, subst, ◌∙◌, arith}
+use Rattle.std.proofs.lemmas.Bool.{not-true}
 use Rattle.cyc_types.specs.declared.typed.Kind.{Kind}
 use Rattle.cyc_types.specs.Types.{Ty, result_type}
 use Rattle.cyc_types.specs.Types as types
@@ -34,7 +35,7 @@ use Rattle.cyc_soundness.specs.Classes.{HasScopes, IsDeclarable, InStatement, In
 use Rattle.cyc_soundness.specs.Stacks.{IsByType, Evaluates, Executes, Continues, Catches, IsLoop, Val, Go, operands_in, IsReturn, IsStack, IsFocus, IsWell}
 use Rattle.cyc_soundness.specs.Stacks as stacks
 use Rattle.cyc_soundness.proofs.TypeLemmas.{target_typed, kind_read, kind_meant}
-use Rattle.cyc_soundness.proofs.FlowLemmas.{used_full, implies_self, implies_after, meet_first, meet_second, at_least_implies, emptied_implied, holds_implied, not_vacant, full_last}
+use Rattle.cyc_soundness.proofs.FlowLemmas.{used_full, implies_self, implies_after, meet_first, meet_second, at_least_implies, emptied_implied, holds_implied, full_last}
 use Rattle.cyc_soundness.proofs.RuleLemmas.{breaks_statement, breaks_items, breaks_clauses, clauses_implied, nothing_locked}
 use Rattle.cyc_soundness.proofs.StackLemmas.{within_bound, within_variables, within_live, within_holds, below_more, bound_to}
 use Rattle.cyc_soundness.proofs.RegionLemmas.{opened_known, contains_more, live_more, same_name, known_behind, opened_life, opened_lasting, agrees_of, context_inside, context_lexical}
@@ -49,8 +50,9 @@ use Rattle.cyc_guard.proofs.WellNumbered.{InScope as AreScoped, found_below, len
 use Rattle.cyc_soundness.proofs.Locking.{IsLockedIn, ends_so, locked_items, now_locked, scope_below}
 use Rattle.cyc_soundness.proofs.Touched.{relied_body, asked_of}
 use Rattle.cyc_soundness.proofs.Supply.{declares_blank}
-use Rattle.cyc_soundness.proofs.Swapping.{kept_both, swap_on}
+use Rattle.cyc_soundness.proofs.Swapping.{swap_on}
 use Rattle.cyc_types.specs.flow.Touched.{touched_statement}
+use Rattle.cyc_types.proofs.typing.TestLemmas.{kept_append}
 
 -- the same scope further on, where more numbers are given out
 pub context_behind : (p : Source) (x : Exits) (bs : List InScope) (c : Context) (locals regions : ℕ) → IsContext p x bs c
@@ -222,7 +224,7 @@ module _ (p : Source) (g : Typing) (x : Exits) (bs : List InScope) (e : Environm
       )
   execute (Swap y z) k c f h before behind' live stands holds (t, ty, tz, plain) (f1, (f2, dy, (f3, dz, (demands, same))), (u, known)) are (ky, kz) stack =
       let now : h ≡ f3 = ap (λ (z : Known). z.now) known ∙ same in
-      let (first, second) = kept_both (side_demanded [] y f3) (side_demanded (and_peeked (peeked_side y) []) z f3) demands in
+      let (first, second) = kept_append (side_demanded [] y f3) (side_demanded (and_peeked (peeked_side y) []) z f3) demands in
       swap_on p g x bs e w typed' globals bound variables y z c t k f f2 f3 (and_peeked (peeked_side y) []) live stands holds plain ty dy first ky
       (λ reached. record { waiting = and_peeked (peeked_side y) []; typed = tz; flows = dz; used = second; kept = looked_side p.reading x.relied (peeked_side y) z [] f2 f3 reached dz kz }) (subst (λ i. IsStack p g x bs (Go i) k) now stack)
   execute (If a s t) k c f h before behind' live stands holds ((v, well, tested), ws, wt) (f1, d, (l, ds, (m, dt, (u, known)))) are (ka, ks, kt) stack =
@@ -409,7 +411,7 @@ module _ (p : Source) (g : Typing) (x : Exits) (bs : List InScope) (e : Environm
       let below = scope_below p x bs c stands in
       let less : key < c.next_local = found_below c.locals c.next_local key t home below has in
       let lent_now' : IsLockedIn key (with_fullness Full (with_fullness Locked f key) n) = now_locked f key n holds.0 demands.0 (λ same. let e : key ≡ n = same in absurd (omega (arith, less, e, number))) in
-      let set : IsSet f key = not_vacant (is_vacant (flow.fullness f key)) demands.0 in
+      let set : IsSet f key = not-true (is_vacant (flow.fullness f key)) demands.0 in
       let rest = lent_rest key js (with_local false (types.Handle (regions.Variable r)) (with_key_opened r c)) (with_fullness Full (with_fullness Locked f key) n) before behind' ending (let past : key < suc c.next_local = omega (arith, less) in past) lent_now' (next_in_scope c below) wjs
       (subst (λ (z : Known). Derives (rule_items (around (lending x key)) js z) (record { now = ending; breaks = behind' })) now djs) are kjs in
       looks_bound p g x bs e w typed' globals bound variables (Needs (OpenBy n key js) ∷ k) key t b f nests.0 live holds bound_among number_of of_type (used_full f key demands.0 demands.1.0) (
@@ -432,7 +434,7 @@ module _ (p : Source) (g : Typing) (x : Exits) (bs : List InScope) (e : Environm
       let less' : source < c.next_local = found_below c.locals c.next_local source v home below has in
       let lent_now' : IsLockedIn source (with_fullness Full (with_fullness Locked f source) n) = now_locked f source n holds.0 demands.0 (λ same. let e : source ≡ n = same in absurd (omega (arith, less', e, number))) in
       let full : IsFullIn f source = used_full f source demands.0 demands.1.0 in
-      let set : IsSet f source = not_vacant (is_vacant (flow.fullness f source)) demands.0 in
+      let set : IsSet f source = not-true (is_vacant (flow.fullness f source)) demands.0 in
       let rest = lent_rest source js (with_local true t (with_opened scopes.Alias c)) (with_fullness Full (with_fullness Locked f source) n) before behind' ending (let past : source < suc c.next_local = omega (arith, less') in past) lent_now' (next_in_scope c below) wjs
       (subst (λ (z : Known). Derives (rule_items (around (lending x source)) js z) (record { now = ending; breaks = behind' })) now djs) are kjs in
       subst (λ kind. IsWell p (loaded_from kind (e.locals source) (Needs (AliasOf n source js) ∷ k) e w)) (sym (ap values.kind_of of_type ∙ alias_kind (regions.Variable r) v))

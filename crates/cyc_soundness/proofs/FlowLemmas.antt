@@ -2,11 +2,11 @@
 use Rattle.std.proofs.Common.{◌≡◌, ℕ, zero, suc, Bool, true, false, not, List, [], ◌∷◌, ◌++◌, refl, sym, ap, subst, ◌∙◌}
 use Rattle.std.specs.Prelude.{◌≢◌, get_or, slice_set, if◌then◌else◌}
 use Rattle.std.proofs.lemmas.List.{get_or-set_other}
+use Rattle.std.proofs.lemmas.Bool.{not-true, and_parts}
 use Rattle.cyc_types.specs.flow.States.{Fullness, Vacant, Locked, Full, State, Unreached, Reached, lower, lower_each, meet, is_as_full, are_as_full, is_at_least, is_reached, fullness, with_fullness, with_each, is_vacant, is_locked, emptied}
 use Rattle.cyc_soundness.specs.Worlds.{IsAmong, first as newest, later as behind, Typing}
 use Rattle.cyc_soundness.specs.Classes.{is_full}
 use Rattle.cyc_soundness.specs.Frames.{InScope, Variable, HoldsIts, IsSet, IsFullIn, AreSet, Holds, Implies}
-use Rattle.cyc_soundness.proofs.Numbers.{both_true}
 
 pub implies_self : (f : State) → Implies f f
 implies_self f = record { reached = λ h. h; set = λ n s. s; full = λ n s. s }
@@ -68,8 +68,8 @@ all_full_set : (as' bs : List Fullness) (n : ℕ) → are_as_full as' bs ≡ tru
 all_full_set [] [] n e s = s
 all_full_set [] (b ∷ bs) n e s = absurd (let k : false ≡ true = e in cc)
 all_full_set (a ∷ as') [] n e s = absurd (let k : false ≡ true = e in cc)
-all_full_set (a ∷ as') (b ∷ bs) zero e s = as_full_set a b (both_true (is_as_full a b) (are_as_full as' bs) e).0 s
-all_full_set (a ∷ as') (b ∷ bs) (suc n) e s = all_full_set as' bs n (both_true (is_as_full a b) (are_as_full as' bs) e).1 s
+all_full_set (a ∷ as') (b ∷ bs) zero e s = as_full_set a b (and_parts (is_as_full a b) (are_as_full as' bs) e).0 s
+all_full_set (a ∷ as') (b ∷ bs) (suc n) e s = all_full_set as' bs n (and_parts (is_as_full a b) (are_as_full as' bs) e).1 s
 
 as_full_too : (a b : Fullness) → is_as_full a b ≡ true → is_full b ≡ true → is_full a ≡ true
 as_full_too a Vacant e s = absurd (let k : false ≡ true = s in cc)
@@ -82,8 +82,8 @@ all_full_too : (as' bs : List Fullness) (n : ℕ) → are_as_full as' bs ≡ tru
 all_full_too [] [] n e s = s
 all_full_too [] (b ∷ bs) n e s = absurd (let k : false ≡ true = e in cc)
 all_full_too (a ∷ as') [] n e s = absurd (let k : false ≡ true = e in cc)
-all_full_too (a ∷ as') (b ∷ bs) zero e s = as_full_too a b (both_true (is_as_full a b) (are_as_full as' bs) e).0 s
-all_full_too (a ∷ as') (b ∷ bs) (suc n) e s = all_full_too as' bs n (both_true (is_as_full a b) (are_as_full as' bs) e).1 s
+all_full_too (a ∷ as') (b ∷ bs) zero e s = as_full_too a b (and_parts (is_as_full a b) (are_as_full as' bs) e).0 s
+all_full_too (a ∷ as') (b ∷ bs) (suc n) e s = all_full_too as' bs n (and_parts (is_as_full a b) (are_as_full as' bs) e).1 s
 
 pub at_least_implies : (f g : State) → is_at_least f g ≡ true → Implies f g
 at_least_implies Unreached g e = unreached_implies g
@@ -210,11 +210,6 @@ pub full_added : (n : ℕ) (ns : List ℕ) (f : State) → with_each Full (ns ++
 full_added n [] f = refl
 full_added n (m ∷ ns) f = full_added n ns (with_fullness Full f m) ∙ ap (λ g. with_each Full ns g) (full_both f m n)
 
--- what a rule asks of a local that is used
-pub not_vacant : (b : Bool) → not b ≡ true → b ≡ false
-not_vacant true e = absurd (let k : false ≡ true = e in cc)
-not_vacant false e = refl
-
 -- ---- what is full
 
 full_of : (a : Fullness) → is_vacant a ≡ false → is_locked a ≡ false → is_full a ≡ true
@@ -229,7 +224,7 @@ full_set Full full = refl
 
 -- what the rules ask of a local that is used up
 pub used_full : (f : State) (n : ℕ) → not (is_vacant (fullness f n)) ≡ true → not (is_locked (fullness f n)) ≡ true → IsFullIn f n
-used_full f n set free = full_of (fullness f n) (not_vacant (is_vacant (fullness f n)) set) (not_vacant (is_locked (fullness f n)) free)
+used_full f n set free = full_of (fullness f n) (not-true (is_vacant (fullness f n)) set) (not-true (is_locked (fullness f n)) free)
 
 -- ---- numbers in a list
 

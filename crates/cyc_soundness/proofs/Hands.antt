@@ -3,6 +3,7 @@ use Rattle.std.proofs.Common.{◌≡◌, ◌≢◌, ℕ, suc, ◌+◌, ◌≤◌
 use Rattle.std.specs.Prelude.{if◌then◌else◌, ◌==◌}
 use Rattle.std.proofs.lemmas.Bool.{ltb-true, lt-ltb, eqb-true, eq-eqb, false_from_ne_true}
 use Rattle.std.proofs.lemmas.List.{length-set}
+use Rattle.cyc_words.proofs.Numbers.{when_equal}
 use Rattle.cyc_types.specs.flow.States as flow
 use Rattle.cyc_meaning.specs.Values.{Operand, Cell}
 use Rattle.cyc_meaning.specs.Values as values
@@ -16,9 +17,6 @@ use Rattle.cyc_soundness.proofs.Numbers.{same_or_other, slice_get-set_same, some
 use Rattle.cyc_soundness.proofs.WorldLemmas.{life_grown, object_grown, globals_grown, opened_typed, typed_beside}
 
 -- ---- who has what
-
-same_number : {A : Type 0} (n r : ℕ) (a b : A) → n ≡ r → (if n == r then a else b) ≡ a
-same_number n r a b same = ap (λ (z : Bool). if z then a else b) (eq-eqb n r same)
 
 other_number : {A : Type 0} (n r : ℕ) (a b : A) → n ≢ r → (if n == r then a else b) ≡ b
 other_number n r a b apart = ap (λ (z : Bool). if z then a else b) (false_from_ne_true (eqb n r) (λ h. apart (eqb-true n r h)))
@@ -74,7 +72,7 @@ none_before own None old new a has held none = none
 none_before own (Some b) old new a has held none = by_test (same_thing a b) (own a) new Nobody (λ e. absurd (subst (λ h. IsHeld h) (sym has ∙ ap own (sym (the_same a b e)) ∙ none) held)) (λ e. none)
 
 pub marked_now : (object : ℕ) (b : Standing) (here : ℕ → Standing) → marked object b here object ≡ b
-marked_now object b here = same_number object object b (here object) refl
+marked_now object b here = when_equal object object b (here object) refl
 
 pub marked_other : (object : ℕ) (b : Standing) (here : ℕ → Standing) (n : ℕ) → n ≢ object → marked object b here n ≡ here n
 marked_other object b here n apart = other_number n object b (here n) apart
@@ -380,7 +378,7 @@ module _ (g : Typing) (o : Option Thing) (object : ℕ) (new : Holder) (y : Obje
   taken_kept a none n i u x found stands kept = elim (same_or_other n object) [
     | inl same ↦ (let type_is : y ≡ u = some_same y u (sym there ∙ ap (λ k. slice_get g.objects k) (sym same) ∙ found) in
         let now = kept.0 (ap (λ (z : ObjectType). z.is_hidden) (sym type_is) ∙ hidden) in
-        absurd (none (sym (same_number n object a (g.here n) same) ∙ now)))
+        absurd (none (sym (when_equal n object a (g.here n) same) ∙ now)))
     | inr apart ↦ inl (((λ is. marked_before object a g.here n Here apart (kept.0 is)), kept.1), λ e. apart (at_same n i object 0 e).0)
   ]
 
@@ -390,7 +388,7 @@ module _ (g : Typing) (o : Option Thing) (object : ℕ) (new : Holder) (y : Obje
       away : (n j : ℕ) (t : ObjectType) (x : Object) → slice_get g.objects n ≡ Some t → slice_get objects n ≡ Some x → marked object Gone g.here n ≡ Away j → t.is_hidden ≡ true
           → ((g.here n ≡ Away j) × (Lent j n ≢ At object 0)) ⊎ ((i : ℕ) (u : RunTy) (c : Cell) (v : values.Value) → slice_get t.cells i ≡ Some u → slice_get x.cells i ≡ Some c → c.content ≡ Some v → Claims (given o new g.own) (Lent j n) u v)
       away n j t x found stands now hides = elim (same_or_other n object) [
-        | inl same ↦ absurd (away_not_gone (marked object Gone g.here n) j now (same_number n object Gone (g.here n) same))
+        | inl same ↦ absurd (away_not_gone (marked object Gone g.here n) j now (when_equal n object Gone (g.here n) same))
         | inr apart ↦ inl (marked_before object Gone g.here n (Away j) apart now, lent_not_at j n object 0)
       ]
 
@@ -403,21 +401,11 @@ module _ (g : Typing) (o : Option Thing) (object : ℕ) (new : Holder) (y : Obje
           → ((g.here n ≡ Away i) × (Lent i n ≢ At object 0)) ⊎ ((m : ℕ) (u : RunTy) (c : Cell) (v : values.Value) → slice_get t.cells m ≡ Some u → slice_get x.cells m ≡ Some c → c.content ≡ Some v → Claims (given o new g.own) (Lent i n) u v)
       away n i t x found stands now hides = elim (same_or_other n object) [
         | inl same ↦ (let type_is : y ≡ t = some_same y t (sym there ∙ ap (λ k. slice_get g.objects k) (sym same) ∙ found) in
-            let number : j ≡ i = away_same j i (sym (same_number n object (Away j) (g.here n) same) ∙ now) in
+            let number : j ≡ i = away_same j i (sym (when_equal n object (Away j) (g.here n) same) ∙ now) in
             inr (λ m u c v cell at content. subst (λ k. Claims (given o new g.own) (Lent k n) u v) number (subst (λ k. Claims (given o new g.own) (Lent j k) u v) (sym same)
             (claims x (ap (λ k. slice_get objects k) (sym same) ∙ stands) m u c v (ap (λ (z : ObjectType). slice_get z.cells m) type_is ∙ cell) at content))))
         | inr apart ↦ inl (marked_before object (Away j) g.here n (Away i) apart now, lent_not_at i n object 0)
       ]
-
--- a holder keeps what he has where he gets more
-pub given_keeps : (own : Thing → Holder) (o c : Option Thing) (h : Holder) → Owns own h c → Owns (given o h own) h c
-given_keeps own None c h is = is
-given_keeps own (Some a) None h is = tt
-given_keeps own (Some a) (Some b) h is = go (same_thing b a)
-  where
-    go : (z : Bool) → (if z then h else own b) ≡ h
-    go true = refl
-    go false = is
 
 -- what a variable had when it lent what is in it, it has still or has lent
 pub also_lent : (own : Thing → Holder) (o also : Option Thing) (old new : Holder) → Owns own old also → Owns (given o new own) old also ⊎ Owns (given o new own) new also
@@ -453,7 +441,7 @@ also_typed g o object j y regions objects there hidden lent (inr has) typed =
       | inl same ↦ (let number : i ≡ j = away_same i j (sym now ∙ ap g.here same ∙ lent) in
           let holder : Lent j object ≡ Lent i n = ap (λ k. Lent k object) (sym number) ∙ ap (λ k. Lent i k) (sym same) in
           inr (λ m u c v cell at content. (let is = typed.lent n t x found stands m i u c v now hides cell at content in
-          (subst (λ h. Owns (given o h g.own) (Lent i n) (thing_of u v)) (sym holder) (given_keeps g.own o (thing_of u v) (Lent i n) is.0), is.1))))
+          (subst (λ h. Owns (given o h g.own) (Lent i n) (thing_of u v)) (sym holder) (given_too g.own o (thing_of u v) (Lent i n) is.0), is.1))))
       | inr apart ↦ inl (now, λ e. apart (lent_same i n j object e).1)
     ]
 
@@ -495,7 +483,7 @@ returned_typed g o object j y regions objects has there claims typed = hands_typ
     away : (n i : ℕ) (t : ObjectType) (x : Object) → slice_get g.objects n ≡ Some t → slice_get objects n ≡ Some x → marked object Here g.here n ≡ Away i → t.is_hidden ≡ true
         → ((g.here n ≡ Away i) × (Lent i n ≢ Lent j object)) ⊎ ((m : ℕ) (u : RunTy) (c : Cell) (v : values.Value) → slice_get t.cells m ≡ Some u → slice_get x.cells m ≡ Some c → c.content ≡ Some v → Claims (given o (At object 0) g.own) (Lent i n) u v)
     away n i t x found stands now hides = elim (same_or_other n object) [
-      | inl same ↦ absurd (away_not_here (marked object Here g.here n) i now (same_number n object Here (g.here n) same))
+      | inl same ↦ absurd (away_not_here (marked object Here g.here n) i now (when_equal n object Here (g.here n) same))
       | inr apart ↦ inl (marked_before object Here g.here n (Away i) apart now, λ e. apart (lent_same i n j object e).1)
     ]
 
@@ -566,7 +554,7 @@ freed_typed g object i x regions objects has stands typed =
 
     unique : (n : ℕ) → IsHeld (h.own (PointerTo n)) → IsTyped h regions objects → IsUniqueObject h (set objects object gone) n
     unique n held now = let (u, z, there, life, at, live) = now.unique n held in elim (same_or_other n object) [
-      | inl same ↦ absurd (subst (λ k. IsHeld k) (same_number n object Nobody (g.own (PointerTo n)) same) held)
+      | inl same ↦ absurd (subst (λ k. IsHeld k) (when_equal n object Nobody (g.own (PointerTo n)) same) held)
       | inr apart ↦ (u, z, there, life, slice_get-set_other objects object n gone apart ∙ at, live)
     ]
 
@@ -710,7 +698,7 @@ closed_by_key g regions objects number i r among has typed =
   where
     kept : (n : ℕ) → IsAmong n g.kept → IsTyped (giving g (Some (KeyOf number)) Nobody) regions objects → IsHeld (given (Some (KeyOf number)) Nobody g.own (KeyOf n)) → IsDynamic (slice_get (set regions number r) n)
     kept n among now held = elim (same_or_other n number) [
-      | inl same ↦ absurd (subst (λ h. IsHeld h) (same_number n number Nobody (g.own (KeyOf n)) same) held)
+      | inl same ↦ absurd (subst (λ h. IsHeld h) (when_equal n number Nobody (g.own (KeyOf n)) same) held)
       | inr other ↦ subst (λ z. IsDynamic z) (sym (slice_get-set_other regions number n r other)) ((now.kept n among).1 held)
     ]
 

@@ -3,6 +3,7 @@
 -- the typing rules derive is no such tree (`typed_trees_are_formed` of `cyc_types`), since a field that is a key is refused where its
 -- struct is declared.
 use Rattle.std.proofs.Common.{◌≡◌, ℕ, suc, ◌<◌, true, [], ◌∷◌, Some, Ok, inl, refl, arith}
+use Rattle.cyc_words.proofs.Numbers.{zero_below}
 use Rattle.cyc_syntax.specs.declared.tree.PointerKind.TheVariants as marks
 use Rattle.cyc_types.specs.declared.region.Region.TheVariants as regions
 use Rattle.cyc_types.specs.declared.typed.Kind.TheVariants as kinds
@@ -50,9 +51,6 @@ program = record { structs = struct ∷ []; exceptions = []; globals = []; funct
 abbrev context : Context
 context = with_local true pointer (with_local true key (with_region (body_context program main)))
 
-first : (n : ℕ) → 0 < suc n
-first n = omega arith
-
 second : (n : ℕ) → 1 < suc (suc n)
 second n = omega arith
 
@@ -80,9 +78,9 @@ well = record {
     record {
       body = (
         (refl, second 0),
-        (refl, refl, (0, first 2, refl)),
+        (refl, refl, (0, zero_below 2, refl)),
         (
-          (refl, refl, (0, first 2, refl)),
+          (refl, refl, (0, zero_below 2, refl)),
           (
             types.Value pointer,
             (

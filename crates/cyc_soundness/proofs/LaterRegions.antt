@@ -2,6 +2,7 @@
 -- rules accept, in which the type of a local names a region that is opened further on: a run of it is dead. What the typing rules
 -- derive is no such tree (`typed_trees_are_formed` of `cyc_types`), since a name of a region is known from where it is declared on.
 use Rattle.std.proofs.Common.{◌≡◌, ℕ, suc, ◌<◌, [], ◌∷◌, Some, Ok, inl, inr, refl, arith}
+use Rattle.cyc_words.proofs.Numbers.{zero_below}
 use Rattle.cyc_syntax.specs.declared.tree.PointerKind.TheVariants as marks
 use Rattle.cyc_types.specs.declared.region.Region.TheVariants as regions
 use Rattle.cyc_types.specs.declared.typed.Kind.TheVariants as kinds
@@ -38,9 +39,6 @@ program = record { structs = []; exceptions = []; globals = []; functions = main
 abbrev context : Context
 context = body_context program main
 
-first : (n : ℕ) → 0 < suc n
-first n = omega arith
-
 second : 1 < 2
 second = omega arith
 
@@ -49,7 +47,7 @@ well = record {
   functions = (
     record {
       body = (
-        (refl, refl, (0, first 2, refl)),
+        (refl, refl, (0, zero_below 2, refl)),
         (types.Null, refl, refl, refl, refl),
         (
           (
@@ -61,7 +59,7 @@ well = record {
                   (types.Value inner, inl (((0, inl (refl, refl, refl)), refl), refl, refl), refl),
                   (
                     types.Value types.Int,
-                    (types.Int, regions.Variable 1, (marks.Nullable, inl (((0, inl (refl, refl, refl)), refl), refl, refl), (0, first 3, refl), refl, refl), refl, refl, refl),
+                    (types.Int, regions.Variable 1, (marks.Nullable, inl (((0, inl (refl, refl, refl)), refl), refl, refl), (0, zero_below 3, refl), refl, refl), refl, refl, refl),
                     tt,
                     refl,
                     refl,
@@ -69,7 +67,7 @@ well = record {
                   tt,
                 ),
                 (
-                  (refl, refl, (0, first 3, refl)),
+                  (refl, refl, (0, zero_below 3, refl)),
                   (types.Value types.Int, refl, tt, refl, refl),
                   (
                     (

@@ -17,6 +17,7 @@ use Rattle.cyc_types.specs.typing.Tests.{is_unique}
 use Rattle.cyc_types.specs.typing.WellTyped.{LocalInScope, Context, HasLocal, IsLive, with_local, with_region, with_opened, with_key_opened}
 use Rattle.cyc_types.specs.flow.States as flow
 use Rattle.cyc_types.specs.flow.States.{Locked, Full, with_fullness}
+use Rattle.cyc_types.proofs.typing.FormedLemmas.{known_more}
 use Rattle.cyc_meaning.specs.Values.{Operand, Cell}
 use Rattle.cyc_meaning.specs.Values as values
 use Rattle.cyc_meaning.specs.State as state
@@ -34,7 +35,7 @@ use Rattle.cyc_soundness.specs.Stacks.{operands_in, Continues, Go, IsStack, IsWe
 use Rattle.cyc_soundness.proofs.Numbers.{some_same}
 use Rattle.cyc_soundness.proofs.TypeLemmas.{all_in, read_alike}
 use Rattle.cyc_soundness.proofs.FlowLemmas.{full_set, reached_with}
-use Rattle.cyc_soundness.proofs.RegionLemmas.{contains_more, name_known, same_name, known_other, known_more, other_life, context_key, context_alias, context_again, region_owner}
+use Rattle.cyc_soundness.proofs.RegionLemmas.{contains_more, name_known, same_name, known_other, other_life, context_key, context_alias, context_again, region_owner}
 use Rattle.cyc_soundness.proofs.WorldLemmas.{globals_grown, result_grown, typed_cell}
 use Rattle.cyc_soundness.proofs.Hands.{Changed, at_no_hand, at_some, given_now, giving_changed, handing_changed, changed_after, variables_kept, holds_kept, freed_typed, hands_globals, with_kept, kept_grows, kept_typed, variables_more, moment_typed, moment_globals, holds_lent, lent_last, closed_by_key, lent_typed, marked_now, kept_now, also_changed, also_typed, also_lent}
 use Rattle.cyc_soundness.proofs.StackLemmas.{emptied_other, stack_changed, above_globals, full_here, within_full_at, within_variables, among_bound, among_variable, among_own, among_set, set_stored, statement_relied, settled, lent_held}

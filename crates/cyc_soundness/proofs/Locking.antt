@@ -2,6 +2,7 @@
 use Rattle.std.proofs.Common.{◌≡◌, ◌<◌, arith, ℕ, zero, suc, Bool, true, false, not, ◌+◌, ◌||◌, ◌&&◌, List, [], ◌∷◌, ◌++◌, Option, Some, None, refl, sym, ap, subst, ◌∙◌}
 use Rattle.std.specs.Prelude.{◌≢◌, get_or, slice_set, if◌then◌else◌}
 use Rattle.std.proofs.lemmas.List.{get_or-set_other}
+use Rattle.std.proofs.lemmas.Bool.{not-true, and_parts}
 use Rattle.cyc_types.specs.Types.{ValueType, Void, Null, Value}
 use Rattle.cyc_types.specs.Declarations.{declared_regions, item_regions}
 use Rattle.cyc_types.specs.TypedTrees.{Local, Global, Expression, Number, NullPointer, HeapRegion, Counter, Copy, Move, Peek, Load, AddressOf, AddressOfCell, NumberOfElements, FreeUnique, FreeKey, Call, Unary, Binary, Assign, Store, New, Dereference, Target, Member, Element, Placement, OnHeap, AsUnique, ByHandle, Initial, Plain, Fields, Array, Converted, Convert, Arguments, NoArguments, MoreArguments, Operations, NoOperations, ThenCompute, ThenTest, ThenPointer, ThenPointerPeek, Lvalue, Side, VariableSide, CellSide, Statement, Block, Empty, Evaluate, Swap, If, While, Return, Break, Continue, Throw, Try, Items, NoItems, MoreItems, Execute, Declare, DeclareRegion, OpenRegion, DeclareAlias, DeclareKey, Clauses, NoClauses, Default, Case}
@@ -19,12 +20,11 @@ use Rattle.cyc_guard.proofs.Numbers.{IsFreshCaught, IsFresh, AreFresh, AreFreshC
 use Rattle.cyc_guard.proofs.Followed.{ItemsFit, followed_items}
 use Rattle.cyc_types.specs.typing.WellTyped.{LocalInScope, Context}
 use Rattle.cyc_guard.proofs.WellNumbered.{InScope as AreScoped}
+use Rattle.cyc_guard.proofs.States.{set_there}
 use Rattle.cyc_soundness.specs.Lives.{Reading, Lives}
 use Rattle.cyc_soundness.specs.Frames.{InScope, Variable, Level, Names, Instance, Home, lives_in, IsScope, AreBelow, Exits, IsContext}
 use Rattle.cyc_soundness.specs.Worlds.{IsAmong, first, later}
 use Rattle.cyc_soundness.specs.Classes.{Source, Relied, only, may_end, items_may_end, clauses_may_end, SparesAssigned, InExpression, InPlace, InPlacement, InInitial, InConverted, InArguments, InOperations, InValue, InThrown, InSide, InStatement, InItems, InClauses}
-use Rattle.cyc_soundness.proofs.Numbers.{both_true}
-use Rattle.cyc_soundness.proofs.FlowLemmas.{not_vacant}
 use Rattle.cyc_soundness.proofs.Touched.{asked, asked_of, asked_nothing}
 use Rattle.cyc_soundness.proofs.Looking.{only_other}
 
@@ -226,11 +226,11 @@ module _ (n : ℕ) where
     as_it_was f h same locked = subst (λ z. IsLockedIn z) (sym same) locked
 
     stored_locked : (w : List ℕ) (l : Lvalue) (f h : flow.State) → IsLockedIn f → Derives (stored w l f) h → IsLockedIn h
-    stored_locked w (Local p k) f h locked (demands, same) = as_it_was (with_fullness Full f k) h same (locked_with Full f k (locked_apart f k locked (both_true (not (is_locked (fullness f k))) (is_free w k f) demands.0).0) locked)
+    stored_locked w (Local p k) f h locked (demands, same) = as_it_was (with_fullness Full f k) h same (locked_with Full f k (locked_apart f k locked (and_parts (not (is_locked (fullness f k))) (is_free w k f) demands.0).0) locked)
     stored_locked w (Global k) f h locked (unit, same) = as_it_was f h same locked
 
     stored_spared : (w : List ℕ) (l : Lvalue) (t : ValueType) (f h : flow.State) → IsLockedIn f → Derives (stored w l f) h → SparesAssigned q l t → SparesAssigned locking l t
-    stored_spared w (Local p k) Void f h locked (demands, same) kept = (only_other n k (locked_apart f k locked (both_true (not (is_locked (fullness f k))) (is_free w k f) demands.0).0), kept)
+    stored_spared w (Local p k) Void f h locked (demands, same) kept = (only_other n k (locked_apart f k locked (and_parts (not (is_locked (fullness f k))) (is_free w k f) demands.0).0), kept)
     stored_spared w (Local p k) Null f h locked flows kept = tt
     stored_spared w (Local p k) (Value t) f h locked flows kept = tt
     stored_spared w (Global k) t f h locked flows kept = tt
@@ -396,20 +396,20 @@ module _ (n : ℕ) where
               record {
                 kept = (y.kept, asked (may_end s) z.kept);
                 now = z.now;
-                reached = λ e. z.reached (both_true (may_end s) (items_may_end js) e).1;
+                reached = λ e. z.reached (and_parts (may_end s) (items_may_end js) e).1;
                 breaks = λ around before. z.breaks (out_none c.locks around) (y.breaks around before);
               },
-              λ e. out (both_true (may_end s) (items_may_end js) e).1,
+              λ e. out (and_parts (may_end s) (items_may_end js) e).1,
             )
         go false same =
             let none : is_reached b.now ≡ false = items_unreached w (statements.behind_item (Execute s) c) js l b fresh flows (never same) in (
               record {
                 kept = (y.kept, asked_nothing (InItems m locking (k + declared_regions s) js) (may_end s) same);
                 now = λ e. (let z : true ≡ false = sym e ∙ none in absurd (cc));
-                reached = λ e. (let z : false ≡ true = sym same ∙ (both_true (may_end s) (items_may_end js) e).0 in absurd (cc));
+                reached = λ e. (let z : false ≡ true = sym same ∙ (and_parts (may_end s) (items_may_end js) e).0 in absurd (cc));
                 breaks = λ around before. breaks_locked w (statements.behind_item (Execute s) c) js l b fresh flows (never same) n (y.breaks around before);
               },
-              λ e. (let z : false ≡ true = sym same ∙ (both_true (may_end s) (items_may_end js) e).0 in absurd (cc)),
+              λ e. (let z : false ≡ true = sym same ∙ (and_parts (may_end s) (items_may_end js) e).0 in absurd (cc)),
             )
 
     mutual
@@ -526,16 +526,11 @@ locked_items m q n w k c js a b mine fresh locked flows kept = (locks_items n m 
 
 -- ---- where it begins
 
-there_set : (as' : List Fullness) (k : ℕ) (a : Fullness) → is_vacant (get_or as' k Vacant) ≡ false → get_or (slice_set as' k a) k Vacant ≡ a
-there_set [] k a set = let z : true ≡ false = set in absurd (cc)
-there_set (b ∷ bs) zero a set = refl
-there_set (b ∷ bs) (suc k) a set = there_set bs k a set
-
 -- an item that lends a local locks it
 pub now_locked : (f : flow.State) (key l : ℕ) → is_reached f ≡ true → not (is_vacant (fullness f key)) ≡ true → key ≢ l → IsLockedIn key (with_fullness Full (with_fullness Locked f key) l)
 now_locked Unreached key l reached set apart = let z : false ≡ true = reached in absurd (cc)
 now_locked (Reached as') key l reached set apart =
-    locked_with key Full (Reached (slice_set as' key Locked)) l apart (refl, ap is_locked (there_set as' key Locked (not_vacant (is_vacant (get_or as' key Vacant)) set)))
+    locked_with key Full (Reached (slice_set as' key Locked)) l apart (refl, ap is_locked (set_there as' key Locked (not-true (is_vacant (get_or as' key Vacant)) set)))
 
 -- the locals in scope have lower numbers than the next
 scoped_below : (m : Reading) (these : Lives) (n : ℕ) (vs : List LocalInScope) (bs : List InScope) → IsScope m these vs bs → AreBelow n bs → AreScoped vs n

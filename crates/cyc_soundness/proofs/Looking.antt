@@ -2,7 +2,7 @@
 use Rattle.std.proofs.Common.{◌≡◌, ◌≢◌, ℕ, zero, suc, Bool, true, false, not, ◌||◌, List, [], ◌∷◌, ◌++◌, Option, Some, None, refl, sym, ap, ◌∙◌, eqb}
 use Rattle.std.specs.Prelude.{get_or, nat_eq}
 use Rattle.std.specs.List.{list_any}
-use Rattle.std.proofs.lemmas.Bool.{eq-eqb}
+use Rattle.std.proofs.lemmas.Bool.{eq-eqb, and_parts}
 use Rattle.cyc_types.specs.TypedTrees.{Local, Global, Expression, Number, NullPointer, HeapRegion, Counter, Copy, Move, Peek, Load, AddressOf, AddressOfCell, NumberOfElements, FreeUnique, FreeKey, Call, Unary, Binary, Assign, Store, New, Dereference, Target, Member, Element, Placement, OnHeap, AsUnique, ByHandle, Initial, Plain, Fields, Array, Converted, Convert, Arguments, NoArguments, MoreArguments, Operations, NoOperations, ThenCompute, ThenTest, ThenPointer, ThenPointerPeek, Lvalue, Side, VariableSide, CellSide, peeked}
 use Rattle.cyc_types.specs.Types.{ValueType, Void, Null, Value}
 use Rattle.cyc_types.specs.Rules.{Derives}
@@ -13,7 +13,6 @@ use Rattle.cyc_types.specs.flow.Statements.{rule_side}
 use Rattle.cyc_soundness.specs.Lives.{Reading}
 use Rattle.cyc_soundness.specs.Worlds.{IsAmong, first, later}
 use Rattle.cyc_soundness.specs.Classes.{is_full, Relied, only, and_looked, InExpression, InPlace, InPlacement, InInitial, InConverted, InArguments, InOperations, InSide, SparesAssigned}
-use Rattle.cyc_soundness.proofs.Numbers.{both_true}
 use Rattle.cyc_soundness.proofs.FlowLemmas.{before_last, at_last, meet_first, reached_with}
 
 -- ---- a local that is free is another one
@@ -55,7 +54,7 @@ module _ (m : Reading) (q : Relied) (n : ℕ) where
   stored_reached w (Global k) f h reached (unit, same) = still_reached f h same reached
 
   stored_spared : (w : List ℕ) (l : Lvalue) (t : ValueType) (f h : flow.State) → IsAmong n w → is_reached f ≡ true → Derives (stored w l f) h → SparesAssigned q l t → SparesAssigned looking l t
-  stored_spared w (Local p k) Void f h among reached (demands, same) kept = (free_spared n k w f among reached (both_true (not (is_locked (fullness f k))) (is_free w k f) demands.0).1, kept)
+  stored_spared w (Local p k) Void f h among reached (demands, same) kept = (free_spared n k w f among reached (and_parts (not (is_locked (fullness f k))) (is_free w k f) demands.0).1, kept)
   stored_spared w (Local p k) Null f h among reached flows kept = tt
   stored_spared w (Local p k) (Value t) f h among reached flows kept = tt
   stored_spared w (Global k) t f h among reached flows kept = tt

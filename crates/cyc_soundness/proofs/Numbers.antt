@@ -1,6 +1,6 @@
 -- Numbered lists, and numbers that are equal or not.
 use Rattle.std.proofs.Common.{◌≡◌, ℕ, zero, suc, ◌<◌, Bool, true, false, List, [], ◌∷◌, ◌++◌, length, map, set, Some, None, refl, ap, inl, inr, arith}
-use Rattle.std.specs.Prelude.{◌≢◌, ◌⊎◌, ◌&&◌, slice_get}
+use Rattle.std.specs.Prelude.{◌≢◌, ◌⊎◌, slice_get}
 
 pub less_or_same : (l n : ℕ) → l < suc n → (l < n) ⊎ (l ≡ n)
 less_or_same zero zero less = inr refl
@@ -43,13 +43,3 @@ pub mapped : {A B : Type 0} (f : A → B) (xs : List A) (i : ℕ) (x : A) → sl
 mapped f [] i x found = absurd (let e : None ≡ Some x = found in cc)
 mapped f (a ∷ xs) zero x found = ap (λ y. Some (f y)) (some_same a x found)
 mapped f (a ∷ xs) (suc i) x found = mapped f xs i x found
-
-pub both : (a b : Bool) → a ≡ true → b ≡ true → (a && b) ≡ true
-both true true one two = refl
-both true false one two = two
-both false b one two = one
-
-pub both_true : (a b : Bool) → (a && b) ≡ true → (a ≡ true) × (b ≡ true)
-both_true true true e = (refl, refl)
-both_true true false e = absurd (let k : false ≡ true = e in cc)
-both_true false b e = absurd (let k : false ≡ true = e in cc)

@@ -15,7 +15,7 @@ use Rattle.cyc_types.specs.TypedTrees.{Expression, Initial, Plain, Fields, Array
 use Rattle.cyc_types.specs.Rules.{Derives}
 use Rattle.cyc_types.specs.typing.Tests as tests
 use Rattle.cyc_types.specs.typing.Tests.{is_key}
-use Rattle.std.proofs.lemmas.List.{length-set}
+use Rattle.std.proofs.lemmas.List.{length-set, length-map}
 use Rattle.cyc_types.specs.typing.WellTyped.{Context, ArePassed, IsMade}
 use Rattle.cyc_types.specs.typing.WellTyped as counting
 use Rattle.cyc_types.specs.flow.States as flow
@@ -29,6 +29,7 @@ use Rattle.cyc_meaning.specs.Operators.{array_size}
 use Rattle.cyc_meaning.specs.Allocation.{writes_from, blanks_of, filled, makes_of, makes_plain, makes_fields, most_words, blanks, begun, makes_array, step_beginning, step_repeating, fills_element, makes}
 use Rattle.cyc_meaning.specs.Nesting.{ends_of, AreOpen}
 use Rattle.cyc_meaning.proofs.ListLemmas.{slice_get-end, slice_get-set_other}
+use Rattle.cyc_meaning.proofs.NestingLemmas.{open_region}
 use Rattle.cyc_soundness.specs.Lives.{Reading, AsHeap, ByScope, at, Life, OfRegion, Kept, RunTy, Int, Pointer, Handle, Key, Struct, Value, looked, kind_at, Owned, owned_life, Lives}
 use Rattle.cyc_soundness.specs.Worlds.{NoLocal, Thing, KeyOf, PointerTo, Holder, Nobody, Hand, At, Lent, pointer_at, Owns, Claims, given, giving, AreOwned, IsUniqueObject, IsOpenObject, IsNewOwner, IsAmong, IsHeld, IsKeyless, AreKeyless, IsDynamic, ObjectType, Typing, Outlasts, IsFilled, IsPart, IsTarget, HasType, IsResult, AreOperands, AreCells, IsOwner, IsObject, IsTyped, IsOpenLife, Grows, IsKnownOwner, life_at}
 use Rattle.cyc_soundness.specs.Frames.{first, later, InScope, Level, HasMeaning, IsBound, AreVariables, LiveIn, Holds, Implies, Exits, IsContext, KnowsProgram, lives_in, read, IsThere, frees_in, life_named, lives_among}
@@ -39,11 +40,11 @@ use Rattle.cyc_soundness.proofs.Numbers.{same_or_other, less_or_same, slice_get-
 use Rattle.cyc_soundness.proofs.FlowLemmas.{at_least_implies, holds_implied}
 use Rattle.cyc_soundness.proofs.TypeLemmas.{target_typed, is_kind_same, kind_read}
 use Rattle.cyc_soundness.proofs.ValueLemmas.{lasts_itself}
-use Rattle.cyc_soundness.proofs.WorldLemmas.{beyond, owner_grown, operands_grown, globals_grown, with_object, object_grows, object_stays, object_typed, typed_beside, open_region}
+use Rattle.cyc_soundness.proofs.WorldLemmas.{beyond, owner_grown, operands_grown, globals_grown, with_object, object_grows, object_stays, object_typed, typed_beside}
 use Rattle.cyc_soundness.proofs.Hands.{Changed, hand_same, at_no_hand, given_now, at_some, changed_after, giving_changed, owns_kept, claims_kept, variables_kept, holds_kept, given_typed, hands_globals, pointed_typed, lent_no_hand}
 use Rattle.cyc_soundness.proofs.Sharing.{at_start, keeps_by, plain_keyless}
 use Rattle.cyc_soundness.proofs.StackLemmas.{keeps_fields, stack_changed, kept_open, lasting_open}
-use Rattle.cyc_soundness.proofs.RegionLemmas.{region_owner, there_open, agrees_of, there_lasting, mapped_count, fields_mean}
+use Rattle.cyc_soundness.proofs.RegionLemmas.{region_owner, there_open, agrees_of, there_lasting, fields_mean}
 use Rattle.cyc_soundness.proofs.Cells.{running, part_at, stored_typing, stores_on}
 
 -- ---- lists of operands
@@ -675,7 +676,7 @@ module _ (p : Source) (g : Typing) (x : Exits) (bs : List InScope) (e : Environm
   makes_on (Fields as') owner k c m t r f h q all_open live stands holds alive owned (n, rs, s, at, count, passed, t_is, mark) flows kept stack =
       let there : slice_get p.program.structs n ≡ Some s = ap (λ ss. slice_get ss n) (sym stands.structs) ∙ at in
       let ls = map (lives_in bs) rs in
-      let enough : length ls ≡ s.parameters = mapped_count (lives_in bs) rs ∙ count in
+      let enough : length ls ≡ s.parameters = length-map rs (lives_in bs) ∙ count in
       let means = fields_mean p x bs c stands rs s count (λ field u found. globals.fields n s there field u found) in
       let keyless : AreKeyless (map (read bs) (map (substituted_ty rs) s.fields)) = elim (lends_or_not p.reading) [
         | inl lends ↦ subst (λ us. AreKeyless us) (sym means) (plain_each (lives_among (frees_of p.reading) ls) s.fields (globals.plain lends n s there))

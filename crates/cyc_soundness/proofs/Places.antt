@@ -1,7 +1,8 @@
 -- PLACES that a pointer leads to, and what waits for them; operators of pointers.
 use Rattle.std.proofs.Common.{◌≡◌, ◌⊎◌, inl, inr, ℕ, zero, suc, ◌+◌, ◌<◌, ◌≤◌, Bool, true, false, List, [], ◌∷◌, length, map, Option, Some, None, slice_get, refl, sym, ap, subst, ◌∙◌, arith}
 use Rattle.std.specs.Prelude.{if◌then◌else◌, nat_lt, ◌==◌, ◌&&◌}
-use Rattle.std.proofs.lemmas.Bool.{eq-eqb, ltb-true}
+use Rattle.std.proofs.lemmas.Bool.{eq-eqb, ltb-true, and_from}
+use Rattle.std.proofs.lemmas.List.{length-map}
 use Rattle.cyc_syntax.specs.declared.tree.PointerKind.{PointerKind}
 use Rattle.cyc_syntax.specs.declared.tree.PointerKind.TheVariants as marks
 use Rattle.cyc_words.specs.Word.{add_of, sub_of}
@@ -38,13 +39,13 @@ use Rattle.cyc_soundness.specs.Frames.{InScope, IsBound, AreVariables, LiveIn, l
 use Rattle.cyc_soundness.specs.Classes.{and_looked, InExpression, InPlace, Source, frees_of}
 use Rattle.cyc_soundness.specs.Stacks.{IsThrough, seen_by, EvaluatesWhole, relied_at, Val, PlaceOf, null, WaitsPlace, of_cell, left_cell, IsByType, KeepsPlace, IsStack, IsFocus, IsWell}
 use Rattle.cyc_soundness.specs.Stacks as stacks
-use Rattle.cyc_soundness.proofs.Numbers.{some_same, inside, mapped, both}
+use Rattle.cyc_soundness.proofs.Numbers.{some_same, inside, mapped}
 use Rattle.cyc_soundness.proofs.TypeLemmas.{target_typed, is_kind_same, mark_kinds, kind_meant}
 use Rattle.cyc_soundness.proofs.WorldLemmas.{result_grown, typed_cell}
 use Rattle.cyc_soundness.proofs.Hands.{at_no_hand, holds_kept, variables_kept}
 use Rattle.cyc_soundness.proofs.Sharing.{region_common, plain_read, keeps_by}
 use Rattle.cyc_soundness.proofs.StackLemmas.{stack_changed, part_alone, IsPresent, there_present}
-use Rattle.cyc_soundness.proofs.RegionLemmas.{agrees_of, there_of, mapped_count, field_means}
+use Rattle.cyc_soundness.proofs.RegionLemmas.{agrees_of, there_of, field_means}
 use Rattle.cyc_soundness.proofs.Looking.{looked_expression, peeked_so}
 use Rattle.cyc_soundness.proofs.Swapping.{left_spot, finds_right_on, both_on}
 use Rattle.cyc_soundness.specs.Worlds.{Hand, pointer_at, thing_of, Claims, ClaimsPart, ClaimsBy, IsHad, IsPlain}
@@ -181,8 +182,8 @@ kinds_typed : (l : Lives) (g : Typing) (ts : List Ty) (cs : List Cell) (n : ℕ)
 kinds_typed l g [] [] n are = refl
 kinds_typed l g [] (c ∷ cs) n are = absurd are
 kinds_typed l g (t ∷ ts) [] n are = absurd are
-kinds_typed l g (t ∷ ts) (c ∷ cs) zero (one, are) = both (is_kind c.kind (values.kind_of t)) (are_kinds (kinds_of cs) (map values.kind_of ts)) (is_kind_same c.kind (values.kind_of t) (one.0 ∙ kind_meant l t)) (kinds_typed l g ts cs zero are)
-kinds_typed l g (t ∷ ts) (c ∷ cs) (suc n) (one, are) = both (is_kind c.kind (values.kind_of t)) (are_kinds (kinds_of cs) (map values.kind_of ts)) (is_kind_same c.kind (values.kind_of t) (one.0 ∙ kind_meant l t)) (kinds_typed l g ts cs n are)
+kinds_typed l g (t ∷ ts) (c ∷ cs) zero (one, are) = and_from (is_kind c.kind (values.kind_of t)) (are_kinds (kinds_of cs) (map values.kind_of ts)) (is_kind_same c.kind (values.kind_of t) (one.0 ∙ kind_meant l t)) (kinds_typed l g ts cs zero are)
+kinds_typed l g (t ∷ ts) (c ∷ cs) (suc n) (one, are) = and_from (is_kind c.kind (values.kind_of t)) (are_kinds (kinds_of cs) (map values.kind_of ts)) (is_kind_same c.kind (values.kind_of t) (one.0 ∙ kind_meant l t)) (kinds_typed l g ts cs n are)
 
 -- ---- what is reached is what the tree says
 
@@ -293,7 +294,7 @@ module _ (p : Source) (g : Typing) (x : Exits) (bs : List InScope) (e : Environm
   locate (Member pk a n field u) k c t f h q r live stands holds (m, rs, s, v, well, thin, alive, kind, found, there, of, same) flows kept stack =
       let struct : slice_get p.program.structs n ≡ Some s = ap (λ ss. slice_get ss n) (sym stands.structs) ∙ found in
       let ls = map (lives_in bs) rs in
-      let means = λ (enough : length ls ≡ s.parameters). field_means p x bs c stands rs s v (sym (mapped_count (lives_in bs) rs) ∙ enough) (globals.fields n s struct field v there) in
+      let means = λ (enough : length ls ≡ s.parameters). field_means p x bs c stands rs s v (sym (length-map rs (lives_in bs)) ∙ enough) (globals.fields n s struct field v there) in
       subst (λ o. IsWell p (locates_member o pk a field k e w)) (sym struct)
       (on (Evaluating a) (Needs (FollowMember pk (map values.kind_of s.fields) field) ∷ k) live (
         c,
@@ -360,7 +361,7 @@ module _ (p : Source) (g : Typing) (x : Exits) (bs : List InScope) (e : Environm
       let part = through_part g (stacks.operands_in k) peek (lives.Pointer m (read bs t) l) r v.value through comes in
       let leads_so : leads_to w target (followed v.value) ≡ true = ap (λ z. leads_to w z (followed v.value)) same ∙ leads_there g w typed (lives_in bs) m t l v.value is.1 in
       subst (λ (b : Bool). IsWell p (if b then arrives (followed v.value) k e w else wrong w))
-      (sym (both (is_kind v.kind pk) (leads_to w target (followed v.value)) (is_kind_same v.kind pk (is.0 ∙ mark_kinds m ∙ sym kind)) leads_so))
+      (sym (and_from (is_kind v.kind pk) (leads_to w target (followed v.value)) (is_kind_same v.kind pk (is.0 ∙ mark_kinds m ∙ sym kind)) leads_so))
       (arrived peek m (read bs t) l v.value k f live holds is.1 part stack)
 
   -- ---- fields
@@ -378,7 +379,7 @@ module _ (p : Source) (g : Typing) (x : Exits) (bs : List InScope) (e : Environm
       let found : slice_get y.cells field ≡ Some u = ap (λ us. slice_get us field) cells ∙ mapped (at (lives_among (frees_of p.reading) ls)) s.fields field t there ∙ ap (λ z. Some z) (means enough) in
       let within : field < length y.cells = inside y.cells field u found in
       let some : IsFilled g object (suc field) = (m, flag, (let le : suc field ≤ m = omega (arith, within, full) in le)) in
-      let test : ((offset == 0) && are_kinds (kinds_of z.cells) (map values.kind_of s.fields)) ≡ true = both (offset == 0) (are_kinds (kinds_of z.cells) (map values.kind_of s.fields)) (eq-eqb offset 0 first) alike in
+      let test : ((offset == 0) && are_kinds (kinds_of z.cells) (map values.kind_of s.fields)) ≡ true = and_from (offset == 0) (are_kinds (kinds_of z.cells) (map values.kind_of s.fields)) (eq-eqb offset 0 first) alike in
       subst (λ o. IsWell p (arrives (field_of o object offset (map values.kind_of s.fields) field) k e w)) (sym stands)
       (subst (λ (b : Bool). IsWell p (arrives (if b then At object field else Nowhere) k e w)) (sym test)
       (on (GivenPlace (values.Thin object field)) k live (peek, u, l, f, holds, (y, at', shown, outlasts, part_at g w typed object y u field at' found some), claims, stack)))

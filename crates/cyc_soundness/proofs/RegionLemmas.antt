@@ -14,6 +14,7 @@ use Rattle.cyc_types.specs.Types.{Ty, ValueType, result_type, substituted_ty}
 use Rattle.cyc_types.specs.Types as types
 use Rattle.cyc_types.specs.typing.Scopes.{with_scope}
 use Rattle.cyc_types.specs.typing.WellTyped.{LocalInScope, Context, IsLive, AreLive, AreOutliving, IsCell, body_context, parameters_in_scope, IsNamed, AreNamed as AreNamedRegions, IsNamedIn, AreNamedIn, IsNamedResult, AreConstraints, IsWellTypedFunction, in_block, with_local, with_region, with_opened, with_key_opened, AreNotUnique}
+use Rattle.cyc_types.proofs.typing.FormedLemmas.{known_more}
 use Rattle.cyc_soundness.specs.Lives.{Life, OfRegion, Kept, Lives, at, value_at, heap_life, lives_of, as_heap, Reading, AsHeap, ByScope, AllOf, AllIn, AllInValue, IsKnown, IsOther, owned_life, Owned}
 use Rattle.cyc_soundness.specs.Worlds.{Thing, KeyOf, PointerTo, Typing, IsKnownLife, IsOpenIn, lent_now, Outlasts, heap as for_ever, stays, encloses, whole, behind, AgreesWith, IsNumber, IsKnownOwner}
 use Rattle.cyc_soundness.specs.Classes.{HasLoans, IsDeclarable, Source, frees_of}
@@ -145,11 +146,6 @@ pub known_other : (n : ℕ) (r : Region) → IsKnown n r → IsOther n r
 known_other n regions.Heap known = tt
 known_other n regions.Unique known = tt
 known_other n (regions.Variable m) less = λ e. (let k : m ≡ n = e in absurd (omega (arith, less, k)))
-
-pub known_more : (n m : ℕ) (r : Region) → n ≤ m → IsKnown n r → IsKnown m r
-known_more n m regions.Heap most known = tt
-known_more n m regions.Unique most known = tt
-known_more n m (regions.Variable k) most less = omega (arith, less, most)
 
 -- another region stands for the same
 pub other_life : (number : ℕ) (l : Life) (live : Bool) (bs : List InScope) (r : Region) → IsOther number r → lives_in bs r ≡ lives_in (Names number l live ∷ bs) r
@@ -695,10 +691,6 @@ known_body (ByScope lends frees) p h well = record {
     ]
 
 -- ---- the fields of a struct
-
-pub mapped_count : {A B : Type 0} (f : A → B) (xs : List A) → length (map f xs) ≡ length xs
-mapped_count f [] = refl
-mapped_count f (x ∷ xs) = ap suc (mapped_count f xs)
 
 heap_among : (m : Lives) → ((r : Region) → m r ≡ heap_life) → (rs : List Region) (k : ℕ) → slice_index_or (map m rs) k heap_life ≡ heap_life
 heap_among m heap [] k = refl

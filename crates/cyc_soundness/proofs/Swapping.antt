@@ -1,11 +1,11 @@
 -- SWAPS: both places are found, and then are read and written.
-use Rattle.std.proofs.Common.{true, ◌≡◌, ℕ, suc, ◌≤◌, Bool, false, List, [], ◌∷◌, ◌++◌, Option, Some, None, slice_get, refl, sym, ap, subst, ◌∙◌, arith, inl, inr, zero, ◌⊎◌, ◌≢◌}
+use Rattle.std.proofs.Common.{true, ◌≡◌, ℕ, suc, ◌≤◌, Bool, false, List, [], ◌∷◌, Option, Some, None, slice_get, refl, sym, ap, subst, ◌∙◌, arith, inl, inr, zero, ◌⊎◌, ◌≢◌}
 use Rattle.std.specs.Prelude.{if◌then◌else◌}
 use Rattle.cyc_syntax.specs.declared.tree.PointerKind.TheVariants as marks
 use Rattle.cyc_types.specs.declared.typed.Kind.{Kind}
 use Rattle.cyc_types.specs.Types.{Ty}
 use Rattle.cyc_types.specs.TypedTrees.{Local, Global, type_of_place, peeked, Side, VariableSide, CellSide}
-use Rattle.cyc_types.specs.Rules.{Demand, AllKept, Derives}
+use Rattle.cyc_types.specs.Rules.{AllKept, Derives}
 use Rattle.cyc_types.specs.typing.Tests.{is_struct}
 use Rattle.cyc_types.specs.typing.WellTyped.{Context, IsSide}
 use Rattle.cyc_types.specs.flow.States as flow
@@ -34,10 +34,6 @@ use Rattle.cyc_soundness.proofs.Hands.{Changed, given_now, given_too, given_apar
 use Rattle.cyc_soundness.proofs.StackLemmas.{stack_grown, bound_of, place_local, among_bound, among_variable, among_live, among_set, open_of, globals_among, lasting_open, kept_open, object_known, among_open, IsPresent, there_present, stack_by, IsAboveBy, statement_relied, settled, among_own}
 use Rattle.cyc_soundness.proofs.RegionLemmas.{there_of, cell_live, global_means}
 use Rattle.cyc_soundness.proofs.Cells.{part_had, running, life_of, lasting_common, open_object, value_part, held_still}
-
-pub kept_both : (ds es : List Demand) → AllKept (ds ++ es) → AllKept ds × AllKept es
-kept_both [] es are = (tt, are)
-kept_both (d ∷ ds) es (is, are) = let (first, second) = kept_both ds es are in ((is, first), second)
 
 -- a local that has what is in it, or an object that pointers lead to
 abbrev pub IsFree : Typing → (object : ℕ) → ObjectType → Type 0

@@ -1,7 +1,7 @@
 -- THE WHOLE: every step of a typed state leads to a typed state, so no run of an accepted program of the class is dead or wrong.
 use Rattle.std.proofs.Common.{◌≡◌, ◌≢◌, inl, inr, ℕ, ◌≤◌, zero, suc, Bool, true, false, List, [], ◌∷◌, length, map, Option, Some, None, slice_get, refl, sym, ap, subst, ◌∙◌, arith}
 use Rattle.std.specs.Prelude.{if◌then◌else◌, ◌==◌, Contains}
-use Rattle.std.proofs.lemmas.Bool.{eq-eqb, eqb-true}
+use Rattle.std.proofs.lemmas.Bool.{eq-eqb, eqb-true, not-true}
 use Rattle.cyc_syntax.specs.declared.tree.PointerKind.{PointerKind}
 use Rattle.cyc_syntax.specs.declared.tree.PointerKind.TheVariants as marks
 use Rattle.cyc_types.specs.declared.region.Region.{Region}
@@ -42,7 +42,7 @@ use Rattle.cyc_soundness.proofs.Cells.{running}
 use Rattle.cyc_soundness.proofs.Objects.{begin_array, repeat_on, write_on}
 use Rattle.cyc_soundness.proofs.Swapping.{swapped_on, swapping_on}
 use Rattle.cyc_soundness.proofs.Places.{locate, place_given}
-use Rattle.cyc_soundness.proofs.Evaluation.{not_true, of_map, evaluate}
+use Rattle.cyc_soundness.proofs.Evaluation.{of_map, evaluate}
 use Rattle.cyc_soundness.proofs.Supply.{given, declares_full}
 use Rattle.cyc_soundness.proofs.Execution.{execute}
 use Rattle.cyc_soundness.proofs.Calls.{call, enter, bind, catch}
@@ -113,7 +113,7 @@ well_alive p (Wrong output input) well = absurd well
 -- ---- accepted functions
 
 ends_are : (o : Option Ty) (place : Place) (f : flow.State) → AllKept (end_demanded o place f) → (t : Ty) → o ≡ Some t → is_reached f ≡ false
-ends_are o place f kept t same = let demands = subst (λ z. AllKept (end_demanded z place f)) same kept in not_true (is_reached f) demands.0
+ends_are o place f kept t same = let demands = subst (λ z. AllKept (end_demanded z place f)) same kept in not-true (is_reached f) demands.0
 
 accepted_among : (p : Source) (hs : List Function) → AreWellTypedFunctions p.program hs → Derives (rule_functions hs) tt → InFunctions p.reading hs → (n : ℕ) (h : Function) → slice_get hs n ≡ Some h → (end : flow.State) × IsAccepted p h end
 accepted_among p [] well flows kept n h found = absurd (let z : None ≡ Some h = found in cc)

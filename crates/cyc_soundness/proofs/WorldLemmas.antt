@@ -8,6 +8,7 @@ use Rattle.cyc_meaning.specs.Values as values
 use Rattle.cyc_meaning.specs.State.{Region, Owner, InRegion, Unique, Object, World, Found, Closed, found_region, located, heap_number, is_open, is_live, cell_in, cell_at, written}
 use Rattle.cyc_meaning.specs.Nesting.{IsScoped, IsFound}
 use Rattle.cyc_meaning.proofs.ListLemmas.{slice_get-append, slice_get-end, slice_get-set_other}
+use Rattle.cyc_meaning.proofs.NestingLemmas.{open_region}
 use Rattle.cyc_soundness.specs.Lives.{Life, OfRegion, Owned, Kept, RunTy, Int, Pointer, Handle, Key, Struct, RunValue, Void, Null, Value, Seen, Into, kind_at, at}
 use Rattle.cyc_soundness.specs.Worlds.{Pending, IsKept, IsAmong, KeyOf, PointerTo, At, ObjectType, Typing, IsHeld, Claims, AreOwned, IsUniqueObject, IsOpenObject, Stays, IsKnownLife, IsKnownOwner, IsDynamic, IsFilled, IsPart, IsTarget, HasType, IsResult, AreOperands, IsContent, AreCells, IsOwner, IsObject, IsTyped, Grows, Thing, Holder, Nobody, Owns, thing_of, Standing, Here, Away, Lent, AreLent}
 use Rattle.cyc_soundness.specs.Frames.{lives_among, KnowsProgram}
@@ -213,10 +214,6 @@ never_scoped (Some r) (sort, opens) found =
 pub dynamic_open : (o : Option Region) → IsDynamic o → is_open o ≡ true
 dynamic_open None is = absurd is
 dynamic_open (Some r) (sort, opens) = opens
-
-pub open_region : (o : Option Region) → is_open o ≡ true → (r : Region) × (o ≡ Some r) × (r.is_open ≡ true)
-open_region None opens = absurd (let e : false ≡ true = opens in cc)
-open_region (Some r) opens = (r, refl, opens)
 
 pub opened_typed : (g : Typing) (regions more : List Region) (objects : List Object) → IsTyped g regions objects → IsTyped g (regions ++ more) objects
 opened_typed g regions more objects typed =

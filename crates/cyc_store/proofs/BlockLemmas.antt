@@ -2,14 +2,16 @@
 use Rattle.std.proofs.Common.{◌≡◌, ℕ, ◌∷◌, Option, None, Some, true, refl, sym, ap, subst, ◌∙◌, inl, inr}
 use Rattle.std.specs.Prelude.{is_some, if◌then◌else◌}
 use Rattle.std.proofs.lemmas.Bool.{cases_eq}
+use Rattle.cyc_words.proofs.Booleans.{some_there}
+use Rattle.cyc_words.proofs.Numbers.{when_equal}
 use Rattle.cyc_store.specs.Lookup.{lookup, without, changed}
 use Rattle.cyc_store.specs.State.{Block, address_of, Uniques, Home, handle_of, StoreState, homes, covers, block_in, block_at, with_block, room}
 use Rattle.cyc_store.specs.Services.{Allocate, CloseDynamic, Free, Refusal, BadHandle, BadSize, Refused, Done, Allocated, block_of, made, is_full, full_at, is_size, refusal, IsPlaced, IsApart, ServesBy, Serves}
 use Rattle.cyc_store.specs.Soundness.{IsSound}
 use Rattle.cyc_store.specs.declared.range.TheConstants.{UNIQUE}
-use Rattle.cyc_store.proofs.LookupLemmas.{when_equal, when_other, cases_option, not_both, lookup-key, lookup-append_new, lookup-changed_same, lookup-without}
+use Rattle.cyc_store.proofs.LookupLemmas.{when_other, cases_option, not_both, lookup-key, lookup-append_new, lookup-changed_same, lookup-without}
 use Rattle.cyc_store.proofs.HolderLemmas.{covers_first}
-use Rattle.cyc_store.proofs.ServiceLemmas.{made-unique, made-in, then-none, some-there}
+use Rattle.cyc_store.proofs.ServiceLemmas.{made-unique, made-in, then-none}
 
 homes-made : (s : StoreState) (h : ℕ) (b : Block) → homes (made s h b) ≡ changed handle_of (with_block b) (homes s) h
 homes-made s h b = elim (cases_eq h UNIQUE) [
@@ -56,7 +58,7 @@ serves-made s t h n x sound serves = by (refusal s (Allocate h n)) refl serves
         → block_at (homes t) h x ≡ Some (record { address = x; size = room h n })
     by None none (c, allowed, e, is) =
         let (named, rest) = then-none (is_some (lookup handle_of (homes s) h)) (if is_size n then full_at (is_full s (Allocate h n)) else Some BadSize) BadHandle none in
-        let (r, there) = some-there (lookup handle_of (homes s) h) named in
+        let (r, there) = some_there (lookup handle_of (homes s) h) named in
         let same : x ≡ c.address = cc in
         ap (λ (u : StoreState). block_at (homes u) h x) is
         ∙ subst (λ a. block_at (homes (made s h (block_of h n c))) h a ≡ Some (record { address = a; size = room h n })) (sym same)

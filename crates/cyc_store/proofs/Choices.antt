@@ -4,6 +4,8 @@ use Rattle.std.specs.Prelude.{◌⊎◌, ◌-◌, ◌==◌, nat_le, is_some, sli
 use Rattle.std.proofs.lemmas.Bool.{cases_lt, cases_eq, and_parts, leb-true}
 use Rattle.cyc_words.specs.Word.{IsWord}
 use Rattle.cyc_words.specs.Demand.{greatest_class, class_of, blocks_in_page, demand_of}
+use Rattle.cyc_words.proofs.Booleans.{some_there}
+use Rattle.cyc_words.proofs.Numbers.{none_below, one_less, when_equal}
 use Rattle.cyc_store.specs.Lookup.{lookup, without}
 use Rattle.cyc_store.specs.State.{Memory, AreWords, Block, address_of, Sort, Heap, Lexical, Dynamic, Uniques, Home, handle_of, StoreState, homes, sizes_in, start, word_at, has_saved, saved, demand, live_in, raised, opened, down_to, made_in, made_unique, room}
 use Rattle.cyc_store.specs.Services.{Call, OpenLexical, CloseTo, OpenDynamic, CloseDynamic, Allocate, Free, Refusal, BadHandle, BadSize, NotABlock, Refused, Choice, block_of, served, answer, any_choice, is_full, full_at, is_dynamic, names_dynamic, is_size, refusal, IsPlaced, IsApart, IsFresh, IsAllowed}
@@ -15,11 +17,11 @@ use Rattle.cyc_store.specs.Ordered.{IsOrdered, HasChoice, Answers}
 use Rattle.cyc_store.specs.Ledger.{store_of}
 use Rattle.cyc_store.specs.Kept.{numbers_from}
 use Rattle.cyc_store.specs.declared.range.TheConstants.{HEAP, UNIQUE, PAGE_WORDS, MOST_BLOCK_WORDS, MOST_PAGES}
-use Rattle.cyc_store.proofs.LookupLemmas.{when_equal, when_other, not_both, cases_option, lookup-there, lookup-key, lookup-without_other, IsPart, IsPart-without}
+use Rattle.cyc_store.proofs.LookupLemmas.{when_other, not_both, cases_option, lookup-there, lookup-key, lookup-without_other, IsPart, IsPart-without}
 use Rattle.cyc_store.proofs.HolderLemmas.{IsPart-down_to}
 use Rattle.cyc_store.proofs.CountLemmas.{class_of-bound, blocks-some}
 use Rattle.cyc_store.proofs.BlockLemmas.{address-fresh_in}
-use Rattle.cyc_store.proofs.ServiceLemmas.{made-in, made-unique, then-none, some-there, fits, start-sound, closed-sound, served-sound, saved-sound}
+use Rattle.cyc_store.proofs.ServiceLemmas.{made-in, made-unique, then-none, fits, start-sound, closed-sound, served-sound, saved-sound}
 use Rattle.cyc_store.proofs.PageServices.{stays-placed, drawn-placed, full-without}
 use Rattle.cyc_store.proofs.PagedOpening.{full-opening}
 use Rattle.cyc_store.proofs.PagedRegions.{block_in_page}
@@ -191,7 +193,7 @@ module _ (s : StoreState) (o : IsOrdered s) where
 
     in-region : HasChoice s (Allocate h n)
     in-region =
-        let (r, named) = some-there (lookup handle_of (homes s) h) (sized h n none).0 in
+        let (r, named) = some_there (lookup handle_of (homes s) h) (sized h n none).0 in
         region-by r named l.free refl (cases_lt PAGE_WORDS ((mark_of r).filled + room h n))
 
   -- a unique block
@@ -289,7 +291,7 @@ module _ (s : StoreState) (o : IsOrdered s) where
   frees : (a : ℕ) → refusal s (Free a) ≡ None → HasChoice s (Free a)
   frees a none =
       let (there_is, nothing) = then-none (is_some (lookup address_of s.unique a)) None NotABlock none in
-      let (b, there) = some-there (lookup address_of s.unique a) there_is in
+      let (b, there) = some_there (lookup address_of s.unique a) there_is in
       let live : IsLiveSlot l.pages.owner l.class b = o.laid.slots.live a b there in
       let at : place_of live.word ≡ a = sym (ap address_of live.is) ∙ lookup-key address_of s.unique a b there in
       let bound : live.class ≤ greatest_class = subst (λ c. c ≤ greatest_class) live.slot.same (o.laid.slots.bound live.slot.page live.slot.owned) in
@@ -337,17 +339,11 @@ module _ (s : StoreState) (o : IsOrdered s) (r : Home) (there : lookup handle_of
         (closed-sound s (without handle_of s.regions r.handle) s.memory o.laid.sound (IsPart-without handle_of s.regions r.handle) o.laid.sound.words);
   }
 
-none_left : (k m : ℕ) → k < m → m ≤ 0 → ⊥
-none_left k m less few = omega (arith, less, few)
-
-one_less : (k m n : ℕ) → k < m → m ≤ suc n → k ≤ n
-one_less k m n less few = omega (arith, less, few)
-
 -- any number of regions are closed
 ordered-part : (left : ℕ) (s : StoreState) (qs : List Home) → length s.regions ≤ left → IsOrdered s → IsPart qs s.regions → IsOrdered (record s { regions = qs })
 ordered-part zero s qs most o part = elim (part-step part o.laid.sound.regions.handles.1) [
   | inl same ↦ subst (λ rs. IsOrdered (record s { regions = rs })) (sym same) o
-  | inr out ↦ absurd (none_left (length (without handle_of s.regions out.region.handle)) (length s.regions) (shorter s.regions out.region.handle out.region out.there) most)
+  | inr out ↦ absurd (none_below (length (without handle_of s.regions out.region.handle)) (length s.regions) (shorter s.regions out.region.handle out.region out.there) most)
 ]
 ordered-part (suc left) s qs most o part = elim (part-step part o.laid.sound.regions.handles.1) [
   | inl same ↦ subst (λ rs. IsOrdered (record s { regions = rs })) (sym same) o

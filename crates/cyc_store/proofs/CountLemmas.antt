@@ -5,9 +5,10 @@ use Rattle.std.proofs.Math.Nat.{div-mul-le_self, pow-le-pow_right, le-max_left, 
 use Rattle.std.proofs.lemmas.Nat.{le-div, pow_pos}
 use Rattle.std.proofs.lemmas.Bool.{cases_eq, cond_both, cond-true, cond-false, leb-true, le-leb, lt-leb}
 use Rattle.cyc_words.specs.Demand.{page_words, greatest_class, class_from, class_of, blocks_in_page, pages_for, region_pages, demand_of}
+use Rattle.cyc_words.proofs.Numbers.{when_equal}
 use Rattle.cyc_store.specs.State.{Block, Sort, Home, empty_home, sizes_of, sizes_in, live_in, raised}
 use Rattle.cyc_store.specs.Soundness.{AreEnough}
-use Rattle.cyc_store.proofs.LookupLemmas.{when_equal, when_other, IsPart, is_empty, is_left, is_kept}
+use Rattle.cyc_store.proofs.LookupLemmas.{when_other, IsPart, is_empty, is_left, is_kept}
 
 -- ---- classes
 

@@ -5,6 +5,7 @@ use Rattle.std.proofs.Math.Nat.{mod-lt, mul-div_cancel}
 use Rattle.std.proofs.lemmas.List.{get_or_default}
 use Rattle.std.proofs.lemmas.Nat.{pow_pos}
 use Rattle.cyc_words.specs.Demand.{greatest_class}
+use Rattle.cyc_words.proofs.Booleans.{some_there}
 use Rattle.cyc_store.specs.Lookup.{lookup}
 use Rattle.cyc_store.specs.State.{address_of, handle_of, StoreState}
 use Rattle.cyc_store.specs.Ledger.{Blocks, store_of}
@@ -18,7 +19,6 @@ use Rattle.cyc_store.specs.declared.row.ClassSlots.{ClassSlots}
 use Rattle.cyc_store.specs.declared.range.TheConstants.{PAGE_WORDS, UNIQUE}
 use Rattle.cyc_store.proofs.LookupLemmas.{cases_option, lookup-key}
 use Rattle.cyc_store.proofs.LiveWords.{slot-fits, slots-owner, unique-role, word-split}
-use Rattle.cyc_store.proofs.ServiceLemmas.{some-there}
 use Rattle.cyc_store.proofs.SlotServices.{same-words, freed-is}
 use Rattle.cyc_store.proofs.SlotTables.{slot-page, slot-offset}
 use Rattle.cyc_store.proofs.TableLemmas.{row_at-read}
@@ -125,6 +125,6 @@ module _ (t : PageTable) (lexicals : List ℕ) (classes : List ClassSlots) (b : 
 
           pub block-live : mark ≡ true → lookup address_of b.unique address ≡ Some (record { address = address; size = 2 ^ class })
           block-live live =
-              let (x, found) = some-there (lookup address_of b.unique address) (sym mark-is ∙ live) in
+              let (x, found) = some_there (lookup address_of b.unique address) (sym mark-is ∙ live) in
               found ∙ (ap (λ y. Some y) (freed-is s k.layout k.laid class word block-class slot x (ap (lookup address_of b.unique) (sym at) ∙ found))
               ∙ ap (λ a. Some (record { address = a; size = 2 ^ class })) (sym at))

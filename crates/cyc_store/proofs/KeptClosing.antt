@@ -3,6 +3,7 @@ use Rattle.std.proofs.Common.{◌≡◌, ◌≢◌, ℕ, suc, ◌+◌, ◌*◌, 
 use Rattle.std.specs.Prelude.{◌⊎◌, if◌then◌else◌, is_some, slice_index, slice_index_or}
 use Rattle.std.specs.List.{AllByRecursion}
 use Rattle.std.proofs.lemmas.Bool.{cases_eq, cases_lt}
+use Rattle.cyc_words.proofs.Numbers.{when_equal}
 use Rattle.cyc_store.specs.Lookup.{lookup, without, AreDistinct}
 use Rattle.cyc_store.specs.State.{Sort, Heap, Lexical, Dynamic, Uniques, Home, handle_of, is_lexical, StoreState}
 use Rattle.cyc_store.specs.Services.{CloseDynamic, Done, is_dynamic, names_dynamic, Serves}
@@ -16,7 +17,7 @@ use Rattle.cyc_store.specs.declared.row.Role.TheVariants as role
 use Rattle.cyc_store.specs.declared.row.Row.{Row}
 use Rattle.cyc_store.specs.declared.row.ClassSlots.{ClassSlots}
 use Rattle.cyc_store.specs.declared.range.TheConstants.{PAGE_WORDS, UNIQUE}
-use Rattle.cyc_store.proofs.LookupLemmas.{when_equal, when_other, cases_option, same_some, lookup-here, lookup-there, lookup-key, IsPart-without}
+use Rattle.cyc_store.proofs.LookupLemmas.{when_other, cases_option, same_some, lookup-here, lookup-there, lookup-key, IsPart-without}
 use Rattle.cyc_store.proofs.ServiceLemmas.{closed-sound}
 use Rattle.cyc_store.proofs.Responses.{serves-close}
 use Rattle.cyc_store.proofs.TableLemmas.{row_at-read}

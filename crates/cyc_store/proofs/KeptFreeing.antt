@@ -6,6 +6,7 @@ use Rattle.std.proofs.Math.Nat.{pow-le-pow_right, pow-suc}
 use Rattle.std.proofs.lemmas.Bool.{cases_lt}
 use Rattle.std.proofs.lemmas.Nat.{pow_pos}
 use Rattle.cyc_words.specs.Demand.{greatest_class}
+use Rattle.cyc_words.proofs.Numbers.{when_equal}
 use Rattle.cyc_store.specs.Lookup.{lookup, without}
 use Rattle.cyc_store.specs.State.{Memory, put, AreWords, Block, address_of, Holder, StoreState, homes, holder}
 use Rattle.cyc_store.specs.Services.{Free, Done, Serves}
@@ -18,7 +19,7 @@ use Rattle.cyc_store.specs.declared.change.Change.TheVariants.{Freed}
 use Rattle.cyc_store.specs.declared.row.PageTable.{PageTable}
 use Rattle.cyc_store.specs.declared.row.ClassSlots.{ClassSlots}
 use Rattle.cyc_store.specs.declared.range.TheConstants.{PAGE_WORDS, UNIQUE}
-use Rattle.cyc_store.proofs.LookupLemmas.{when_equal, when_other, not_both, same_some, lookup-without, lookup-without_other}
+use Rattle.cyc_store.proofs.LookupLemmas.{when_other, not_both, same_some, lookup-without, lookup-without_other}
 use Rattle.cyc_store.proofs.Responses.{serves-free, sound-free}
 use Rattle.cyc_store.proofs.SlotLemmas.{holder-unique, slot-live}
 use Rattle.cyc_store.proofs.SlotServices.{with_dead, same-words, first-in, freed-laid}

@@ -3,13 +3,14 @@ use Rattle.std.proofs.Common.{◌≡◌, ℕ, ◌+◌, ◌-◌, ◌*◌, ◌/◌
 use Rattle.std.specs.Prelude.{◌==◌, ◌&&◌, ◌⊎◌, nat_le, is_some, slice_index, slice_index_or}
 use Rattle.std.proofs.lemmas.Bool.{cases_eq, cond-true, le-leb, eq-eqb}
 use Rattle.std.proofs.lemmas.List.{get_or_default}
+use Rattle.cyc_words.proofs.Booleans.{some_there}
+use Rattle.cyc_words.proofs.Numbers.{when_equal}
 use Rattle.cyc_store.specs.State.{StoreState, homes, Holder, holder, word_in, word_at}
 use Rattle.cyc_store.specs.Ledger.{Blocks, memory_of, store_of}
 use Rattle.cyc_store.specs.Kept.{IsKept}
 use Rattle.cyc_store.specs.declared.row.PageTable.{PageTable}
 use Rattle.cyc_store.specs.declared.row.ClassSlots.{ClassSlots}
-use Rattle.cyc_store.proofs.LookupLemmas.{when_equal, when_other, cases_option}
-use Rattle.cyc_store.proofs.ServiceLemmas.{some-there}
+use Rattle.cyc_store.proofs.LookupLemmas.{when_other, cases_option}
 use Rattle.cyc_store.proofs.PageLemmas.{covers_bounds, holder-laid}
 
 -- ---- words at addresses
@@ -29,7 +30,7 @@ none-held (Some k) e = absurd (let f : true ≡ false = e in cc)
 
 pub live-word : (s : StoreState) (x : ℕ) → x % 4 ≡ 0 → is_some (holder (homes s) x) ≡ true → word_at s x ≡ Some (s.memory x)
 live-word s x even live =
-    let (k, held) = some-there (holder (homes s) x) live in
+    let (k, held) = some_there (holder (homes s) x) live in
     when_equal (x % 4) 0 (word_in (holder (homes s) x) s.memory x) None even ∙ ap (λ o. word_in o s.memory x) held
 
 pub memory-word : (words : List ℕ) (x : ℕ) → x % 4 ≡ 0 → 536870912 ≤ x → memory_of words x ≡ slice_index words ((x - 536870912) / 4)

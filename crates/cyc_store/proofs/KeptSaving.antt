@@ -2,6 +2,7 @@
 use Rattle.std.proofs.Common.{◌≡◌, ℕ, ◌+◌, ◌*◌, ◌^◌, ◌<◌, true, false, List, [], ◌∷◌, length, None, refl, sym, ap, subst, ◌∙◌, length-set}
 use Rattle.std.specs.Prelude.{◌==◌, if◌then◌else◌, is_some, slice_index, slice_index_or, set}
 use Rattle.std.specs.List.{AllByRecursion}
+use Rattle.cyc_words.proofs.Booleans.{some_there}
 use Rattle.cyc_store.specs.State.{Memory, put, StoreState, homes, holder, word_at, has_saved, saved}
 use Rattle.cyc_store.specs.Ledger.{Blocks, memory_of, store_of}
 use Rattle.cyc_store.specs.Slots.{place_of, IsDeadSlot, IsLaidOut}
@@ -10,7 +11,6 @@ use Rattle.cyc_store.specs.declared.row.PageTable.{PageTable}
 use Rattle.cyc_store.specs.declared.row.ClassSlots.{ClassSlots}
 use Rattle.cyc_store.specs.declared.range.TheConstants.{PAGE_WORDS}
 use Rattle.cyc_store.proofs.LookupLemmas.{when_other, not_both}
-use Rattle.cyc_store.proofs.ServiceLemmas.{some-there}
 use Rattle.cyc_store.proofs.SlotLemmas.{slot-apart}
 use Rattle.cyc_store.proofs.SlotServices.{first-in, paged-unique}
 use Rattle.cyc_store.proofs.SlotTables.{read-set, read-table, stock-words}
@@ -37,7 +37,7 @@ module _ (t : PageTable) (lexicals : List ℕ) (classes : List ClassSlots) (b : 
   -- the word is in a live block, and so in no dead slot
   word-live : holder (homes s) (place_of word) ≡ None → ⊥
   word-live none =
-      let (old, found) = some-there (word_at s address) live in
+      let (old, found) = some_there (word_at s address) live in
       not_both (dead-word s address (ap (holder (homes s)) at ∙ none)) found
 
   dead-away : (c : ℕ) (xs : List ℕ) → AllByRecursion (IsDeadSlot b.unique k.layout.pages.owner k.layout.class c) xs → AllByRecursion (λ x. written x ≡ slice_index t.words.items x) xs
@@ -90,7 +90,7 @@ module _ (t : PageTable) (lexicals : List ℕ) (classes : List ClassSlots) (b : 
 
     pub save-saved : store_of v.most v.words.items b ≡ saved s address value
     save-saved =
-        let (old, found) = some-there (word_at s address) live in
+        let (old, found) = some_there (word_at s address) live in
         saved-held ∙ (ap (λ a. record s { memory = put s.memory a value }) (sym at) ∙ sym (ap (has_saved s address value) found))
 
     pub save-kept : IsKept v lexicals classes b

@@ -1,11 +1,12 @@
 -- A store on a table of pages stays one, and answers as the relation says, call by call.
-use Rattle.std.proofs.Common.{◌≡◌, ◌≢◌, ℕ, suc, ◌+◌, ◌-◌, ◌*◌, ◌/◌, ◌%◌, ◌^◌, ◌<◌, ◌≤◌, Bool, true, false, List, [], ◌∷◌, ◌++◌, length, None, refl, sym, ap, subst, ◌∙◌, inl, inr, arith, get_or-set_same, get_or-set_other, length-set}
+use Rattle.std.proofs.Common.{◌≡◌, ◌≢◌, ℕ, zero, suc, ◌+◌, ◌-◌, ◌*◌, ◌/◌, ◌%◌, ◌^◌, ◌<◌, ◌≤◌, Bool, true, false, List, [], ◌∷◌, ◌++◌, length, None, refl, sym, ap, subst, ◌∙◌, inl, inr, arith, get_or-set_same, get_or-set_other, length-set}
 use Rattle.std.specs.Prelude.{◌==◌, ◌⊎◌, ◌&&◌, nat_le, if◌then◌else◌, slice_index, slice_index_or, set}
 use Rattle.std.specs.List.{AllByRecursion}
 use Rattle.std.proofs.lemmas.Bool.{cases_eq, cases_lt, cond_both}
 use Rattle.std.proofs.lemmas.List.{append-nil}
 use mathlib.Core.Path.{fun_ext}
 use Rattle.cyc_words.specs.Demand.{page_words, demand_of, pages_from, region_pages}
+use Rattle.cyc_words.proofs.Numbers.{when_equal}
 use Rattle.cyc_store.specs.Lookup.{lookup}
 use Rattle.cyc_store.specs.State.{Sort, Lexical, Dynamic, Uniques, Home, handle_of, is_lexical, StoreState, homes, sizes_of, sizes_in, demand, opened, lexical_count}
 use Rattle.cyc_store.specs.Soundness.{IsSound}
@@ -13,18 +14,18 @@ use Rattle.cyc_store.specs.Ledger.{Blocks, memory_of, store_of, plain_store, blo
 use Rattle.cyc_store.specs.Pages.{IsPaged, drawn}
 use Rattle.cyc_store.specs.Slots.{IsLaidOut}
 use Rattle.cyc_store.specs.Table.{IsWhole, IsSame, Draws, free_row, row_at}
-use Rattle.cyc_store.specs.Kept.{handle_of_page, lexical_handles, IsTied, IsKept, table_of, no_slots}
+use Rattle.cyc_store.specs.Kept.{numbers_from, handle_of_page, lexical_handles, IsTied, IsKept, table_of, no_slots}
 use Rattle.cyc_store.specs.declared.row.PageTable.{PageTable}
 use Rattle.cyc_store.specs.declared.row.Row.{Row}
 use Rattle.cyc_store.specs.declared.row.TheConstants.{NONE}
 use Rattle.cyc_store.specs.declared.row.ClassSlots.{ClassSlots}
 use Rattle.cyc_store.specs.declared.range.TheConstants.{PAGE_WORDS, UNIQUE, MOST_PAGES}
-use Rattle.cyc_store.proofs.LookupLemmas.{when_equal, when_other, lookup-there}
+use Rattle.cyc_store.proofs.LookupLemmas.{when_other, lookup-there}
 use Rattle.cyc_store.proofs.LiveWords.{odd-apart}
 use Rattle.cyc_store.specs.Services.{OpenLexical, OpenDynamic, Opened, OpenedLexical, Serves}
 use Rattle.cyc_store.proofs.Responses.{serves-lexical, sound-lexical, serves-dynamic, sound-dynamic}
 use Rattle.cyc_store.proofs.RegionServices.{opened-laid}
-use Rattle.cyc_store.proofs.TieLemmas.{none-free, taken-again, taken-new, IsDrawn, drawn-tied}
+use Rattle.cyc_store.proofs.TieLemmas.{all-fresh, none-free, taken-again, taken-new, IsDrawn, drawn-tied}
 use Rattle.cyc_store.proofs.TieOpening.{first_row, with_row, lexicals_with, fresh-handle, opened-tied}
 
 -- ---- what is held
@@ -93,7 +94,7 @@ lexical-few (r ∷ rs) = either (is_lexical r.sort) (lexical_count rs) (length r
     either true n m e = omega (arith, e)
     either false n m e = omega (arith, e)
 
-pages-some : (pages filled : ℕ) (sizes : List ℕ) → pages ≤ pages_from pages filled sizes
+pub pages-some : (pages filled : ℕ) (sizes : List ℕ) → pages ≤ pages_from pages filled sizes
 pages-some pages filled [] = omega arith
 pages-some pages filled (size ∷ sizes) = cond_both (nat_le (filled + size) page_words) (pages_from pages (filled + size) sizes) (pages_from (suc pages) size sizes) (λ n. pages ≤ n)
     (λ e. pages-some pages (filled + size) sizes)
@@ -137,6 +138,10 @@ kept-unchanged t u lexicals classes b same k = record {
   tied = subst (λ table. IsTied table lexicals (λ (class : ℕ). slice_index_or classes class no_slots) b k.layout) (sym (same-table t u same)) k.tied;
 }
 
+numbers-length : (first count : ℕ) → length (numbers_from first count) ≡ count
+numbers-length first zero = refl
+numbers-length first (suc count) = ap suc (numbers-length (suc first) count)
+
 -- ---- a page is taken
 
 module _ (t : PageTable) (lexicals : List ℕ) (classes : List ClassSlots) (b : Blocks) (k : IsKept t lexicals classes b) where
@@ -161,6 +166,16 @@ module _ (t : PageTable) (lexicals : List ℕ) (classes : List ClassSlots) (b : 
         where
           less : (n m : ℕ) → (m ≤ n → ⊥) → n < m
           less n m not = elim (cases_lt n m) [ inl is ↦ is | inr over ↦ absurd (not over) ]
+
+  -- where no page that was used is free, all of them are in use
+  pub kept-used : length t.rows.items ≤ t.free → length t.words.items ≡ PAGE_WORDS * demand s
+  kept-used past = k.whole.words ∙ ap (λ n. PAGE_WORDS * n) (counted (length t.rows.items) t.most (length k.layout.free) (demand s) k.tied.few fresh k.laid.paged.count)
+    where
+      fresh : length k.layout.free ≡ t.most - length t.rows.items
+      fresh = ap length (all-fresh (table_of t) lexicals slots b k.layout k.tied past) ∙ numbers-length (length t.rows.items) (t.most - length t.rows.items)
+
+      counted : (n m l d : ℕ) → n ≤ m → l ≡ m - n → l + d ≡ m → n ≡ d
+      counted n m l d few fresh count = omega (arith, few, fresh, count)
 
   pub kept-few : length t.rows.items ≤ MOST_PAGES
   kept-few = within (length t.rows.items) t.most k.tied.few k.tied.most

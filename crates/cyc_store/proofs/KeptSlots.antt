@@ -5,6 +5,7 @@ use Rattle.std.specs.List.{AllByRecursion}
 use Rattle.std.proofs.lemmas.Bool.{cases_eq}
 use Rattle.std.proofs.lemmas.Nat.{pow_pos}
 use Rattle.cyc_words.specs.Demand.{greatest_class, class_of, blocks_in_page}
+use Rattle.cyc_words.proofs.Numbers.{when_equal}
 use Rattle.cyc_store.specs.State.{Block, address_of, StoreState, demand, live_in, made_unique}
 use Rattle.cyc_store.specs.Soundness.{IsSound}
 use Rattle.cyc_store.specs.Ledger.{Blocks, store_of, plain_store, blocks_of, after}
@@ -16,7 +17,7 @@ use Rattle.cyc_store.specs.declared.row.PageTable.{PageTable}
 use Rattle.cyc_store.specs.declared.row.TheConstants.{NONE}
 use Rattle.cyc_store.specs.declared.row.ClassSlots.{ClassSlots}
 use Rattle.cyc_store.specs.declared.range.TheConstants.{PAGE_WORDS, MOST_BLOCK_WORDS, UNIQUE}
-use Rattle.cyc_store.proofs.LookupLemmas.{when_equal, when_other, lookup-append_new, lookup-append_other}
+use Rattle.cyc_store.proofs.LookupLemmas.{when_other, lookup-append_new, lookup-append_other}
 use Rattle.cyc_store.proofs.Responses.{sound-unique}
 use Rattle.cyc_store.proofs.SlotServices.{with_dead, dead-placed, dead-apart, dead-classes, dead-demand, dead-laid}
 use Rattle.cyc_store.proofs.SlotStock.{slots-many, stocked, stock-sound, page-empty, stock-laid}

@@ -2,6 +2,7 @@
 use Rattle.std.proofs.Common.{◌≡◌, ℕ, zero, suc, ◌+◌, ◌-◌, ◌*◌, ◌/◌, ◌%◌, ◌<◌, ◌≤◌, Bool, true, false, List, [], ◌∷◌, length, None, Some, refl, sym, ap, subst, ◌∙◌, inl, inr, arith}
 use Rattle.std.specs.Prelude.{◌==◌, ◌&&◌, nat_le, if◌then◌else◌, slice_index, slice_index_or}
 use Rattle.cyc_words.specs.Demand.{greatest_class}
+use Rattle.cyc_words.proofs.Numbers.{zero_least}
 use Rattle.cyc_store.specs.State.{AreWords, Heap, Uniques, StoreState, start, opened}
 use Rattle.cyc_store.specs.Soundness.{IsSound}
 use Rattle.cyc_store.specs.Ledger.{Blocks, memory_of, store_of, plain_store, blocks_of, no_blocks}
@@ -65,9 +66,6 @@ no-words address = either ((address % 4 == 0) && nat_le 536870912 address)
 abbrev pub first_layout : (most : ℕ) → Layout
 first_layout most = record { pages = all_free; free = numbers_from 0 most; class = λ (page : ℕ). 0; dead = λ (class : ℕ). [] }
 
-least : (n : ℕ) → 0 ≤ n
-least n = omega arith
-
 first-sound : (most : ℕ) → IsSound (store_of most [] no_regions)
 first-sound most = record {
   regions = AreSound-opened [] UNIQUE Uniques (none-sound most) refl;
@@ -75,7 +73,7 @@ first-sound most = record {
   words = no-words;
   classes = refl;
   enough = λ c bound. few c _ _ (no-pages c bound);
-  demand = least most;
+  demand = zero_least most;
 }
   where
     few : (c m n : ℕ) → m ≡ 0 → m ≤ n
@@ -114,7 +112,7 @@ first-kept t most words live rows free = record {
   laid = subst (λ ws. IsLaidOut (store_of t.most ws no_regions) (first_layout t.most)) (sym words) (first-laid t.most);
   tied = record {
     most = most;
-    few = subst (λ rs. length rs ≤ t.most) (sym rows) (least t.most);
+    few = subst (λ rs. length rs ≤ t.most) (sym rows) (zero_least t.most);
     drawn = λ page h owned. absurd (let e : None ≡ Some h = owned in cc);
     rows = λ page. record { marks = ap (λ rs. (row_at rs page).filled) rows; plays = ap (λ rs. (row_at rs page).role) rows };
     given = [];

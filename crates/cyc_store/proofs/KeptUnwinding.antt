@@ -2,26 +2,27 @@
 use Rattle.std.proofs.Common.{◌≡◌, ℕ, zero, suc, ◌+◌, ◌*◌, ◌/◌, ◌≤◌, true, false, List, [], ◌∷◌, ◌++◌, length, None, Some, refl, sym, ap, subst, ◌∙◌, inl, inr, arith}
 use Rattle.std.specs.Prelude.{◌⊎◌}
 use Rattle.std.proofs.lemmas.Bool.{cases_Bool, cond-true, cond-false}
+use Rattle.cyc_words.proofs.Numbers.{zero_least, when_equal}
 use Rattle.cyc_store.specs.Lookup.{lookup, without, AreDistinct}
 use Rattle.cyc_store.specs.State.{Home, handle_of, is_lexical, lexical_count, down_to}
 use Rattle.cyc_store.specs.Ledger.{Blocks, Stored, held_of, Unwinds}
 use Rattle.cyc_store.specs.Kept.{handle_of_page, lexical_handles, IsKept}
 use Rattle.cyc_store.specs.declared.row.PageTable.{PageTable}
 use Rattle.cyc_store.specs.declared.row.ClassSlots.{ClassSlots}
-use Rattle.cyc_store.proofs.LookupLemmas.{when_equal, when_other, not_both, lookup-here, lookup-there}
+use Rattle.cyc_store.proofs.LookupLemmas.{when_other, not_both, lookup-here, lookup-there}
 use Rattle.cyc_store.proofs.PagedClosing.{without-none}
 use Rattle.cyc_store.proofs.KeptServices.{lexical-length}
 use Rattle.cyc_store.proofs.KeptClosing.{handle-page}
 
 -- ---- down to a mark
 
-step-in : (m : ℕ) (r : Home) (rs : List Home) → is_lexical r.sort ≡ true → down_to (suc m) (r ∷ rs) ≡ r ∷ down_to m rs
+pub step-in : (m : ℕ) (r : Home) (rs : List Home) → is_lexical r.sort ≡ true → down_to (suc m) (r ∷ rs) ≡ r ∷ down_to m rs
 step-in m r rs is = cond-true (is_lexical r.sort) (r ∷ down_to m rs) (r ∷ down_to (suc m) rs) is
 
 step-out : (r : Home) (rs : List Home) → is_lexical r.sort ≡ true → down_to zero (r ∷ rs) ≡ down_to zero rs
 step-out r rs is = cond-true (is_lexical r.sort) (down_to zero rs) (r ∷ down_to zero rs) is
 
-step-by : (m : ℕ) (r : Home) (rs : List Home) → is_lexical r.sort ≡ false → down_to m (r ∷ rs) ≡ r ∷ down_to m rs
+pub step-by : (m : ℕ) (r : Home) (rs : List Home) → is_lexical r.sort ≡ false → down_to m (r ∷ rs) ≡ r ∷ down_to m rs
 step-by zero r rs not = cond-false (is_lexical r.sort) (down_to zero rs) (r ∷ down_to zero rs) not
 step-by (suc m) r rs not = cond-false (is_lexical r.sort) (r ∷ down_to m rs) (r ∷ down_to (suc m) rs) not
 
@@ -30,9 +31,6 @@ none-below n e = omega (arith, e)
 
 less-below : (m n : ℕ) → suc m ≤ suc n → m ≤ n
 less-below m n e = omega (arith, e)
-
-least : (n : ℕ) → 0 ≤ n
-least n = omega arith
 
 -- a lower mark after a higher one
 pub down_to-lower : (m n : ℕ) (rs : List Home) → m ≤ n → down_to m (down_to n rs) ≡ down_to m rs
@@ -46,7 +44,7 @@ down_to-lower m n (r ∷ rs) few = by m n few (cases_Bool (is_lexical r.sort)) (
         → down_to m (down_to n (r ∷ rs)) ≡ down_to m (r ∷ rs)
     by m n few (inr not) rest = ap (down_to m) (step-by n r rs not) ∙ (step-by m r (down_to n rs) not ∙ (ap (λ l. r ∷ l) (rest m n few) ∙ sym (step-by m r rs not)))
     by zero zero few (inl is) rest = ap (down_to zero) (step-out r rs is) ∙ (rest zero zero few ∙ sym (step-out r rs is))
-    by zero (suc n) few (inl is) rest = ap (down_to zero) (step-in n r rs is) ∙ (step-out r (down_to n rs) is ∙ (rest zero n (least n) ∙ sym (step-out r rs is)))
+    by zero (suc n) few (inl is) rest = ap (down_to zero) (step-in n r rs is) ∙ (step-out r (down_to n rs) is ∙ (rest zero n (zero_least n) ∙ sym (step-out r rs is)))
     by (suc m) zero few (inl is) rest = absurd (none-below m few)
     by (suc m) (suc n) few (inl is) rest = ap (down_to (suc m)) (step-in n r rs is)
         ∙ (step-in m r (down_to n rs) is ∙ (ap (λ l. r ∷ l) (rest m n (less-below m n few)) ∙ sym (step-in m r rs is)))
@@ -174,16 +172,18 @@ module _ (t : PageTable) (lexicals : List ℕ) (classes : List ClassSlots) (b : 
     newest-down : c.regions ≡ down_to (lexical_count c.regions) b.regions
     newest-down = regions-are ∙ (newest.down ∙ ap (λ n. down_to n b.regions) (sym many-left))
 
-    newest-same : (v : PageTable) → v.most ≡ t.most → v.words.items ≡ t.words.items
-        → ◌≡◌ {A = Stored} (record { pages = v.most; words = v.words.items; blocks = c }) (record { pages = t.most; words = t.words.items; blocks = record b { regions = c.regions } })
-    newest-same v most words =
-        ap (λ n. record { pages = n; words = v.words.items; blocks = c }) most
-        ∙ (ap (λ ws. record { pages = t.most; words = ws; blocks = c }) words
-        ∙ ap (λ (d : Blocks). record { pages = t.most; words = t.words.items; blocks = d }) (noted ∙ ap (λ rs. record b { regions = rs }) (sym regions-are)))
+    newest-same : (v : PageTable) (old new : ℕ) → v.most ≡ t.most → v.words.items ≡ t.words.items → new ≡ old
+        → ◌≡◌ {A = Stored} (record { pages = v.most; words = v.words.items; blocks = c; room = new })
+        (record { pages = t.most; words = t.words.items; blocks = record b { regions = c.regions }; room = old })
+    newest-same v old new most words room =
+        ap (λ n. record { pages = n; words = v.words.items; blocks = c; room = new }) most
+        ∙ (ap (λ ws. record { pages = t.most; words = ws; blocks = c; room = new }) words
+        ∙ (ap (λ n. record { pages = t.most; words = t.words.items; blocks = c; room = n }) room
+        ∙ ap (λ (d : Blocks). record { pages = t.most; words = t.words.items; blocks = d; room = old }) (noted ∙ ap (λ rs. record b { regions = rs }) (sym regions-are))))
 
-    pub newest-unwinds : (v : PageTable) → v.most ≡ t.most → v.words.items ≡ t.words.items
-        → Unwinds (record { pages = t.most; words = t.words.items; blocks = b }) (record { pages = v.most; words = v.words.items; blocks = c })
-    newest-unwinds v most words = record { count = newest-count; regions = newest-down; same = newest-same v most words }
+    pub newest-unwinds : (v : PageTable) (old new : ℕ) → v.most ≡ t.most → v.words.items ≡ t.words.items → new ≡ old
+        → Unwinds (record { pages = t.most; words = t.words.items; blocks = b; room = old }) (record { pages = v.most; words = v.words.items; blocks = c; room = new })
+    newest-unwinds v old new most words room = record { count = newest-count; regions = newest-down; same = newest-same v old new most words room }
 
 -- all that were to be closed are closed
 pub unwound : (old new : Stored) (mark : ℕ) → new ≡ record old { blocks = record old.blocks { regions = new.blocks.regions } }

@@ -4,11 +4,12 @@ use Rattle.std.specs.Prelude.{nat_le, nat_lt, if◌then◌else◌}
 use Rattle.std.proofs.Math.Nat.{add-mul-mod_self_left}
 use Rattle.std.proofs.lemmas.Bool.{cases_eq, cases_Bool, and_parts, leb-true, ltb-true}
 use Rattle.cyc_words.specs.Demand.{page_words, pages_from}
+use Rattle.cyc_words.proofs.Numbers.{when_equal}
 use Rattle.cyc_store.specs.Lookup.{lookup, changed}
 use Rattle.cyc_store.specs.State.{put, Block, Sort, Home, handle_of, empty_home, Holder, covers, holder_in, holder, with_block}
 use Rattle.cyc_store.specs.Services.{IsPlaced, IsApart}
 use Rattle.cyc_store.specs.declared.range.TheConstants.{STORE_BASE, PAGE_WORDS}
-use Rattle.cyc_store.proofs.LookupLemmas.{when_equal, when_other, cases_option, not_both, same_some, IsPart, is_empty, is_left, is_kept, lookup-none}
+use Rattle.cyc_store.proofs.LookupLemmas.{when_other, cases_option, not_both, same_some, IsPart, is_empty, is_left, is_kept, lookup-none}
 use Rattle.cyc_store.proofs.HolderLemmas.{in-here, in-there, or_else-cases}
 use Rattle.cyc_store.specs.Pages.{page_start, LiesIn, Pages, AreFilled, IsLaid, AreLaidIn, AreLaid, filled_to, drawn, owner_without, given_back, Mark, next_mark, mark_from}
 

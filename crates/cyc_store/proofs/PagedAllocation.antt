@@ -3,13 +3,14 @@ use Rattle.std.proofs.Common.{◌≡◌, ℕ, ◌+◌, ◌*◌, ◌^◌, ◌<◌
 use Rattle.std.specs.Prelude.{◌⊎◌, nat_le, is_some, if◌then◌else◌}
 use Rattle.std.proofs.lemmas.Bool.{cases_lt, and_parts, leb-true}
 use Rattle.cyc_words.specs.Demand.{class_of}
+use Rattle.cyc_words.proofs.Booleans.{some_there}
 use Rattle.cyc_store.specs.Lookup.{lookup}
 use Rattle.cyc_store.specs.State.{Uniques, Home, handle_of, StoreState, homes, demand, made_in, room}
 use Rattle.cyc_store.specs.Services.{Allocate, BadHandle, BadSize, Choice, block_of, served, any_choice, is_full, full_at, is_size, refusal, IsPlaced, IsApart, IsAllowed}
 use Rattle.cyc_store.specs.Soundness.{IsSound}
 use Rattle.cyc_store.specs.declared.range.TheConstants.{PAGE_WORDS, MOST_BLOCK_WORDS, UNIQUE}
 use Rattle.cyc_store.proofs.LookupLemmas.{when_other, lookup-there}
-use Rattle.cyc_store.proofs.ServiceLemmas.{made-in, then-none, some-there, fits}
+use Rattle.cyc_store.proofs.ServiceLemmas.{made-in, then-none, fits}
 use Rattle.cyc_store.specs.Pages.{page_start, Pages, filled_to, drawn, mark_of, HasChain, IsPaged}
 use Rattle.cyc_store.proofs.PageServices.{stays-placed, drawn-placed, full-without}
 use Rattle.cyc_store.proofs.PagedRegions.{block_in_page, paged-stays, paged-draws}
@@ -65,7 +66,7 @@ pub allocation-finds : (s : StoreState) (h n : ℕ) → IsSound s → ArePages s
 allocation-finds s h n sound laid ordinary none =
     let (named, rest) = then-none (is_some (lookup handle_of (homes s) h)) (if is_size n then full_at (is_full s (Allocate h n)) else Some BadSize) BadHandle none in
     let (sized, fit) = then-none (is_size n) (full_at (is_full s (Allocate h n))) BadSize rest in
-    let (r, there) = some-there (lookup handle_of (homes s) h) named in
+    let (r, there) = some_there (lookup handle_of (homes s) h) named in
     let both = and_parts (nat_le 1 n) (nat_le n MOST_BLOCK_WORDS) sized in
     let least : 1 ≤ n = leb-true 1 n both.0 in
     let most : n ≤ 1000 = leb-true n MOST_BLOCK_WORDS both.1 in

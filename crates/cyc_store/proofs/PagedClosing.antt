@@ -4,11 +4,12 @@ use Rattle.std.specs.List.{AllByRecursion}
 use Rattle.std.proofs.lemmas.Bool.{cases_eq}
 use Rattle.cyc_words.specs.Demand.{region_pages, demand_of}
 use Rattle.cyc_words.specs.Simulation.{IsDistinct}
+use Rattle.cyc_words.proofs.Numbers.{when_equal}
 use Rattle.cyc_store.specs.Lookup.{lookup, without, AreDistinct}
 use Rattle.cyc_store.specs.State.{Uniques, Home, handle_of, StoreState, sizes_of, sizes_in, demand}
 use Rattle.cyc_store.specs.Soundness.{IsSound}
 use Rattle.cyc_store.specs.declared.range.TheConstants.{UNIQUE}
-use Rattle.cyc_store.proofs.LookupLemmas.{when_equal, when_other, same_some, not_both, is_kept, lookup-here, lookup-there, lookup-none, lookup-key, lookup-part, lookup-without, IsPart-without}
+use Rattle.cyc_store.proofs.LookupLemmas.{when_other, same_some, not_both, is_kept, lookup-here, lookup-there, lookup-none, lookup-key, lookup-part, lookup-without, IsPart-without}
 use Rattle.cyc_store.specs.Pages.{Pages, owner_without, given_back, HasChain, IsFree, IsPaged}
 use Rattle.cyc_store.proofs.PageLemmas.{laid-part, laid-closed}
 use Rattle.cyc_store.proofs.PageServices.{pages-mark}

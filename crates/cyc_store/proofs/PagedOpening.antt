@@ -2,12 +2,13 @@
 use Rattle.std.proofs.Common.{◌≡◌, ℕ, suc, ◌+◌, ◌<◌, List, [], ◌∷◌, ◌++◌, length, Some, refl, sym, subst, ◌∙◌, inl, inr, arith}
 use Rattle.std.proofs.lemmas.Bool.{cases_eq}
 use Rattle.cyc_words.specs.Demand.{region_pages, demand_of, total}
+use Rattle.cyc_words.proofs.Numbers.{zero_least, when_equal}
 use Rattle.cyc_store.specs.State.{Sort, Home, handle_of, empty_home, StoreState, homes, sizes_of, sizes_in, demand, opened}
 use Rattle.cyc_store.specs.declared.range.TheConstants.{PAGE_WORDS}
-use Rattle.cyc_store.proofs.LookupLemmas.{when_equal, when_other, lookup-append_cases}
+use Rattle.cyc_store.proofs.LookupLemmas.{when_other, lookup-append_cases}
 use Rattle.cyc_store.specs.Pages.{Pages, drawn, HasChain, IsPaged}
 use Rattle.cyc_store.proofs.PageLemmas.{laid-opened}
-use Rattle.cyc_store.proofs.PagedRegions.{frees-rest, least, still-filled, still-chained}
+use Rattle.cyc_store.proofs.PagedRegions.{frees-rest, still-filled, still-chained}
 
 empty-more : (n : ℕ) → 1 + n ≡ suc n
 empty-more n = omega arith
@@ -25,7 +26,7 @@ pub paged-opened : (s : StoreState) (pages : Pages) (page : ℕ) (free : List �
     → IsPaged (opened s h sort) (drawn pages page h) free
 paged-opened s pages page free h sort paged = record {
   laid = laid-opened pages (homes s) page h sort paged.unowned.0.owner paged.laid;
-  filled = still-filled pages page 0 paged.filled (least PAGE_WORDS);
+  filled = still-filled pages page 0 paged.filled (zero_least PAGE_WORDS);
   below = λ p g is. elim (cases_eq p page) [
     | inl same ↦ subst (λ n. n < s.pages) (sym same) paged.unowned.0.below
     | inr other ↦ paged.below p g (sym (when_other p page (Some h) (pages.owner p) other) ∙ is)

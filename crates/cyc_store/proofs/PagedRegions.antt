@@ -2,10 +2,11 @@
 use Rattle.std.proofs.Common.{◌≡◌, ◌≢◌, ℕ, suc, ◌+◌, ◌*◌, ◌<◌, ◌≤◌, List, [], ◌∷◌, length, None, Some, refl, sym, ap, subst, ◌∙◌, inl, inr, arith}
 use Rattle.std.specs.List.{AllByRecursion}
 use Rattle.std.proofs.lemmas.Bool.{cases_eq}
+use Rattle.cyc_words.proofs.Numbers.{zero_least, at_most_itself, when_equal}
 use Rattle.cyc_store.specs.Lookup.{lookup, changed}
 use Rattle.cyc_store.specs.State.{Block, Uniques, Home, handle_of, StoreState, homes, demand, with_block, made_in}
 use Rattle.cyc_store.specs.declared.range.TheConstants.{PAGE_WORDS, UNIQUE}
-use Rattle.cyc_store.proofs.LookupLemmas.{when_equal, when_other, same_some, not_both, lookup-key, lookup-changed_same, lookup-changed_other}
+use Rattle.cyc_store.proofs.LookupLemmas.{when_other, same_some, not_both, lookup-key, lookup-changed_same, lookup-changed_other}
 use Rattle.cyc_store.specs.Pages.{page_start, Pages, AreFilled, AreLaid, filled_to, drawn, Mark, mark_of, HasNewest, HasChain, IsFree, IsPaged}
 use Rattle.cyc_store.proofs.PageLemmas.{laid-made, laid-drawn}
 use Rattle.cyc_store.proofs.PageServices.{mark-made, mark-stays, mark-goes, demand-stays, demand-grows}
@@ -29,12 +30,6 @@ frees-rest count pages page h (p ∷ free) apart all = (
   },
   frees-rest count pages page h free apart.1 all.1,
 )
-
-pub least : (n : ℕ) → 0 ≤ n
-least n = omega arith
-
-same_number : (n : ℕ) → n ≤ n
-same_number n = omega arith
 
 -- no page is filled past its end
 pub still-filled : (pages : Pages) (page words : ℕ) → AreFilled pages → words ≤ PAGE_WORDS → AreFilled (filled_to pages page words)
@@ -122,7 +117,7 @@ module _ (s : StoreState) (pages : Pages) (h : ℕ) (r : Home) (named : lookup h
     laid = subst (AreLaid (filled_to pages chain.newest.page ((mark_of r).filled + size)))
         (homes-made_in s h (block_in_page chain.newest.page (mark_of r).filled size) ordinary)
         (laid-made pages (homes s) chain.newest.page h (mark_of r).filled size owned
-        (subst (λ n. n ≤ (mark_of r).filled) (sym chain.newest.mark) (same_number (mark_of r).filled)) some paged.laid);
+        (subst (λ n. n ≤ (mark_of r).filled) (sym chain.newest.mark) (at_most_itself (mark_of r).filled)) some paged.laid);
     filled = still-filled pages chain.newest.page ((mark_of r).filled + size) paged.filled room;
     below = paged.below;
     unowned = frees-stay s.pages pages chain.newest.page ((mark_of r).filled + size) free paged.unowned;
@@ -160,9 +155,9 @@ module _ (s : StoreState) (pages : Pages) (h : ℕ) (r : Home) (named : lookup h
     laid = subst (AreLaid (filled_to (drawn pages page h) page (0 + size)))
         (homes-made_in s h (block_in_page page 0 size) ordinary)
         (laid-made (drawn pages page h) (homes s) page h 0 size owned
-        (subst (λ n. n ≤ 0) (sym (when_equal page page 0 (pages.filled page) refl)) (same_number 0)) some
+        (subst (λ n. n ≤ 0) (sym (when_equal page page 0 (pages.filled page) refl)) (at_most_itself 0)) some
         (laid-drawn pages page h (homes s) paged.unowned.0.owner paged.laid));
-    filled = still-filled (drawn pages page h) page (0 + size) (still-filled pages page 0 paged.filled (least PAGE_WORDS)) (from_zero size PAGE_WORDS room);
+    filled = still-filled (drawn pages page h) page (0 + size) (still-filled pages page 0 paged.filled (zero_least PAGE_WORDS)) (from_zero size PAGE_WORDS room);
     below = λ p g is. elim (cases_eq p page) [
       | inl same ↦ subst (λ n. n < s.pages) (sym same) paged.unowned.0.below
       | inr other ↦ paged.below p g (sym (when_other p page (Some h) (pages.owner p) other) ∙ is)

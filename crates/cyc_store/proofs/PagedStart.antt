@@ -2,6 +2,7 @@
 use Rattle.std.proofs.Common.{◌≡◌, ◌≢◌, ℕ, zero, suc, ◌+◌, ◌<◌, ◌≤◌, List, [], ◌∷◌, length, None, Some, refl, ap, ◌∙◌, arith}
 use Rattle.std.specs.List.{AllByRecursion}
 use Rattle.cyc_words.specs.Simulation.{IsDistinct}
+use Rattle.cyc_words.proofs.Numbers.{below_next}
 use Rattle.cyc_store.specs.State.{Memory, Sort, Heap, StoreState, start, demand, opened}
 use Rattle.cyc_store.specs.Kept.{numbers_from}
 use Rattle.cyc_store.specs.declared.range.TheConstants.{HEAP, PAGE_WORDS}
@@ -33,16 +34,13 @@ not_below x y less same = omega (arith, less, same)
 next : (x y : ℕ) → x < y → x < suc y
 next x y less = omega (arith, less)
 
-own_next : (x : ℕ) → x < suc x
-own_next x = omega arith
-
 above : (x first count : ℕ) → x < first → AllByRecursion (λ (y : ℕ). x ≢ y) (numbers_from first count)
 above x first zero less = tt
 above x first (suc count) less = (not_below x first less, above x (suc first) count (next x first less))
 
 are-distinct : (first count : ℕ) → IsDistinct (numbers_from first count)
 are-distinct first zero = tt
-are-distinct first (suc count) = (above first (suc first) count (own_next first), are-distinct (suc first) count)
+are-distinct first (suc count) = (above first (suc first) count (below_next first), are-distinct (suc first) count)
 
 are-many : (first count : ℕ) → length (numbers_from first count) ≡ count
 are-many first zero = refl

@@ -2,11 +2,12 @@
 use Rattle.std.proofs.Common.{◌≡◌, ℕ, zero, suc, ◌<◌, ◌≤◌, List, [], ◌∷◌, ◌++◌, length, None, Some, refl, sym, ap, subst, ◌∙◌, inl, inr, arith}
 use Rattle.std.specs.Prelude.{◌⊎◌}
 use Rattle.std.proofs.lemmas.Bool.{cases_eq}
+use Rattle.cyc_words.proofs.Numbers.{none_below, one_less, when_equal}
 use Rattle.cyc_store.specs.Lookup.{lookup, without, AreDistinct}
 use Rattle.cyc_store.specs.State.{Home, handle_of, StoreState, down_to}
 use Rattle.cyc_store.specs.Soundness.{IsSound}
 use Rattle.cyc_store.specs.declared.range.TheConstants.{UNIQUE}
-use Rattle.cyc_store.proofs.LookupLemmas.{when_equal, when_other, not_both, IsPart, is_empty, is_left, is_kept, lookup-here, lookup-there, IsPart-without}
+use Rattle.cyc_store.proofs.LookupLemmas.{when_other, not_both, IsPart, is_empty, is_left, is_kept, lookup-here, lookup-there, IsPart-without}
 use Rattle.cyc_store.proofs.HolderLemmas.{IsPart-down_to}
 use Rattle.cyc_store.proofs.ServiceLemmas.{closed-sound}
 use Rattle.cyc_store.specs.Pages.{given_back}
@@ -56,17 +57,11 @@ part-step (is_kept {x = r} {xs = qs} {ys = rs} part) distinct = elim (part-step 
       })
 ]
 
-one_less : (k m n : ℕ) → k < m → m ≤ suc n → k ≤ n
-one_less k m n less most = omega (arith, less, most)
-
-not_less : (k m : ℕ) → k < m → m ≤ 0 → ⊥
-not_less k m less most = omega (arith, less, most)
-
 pub pages-part : (left : ℕ) (s : StoreState) (qs : List Home) → length s.regions ≤ left → IsSound s → ArePages s → IsPart qs s.regions
     → ArePages (record s { regions = qs })
 pages-part zero s qs bound sound laid part = elim (part-step part sound.regions.handles.1) [
   | inl same ↦ subst (λ l. ArePages (record s { regions = l })) (sym same) laid
-  | inr out ↦ absurd (not_less (length (without handle_of s.regions out.region.handle)) (length s.regions) (shorter s.regions out.region.handle out.region out.there) bound)
+  | inr out ↦ absurd (none_below (length (without handle_of s.regions out.region.handle)) (length s.regions) (shorter s.regions out.region.handle out.region out.there) bound)
 ]
 pages-part (suc left) s qs bound sound laid part = elim (part-step part sound.regions.handles.1) [
   | inl same ↦ subst (λ l. ArePages (record s { regions = l })) (sym same) laid

@@ -3,6 +3,7 @@ use Rattle.std.proofs.Common.{◌≡◌, ℕ, suc, ◌+◌, ◌^◌, ◌<◌, �
 use Rattle.std.specs.Prelude.{◌⊎◌, ◌&&◌, nat_le, is_some}
 use Rattle.std.proofs.lemmas.Bool.{cases_Bool, cond-true, cond-false, le-leb, lt-leb, ltb-true, ltb-false}
 use Rattle.cyc_words.specs.Demand.{class_of}
+use Rattle.cyc_words.proofs.Numbers.{when_equal}
 use Rattle.cyc_store.specs.Lookup.{lookup, without}
 use Rattle.cyc_store.specs.State.{Memory, AreWords, Block, address_of, Sort, Lexical, Dynamic, Uniques, Home, handle_of, Holder, StoreState, homes, holder, demand, opened, lexical_count, down_to, made_in, made_unique}
 use Rattle.cyc_store.specs.Services.{Call, OpenLexical, OpenDynamic, CloseTo, CloseDynamic, Allocate, Free, Refusal, BadMark, BadHandle, BadSize, NotABlock, Full, Refused, Done, Opened, OpenedLexical, Allocated, Choice, block_of, served, answer, any_choice, is_full, full_at, is_dynamic, names_dynamic, is_size, refusal, IsPlaced, IsApart, IsAllowed, ServesBy, Serves}
@@ -10,7 +11,7 @@ use Rattle.cyc_store.specs.Soundness.{IsSound}
 use Rattle.cyc_store.specs.Pages.{IsPaged}
 use Rattle.cyc_store.specs.Slots.{Layout, IsLaidOut}
 use Rattle.cyc_store.specs.declared.range.TheConstants.{MOST_BLOCK_WORDS, UNIQUE}
-use Rattle.cyc_store.proofs.LookupLemmas.{when_equal, when_other, lookup-there}
+use Rattle.cyc_store.proofs.LookupLemmas.{when_other, lookup-there}
 use Rattle.cyc_store.proofs.ServiceLemmas.{made-unique, made-in, demand-served, served-sound}
 use Rattle.cyc_store.proofs.PagedOpening.{demand-more, full-opening}
 

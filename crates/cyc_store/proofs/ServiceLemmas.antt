@@ -5,13 +5,15 @@ use Rattle.std.proofs.Math.Nat.{add-mul-mod_self_left, div-eq_of_lt-le, max-eq_l
 use Rattle.std.proofs.lemmas.Bool.{cases_eq, ltb-false, ltb-true}
 use Rattle.cyc_words.specs.Word.{IsWord}
 use Rattle.cyc_words.specs.Demand.{class_of, blocks_in_page, pages_for, demand_of, greatest_class}
+use Rattle.cyc_words.proofs.Booleans.{some_there}
+use Rattle.cyc_words.proofs.Numbers.{at_most_itself, when_equal}
 use Rattle.cyc_store.specs.Lookup.{lookup, without, changed}
 use Rattle.cyc_store.specs.State.{Memory, put, AreWords, Block, address_of, Sort, Heap, Lexical, Dynamic, Uniques, Home, handle_of, empty_home, StoreState, homes, start, covers, Holder, holder, block_in, block_at, word_in, word_at, has_saved, saved, sizes_of, sizes_in, demand, live_in, opened, lexical_count, down_to, with_block, made_in, made_unique, room}
 use Rattle.cyc_store.specs.Services.{Call, OpenLexical, CloseTo, OpenDynamic, CloseDynamic, Allocate, Free, Refusal, BadMark, BadHandle, BadSize, NotABlock, Full, Answer, Refused, Choice, block_of, made, served, answer, any_choice, is_full, full_at, names_dynamic, is_size, refusal, IsPlaced, IsApart, IsAllowed, ServesBy, Serves}
 use Rattle.cyc_store.specs.Soundness.{AreSound, IsSound}
 use Rattle.cyc_store.specs.Run.{Exchange, Service, Load, Save, Exchanges, Run}
 use Rattle.cyc_store.specs.declared.range.TheConstants.{HEAP, UNIQUE}
-use Rattle.cyc_store.proofs.LookupLemmas.{when_equal, when_other, cases_option, not_both, same_some, IsPart, is_kept, IsPart-without, AreDistinct-append, AreDistinct-part, lookup-key}
+use Rattle.cyc_store.proofs.LookupLemmas.{when_other, cases_option, not_both, same_some, IsPart, is_kept, IsPart-without, AreDistinct-append, AreDistinct-part, lookup-key}
 use Rattle.cyc_store.proofs.HolderLemmas.{covers_from, covers_first, AreSound-part, IsPart-down_to, AreSound-opened, AreSound-made, AreSound-freed}
 use Rattle.cyc_store.proofs.CountLemmas.{blocks-some, class_of-bound, raised-same, raised-other, raised-length, raised-more, live_in-append_same, AreEnough-made, AreEnough-part, demand-part, sizes-opened}
 
@@ -24,10 +26,6 @@ full-none false none = refl
 pub then-none : (b : Bool) (o : Option Refusal) (why : Refusal) → (if b then o else Some why) ≡ None → (b ≡ true) × (o ≡ None)
 then-none true o why none = (refl, none)
 then-none false o why none = absurd (let e : Some why ≡ None = none in cc)
-
-pub some-there : {A : Type 0} (o : Option A) → is_some o ≡ true → (x : A) × (o ≡ Some x)
-some-there None inside = absurd (let e : false ≡ true = inside in cc)
-some-there (Some x) inside = (x, refl)
 
 within : (s : StoreState) (call : Call) → is_full s call ≡ false → demand (served s call (any_choice s)) ≤ s.pages
 within s call not = ltb-false s.pages (demand (served s call (any_choice s))) not
@@ -219,7 +217,7 @@ served-sound s (CloseDynamic h) c sound none allowed =
 served-sound s (Allocate h n) c sound none allowed =
     let (named, rest) = then-none (is_some (lookup handle_of (homes s) h)) (if is_size n then full_at (is_full s (Allocate h n)) else Some BadSize) BadHandle none in
     let (sized, fits) = then-none (is_size n) (full_at (is_full s (Allocate h n))) BadSize rest in
-    let (r, there) = some-there (lookup handle_of (homes s) h) named in
+    let (r, there) = some_there (lookup handle_of (homes s) h) named in
     made-sound s h r (block_of h n c) c.memory sound there allowed.may.0 allowed.may.1 allowed.words
     (subst (λ n. n ≤ s.pages) (demand-served s (Allocate h n) (any_choice s) c) (within s (Allocate h n) (full-none (is_full s (Allocate h n)) fits)))
 served-sound s (Free f) c sound none allowed = freed-sound s f c.memory sound allowed.words
@@ -273,26 +271,23 @@ serves-pages s t call a serves = by (refusal s call) serves
 
 -- ---- the pages of classes
 
-same_number : (n : ℕ) → n ≤ n
-same_number n = omega arith
-
 made-classes : (s : StoreState) (h : ℕ) (b : Block) (c : ℕ) → length s.classes ≡ 11 → slice_index s.classes c ≤ slice_index (made s h b).classes c
 made-classes s h b c eleven = elim (cases_eq h UNIQUE) [
   | inl same ↦
       subst (λ (t : StoreState). slice_index s.classes c ≤ slice_index t.classes c) (sym (made-unique s h b same))
       (raised-more s.classes (class_of b.size) (suc (live_in (class_of b.size) s.unique)) c
       (let bound : class_of b.size ≤ 10 = class_of-bound b.size in omega (arith, bound, eleven)))
-  | inr other ↦ subst (λ (t : StoreState). slice_index s.classes c ≤ slice_index t.classes c) (sym (made-in s h b other)) (same_number (slice_index s.classes c))
+  | inr other ↦ subst (λ (t : StoreState). slice_index s.classes c ≤ slice_index t.classes c) (sym (made-in s h b other)) (at_most_itself (slice_index s.classes c))
 ]
 
 served-classes : (s : StoreState) (call : Call) (choice : Choice) (c : ℕ) → length s.classes ≡ 11
     → slice_index s.classes c ≤ slice_index (served s call choice).classes c
-served-classes s OpenLexical choice c eleven = same_number (slice_index s.classes c)
-served-classes s (CloseTo mark) choice c eleven = same_number (slice_index s.classes c)
-served-classes s OpenDynamic choice c eleven = same_number (slice_index s.classes c)
-served-classes s (CloseDynamic h) choice c eleven = same_number (slice_index s.classes c)
+served-classes s OpenLexical choice c eleven = at_most_itself (slice_index s.classes c)
+served-classes s (CloseTo mark) choice c eleven = at_most_itself (slice_index s.classes c)
+served-classes s OpenDynamic choice c eleven = at_most_itself (slice_index s.classes c)
+served-classes s (CloseDynamic h) choice c eleven = at_most_itself (slice_index s.classes c)
 served-classes s (Allocate h n) choice c eleven = made-classes s h (block_of h n choice) c eleven
-served-classes s (Free f) choice c eleven = same_number (slice_index s.classes c)
+served-classes s (Free f) choice c eleven = at_most_itself (slice_index s.classes c)
 
 -- no class has fewer pages than before
 pub serves-classes : (s t : StoreState) (call : Call) (a : Answer) (c : ℕ) → IsSound s → Serves s call a t → slice_index s.classes c ≤ slice_index t.classes c
@@ -300,7 +295,7 @@ serves-classes s t call a c sound serves = by (refusal s call) serves
   where
     by : (o : Option Refusal) → ServesBy s call o a t → slice_index s.classes c ≤ slice_index t.classes c
     by None (choice, _, _, is) = subst (λ (u : StoreState). slice_index s.classes c ≤ slice_index u.classes c) (sym is) (served-classes s call choice c sound.classes)
-    by (Some why) (_, is) = subst (λ (u : StoreState). slice_index s.classes c ≤ slice_index u.classes c) (sym is) (same_number (slice_index s.classes c))
+    by (Some why) (_, is) = subst (λ (u : StoreState). slice_index s.classes c ≤ slice_index u.classes c) (sym is) (at_most_itself (slice_index s.classes c))
 
 -- A call leaves the pages of a class, or raises them to what its live blocks ask for.
 made-greatest : (s : StoreState) (h : ℕ) (b : Block) (c : ℕ) → length s.classes ≡ 11
@@ -444,7 +439,7 @@ has_saved-sound s x w (Some old) sound word = record {
 pub saved-sound : (s : StoreState) (x w : ℕ) → IsSound s → IsWord w → IsSound (saved s x w)
 saved-sound s x w sound word = has_saved-sound s x w (word_at s x) sound word
 
-has_saved-pages : (s : StoreState) (x w : ℕ) (o : Option ℕ) → (has_saved s x w o).pages ≡ s.pages
+pub has_saved-pages : (s : StoreState) (x w : ℕ) (o : Option ℕ) → (has_saved s x w o).pages ≡ s.pages
 has_saved-pages s x w None = refl
 has_saved-pages s x w (Some old) = refl
 

@@ -5,9 +5,10 @@ use Rattle.std.proofs.Math.Nat.{mul-le-mul_right, suc-mul, div-mul-le_self, mul-
 use Rattle.std.proofs.lemmas.Bool.{cases_eq, cases_lt}
 use Rattle.std.proofs.lemmas.List.{set-get_or}
 use Rattle.cyc_words.specs.Demand.{greatest_class, class_of, blocks_in_page, pages_for, total, demand_of}
+use Rattle.cyc_words.proofs.Numbers.{when_equal}
 use Rattle.cyc_store.specs.Lookup.{lookup, without, AreDistinct}
 use Rattle.cyc_store.specs.State.{Block, address_of, live_in, raised}
-use Rattle.cyc_store.proofs.LookupLemmas.{when_equal, when_other, same_some, lookup-here, lookup-there, lookup-none}
+use Rattle.cyc_store.proofs.LookupLemmas.{when_other, same_some, lookup-here, lookup-there, lookup-none}
 use Rattle.cyc_store.proofs.CountLemmas.{blocks-some, live-here, live-there}
 
 -- the class of a power of two is its exponent

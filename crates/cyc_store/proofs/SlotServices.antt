@@ -6,12 +6,13 @@ use Rattle.std.proofs.lemmas.Bool.{cases_eq}
 use Rattle.std.proofs.lemmas.Nat.{pow_pos}
 use Rattle.cyc_words.specs.Demand.{greatest_class, class_of, demand_of}
 use Rattle.cyc_words.specs.Simulation.{IsDistinct}
+use Rattle.cyc_words.proofs.Numbers.{when_equal}
 use Rattle.cyc_store.specs.Lookup.{lookup, without}
 use Rattle.cyc_store.specs.State.{Memory, Block, address_of, StoreState, homes, covers, sizes_in, demand, live_in, raised, made_unique}
 use Rattle.cyc_store.specs.Services.{IsPlaced, IsApart}
 use Rattle.cyc_store.specs.Soundness.{IsSound}
 use Rattle.cyc_store.specs.declared.range.TheConstants.{STORE_BASE, PAGE_WORDS, UNIQUE}
-use Rattle.cyc_store.proofs.LookupLemmas.{when_equal, when_other, not_both, lookup-append_cases, lookup-append_none, lookup-key, lookup-part, lookup-part_none, lookup-without, IsPart, is_empty, is_left, is_kept, IsPart-without}
+use Rattle.cyc_store.proofs.LookupLemmas.{when_other, not_both, lookup-append_cases, lookup-append_none, lookup-key, lookup-part, lookup-part_none, lookup-without, IsPart, is_empty, is_left, is_kept, IsPart-without}
 use Rattle.cyc_store.proofs.HolderLemmas.{covers_from}
 use Rattle.cyc_store.proofs.CountLemmas.{live_in-append_same, live_in-append_other}
 use Rattle.cyc_store.specs.Pages.{Pages, LiesIn, AreLaidIn, IsPaged}

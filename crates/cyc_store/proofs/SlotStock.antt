@@ -7,14 +7,15 @@ use Rattle.std.proofs.lemmas.Bool.{cases_eq}
 use Rattle.std.proofs.lemmas.Nat.{pow_pos}
 use Rattle.cyc_words.specs.Demand.{page_words, greatest_class, blocks_in_page, pages_for}
 use Rattle.cyc_words.specs.Simulation.{IsDistinct}
+use Rattle.cyc_words.proofs.Numbers.{zero_least, when_equal}
 use Rattle.cyc_store.specs.Lookup.{lookup}
 use Rattle.cyc_store.specs.State.{put, address_of, Home, handle_of, StoreState, homes, sizes_in, demand, live_in}
 use Rattle.cyc_store.specs.Soundness.{IsSound}
 use Rattle.cyc_store.specs.declared.range.TheConstants.{PAGE_WORDS, UNIQUE}
-use Rattle.cyc_store.proofs.LookupLemmas.{when_equal, when_other, cases_option, not_both, same_some, lookup-key}
+use Rattle.cyc_store.proofs.LookupLemmas.{when_other, cases_option, not_both, same_some, lookup-key}
 use Rattle.cyc_store.specs.Pages.{Pages, filled_to, drawn, HasChain, IsPaged}
 use Rattle.cyc_store.proofs.PageLemmas.{laid-drawn, filled-stays, stays-all}
-use Rattle.cyc_store.proofs.PagedRegions.{frees-stay, frees-rest, still-filled, chain-filled, still-chained, least}
+use Rattle.cyc_store.proofs.PagedRegions.{frees-stay, frees-rest, still-filled, chain-filled, still-chained}
 use Rattle.cyc_store.specs.Slots.{with_page, slots_from, place_of, Layout, IsSlot, IsLiveSlot, IsDeadSlot, AreSlots, IsLaidOut}
 use Rattle.cyc_store.proofs.SlotCounts.{demand-set}
 use Rattle.cyc_store.proofs.SlotServices.{same-words}
@@ -92,9 +93,9 @@ module _ (s : StoreState) (l : Layout) (laid : IsLaidOut s l) (page : ℕ) (rest
   stock-paged : IsPaged (with_page s c) (stocked_pages l.pages page) rest
   stock-paged = record {
     laid = stays-all (drawn l.pages page UNIQUE) (stocked_pages l.pages page) (homes s)
-        (filled-stays (drawn l.pages page UNIQUE) page PAGE_WORDS (subst (λ n. n ≤ PAGE_WORDS) (sym (when_equal page page 0 (l.pages.filled page) refl)) (least PAGE_WORDS)))
+        (filled-stays (drawn l.pages page UNIQUE) page PAGE_WORDS (subst (λ n. n ≤ PAGE_WORDS) (sym (when_equal page page 0 (l.pages.filled page) refl)) (zero_least PAGE_WORDS)))
         (laid-drawn l.pages page UNIQUE (homes s) paged.unowned.0.owner paged.laid);
-    filled = still-filled (drawn l.pages page UNIQUE) page PAGE_WORDS (still-filled l.pages page 0 paged.filled (least PAGE_WORDS)) (same PAGE_WORDS);
+    filled = still-filled (drawn l.pages page UNIQUE) page PAGE_WORDS (still-filled l.pages page 0 paged.filled (zero_least PAGE_WORDS)) (same PAGE_WORDS);
     below = λ p g is. elim (cases_eq p page) [
       | inl here ↦ subst (λ n. n < s.pages) (sym here) paged.unowned.0.below
       | inr other ↦ paged.below p g (sym (when_other p page (Some UNIQUE) (l.pages.owner p) other) ∙ is)

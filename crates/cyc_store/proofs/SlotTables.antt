@@ -5,12 +5,13 @@ use Rattle.std.specs.List.{AllByRecursion}
 use Rattle.std.proofs.lemmas.Bool.{cases_eq}
 use Rattle.std.proofs.lemmas.Nat.{pow_pos}
 use mathlib.Core.Path.{fun_ext}
+use Rattle.cyc_words.proofs.Numbers.{when_equal}
 use Rattle.cyc_store.specs.Slots.{IsSlot, slots_from}
 use Rattle.cyc_store.specs.Table.{row_at, marked_between}
 use Rattle.cyc_store.specs.Kept.{IsStocked, table_of}
 use Rattle.cyc_store.specs.declared.row.PageTable.{PageTable}
 use Rattle.cyc_store.specs.declared.row.ClassSlots.{ClassSlots}
-use Rattle.cyc_store.proofs.LookupLemmas.{when_equal, when_other}
+use Rattle.cyc_store.proofs.LookupLemmas.{when_other}
 use Rattle.cyc_store.proofs.TieLemmas.{all-left, chain-same}
 use Rattle.cyc_store.proofs.TieSlots.{with_marks}
 

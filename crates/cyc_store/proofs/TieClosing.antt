@@ -4,6 +4,8 @@ use Rattle.std.specs.Prelude.{◌⊎◌, set}
 use Rattle.std.specs.List.{AllByRecursion}
 use Rattle.std.proofs.lemmas.Bool.{cases_eq}
 use Rattle.cyc_words.specs.Simulation.{IsDistinct}
+use Rattle.cyc_words.proofs.Lists.{all_append}
+use Rattle.cyc_words.proofs.Numbers.{when_equal}
 use Rattle.cyc_store.specs.Lookup.{lookup, without}
 use Rattle.cyc_store.specs.State.{Home, handle_of}
 use Rattle.cyc_store.specs.Ledger.{Blocks}
@@ -16,7 +18,7 @@ use Rattle.cyc_store.specs.declared.row.Row.{Row}
 use Rattle.cyc_store.specs.declared.row.TheConstants.{NONE}
 use Rattle.cyc_store.specs.declared.row.ClassSlots.{ClassSlots}
 use Rattle.cyc_store.specs.declared.range.TheConstants.{UNIQUE}
-use Rattle.cyc_store.proofs.LookupLemmas.{when_equal, when_other, cases_option, not_both, same_some, lookup-key, lookup-without, lookup-without_other}
+use Rattle.cyc_store.proofs.LookupLemmas.{when_other, cases_option, not_both, same_some, lookup-key, lookup-without, lookup-without_other}
 use Rattle.cyc_store.proofs.PagedClosing.{owner-kept, owner-stays, chain-stays}
 use Rattle.cyc_store.proofs.RegionServices.{moved, all-moved}
 use Rattle.cyc_store.proofs.TieLemmas.{chain-same, all-left}
@@ -41,10 +43,6 @@ one-all P (x ∷ xs) p all (inr inside) = one-all P xs p all.1 inside
 all-from : (P : ℕ → Type 0) (xs : List ℕ) → ((p : ℕ) → IsOneOf xs p → P p) → AllByRecursion P xs
 all-from P [] each = tt
 all-from P (x ∷ xs) each = (each x (inl refl), all-from P xs (λ p inside. each p (inr inside)))
-
-all-join : (P : ℕ → Type 0) (xs ys : List ℕ) → AllByRecursion P xs → AllByRecursion P ys → AllByRecursion P (xs ++ ys)
-all-join P [] ys first second = second
-all-join P (x ∷ xs) ys first second = (first.0, all-join P xs ys first.1 second)
 
 moved-append : (xs ys zs : List ℕ) → moved xs (ys ++ zs) ≡ moved xs ys ++ zs
 moved-append [] ys zs = refl
@@ -226,7 +224,7 @@ module _ (t : Table) (lexicals : List ℕ) (classes : ℕ → ClassSlots) (b : B
       given = moved chain tied.given;
       free = ap (moved chain) tied.free ∙ moved-append chain tied.given (numbers_from t.count (t.most - t.count));
       linked = linked;
-      within = all-moved (λ p. p < t.count) chain tied.given (all-join (λ p. p < t.count) chain tied.given chain-below tied.within);
+      within = all-moved (λ p. p < t.count) chain tied.given (all_append (λ p. p < t.count) chain tied.given chain-below tied.within);
       homes = λ p g owned other.
           let old : l.pages.owner p ≡ Some g = owner-kept h g (l.pages.owner p) owned in
           let (q, found) = tied.homes p g old other in

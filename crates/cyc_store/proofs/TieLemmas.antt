@@ -40,19 +40,24 @@ module _ (t : Table) (lexicals : List ℕ) (classes : ℕ → ClassSlots) (b : B
       few : (n m : ℕ) → n ≤ m → m ≤ 65536 → n < 4294967295
       few n m first second = omega (arith, first, second)
 
-  -- where no page is free, none is left
-  pub none-free : t.count ≤ t.free → t.most ≤ t.count → l.free ≡ []
-  none-free past most = by tied.given tied.free tied.linked tied.within
+  -- where no page that was used is free, the free ones are those that were never used
+  pub all-fresh : t.count ≤ t.free → l.free ≡ numbers_from t.count (t.most - t.count)
+  all-fresh past = by tied.given tied.free tied.linked tied.within
     where
-      by : (given : List ℕ) → l.free ≡ given ++ numbers_from t.count (t.most - t.count) → IsChain (λ p. (t.row p).next) t.free given → AllByRecursion (λ p. p < t.count) given → l.free ≡ []
-      by [] free linked within = free ∙ ap (numbers_from t.count) (nothing t.most t.count most)
-        where
-          nothing : (m n : ℕ) → m ≤ n → m - n ≡ 0
-          nothing m n e = omega (arith, e)
+      by : (given : List ℕ) → l.free ≡ given ++ numbers_from t.count (t.most - t.count) → IsChain (λ p. (t.row p).next) t.free given → AllByRecursion (λ p. p < t.count) given
+          → l.free ≡ numbers_from t.count (t.most - t.count)
+      by [] free linked within = free
       by (x ∷ given) free linked within = absurd (clash t.free x t.count linked.0 within.0 past)
         where
           clash : (f x n : ℕ) → f ≡ x → x < n → n ≤ f → ⊥
           clash f x n same less more = omega (arith, same, less, more)
+
+  -- where no page is free, none is left
+  pub none-free : t.count ≤ t.free → t.most ≤ t.count → l.free ≡ []
+  none-free past most = all-fresh past ∙ ap (numbers_from t.count) (nothing t.most t.count most)
+    where
+      nothing : (m n : ℕ) → m ≤ n → m - n ≡ 0
+      nothing m n e = omega (arith, e)
 
   -- the table after the first free page is taken
   abbrev taken : (count free : ℕ) → Table

@@ -3,6 +3,7 @@ use Rattle.std.proofs.Common.{◌≡◌, ◌≢◌, ℕ, suc, ◌+◌, ◌<◌, 
 use Rattle.std.specs.Prelude.{if◌then◌else◌}
 use Rattle.std.specs.List.{AllByRecursion}
 use Rattle.std.proofs.lemmas.Bool.{cases_eq}
+use Rattle.cyc_words.proofs.Numbers.{when_equal}
 use Rattle.cyc_store.specs.Lookup.{lookup, changed}
 use Rattle.cyc_store.specs.State.{Block, Home, handle_of, is_lexical, with_block, made_in}
 use Rattle.cyc_store.specs.Ledger.{Blocks, plain_store, blocks_of}
@@ -14,7 +15,7 @@ use Rattle.cyc_store.specs.declared.row.Row.{Row}
 use Rattle.cyc_store.specs.declared.row.TheConstants.{NONE}
 use Rattle.cyc_store.specs.declared.row.ClassSlots.{ClassSlots}
 use Rattle.cyc_store.specs.declared.range.TheConstants.{PAGE_WORDS, UNIQUE}
-use Rattle.cyc_store.proofs.LookupLemmas.{when_equal, when_other, same_some, lookup-key, lookup-changed_same, lookup-changed_other}
+use Rattle.cyc_store.proofs.LookupLemmas.{when_other, same_some, lookup-key, lookup-changed_same, lookup-changed_other}
 use Rattle.cyc_store.proofs.PageServices.{mark-made, mark-stays, mark-goes}
 use Rattle.cyc_store.proofs.PagedRegions.{block_in_page, chain-filled, owned-drawn, free-apart}
 use Rattle.cyc_store.proofs.TieLemmas.{chain-same, all-away}

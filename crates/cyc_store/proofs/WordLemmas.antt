@@ -4,10 +4,11 @@ use Rattle.std.specs.Prelude.{◌==◌, ◌&&◌, nat_le, if◌then◌else◌, s
 use Rattle.std.proofs.lemmas.Bool.{cases_eq, leb-true, eqb-true}
 use mathlib.Core.Path.{fun_ext}
 use Rattle.cyc_words.specs.Word.{IsWord}
+use Rattle.cyc_words.proofs.Numbers.{when_equal}
 use Rattle.cyc_store.specs.State.{Memory, put, AreWords}
 use Rattle.cyc_store.specs.Ledger.{memory_of}
 use Rattle.cyc_store.specs.Slots.{place_of}
-use Rattle.cyc_store.proofs.LookupLemmas.{when_equal, when_other}
+use Rattle.cyc_store.proofs.LookupLemmas.{when_other}
 use Rattle.cyc_store.proofs.KeptLoads.{memory-word, word-place}
 
 -- what stands at each address then

@@ -1,10 +1,10 @@
 -- The blocks of a store as data, beside the words of its pages: what a store that stands on an array of words holds.
-use Rattle.std.specs.Prelude.{◌≡◌, ℕ, ◌+◌, ◌-◌, ◌/◌, ◌%◌, ◌==◌, ◌&&◌, nat_le, if◌then◌else◌, suc, List, [], slice_index, set}
+use Rattle.std.specs.Prelude.{◌≡◌, ℕ, ◌+◌, ◌-◌, ◌/◌, ◌%◌, ◌==◌, ◌&&◌, nat_le, if◌then◌else◌, ◌*◌, ◌≤◌, length, suc, List, [], slice_index, set}
 use Rattle.cyc_store.specs.Lookup.{without}
-use Rattle.cyc_store.specs.State.{Memory, Block, address_of, Lexical, Dynamic, Home, handle_of, StoreState, start, opened, lexical_count, down_to, made_in, made_unique}
+use Rattle.cyc_store.specs.State.{Memory, Block, address_of, Lexical, Dynamic, Home, handle_of, StoreState, start, demand, opened, lexical_count, down_to, made_in, made_unique}
 use Rattle.cyc_store.specs.declared.change.Change.{Change}
 use Rattle.cyc_store.specs.declared.change.Change.TheVariants.{OpenedLexical, OpenedDynamic, Closed, Made, Stocked, MadeUnique, Freed}
-use Rattle.cyc_store.specs.declared.range.TheConstants.{STORE_BASE}
+use Rattle.cyc_store.specs.declared.range.TheConstants.{STORE_BASE, PAGE_WORDS}
 
 -- the open regions, the live unique blocks, and the pages of each class
 pub record Blocks : Type 0 where
@@ -40,14 +40,24 @@ after b (Stocked class) = record b { classes = set b.classes class (suc (slice_i
 after b (MadeUnique address words) = blocks_of (made_unique (plain_store b) (record { address = address; size = words }))
 after b (Freed address) = record b { unique = without address_of b.unique address }
 
--- what contracts see of a store on an array of words: how many pages it has, the words of those that were used, and its blocks
+-- what contracts see of a store on an array of words: how many pages it has, the words of those that were used, its blocks, and for
+-- how many open lexical regions its table of them has room
 pub record Stored : Type 0 where
   pub pages : ℕ
   pub words : List ℕ
   pub blocks : Blocks
+  pub room : ℕ
 
 abbrev pub held_of : Stored → StoreState
 held_of s = store_of s.pages s.words s.blocks
+
+-- every page that was used is in use, so the array grows before one more is drawn
+abbrev pub IsUsedUp : Stored → Type 0
+IsUsedUp s = length s.words ≡ PAGE_WORDS * demand (held_of s)
+
+-- the table of the open lexical regions has no room for one more
+abbrev pub HasNoRoom : Stored → Type 0
+HasNoRoom s = s.room ≤ lexical_count s.blocks.regions
 
 -- the newest lexical region was closed
 pub record Unwinds (old new : Stored) : Type 0 where

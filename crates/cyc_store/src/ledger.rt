@@ -20,14 +20,14 @@ impl Model for Ledger {
 
 impl Ledger {
     /// The blocks of a new store.
-    pub(crate) fn new() -> Ledger
+    pub fn new() -> Ledger
         ensures { result.blocks ≡ no_blocks }
     {
         Ledger {}
     }
 
     /// The blocks after a change.
-    pub(crate) fn with(_before: &Ledger, _change: &Change) -> Ledger
+    pub fn with(_before: &Ledger, _change: &Change) -> Ledger
         ensures { result.blocks ≡ after _before.now.blocks _change.now }
     {
         Ledger {}

@@ -16,6 +16,9 @@ pub mod runs;
 mod store;
 
 pub use answer::{BadHandle, BadMark, No, NotABlock};
+pub use change::Change;
+pub use ledger::Ledger;
 pub use plain::PlainStore;
 pub use range::{HEAP, LEAST_PAGES, MOST_BLOCK_WORDS, MOST_PAGES, PAGE_WORDS, STORE_BASE, UNIQUE};
+pub use row::{ClassSlots, NONE, Role, Row};
 pub use store::Store;

@@ -2,10 +2,10 @@
 
 ghost use Rattle.std.specs.Prelude.{◌≡◌, ◌≢◌, ◌+◌, ◌*◌, ◌%◌, ◌^◌, ◌<◌, ◌≤◌, ◌⊎◌, IfErr, IfOk, IsTrue, MatchOption, OnErr, OnOk, true, false, None, Some, length, is_some};
 ghost use Rattle.cyc_words.specs.Demand.{class_of};
-ghost use Rattle.cyc_store.specs.Answers.{Responds, allocated};
-ghost use Rattle.cyc_store.specs.Ledger.{Unwinds, held_of, memory_of};
+ghost use Rattle.cyc_store.specs.Answers.{Responds, allocated, opened_dynamic, opened_lexical};
+ghost use Rattle.cyc_store.specs.Ledger.{HasNoRoom, IsUsedUp, Unwinds, held_of, memory_of};
 ghost use Rattle.cyc_store.specs.Lookup.{lookup};
-ghost use Rattle.cyc_store.specs.Services.{Allocate, Free, Done, Serves};
+ghost use Rattle.cyc_store.specs.Services.{Allocate, Free, Done, OpenDynamic, OpenLexical, Serves};
 ghost use Rattle.cyc_store.specs.Kept.{next_slot_of};
 ghost use Rattle.cyc_store.specs.Ordered.{IsOrdered};
 ghost use Rattle.cyc_store.specs.Slots.{HasSlot, IsSpent, Stocks, Fills};
@@ -31,13 +31,14 @@ pub struct PlainStore {
 }
 
 impl Model for PlainStore {
+    ghost use Rattle.std.specs.Prelude.{vec_capacity};
     ghost use Rattle.cyc_store.specs.Ledger.{Stored};
 
     ghost Value = { Stored };
 
     ghost use Rattle.cyc_store.specs.Kept.{IsKept};
 
-    ghost view = { λ s. record { pages = s.table.most; words = s.table.words.items; blocks = s.ledger.blocks } };
+    ghost view = { λ s. record { pages = s.table.most; words = s.table.words.items; blocks = s.ledger.blocks; room = vec_capacity s.lexicals } };
 
     ghost invariant = { λ s. IsKept s.table s.lexicals.items s.classes s.ledger.blocks };
 }
@@ -247,7 +248,8 @@ impl PlainStore {
         requires named { is_some (lookup handle_of self.old.blocks.regions (2 * root + 1)) ≡ true }
         requires least { 1 ≤ words }
         requires most { words ≤ MOST_BLOCK_WORDS }
-        ensures { Responds true (held_of self.old) (Allocate (2 * root + 1) words) (allocated result) (held_of self.new) }
+        ensures answer { Responds true (held_of self.old) (Allocate (2 * root + 1) words) (allocated result) (held_of self.new) }
+        ensures grew { result ≡ Err No.Memory → IsUsedUp self.old }
     {
         let first = self.table.rows[root as usize];
         let last = self.table.rows[first.newest as usize];
@@ -288,6 +290,7 @@ impl PlainStore {
         ensures ok { OnOk result (Stocks (held_of self.old) class (held_of self.new)) }
         ensures full { result ≡ Err No.Full → IsSpent (held_of self.old) }
         ensures memory { result ≡ Err No.Memory → (demand (held_of self.old) < self.old.pages) }
+        ensures grew { result ≡ Err No.Memory → IsUsedUp self.old }
         ensures few { IfErr result (λ why. (why ≡ No.Full) ⊎ (why ≡ No.Memory)) }
         ensures same { OnErr result (held_of self.new ≡ held_of self.old) }
     {
@@ -329,7 +332,8 @@ impl PlainStore {
     fn alloc_unique(&mut self, words: u32) -> Result<u32, No>
         requires least { 1 ≤ words }
         requires most { words ≤ MOST_BLOCK_WORDS }
-        ensures { Responds true (held_of self.old) (Allocate UNIQUE words) (allocated result) (held_of self.new) }
+        ensures answer { Responds true (held_of self.old) (Allocate UNIQUE words) (allocated result) (held_of self.new) }
+        ensures grew { result ≡ Err No.Memory → IsUsedUp self.old }
     {
         let class = class_of(words);
         let slots = self.classes[class as usize];
@@ -389,7 +393,10 @@ impl Store for PlainStore {
 
     ghost GROWS = { true };
 
-    fn open_lexical(&mut self) -> Result<(u32, u32), No> {
+    fn open_lexical(&mut self) -> Result<(u32, u32), No>
+        ensures answer { Responds true (held_of self.old) OpenLexical (opened_lexical result) (held_of self.new) }
+        ensures grew { result ≡ Err No.Memory → IsUsedUp self.old ⊎ HasNoRoom self.old }
+    {
         if self.table.is_full() {
             return Err(No::Full);
         }
@@ -424,7 +431,10 @@ impl Store for PlainStore {
         Ok(())
     }
 
-    fn open_dynamic(&mut self) -> Result<u32, No> {
+    fn open_dynamic(&mut self) -> Result<u32, No>
+        ensures answer { Responds true (held_of self.old) OpenDynamic (opened_dynamic result) (held_of self.new) }
+        ensures grew { result ≡ Err No.Memory → IsUsedUp self.old }
+    {
         if self.table.is_full() {
             return Err(No::Full);
         }
@@ -455,7 +465,10 @@ impl Store for PlainStore {
         Ok(())
     }
 
-    fn alloc(&mut self, handle: u32, words: u32) -> Result<u32, No> {
+    fn alloc(&mut self, handle: u32, words: u32) -> Result<u32, No>
+        ensures answer { Responds true (held_of self.old) (Allocate handle words) (allocated result) (held_of self.new) }
+        ensures grew { result ≡ Err No.Memory → IsUsedUp self.old }
+    {
         if handle == UNIQUE {
             if is_size(words) {
                 return self.alloc_unique(words);

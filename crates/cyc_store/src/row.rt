@@ -102,6 +102,7 @@ impl PageTable {
         requires whole { IsWhole self.old }
         ensures draws { IfOk result (λ page. Draws self.old self.new page) }
         ensures same { OnErr result (IsSame self.old self.new) }
+        ensures grew { OnErr result (length self.old.rows.items ≤ self.old.free) }
     {
         if (self.free as usize) < self.rows.len() {
             let page = self.free;

@@ -4,6 +4,7 @@ use Rattle.std.specs.List.{list_any}
 use Rattle.std.proofs.lemmas.Bool.{or_cases, or_left, or_right, and_parts, and_from, true≢false, false_from_ne_true, cases_lt}
 use Rattle.std.proofs.lemmas.List.{get_or-take, get_or_append_left, length-take-le, take-append-le, take_all, length-append, get_or_push}
 use Rattle.std.proofs.lemmas.List.Folds.{list_any_at}
+use Rattle.cyc_words.proofs.Booleans.{same_tests}
 use Rattle.cyc_types.specs.declared.region.Region.{Region}
 use Rattle.cyc_types.specs.declared.region.Region.TheVariants.{Heap, Unique}
 use Rattle.cyc_types.specs.declared.scope.Kind.TheVariants.{Block}
@@ -12,16 +13,13 @@ use Rattle.cyc_types.specs.Regions.{region_eq, is_region_among}
 use Rattle.cyc_types.specs.Outlives.{live_regions, is_outlived_by_live}
 use Rattle.cyc_types.specs.Closure.{above, above_one_of, leads}
 use Rattle.cyc_types.specs.Openings.{opening_of, scope_at, live_before, IsOrderly, IsInOrder}
-use Rattle.cyc_types.proofs.RegionLemmas.{region_eq-refl, region_eq-true}
+use Rattle.cyc_types.proofs.RegionLemmas.{region_eq-true}
 use Rattle.cyc_types.proofs.ClosureLemmas.{any-true, any-from, above-refl, leads-refl, leads-cases, newest-parts}
 use Rattle.cyc_types.proofs.SearchLemmas.{live_among, reverse-take_more, leads-found}
+use Rattle.cyc_types.proofs.TableLemmas.{eq_true_at}
 
 pub never : (b : Bool) → b ≡ true → b ≡ false → ⊥
 never b t f = true≢false (sym t ∙ f)
-
-same_bool : (x y : Bool) → (x ≡ true → y ≡ true) → (y ≡ true → x ≡ true) → x ≡ y
-same_bool true y f g = sym (f refl)
-same_bool false y f g = sym (false_from_ne_true y (λ t. never false (g t) refl))
 
 true_from_ne_false : (b : Bool) → (b ≡ false → ⊥) → b ≡ true
 true_from_ne_false true n = refl
@@ -47,9 +45,6 @@ any-at p n i scopes lt within e =
     list_any_at p (take n scopes) i default (let l : length (take n scopes) ≡ n = length-take-le n scopes within in omega (arith, lt, l))
     (ap p (get_or-take n scopes i default lt) ∙ e)
 
-pub same-region : (a b : Region) → a ≡ b → region_eq a b ≡ true
-same-region a b e = subst (λ z. region_eq a z ≡ true) e (region_eq-refl a)
-
 -- ---- what is live, and what leads to it
 
 -- what leads to itself alone, and is not among these regions, leads to none of them
@@ -58,13 +53,13 @@ not-above : (w : List (Region × Region)) (rs : List Region) (a : Region) → ((
 not-above w rs a alone apart h =
     let r = any-true (λ r. not (region_eq r Unique) && above w a r) rs h in
     let e : a ≡ r.0 = region_eq-true a r.0 (sym (alone r.0) ∙ (and_parts (not (region_eq r.0 Unique)) (above w a r.0) r.2).1) in
-    never (is_region_among a rs) (any-from (λ y. region_eq y a) rs r.0 r.1 (same-region r.0 a (sym e))) apart
+    never (is_region_among a rs) (any-from (λ y. region_eq y a) rs r.0 r.1 (eq_true_at r.0 a (sym e))) apart
 
 -- whether one of these leads somewhere, or it is among what it leads to: the one list or the other is gone through
 pub above-among : (w : List (Region × Region)) (rs below : List Region) (a : Region) →
     ((b : Region) → above w a b ≡ is_region_among b below) →
     above_one_of w rs a ≡ list_any (λ r. not (region_eq r Unique) && is_region_among r rs) below
-above-among w rs below a e = same_bool (above_one_of w rs a) (list_any (λ r. not (region_eq r Unique) && is_region_among r rs) below)
+above-among w rs below a e = same_tests (above_one_of w rs a) (list_any (λ r. not (region_eq r Unique) && is_region_among r rs) below)
     (λ h.
     let r = any-true (λ r. not (region_eq r Unique) && above w a r) rs h in
     let u = and_parts (not (region_eq r.0 Unique)) (above w a r.0) r.2 in
@@ -73,7 +68,7 @@ above-among w rs below a e = same_bool (above_one_of w rs a) (list_any (λ r. no
     any-from (λ r. not (region_eq r Unique) && is_region_among r rs) below q.0 q.1
     (and_from (not (region_eq q.0 Unique)) (is_region_among q.0 rs)
     (subst (λ z. not (region_eq z Unique) ≡ true) (sym same) u.0)
-    (any-from (λ y. region_eq y q.0) rs r.0 r.1 (same-region r.0 q.0 (sym same)))))
+    (any-from (λ y. region_eq y q.0) rs r.0 r.1 (eq_true_at r.0 q.0 (sym same)))))
     (λ h.
     let r = any-true (λ r. not (region_eq r Unique) && is_region_among r rs) below h in
     let u = and_parts (not (region_eq r.0 Unique)) (is_region_among r.0 rs) r.2 in
@@ -82,7 +77,7 @@ above-among w rs below a e = same_bool (above_one_of w rs a) (list_any (λ r. no
     any-from (λ r. not (region_eq r Unique) && above w a r) rs q.0 q.1
     (and_from (not (region_eq q.0 Unique)) (above w a q.0)
     (subst (λ z. not (region_eq z Unique) ≡ true) (sym same) u.0)
-    (e q.0 ∙ any-from (λ y. region_eq y q.0) below r.0 r.1 (same-region r.0 q.0 (sym same)))))
+    (e q.0 ∙ any-from (λ y. region_eq y q.0) below r.0 r.1 (eq_true_at r.0 q.0 (sym same)))))
 
 -- what is among these, leads to one of these
 pub above-itself : (w : List (Region × Region)) (rs : List Region) (a : Region) → not (region_eq a Unique) ≡ true →
@@ -127,7 +122,7 @@ module _ (w : List (Region × Region)) (live : List Region) (openings : List ℕ
                   let g : (opening_of openings r ≤ p.0) × ((scope_at scopes (opening_of openings r)).region ≡ r) =
                   subst (λ z. (opening_of openings z ≤ p.0) × ((scope_at scopes (opening_of openings z)).region ≡ z)) same f in
                   never (region_eq (scope_at scopes (opening_of openings r)).region r)
-                  (same-region (scope_at scopes (opening_of openings r)).region r g.1)
+                  (eq_true_at (scope_at scopes (opening_of openings r)).region r g.1)
                   (missed (omega (arith, p.1, g.0)))
             ]
       ])
@@ -135,7 +130,7 @@ module _ (w : List (Region × Region)) (live : List Region) (openings : List ℕ
   -- the oldest scope of a region tells whether it is live
   pub live-tested : (count : ℕ) (r : Region) → count ≤ n → is_region_among r live ≡ false → opening_of openings r < count →
       region_eq (scope_at scopes (opening_of openings r)).region r ≡ is_region_among r (live_before live scopes count)
-  live-tested count r le never_live lt = same_bool (region_eq (scope_at scopes (opening_of openings r)).region r) (is_region_among r (live_before live scopes count))
+  live-tested count r le never_live lt = same_tests (region_eq (scope_at scopes (opening_of openings r)).region r) (is_region_among r (live_before live scopes count))
       (λ h. live-at live scopes count (opening_of openings r) r lt (omega (arith, le, order.within)) h)
       (λ h. true_from_ne_false (region_eq (scope_at scopes (opening_of openings r)).region r)
       (λ f. never (is_region_among r (live_before live scopes count)) h (live-missed count r le never_live (λ l. f))))
@@ -174,7 +169,7 @@ module _ (w : List (Region × Region)) (live : List Region) (openings : List ℕ
         | inr f ↦ elim (cases_lt (opening_of openings (scope_at scopes i).region) i) [
           | inl less ↦ absurd (never (is_region_among (scope_at scopes i).region (live_before live scopes i))
               (live-at live scopes i (opening_of openings (scope_at scopes i).region) (scope_at scopes i).region less (omega (arith, lt, order.within))
-              (same-region (scope_at scopes (opening_of openings (scope_at scopes i).region)).region (scope_at scopes i).region f.1)) (o.fresh k))
+              (eq_true_at (scope_at scopes (opening_of openings (scope_at scopes i).region)).region (scope_at scopes i).region f.1)) (o.fresh k))
           | inr more ↦ omega (arith, f.0, more)
         ]
       ]
@@ -219,7 +214,7 @@ module _ (w : List (Region × Region)) (live : List Region) (openings : List ℕ
   leads-by_place a b place at = subst (λ (p : ℕ). p < length scopes →
       (scope_at scopes p).region ≡ b → is_outlived_by_live (scope_at scopes p).kind ≡ true → above w a b ≡ false →
       above_one_of w (live_before live scopes p) a ≡ leads w live (reverse scopes) a b) (sym at)
-      (λ lt same k apart. same_bool (above_one_of w (live_before live scopes (opening_of openings b)) a) (leads w live (reverse scopes) a b)
+      (λ lt same k apart. same_tests (above_one_of w (live_before live scopes (opening_of openings b)) a) (leads w live (reverse scopes) a b)
       (leads-there a b lt same k)
       (λ h. true_from_ne_false (above_one_of w (live_before live scopes (opening_of openings b)) a)
       (λ f. never (leads w live (reverse scopes) a b) h (leads-nowhere a b apart (λ x y z. f)))))
@@ -290,7 +285,7 @@ module _ (w : List (Region × Region)) (live : List Region) where
         let other : region_eq region (scope_at scopes i).region ≡ false =
         false_from_ne_true (region_eq region (scope_at scopes i).region) (λ t. never (is_region_among region (live_before live scopes (length scopes)))
         (live-at live scopes (length scopes) i region (omega (arith, lt, o.within)) (omega arith)
-        (same-region (scope_at scopes i).region region (sym (region_eq-true region (scope_at scopes i).region t)))) apart) in
+        (eq_true_at (scope_at scopes i).region region (sym (region_eq-true region (scope_at scopes i).region t)))) apart) in
         let same : opening_of openings (scope_at scopes i).region ≡ opening_of noted (scope_at scopes i).region = sym (others (scope_at scopes i).region other) in
         record {
           found = subst (λ z. (is_region_among (scope_at scopes i).region live ≡ true)

@@ -4,6 +4,7 @@ use Rattle.std.proofs.lemmas.Bool.Decides.{nat_tests}
 use Rattle.cyc_words.specs.declared.fault.Fault.{Fault}
 use Rattle.cyc_words.specs.Fault.{number_of}
 use Rattle.cyc_words.proofs.Decisions.{IsDecided}
+use Rattle.cyc_words.proofs.Numbers.{lt-nat_lt, le-nat_lt, nat_lt-true}
 use Rattle.cyc_types.specs.Rules.{Checked, and_then, Demand, fault_of, AllKept, AreAbove, AreNotBelow, IsFaultOf, lesser, noted, settled, Rule, Refused, Own, Part, Derives, Refuses, unless, run}
 
 -- ---- answers
@@ -73,15 +74,9 @@ before_settled : (n : ℕ) (known : Option Fault) (ds : List Demand) → IsHighe
 before_settled n known [] h above = h
 before_settled n known (d ∷ ds) h (a, above) = before_settled n (noted known d) ds (noted_higher n known d h a) above
 
-is_below : (m n : ℕ) → m < n → nat_lt m n ≡ true
-is_below m n l = grind (arith, nat_tests)
-
-is_not_below : (m n : ℕ) → n ≤ m → nat_lt m n ≡ false
-is_not_below m n l = grind (arith, nat_tests)
-
 takes : (known : Option Fault) (f : Fault) → IsHigher (number_of f.code) known → lesser known f ≡ Some f
 takes None f h = refl
-takes (Some e) f h = ap (λ b. cond b (Some f) (Some e)) (is_below (number_of f.code) (number_of e.code) h)
+takes (Some e) f h = ap (λ b. cond b (Some f) (Some e)) (lt-nat_lt (number_of f.code) (number_of e.code) h)
 
 keeps : (f : Fault) (d : Demand) → (d.kept ≡ true) ⊎ (number_of f.code ≤ number_of d.code) → noted (Some f) d ≡ Some f
 keeps f d (inl k) = ap (λ b. cond b (Some f) (lesser (Some f) (fault_of d))) k
@@ -89,7 +84,7 @@ keeps f d (inr l) = by_test d.kept
   where
     by_test : (b : Bool) → cond b (Some f) (lesser (Some f) (fault_of d)) ≡ Some f
     by_test true = refl
-    by_test false = ap (λ b. cond b (Some (fault_of d)) (Some f)) (is_not_below (number_of d.code) (number_of f.code) l)
+    by_test false = ap (λ b. cond b (Some (fault_of d)) (Some f)) (le-nat_lt (number_of d.code) (number_of f.code) l)
 
 after_settled : (f : Fault) (ds : List Demand) → AreNotBelow (number_of f.code) ds → settled (Some f) ds ≡ Some f
 after_settled f [] h = refl
@@ -117,9 +112,6 @@ behind : (d : Demand) (ds : List Demand) (f : Fault) → IsFaultOf ds f → (d.k
 behind d ds f (before, x, after, is, b, above, rest, eq) s =
     (d ∷ before, x, after, ap (λ l. d ∷ l) is, b, (subst (λ g. (d.kept ≡ true) ⊎ (number_of g.code < number_of d.code)) eq s, above), rest, eq)
 
-below_of : (m n : ℕ) → nat_lt m n ≡ true → m < n
-below_of m n l = grind (arith, nat_tests)
-
 not_below_of : (m n : ℕ) → nat_lt m n ≡ false → n ≤ m
 not_below_of m n l = grind (arith, nat_tests)
 
@@ -139,7 +131,7 @@ from_next : (e : Fault) (d : Demand) (ds : List Demand) → ((g : Fault) → Fro
 from_next e d ds rest = by_kept d.kept refl
   where
     by_test : d.kept ≡ false → (b : Bool) → nat_lt (number_of d.code) (number_of e.code) ≡ b → From e (d ∷ ds) (settled (cond b (Some (fault_of d)) (Some e)) ds)
-    by_test k true l = from_taken e d ds _ k (below_of (number_of d.code) (number_of e.code) l) (rest (fault_of d))
+    by_test k true l = from_taken e d ds _ k (nat_lt-true (number_of d.code) (number_of e.code) l) (rest (fault_of d))
     by_test k false l = from_passed e d ds _ (not_below_of (number_of d.code) (number_of e.code) l) (rest e)
 
     by_kept : (b : Bool) → d.kept ≡ b → From e (d ∷ ds) (settled (cond b (Some e) (lesser (Some e) (fault_of d))) ds)

@@ -5,13 +5,14 @@ use Rattle.std.specs.Option.{ForSome}
 use Rattle.std.specs.List.{list_any}
 use Rattle.std.proofs.lemmas.Bool.{or_left, or_right}
 use Rattle.std.proofs.lemmas.List.{take_more, reverse-append, take-append-drop, length-reverse, length-drop, drop_at}
+use Rattle.std.proofs.lemmas.List.Folds.{list_any-append}
 use Rattle.cyc_types.specs.declared.region.Region.{Region}
 use Rattle.cyc_types.specs.declared.region.Region.TheVariants.{Unique}
 use Rattle.cyc_types.specs.declared.scope.Scope.{Scope}
 use Rattle.cyc_types.specs.Regions.{region_eq, is_region_among}
 use Rattle.cyc_types.specs.Outlives.{RegionContext, OutlivesIn, live_regions, is_outlived_by_live}
 use Rattle.cyc_types.specs.Closure.{above, above_one_of, above_one_opened, leads, is_outliving, is_above_known, HasNoUnique}
-use Rattle.cyc_types.proofs.TableLemmas.{any-append, or_comm, or_false}
+use Rattle.cyc_types.proofs.TableLemmas.{or_comm, or_false}
 use Rattle.cyc_types.proofs.ClosureLemmas.{newest-from, outliving-sound, outliving-complete}
 
 any-map : {X Y : Type 0} (f : Y → Bool) (g : X → Y) (xs : List X) → list_any f (map g xs) ≡ list_any (λ x. f (g x)) xs
@@ -21,14 +22,14 @@ any-map f g (x ∷ xs) = ap (λ z. f (g x) || z) (any-map f g xs)
 any-reverse : {X : Type 0} (f : X → Bool) (xs : List X) → list_any f (reverse xs) ≡ list_any f xs
 any-reverse f [] = refl
 any-reverse f (x ∷ xs) =
-    ap (list_any f) (reverse-append (x ∷ []) xs) ∙ any-append f (reverse xs) (x ∷ []) ∙ or_comm (list_any f (reverse xs)) (f x || false)
+    ap (list_any f) (reverse-append (x ∷ []) xs) ∙ list_any-append f (reverse xs) (x ∷ []) ∙ or_comm (list_any f (reverse xs)) (f x || false)
     ∙ ap (λ z. z || list_any f (reverse xs)) (or_false (f x)) ∙ ap (λ z. f x || z) (any-reverse f xs)
 
 -- what is live is what was live before and the regions of the scopes
 pub live-split : (w : List (Region × Region)) (live : List Region) (scopes : List Scope) (a : Region) →
     above_one_of w (live_regions live (reverse scopes)) a ≡ (above_one_opened w scopes a || above_one_of w live a)
 live-split w live scopes a =
-    any-append (λ r. not (region_eq r Unique) && above w a r) (map (λ (s : Scope). s.region) (reverse scopes)) live
+    list_any-append (λ r. not (region_eq r Unique) && above w a r) (map (λ (s : Scope). s.region) (reverse scopes)) live
     ∙ ap (λ z. z || above_one_of w live a)
     (any-map (λ r. not (region_eq r Unique) && above w a r) (λ (s : Scope). s.region) (reverse scopes)
     ∙ any-reverse (λ (s : Scope). not (region_eq s.region Unique) && above w a s.region) scopes)
@@ -172,7 +173,7 @@ outliving_iff c a b r apart s = (
 pub live_among : (r : Region) (live : List Region) (scopes : List Scope) →
     is_region_among r (live_regions live (reverse scopes)) ≡ (is_region_among r live || list_any (λ (s : Scope). region_eq s.region r) scopes)
 live_among r live scopes =
-    any-append (λ a. region_eq a r) (map (λ (s : Scope). s.region) (reverse scopes)) live
+    list_any-append (λ a. region_eq a r) (map (λ (s : Scope). s.region) (reverse scopes)) live
     ∙ ap (λ z. z || is_region_among r live)
     (any-map (λ a. region_eq a r) (λ (s : Scope). s.region) (reverse scopes) ∙ any-reverse (λ (s : Scope). region_eq s.region r) scopes)
     ∙ or_comm (list_any (λ (s : Scope). region_eq s.region r) scopes) (is_region_among r live)

@@ -1,6 +1,5 @@
 -- The table of constraints: what its loops keep, and that it is closed at their end.
 use Rattle.std.proofs.Common.{◌≡◌, inl, inr, ℕ, zero, suc, ◌+◌, ◌<◌, Bool, true, false, ◌&&◌, ◌||◌, List, [], ◌∷◌, ◌++◌, length, get_or, set, take, refl, ap, sym, ◌∙◌, subst, arith, add-one}
-use Rattle.std.specs.List.{list_any}
 use Rattle.std.proofs.lemmas.Bool.{or_left, or_right, true≢false, false_from_ne_true, cases_Bool}
 use Rattle.std.proofs.lemmas.List.{take_more, map-append}
 use Rattle.cyc_types.specs.declared.region.Region.{Region}
@@ -8,14 +7,6 @@ use Rattle.cyc_types.specs.declared.constraints.Constraint.{Constraint}
 use Rattle.cyc_types.specs.Regions.{region_eq, is_region_among}
 use Rattle.cyc_types.specs.Closure.{entry_leads, table_leads, has_entry, written_in}
 use Rattle.cyc_types.proofs.RegionLemmas.{region_eq-refl, region_eq-true}
-
-pub any-append : {X : Type 0} (f : X → Bool) (xs ys : List X) → list_any f (xs ++ ys) ≡ (list_any f xs || list_any f ys)
-any-append f [] ys = refl
-any-append f (x ∷ xs) ys = or_append (f x) (list_any f xs) (list_any f ys) (list_any f (xs ++ ys)) (any-append f xs ys)
-  where
-    or_append : (b p q r : Bool) → r ≡ (p || q) → (b || r) ≡ ((b || p) || q)
-    or_append true p q r e = refl
-    or_append false p q r e = e
 
 pub or_false : (b : Bool) → (b || false) ≡ b
 or_false true = refl

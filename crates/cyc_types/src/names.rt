@@ -89,7 +89,7 @@ impl RegionNames {
     }
 
     /// Forgets all names but this number of the oldest.
-    #[tactic(auto, using(crate::proofs::NameLemmas::drop_one_more))]
+    #[tactic(auto, using(cyc_words::proofs::Lists::drop_one_more))]
     pub fn close(&mut self, count: usize)
         ensures { self.new ≡ drop (length self.old - count) self.old }
     {

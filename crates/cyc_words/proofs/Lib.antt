@@ -5,6 +5,10 @@ pub mod PrefixLemmas
 pub mod EndingLemmas
 pub mod DeviceLemmas
 pub mod Decisions
+-- of tests, lists and numbers
+pub mod Booleans
+pub mod Lists
+pub mod Numbers
 -- machines that do what others do
 pub mod Simulation
 pub mod Matching

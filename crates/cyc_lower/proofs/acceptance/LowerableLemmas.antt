@@ -26,7 +26,7 @@ use Rattle.cyc_lower.proofs.slots.Widths.{kind_few}
 -- ---- objects
 
 -- no value has more than three words
-all_few : (cs : Arguments) → all_passed cs ≤ 3 * argument_count cs
+pub all_few : (cs : Arguments) → all_passed cs ≤ 3 * argument_count cs
 all_few NoArguments = omega arith
 all_few (MoreArguments (Convert from to a) cs) =
     let first : words_of_kind to ≤ 3 = kind_few to in

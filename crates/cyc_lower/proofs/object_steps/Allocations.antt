@@ -3,7 +3,7 @@ use Rattle.std.proofs.Common.{◌≡◌, ℕ, zero, suc, ◌+◌, ◌*◌, ◌�
 use Rattle.std.proofs.lemmas.List.{length-reverse}
 use Rattle.std.specs.Prelude.{◌==◌, nat_lt, if◌then◌else◌}
 use Rattle.std.proofs.lemmas.Bool.{le-leb, and_from, cases_Bool, eqb-true}
-use Rattle.std.proofs.Math.Nat.{le-max_left, mod-eq_of_lt}
+use Rattle.std.proofs.Math.Nat.{le-max_left}
 use Rattle.cyc_words.specs.Word.{add_of}
 use Rattle.cyc_words.specs.Demand.{demand_of}
 use Rattle.cyc_types.specs.declared.typed.Kind.{Kind}
@@ -54,10 +54,7 @@ use Rattle.cyc_lower.proofs.relation.Known.{row-made_there}
 use Rattle.cyc_lower.proofs.relation.Leads.{AreNamed}
 use Rattle.cyc_lower.proofs.relation.Moving.{made_moves}
 use Rattle.cyc_lower.specs.Slots.{global_types}
-
--- a sum that does not wrap
-add_is : (a b : ℕ) → a + b < 4294967296 → add_of a b ≡ a + b
-add_is a b below = mod-eq_of_lt below
+use Rattle.cyc_lower.proofs.place_steps.PlaceWords.{add_is}
 
 -- ---- words and cells of values
 

@@ -47,9 +47,9 @@ use Rattle.cyc_lower.proofs.slots.Widths.{Outside, same_kind, wide_kind}
 use Rattle.cyc_lower.proofs.relation.Stands.{CopyBy, BegunAt, ElementsAt, StoresAt}
 use Rattle.cyc_lower.proofs.object_steps.Handles.{has_handle}
 use Rattle.cyc_lower.proofs.relation.Relation.{IsWord, IsIn, Holds, held, callers, counters_of, arrays_in, IsHandleOf, homes, silent, DataIn, SharedAt, in_temporary, into_slot, LandsMade, ValueStack, Matches, code_of, bounds_at, types_on, floor, top, contents, IsTold, scopes_in, base_of}
-use Rattle.cyc_lower.proofs.relation.Data.{Is-same, height-least, one_word, Holds-same, Holds-grows, data_written, data_grows, variables_grow, contents_made, floor-least, Holds-above}
+use Rattle.cyc_lower.proofs.relation.Data.{Is-same, height-least, one_word, Holds-same, Holds-grows, data_written, data_grows, variables_grow, contents_made, floor-least, Holds-above, newest_there}
 use Rattle.cyc_lower.proofs.relation.Accesses.{IsWell, is_fitting}
-use Rattle.cyc_lower.proofs.relation.Counters.{counters-many, counter_same, counted_before}
+use Rattle.cyc_lower.proofs.relation.Counters.{counters-many, counted_before}
 use Rattle.cyc_lower.proofs.relation.Sharing.{shared_less}
 use Rattle.cyc_lower.proofs.place_steps.PlaceWords.{add_is, shifted_is, multiplied_is, stays, cell_kind, word_is}
 use Rattle.cyc_lower.proofs.relation.Paths.{Link, is_quiet, end_of, IsPath, end_joined, path_joined, by_path}
@@ -67,13 +67,9 @@ use Rattle.cyc_lower.proofs.relation.Known.{row-made_there}
 use Rattle.cyc_lower.proofs.relation.Leads.{AreNamed}
 use Rattle.cyc_lower.proofs.relation.Moving.{Like, like_long, made_moves}
 use Rattle.cyc_lower.specs.Slots.{global_types}
+use Rattle.cyc_lower.proofs.pointer_steps.PointerSteps.{int_word}
 
 -- ---- words
-
--- an int is its word
-int_word : (t : Tables) (kind : Kind) (n : ℕ) (slots : Words) (p : ℕ) → Is t kind (Int n) slots p → slots p ≡ n
-int_word t kinds.Int n slots p is = is
-int_word t kind n slots p is = absurd is
 
 -- The elements of a kind are few enough exactly where their words are.
 elements_few : (kind : Kind) (n : ℕ) → n * words_of_kind kind ≤ MOST_BLOCK_WORDS → n ≤ most_elements (words_of_kind kind)
@@ -507,7 +503,7 @@ module _ (source : Program) (pages calls : ℕ) where
             variables = shared.variables;
             few_pages = shared.few_pages;
             fits = shared.fits;
-            counters = (((nested, levels, counter_same e.counters level index), counted_before e.counters level index k (omega (arith, nested)) shared.counters.0), shared.counters.1);
+            counters = (((nested, levels, newest_there e.counters level index), counted_before e.counters level index k (omega (arith, nested)) shared.counters.0), shared.counters.1);
           } in
           by_one source pages calls
           (ap (λ (b : Bool). if b then gives kinds.Fat (Fat object 0 count 0) k e w else Running (Evaluating element) stack inner w) told) shared branch

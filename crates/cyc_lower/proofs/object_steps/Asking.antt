@@ -4,7 +4,6 @@ use Rattle.std.specs.Prelude.{Contains, nat_le, nat_lt, ◌&&◌, if◌then◌el
 use Rattle.std.specs.List.{AllByRecursion}
 use Rattle.std.proofs.lemmas.Bool.{leb-true, ltb-true, false_from_ne_true}
 use Rattle.cyc_words.specs.Ending.{Full}
-use Rattle.cyc_words.specs.Simulation.{IsDistinct}
 use Rattle.cyc_types.specs.TypedTrees.{Program}
 use Rattle.cyc_store.specs.Services as services
 use Rattle.cyc_store.specs.Services.{refusal}
@@ -21,6 +20,7 @@ use Rattle.cyc_plain.proofs.Steps.{step_serves, step_full}
 use Rattle.cyc_meaning.specs.State.{World, Environment, Entry, Focus, State, Running, Ended}
 use Rattle.cyc_meaning.specs.Step.{step}
 use Rattle.cyc_meaning.specs.Run.{is_within, limited_step}
+use Rattle.cyc_plain.proofs.Straight.{behind-distinct}
 use Rattle.cyc_lower.specs.Lowering.{lower_program}
 use Rattle.cyc_lower.proofs.relation.Relation.{SharedAt, Matches, code_of}
 use Rattle.cyc_lower.proofs.relation.Matched.{IsMatched, Executes, by_places, shared_way, output_way, place_in, known}
@@ -30,10 +30,6 @@ use Rattle.cyc_lower.proofs.relation.Matched.{IsMatched, Executes, by_places, sh
 later : (function p first count : ℕ) → p < first → AllByRecursion (λ (q : CodePlace). let here : CodePlace = record { function = function; index = p } in here ≢ q) (places_behind function first count)
 later function p first zero less = tt
 later function p first (suc count) less = (λ same. absurd (omega (arith, less, ap (λ (q : CodePlace). q.index) same)), later function p (first + 1) count (omega (arith, less)))
-
-pub in_order : (function first count : ℕ) → IsDistinct (places_behind function first count)
-in_order function first zero = tt
-in_order function first (suc count) = (later function first (first + 1) count (omega arith), in_order function (first + 1) count)
 
 -- what is more than all pages is not within them
 pub past_pages : (pages n : ℕ) (b : Bool) → nat_lt pages n ≡ true → (nat_le n pages && b) ≡ false
@@ -53,7 +49,7 @@ module _ (source : Program) (pages calls : ℕ) where
   asks_then focus k e w c next request count does same here inside free goes =
       let rest = places_behind c.active.function (c.active.next + 1) count in
       by_places source pages calls (Running focus k e w) next (place_in source pages calls c) rest (plain.Running c) does
-      (in_order c.active.function c.active.next (suc count)) (known source pages calls c (instructions.Ask request) here, inside) (
+      (behind-distinct c.active.function c.active.next (suc count)) (known source pages calls c (instructions.Ask request) here, inside) (
         refl,
         output_way source pages calls focus k e w c same,
         λ u stepped.

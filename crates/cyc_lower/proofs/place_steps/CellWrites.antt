@@ -6,7 +6,7 @@ use Rattle.cyc_lower.specs.Slots.{Types, global_types, slot_of}
 use Rattle.cyc_types.specs.Types.{Ty}
 use Rattle.cyc_types.specs.TypedTrees.{Program}
 use Rattle.cyc_store.specs.State.{Memory, put, StoreState, demand, saved}
-use Rattle.cyc_store.proofs.LookupLemmas.{when_equal, when_other}
+use Rattle.cyc_store.proofs.LookupLemmas.{when_other}
 use Rattle.cyc_store.proofs.WordLemmas.{words-put}
 use Rattle.cyc_plain.specs.State as plain
 use Rattle.cyc_plain.specs.State.{Words, Frame, Configuration}
@@ -39,6 +39,7 @@ use Rattle.cyc_lower.proofs.relation.Leads.{AreNamed, Leads, leads, to_store, to
 use Rattle.cyc_lower.proofs.relation.WaitingData.{with_slots_of, callers_least, frame_at, data_assigned_waiting}
 use Rattle.cyc_lower.proofs.relation.Moving.{Like, like_same, like_set, like_long, handlers_move}
 use Rattle.std.proofs.lemmas.Bool.{cases_eq}
+use Rattle.cyc_words.proofs.Numbers.{when_equal}
 
 -- ---- variables
 

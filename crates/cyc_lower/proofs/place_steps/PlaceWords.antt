@@ -5,11 +5,12 @@ use Rattle.std.specs.Prelude.{◌≢◌, ◌==◌, if◌then◌else◌, slice_ge
 use Rattle.std.proofs.Math.Nat.{mod-eq_of_lt}
 use Rattle.std.proofs.lemmas.Bool.{cases_eq}
 use Rattle.cyc_words.specs.Word.{IsWord, add_of, mul_of, shl_of}
+use Rattle.cyc_words.proofs.Numbers.{when_equal}
 use Rattle.cyc_types.specs.declared.typed.Kind.{Kind}
 use Rattle.cyc_types.specs.declared.typed.Kind.TheVariants as kinds
 use Rattle.cyc_types.specs.Types.{Ty, words_of}
 use Rattle.cyc_store.specs.State.{Memory, put, AreWords, StoreState, homes, Holder, holder, word_in, word_at}
-use Rattle.cyc_store.proofs.LookupLemmas.{when_equal, when_other, not_both}
+use Rattle.cyc_store.proofs.LookupLemmas.{when_other, not_both}
 use Rattle.cyc_store.proofs.WordLemmas.{words-put}
 use Rattle.cyc_meaning.specs.Values.{Value, words_of_kind, Cell, kind_of, kinds_of}
 use Rattle.cyc_meaning.specs.State.{Object, World, Found, Located, cell_at}

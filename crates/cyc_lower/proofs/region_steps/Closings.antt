@@ -26,9 +26,10 @@ use Rattle.cyc_plain.proofs.SlotLaws.{put-same, put-other}
 use Rattle.cyc_meaning.specs.FrameCount.{words_of_all}
 use Rattle.cyc_meaning.specs.State.{Object, World, closed, Environment, Entry, CloseLexical, Focus, State, Running}
 use Rattle.cyc_meaning.specs.Step.{step}
+use Rattle.cyc_store.proofs.KeptUnwinding.{down_to-lower}
 use Rattle.cyc_objects.specs.Tables.{Tables}
 use Rattle.cyc_objects.specs.Related.{Related, scopes, closed_to}
-use Rattle.cyc_objects.proofs.Closing.{scopes-closed, down-less, closed-behind, closed-at_once, refusal-close_to}
+use Rattle.cyc_objects.proofs.Closing.{scopes-closed, closed-behind, closed-at_once, refusal-close_to}
 use Rattle.cyc_objects.proofs.Scopes.{Ends}
 use Rattle.cyc_lower.specs.Slots.{global_types}
 use Rattle.cyc_lower.specs.Lowering.{lower_program, scopes_of}
@@ -188,7 +189,7 @@ module _ (source : Program) (pages calls : ℕ) where
       fewer (Some mark) leaves few =
           let now = scopes after.regions in
           let part : demand (closed_to c.store now) ≤ demand (closed_to c.store (suc now)) =
-          subst (λ (rs : List Home). demand_of (sizes_in rs) c.store.classes ≤ demand (closed_to c.store (suc now))) (down-less now (suc now) c.store.regions (omega arith))
+          subst (λ (rs : List Home). demand_of (sizes_in rs) c.store.classes ≤ demand (closed_to c.store (suc now))) (down_to-lower now (suc now) c.store.regions (omega arith))
           (demand-part (IsPart-down_to now (down_to (suc now) c.store.regions)) c.store.classes) in
           omega (arith, few, ap (λ n. demand (closed_to c.store n)) less, part)
 

@@ -7,9 +7,10 @@ use Rattle.cyc_types.specs.declared.typed.Kind.{Kind}
 use Rattle.cyc_meaning.specs.Values.{Value, Thin, Operand, Cell, kinds_of, is_kind, are_kinds}
 use Rattle.cyc_meaning.specs.Pointers.{At, Nowhere}
 use Rattle.cyc_meaning.specs.Places.{arrives, member_of, field_of}
-use Rattle.cyc_meaning.specs.State.{Region, Object, World, Access, Found, Closed, Missing, found_region, region_at, is_live, Located, located, cell_in, cell_at, closed, written, Environment, with_local, made, variable, Entry, Focus, Given, GivenPlace, State, Running, status_of}
+use Rattle.cyc_meaning.specs.State.{Region, Object, World, Access, Found, Closed, Missing, region_at, is_live, Located, located, cell_in, cell_at, closed, written, Environment, with_local, made, variable, Entry, Focus, Given, GivenPlace, State, Running, status_of}
 use Rattle.cyc_meaning.specs.Step.{wrong, read, loaded, loaded_from, stored, declared, closing}
 use Rattle.cyc_meaning.specs.SourceMachine.{status_in}
+use Rattle.cyc_meaning.proofs.NestingLemmas.{region_is}
 use Rattle.cyc_lower.proofs.slots.Widths.{same_kind, same_kinds}
 use Rattle.cyc_lower.proofs.relation.Relation.{with_kind, content_of_cell, content_of, contents}
 use Rattle.cyc_lower.proofs.relation.Data.{get_set_same, get_set_other}
@@ -150,14 +151,6 @@ is_declared Missing focus number kind content stack e w well = absurd (well refl
 
 -- ---- a region is closed
 
-pub found : (r : Option Region) (x : Region) → found_region r ≡ Found x → r ≡ Some x
-found None x e = absurd (let f : Missing ≡ Found x = e in cc)
-found (Some r) x e = open_one r.is_open e
-  where
-    open_one : (b : Bool) → (let a : Access Region = if b then Found r else Closed in a) ≡ Found x → Some r ≡ Some x
-    open_one true f = let g : Found r ≡ Found x = f in cc
-    open_one false f = absurd (let g : Closed ≡ Found x = f in cc)
-
 pub record IsClosed (focus : Focus) (number home : ℕ) (stack : List Entry) (e : Environment) (w : World) : Type 0 where
   pub region : Region
   pub there : slice_get w.regions number ≡ Some region
@@ -172,7 +165,7 @@ closes Missing focus number home stack e w well = absurd (well refl)
 pub is_closed : (focus : Focus) (number home : ℕ) (stack : List Entry) (e : Environment) (w : World) → IsWell (closing (region_at w number) focus number home stack e w) → IsClosed focus number home stack e w
 is_closed focus number home stack e w well =
     let (r, is, gives) = closes (region_at w number) focus number home stack e w well in
-    record { region = r; there = found (slice_get w.regions number) r is; gives = gives }
+    record { region = r; there = region_is (slice_get w.regions number) r is; gives = gives }
 
 -- a variable is declared in a region that is there
 pub home_there : (focus : Focus) (number : ℕ) (kind : Kind) (content : Option Value) (stack : List Entry) (e : Environment) (w : World)
@@ -180,6 +173,6 @@ pub home_there : (focus : Focus) (number : ℕ) (kind : Kind) (content : Option 
 home_there focus number kind content stack e w well = by (region_at w e.home) refl well
   where
     by : (a : Access Region) → region_at w e.home ≡ a → IsWell (declared a focus number kind content stack e w) → (r : Region) × (slice_get w.regions e.home ≡ Some r)
-    by (Found r) is well = (r, found (slice_get w.regions e.home) r is)
+    by (Found r) is well = (r, region_is (slice_get w.regions e.home) r is)
     by Closed is well = absurd (well refl)
     by Missing is well = absurd (well refl)

@@ -1,7 +1,7 @@
 -- The counters of arrays that are being filled: each stands in the slot of the index of its array's pointer.
 use Rattle.std.proofs.Common.{◌≡◌, ◌≢◌, ◌⊎◌, ℕ, zero, suc, ◌+◌, ◌≤◌, Bool, List, [], ◌∷◌, ◌++◌, length, Option, Some, slice_get, refl, sym, ap, ◌∙◌, arith, inl, inr, length-append}
 use Rattle.std.specs.Prelude.{◌==◌, if◌then◌else◌}
-use Rattle.std.proofs.lemmas.Bool.{eqb-true, eq-eqb, false_from_ne_true}
+use Rattle.std.proofs.lemmas.Bool.{eqb-true, false_from_ne_true}
 use Rattle.std.proofs.lemmas.Option.{same_Some, none-some}
 use Rattle.cyc_plain.specs.State.{Words}
 use Rattle.cyc_meaning.specs.State.{FreeObject, CloseByKey, PlaceBy, BesideHandle, CountElements, Index, Advance, LoadFrom, TakeAddress, StoreTo, Awaiting, ConvertTo, Operate, Chain, Apply, ApplyPointer, Follow, FollowMember, Decide, Store, StoreCell, Pass, MakePlain, MakeFields, MakeArray, FillElement, Entry, Needs, NeedsPlace, Caller}
@@ -125,9 +125,6 @@ counters_hold t counters slots base (entry ∷ k) count holds level slot found =
 counter_other : (counters : ℕ → Option ℕ) (level index other : ℕ) → other ≢ level → (if other == level then Some index else counters other) ≡ counters other
 counter_other counters level index other apart =
     ap (λ (b : Bool). if b then Some index else counters other) (false_from_ne_true (other == level) (λ h. absurd (apart (eqb-true other level h))))
-
-pub counter_same : (counters : ℕ → Option ℕ) (level index : ℕ) → (if level == level then Some index else counters level) ≡ Some index
-counter_same counters level index = ap (λ (b : Bool). if b then Some index else counters level) (eq-eqb level level refl)
 
 pub counted_before : (counters : ℕ → Option ℕ) (level index : ℕ) (k : List Entry) → arrays_in k ≤ level → AreCounted counters k → AreCounted (λ other. if other == level then Some index else counters other) k
 counted_before counters level index [] few count = tt

@@ -4,6 +4,7 @@ use Rattle.std.specs.Prelude.{◌==◌, if◌then◌else◌}
 use Rattle.std.proofs.lemmas.Bool.{cases_eq, eq-eqb, eqb-true, false_from_ne_true}
 use Rattle.std.proofs.lemmas.List.{reverse-append}
 use Rattle.std.proofs.lemmas.Option.{same_Some, none-some}
+use Rattle.cyc_words.proofs.Lists.{slice_get_last, slice_get_before}
 use Rattle.cyc_types.specs.TypedTrees.{Program}
 use Rattle.cyc_plain.specs.State as plain
 use Rattle.cyc_plain.specs.State.{Words, copied, Frame}
@@ -50,15 +51,6 @@ words-reverse (v ∷ vs) = omega (arith, ap words_held (reverse-append (v ∷ []
 
 -- ---- objects
 
-append_left : {X : Type 0} (xs : List X) (y : X) (k : ℕ) → k < length xs → slice_get (xs ++ y ∷ []) k ≡ slice_get xs k
-append_left [] y k below = absurd (omega arith)
-append_left (x ∷ xs) y zero below = refl
-append_left (x ∷ xs) y (suc k) below = append_left xs y k (omega arith)
-
-pub append_seam : {X : Type 0} (xs : List X) (y : X) → slice_get (xs ++ y ∷ []) (length xs) ≡ Some y
-append_seam [] y = refl
-append_seam (x ∷ xs) y = append_seam xs y
-
 pub get_set_same : {X : Type 0} (xs : List X) (k : ℕ) (x y : X) → slice_get xs k ≡ Some x → slice_get (set xs k y) k ≡ Some y
 get_set_same [] k x y at = absurd (none-some x at)
 get_set_same (z ∷ xs) zero x y at = refl
@@ -72,10 +64,10 @@ get_set_other (z ∷ xs) (suc k) zero y apart = refl
 get_set_other (z ∷ xs) (suc k) (suc other) y apart = get_set_other xs k other y (λ same. apart (ap suc same))
 
 pub contents_made : (objects : List Object) (x : Object) (o : ℕ) → o < length objects → contents (objects ++ x ∷ []) o ≡ contents objects o
-contents_made objects x o below = ap content_of (append_left objects x o below)
+contents_made objects x o below = ap content_of (slice_get_before objects x o below)
 
 pub contents_new : (objects : List Object) (x : Object) → contents (objects ++ x ∷ []) (length objects) ≡ content_of (Some x)
-contents_new objects x = ap content_of (append_seam objects x)
+contents_new objects x = ap content_of (slice_get_last objects x)
 
 -- objects that are equal in a range hold the same there
 abbrev pub SameBetween : (low high : ℕ) (objects others : List Object) → Type 0
@@ -91,8 +83,9 @@ other_outside types n number many m inside there other few from to = elim (slot-
   | inr behind ↦ inr (omega (arith, behind, from, few))
 ]
 
-local_new : (locals : ℕ → Option ℕ) (number object : ℕ) → (if number == number then Some object else locals number) ≡ Some object
-local_new locals number object = ap (λ (b : Bool). if b then Some object else locals number) (eq-eqb number number refl)
+-- what was given to a number last is found under it
+pub newest_there : (given : ℕ → Option ℕ) (number new : ℕ) → (if number == number then Some new else given number) ≡ Some new
+newest_there given number new = ap (λ (b : Bool). if b then Some new else given number) (eq-eqb number number refl)
 
 local_other : (locals : ℕ → Option ℕ) (number other object : ℕ) → other ≢ number → (if other == number then Some object else locals other) ≡ locals other
 local_other locals number other object apart =
@@ -275,7 +268,7 @@ module _ (t : Tables) where
       record {
         within = λ n o at. elim (cases_eq n number) [
           | inl equal ↦
-              let o_is : length objects ≡ o = same_Some (length objects) o (sym (local_new locals number (length objects)) ∙ ap (with_local e number (length objects)).locals (sym equal) ∙ at) in
+              let o_is : length objects ≡ o = same_Some (length objects) o (sym (newest_there locals number (length objects)) ∙ ap (with_local e number (length objects)).locals (sym equal) ∙ at) in
               (omega (arith, equal, below), omega (arith, o_is, low_is), omega (arith, o_is, long))
           | inr apart ↦
               let old = hold.within n o (sym (local_other locals number n (length objects) apart) ∙ at) in
@@ -285,13 +278,13 @@ module _ (t : Tables) where
           | inl n_is ↦ elim (cases_eq m number) [
             | inl m_is ↦ n_is ∙ sym m_is
             | inr m_not ↦
-                let o_is : length objects ≡ o = same_Some (length objects) o (sym (local_new locals number (length objects)) ∙ ap (with_local e number (length objects)).locals (sym n_is) ∙ at_n) in
+                let o_is : length objects ≡ o = same_Some (length objects) o (sym (newest_there locals number (length objects)) ∙ ap (with_local e number (length objects)).locals (sym n_is) ∙ at_n) in
                 let old = hold.within m o (sym (local_other locals number m (length objects) m_not) ∙ at_m) in
                 absurd (omega (arith, o_is, old.2))
           ]
           | inr n_not ↦ elim (cases_eq m number) [
             | inl m_is ↦
-                let o_is : length objects ≡ o = same_Some (length objects) o (sym (local_new locals number (length objects)) ∙ ap (with_local e number (length objects)).locals (sym m_is) ∙ at_m) in
+                let o_is : length objects ≡ o = same_Some (length objects) o (sym (newest_there locals number (length objects)) ∙ ap (with_local e number (length objects)).locals (sym m_is) ∙ at_m) in
                 let old = hold.within n o (sym (local_other locals number n (length objects) n_not) ∙ at_n) in
                 absurd (omega (arith, o_is, old.2))
             | inr m_not ↦ hold.apart n m o (sym (local_other locals number n (length objects) n_not) ∙ at_n) (sym (local_other locals number m (length objects) m_not) ∙ at_m)
@@ -299,13 +292,13 @@ module _ (t : Tables) where
         ];
         rows = λ n o at. elim (cases_eq n number) [
           | inl equal ↦
-              let o_is : length objects ≡ o = same_Some (length objects) o (sym (local_new locals number (length objects)) ∙ ap (with_local e number (length objects)).locals (sym equal) ∙ at) in
+              let o_is : length objects ≡ o = same_Some (length objects) o (sym (newest_there locals number (length objects)) ∙ ap (with_local e number (length objects)).locals (sym equal) ∙ at) in
               subst (λ m. IsLocalRow t types s m o) (sym equal) (subst (IsLocalRow t types s number) o_is row)
           | inr apart ↦ hold.rows n o (sym (local_other locals number n (length objects) apart) ∙ at)
         ];
         holds = λ n o v at has. elim (cases_eq n number) [
           | inl equal ↦
-              let o_is : length objects ≡ o = same_Some (length objects) o (sym (local_new locals number (length objects)) ∙ ap (with_local e number (length objects)).locals (sym equal) ∙ at) in
+              let o_is : length objects ≡ o = same_Some (length objects) o (sym (newest_there locals number (length objects)) ∙ ap (with_local e number (length objects)).locals (sym equal) ∙ at) in
               subst (λ m. Is t v.kind v.value other (slot_of (starts_of types) m) × HasRoom types m v.kind) (sym equal) (is v (sym (contents_new objects x) ∙ ap (contents (objects ++ x ∷ [])) o_is ∙ has))
           | inr apart ↦
               let at_old = sym (local_other locals number n (length objects) apart) ∙ at in

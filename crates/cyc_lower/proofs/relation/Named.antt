@@ -7,9 +7,10 @@ use Rattle.cyc_plain.specs.Memory.{AreBelow, is_pinned}
 use Rattle.cyc_plain.specs.State.{Frame}
 use Rattle.cyc_store.specs.State.{StoreState}
 use Rattle.cyc_plain.specs.declared.limits.TheConstants.{MOST_GLOBALS}
-use Rattle.cyc_meaning.specs.State.{Sort, Heap, Globals, Stack, Lexical, Dynamic, Region, World, Object, is_open, is_live, Entry, Caller}
+use Rattle.cyc_meaning.specs.State.{Sort, Heap, Globals, Stack, Lexical, Dynamic, World, Object, is_live, Entry, Caller}
 use Rattle.cyc_meaning.specs.FrameCount.{words_of_all}
 use Rattle.cyc_meaning.specs.Variables.{Locals, waiting, HaveNames, region_in, region_of, is_of_variables}
+use Rattle.cyc_meaning.proofs.NestingLemmas.{open_region}
 use Rattle.cyc_objects.specs.Tables.{Tables}
 use Rattle.cyc_objects.specs.Related as objects
 use Rattle.cyc_objects.specs.Related.{LiveVariable, sort_of}
@@ -32,11 +33,6 @@ waits (Caller e ∷ k) zero locals at = (_, refl, same_Some e.locals locals at)
 waits (Caller e ∷ k) (suc call) locals at = waits k call locals at
 waits (entry ∷ k) call locals at = waits k call locals at
 
--- the region of what is live is open
-open_there : (o : Option Region) → is_open o ≡ true → (r : Region) × (o ≡ Some r) × (r.is_open ≡ true)
-open_there None is = absurd (let e : false ≡ true = is in cc)
-open_there (Some r) is = (r, refl, is)
-
 of_variables : (sort : Sort) → is_some (sort_of sort) ≡ false → is_of_variables sort ≡ true
 of_variables Heap none = absurd (let e : true ≡ false = none in cc)
 of_variables Globals none = refl
@@ -48,7 +44,7 @@ module _ (source : Program) where
   named : (k : List Entry) (locals : Locals) (w : World) (store : StoreState) → HaveNames (length source.globals) (locals ∷ waiting k) w.objects w.regions → (t : Tables)
       → objects.Related t (silent w) store → (object : ℕ) (x : Object) → LiveVariable t (silent w) object x → IsNamed (length (global_types source.globals)) locals (callers k) object
   named k locals w store names t related object x live =
-      let (r, there, opened) = open_there (slice_get w.regions live.region) (subst (λ o. is_live (silent w) o ≡ true) live.owner live.live) in
+      let (r, there, opened) = open_region (slice_get w.regions live.region) (subst (λ o. is_live (silent w) o ≡ true) live.owner live.live) in
       let (handle, entry, some) = entry-found related.regions live.region r there in
       let none : is_some (sort_of r.sort) ≡ false = sym some ∙ ap (λ (o : Option ℕ). is_some o) (same_Some handle None (sym entry ∙ live.entry)) in
       elim (names object live.region r (ap region_in live.at ∙ ap region_of live.owner) there (record { open_now = opened; sort = of_variables r.sort none; blocks = variables-empty related.regions live.region r live.entry there })) [

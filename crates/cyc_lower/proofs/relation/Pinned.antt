@@ -1,8 +1,8 @@
 -- The slots that have an address are those of whole locals: no temporary has one, nor a handler's record, a region's mark or a counter.
-use Rattle.std.proofs.Common.{◌≡◌, ◌⊎◌, ℕ, zero, suc, ◌+◌, ◌<◌, ◌≤◌, Bool, true, false, List, [], ◌∷◌, map, Some, slice_get, refl, sym, ap, ◌∙◌, arith, inl, inr}
-use Rattle.std.specs.Prelude.{◌&&◌, ◌||◌, nat_le, nat_lt, slice_index_or}
+use Rattle.std.proofs.Common.{◌≡◌, ℕ, zero, suc, ◌+◌, ◌<◌, ◌≤◌, Bool, true, false, List, [], ◌∷◌, map, Some, slice_get, refl, sym, ap, ◌∙◌, arith, inl, inr}
+use Rattle.std.specs.Prelude.{◌&&◌, nat_le, nat_lt, slice_index_or}
 use Rattle.std.specs.List.{AllByRecursion}
-use Rattle.std.proofs.lemmas.Bool.{and_from, and_parts, cases_lt, leb-true, ltb-true, le-leb, lt-ltb, or_left, or_right}
+use Rattle.std.proofs.lemmas.Bool.{and_from, and_parts, cases_lt, leb-true, ltb-true, le-leb, lt-ltb, or_left, or_right, or_cases}
 use Rattle.std.proofs.lemmas.Option.{same_Some}
 use Rattle.cyc_types.specs.Types.{Ty, words_of}
 use Rattle.cyc_types.specs.TypedTrees.{Function, Program}
@@ -31,10 +31,6 @@ pub record IsOfPinned (locals : List Ty) (code : List Instruction) (slot : ℕ) 
   pub below : slot < slot_in locals number + words_of of_type
   pub whole : (other : ℕ) → slot_in locals number ≤ other → other < slot_in locals number + words_of of_type → is_pinned code other ≡ true
 
-or_either : (a b : Bool) → (a || b) ≡ true → (a ≡ true) ⊎ (b ≡ true)
-or_either true b is = inl refl
-or_either false b is = inr is
-
 module _ (locals : List Ty) where
   pinned_here : (i : Instruction) (code : List Instruction) (slot : ℕ) → TakesLocal locals i → pins i slot ≡ true → IsOfPinned locals (i ∷ code) slot
   pinned_here (instructions.AddressOf d first count) code slot (n, t, there, first_is, count_is) is =
@@ -52,7 +48,7 @@ module _ (locals : List Ty) where
 
   pub pinned_local : (code : List Instruction) (slot : ℕ) → AllByRecursion (TakesLocal locals) code → is_pinned code slot ≡ true → IsOfPinned locals code slot
   pinned_local [] slot takes pinned = absurd (let e : false ≡ true = pinned in cc)
-  pinned_local (i ∷ code) slot (first, rest) pinned = elim (or_either (pins i slot) (is_pinned code slot) pinned) [
+  pinned_local (i ∷ code) slot (first, rest) pinned = elim (or_cases (pins i slot) (is_pinned code slot) pinned) [
     | inl here ↦ pinned_here i code slot first here
     | inr behind ↦
         let p = pinned_local code slot rest behind in

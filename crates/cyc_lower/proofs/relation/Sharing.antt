@@ -1,6 +1,7 @@
 -- What is shared stays while variables are declared and assigned, and while regions of variables open and close: the tables get a row or an
 -- entry more, and the store is as it was.
 use Rattle.std.proofs.Common.{◌≡◌, ℕ, List, ◌∷◌, length, Option, None, Some, slice_get, ◌≤◌, refl, sym, ap, subst, ◌∙◌, arith}
+use Rattle.cyc_words.proofs.Lists.{slice_get_last}
 use Rattle.cyc_types.specs.declared.typed.Kind.{Kind}
 use Rattle.cyc_types.specs.TypedTrees.{Program}
 use Rattle.cyc_plain.specs.State.{Words, Configuration}
@@ -18,7 +19,7 @@ use Rattle.cyc_objects.proofs.Variables.{declared, assigned-away, opened-variabl
 use Rattle.cyc_lower.proofs.relation.Relation.{homes, IsTold, HasScopes, SharedAt, SharedBy, ScopesBy, store_by, scopes_in, silent}
 use Rattle.cyc_lower.specs.Lowering.{scopes_of}
 use Rattle.cyc_lower.proofs.relation.Counters.{counted_less}
-use Rattle.cyc_lower.proofs.relation.Data.{append_seam, variables_grow}
+use Rattle.cyc_lower.proofs.relation.Data.{variables_grow}
 use Rattle.cyc_lower.proofs.relation.Known.{IsVariableRow, row-away}
 use Rattle.cyc_lower.specs.Slots.{global_types}
 
@@ -41,7 +42,7 @@ module _ (source : Program) (pages calls : ℕ) (k : List Entry) (e : Environmen
 
   -- its row is the last one
   pub row_declared : (row : Row) → slice_get (with_row s.tables row).rows (length w.objects) ≡ Some row
-  row_declared row = ap (slice_get (with_row s.tables row).rows) (sym s.related.rows) ∙ append_seam s.tables.rows row
+  row_declared row = ap (slice_get (with_row s.tables row).rows) (sym s.related.rows) ∙ slice_get_last s.tables.rows row
 
   -- a variable is assigned
   abbrev pub shared_written : (object : ℕ) (at : Located) (v : Value) → slice_get w.objects object ≡ Some at.object → slice_get at.object.cells 0 ≡ Some at.cell

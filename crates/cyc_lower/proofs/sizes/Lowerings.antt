@@ -1,8 +1,8 @@
 -- The lowered program is one that the lowering promises.
-use Rattle.std.proofs.Common.{◌≡◌, ◌⊎◌, ℕ, zero, suc, ◌<◌, ◌≤◌, ◌*◌, List, [], ◌∷◌, map, Option, Some, Result, Ok, Err, refl, sym, ap, subst, ◌∙◌, arith, length, slice_get}
+use Rattle.std.proofs.Common.{◌≡◌, ◌⊎◌, ℕ, zero, suc, ◌<◌, ◌≤◌, ◌*◌, List, [], ◌∷◌, map, Option, Result, Ok, Err, refl, sym, ap, subst, ◌∙◌, arith, length}
 use Rattle.std.specs.Prelude.{sum_by}
 use Rattle.std.proofs.lemmas.List.Sums.{sum_by-cons}
-use Rattle.std.proofs.lemmas.Option.{none-some}
+use Rattle.std.proofs.lemmas.Option.{slice_get_within}
 use Rattle.cyc_words.specs.declared.fault.Fault.{Fault}
 use Rattle.cyc_words.specs.Decision.{Decides}
 use Rattle.cyc_words.specs.Fault.{memory_fault}
@@ -52,14 +52,9 @@ is_plain source well fit light = record {
   small = omega (arith, functions_small source.structs (globals_of source) (scopes_of source) source.functions, light);
 }
 
-numbered_below : {X : Type 0} (xs : List X) (n : ℕ) (x : X) → slice_get xs n ≡ Some x → n < length xs
-numbered_below [] n x there = absurd (none-some x there)
-numbered_below (y ∷ xs) zero x there = omega arith
-numbered_below (y ∷ xs) (suc n) x there = omega (arith, numbered_below xs n x there)
-
 -- too many functions are more than there may be
 pub too_many : (source : Program) (fault : Fault) → HasTooMany source fault → MOST_FUNCTIONS < length source.functions
-too_many source fault (h, there, is) = numbered_below source.functions MOST_FUNCTIONS h there
+too_many source fault (h, there, is) = slice_get_within source.functions MOST_FUNCTIONS h there
 
 -- ---- answers
 

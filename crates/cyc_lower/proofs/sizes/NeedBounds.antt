@@ -2,7 +2,6 @@
 use Rattle.std.proofs.Common.{ℕ, ◌+◌, ◌*◌, ◌≤◌, List, [], ◌∷◌, Some, None, arith, length}
 use Rattle.cyc_syntax.specs.declared.tree.PointerKind.TheVariants as marks
 use Rattle.cyc_syntax.specs.TokenRule.{max_tokens}
-use Rattle.cyc_types.specs.declared.typed.Kind.{Kind}
 use Rattle.cyc_types.specs.declared.typed.Kind.TheVariants as kinds
 use Rattle.cyc_types.specs.Types.{Ty, Int, Pointer, Handle, Key, Struct, words_of, ValueType, Void, Null, Value}
 use Rattle.cyc_types.specs.TypedTrees.{Expression, Number, NullPointer, HeapRegion, Counter, Copy, Move, Peek, Load, AddressOf, AddressOfCell, NumberOfElements, FreeUnique, FreeKey, Call, Unary, Binary, Assign, Store, New, Dereference, Target, Member, Element, Placement, OnHeap, AsUnique, ByHandle, Initial, Plain, Fields, Array, Converted, Convert, Arguments, NoArguments, MoreArguments, Operations, NoOperations, ThenCompute, ThenTest, ThenPointer, ThenPointerPeek, type_of, type_of_place, Side, VariableSide, CellSide, Statement, Block, Empty, Evaluate, Swap, If, While, Return, Break, Continue, Throw, Try, Items, NoItems, MoreItems, Execute, Declare, DeclareRegion, Clauses, NoClauses, Default, Case, Program}
@@ -10,9 +9,9 @@ use Rattle.cyc_types.specs.Weight.{expression_weight, dereference_weight, placem
 use Rattle.cyc_types.specs.typing.WellTyped.{IsWellTypedProgram}
 use Rattle.cyc_types.proofs.WeightLemmas.{some_token, else_written, function_of_program}
 use Rattle.cyc_types.proofs.typing.WeightLemmas.{function_outweighs}
-use Rattle.cyc_meaning.specs.Values.{words_of_kind}
 use Rattle.cyc_meaning.specs.FrameCount.{result_words, operand_words, converted_words, argument_words, handle_words, expression_need, dereference_need, handle_need, initial_value_need, converted_need, arguments_need, operations_need, side_need, statement_need, items_need, clauses_need, kept_by, kept_by_items, kept_by_clauses, words_of_all}
 use Rattle.cyc_lower.specs.Emission.{HaveFewWords}
+use Rattle.cyc_lower.proofs.slots.Widths.{kind_few}
 
 -- ---- values
 
@@ -24,14 +23,6 @@ words_few (Pointer marks.Fat t r) = (omega arith, omega arith)
 words_few (Handle r) = (omega arith, omega arith)
 words_few (Key r) = (omega arith, omega arith)
 words_few (Struct n rs) = (omega arith, omega arith)
-
-kind_few : (k : Kind) → words_of_kind k ≤ 3
-kind_few kinds.Int = omega arith
-kind_few kinds.Nullable = omega arith
-kind_few kinds.NonNull = omega arith
-kind_few kinds.Fat = omega arith
-kind_few kinds.Handle = omega arith
-kind_few kinds.Key = omega arith
 
 result_few : (t : ValueType) → result_words t ≤ 3
 result_few Void = omega arith

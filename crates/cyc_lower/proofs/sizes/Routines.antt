@@ -17,10 +17,6 @@ use Rattle.cyc_lower.specs.Lowered.{HasTooMany}
 use Rattle.cyc_lower.specs.Emission.{most_frame_count, most_locals}
 use Rattle.cyc_lower.proofs.slots.Slots.{slots-few}
 
-pub counted : {A B : Type 0} (f : A → B) (xs : List A) → length (map f xs) ≡ length xs
-counted f [] = refl
-counted f (x ∷ xs) = ap suc (counted f xs)
-
 -- the element with a number, in a list that is mapped
 pub numbered_at : {A B : Type 0} (f : A → B) (xs : List A) (n : ℕ) (x : A) → n < length xs → x ≡ get_or xs n x → slice_get (map f xs) n ≡ Some (f x)
 numbered_at f [] n x inside at = absurd (omega arith)

@@ -37,6 +37,7 @@ use Rattle.cyc_lower.specs.Lowering.{begun_code, filled_code, ended_code, elemen
 use Rattle.cyc_meaning.specs.Operators.{null_exception}
 use Rattle.cyc_lower.specs.Lowered.{size_per_weight}
 use Rattle.cyc_lower.specs.declared.statements.Opened.{Opened}
+use Rattle.cyc_lower.proofs.sizes.WordLemmas.{passed_few}
 
 abbrev code_size : List Instruction → ℕ
 code_size code = sum_by instruction_size code
@@ -120,9 +121,6 @@ move_size words d (operands.Slot n) few = by (words == 1)
     by : (one : Bool) → code_size ((if one then instructions.Move d (operands.Slot n) else instructions.MoveWords d n words) ∷ []) ≤ 20
     by true = omega arith
     by false = omega (arith, few)
-
-passed_few : (c : Converted) → passed_words c ≤ 3
-passed_few (Convert from to a) = kind_few to
 
 copy_size : (c : Converted) (o : Operand) (d : ℕ) → code_size (copy_code (passed_words c) o d) ≤ 20
 copy_size c o d = by (is_in o d)

@@ -29,6 +29,8 @@ use Rattle.cyc_plain.specs.declared.limits.TheConstants.{MOST_GLOBALS, RECORD_WO
 use Rattle.cyc_plain.specs.WellFormed.{IsOperand, IsInRange, IsRoutine, IsWellFormed, leaves, is_return}
 use Rattle.std.specs.Prelude.{unwrap_or, ◌==◌, max, if◌then◌else◌}
 use Rattle.std.proofs.lemmas.Bool.{eqb-true}
+use Rattle.std.proofs.lemmas.List.Elements.{All-from_recursion}
+use Rattle.cyc_words.proofs.Lists.{all_append}
 use Rattle.cyc_meaning.specs.Operators.{null_exception, division_by_zero, array_bounds}
 use Rattle.cyc_store.specs.declared.range.TheConstants.{HEAP, UNIQUE}
 use Rattle.cyc_meaning.specs.Values.{kind_of, words_of_kind, is_thin, is_kind}
@@ -42,7 +44,7 @@ use Rattle.cyc_lower.specs.Lowering.{begun_code, filled_code, ended_code, elemen
 use Rattle.cyc_lower.proofs.slots.Widths.{kind_positive, kind_few, type_words, kind_of_result, result_kind, given, passed_kind, words_in, chain_kind, made_kind, wide_kind, same_kind, more_words, HasGlobal, HasRoom}
 use Rattle.cyc_lower.proofs.relation.Fitting.{FitsPlace, FitsCell, Fits, FitsConverted, FitArguments, FitOperations, FitsReturn, FitsInitial, FitsStatement, FitItems, AreFitting, IsFitting, FitsObject, FitsSide, FitsThrown, FitsCaught, FitClauses}
 use Rattle.cyc_lower.specs.Words.{AreOfWordsItems, AreOfWordsFunctions, IsOfWordsProgram}
-use Rattle.cyc_lower.proofs.sizes.WordLemmas.{all_append, all_of, no_return}
+use Rattle.cyc_lower.proofs.sizes.WordLemmas.{no_return}
 use Rattle.cyc_lower.specs.Lowerable.{is_converted, is_pointer}
 use Rattle.cyc_lower.proofs.emission.Lengths.{body_long, past_long}
 use Rattle.cyc_types.specs.typing.Expressions.{type_of_side}
@@ -1477,7 +1479,7 @@ module _ (source : Program) (is_fitting : IsFitting source) where
         parameters = omega (arith, slots-few h);
         results = omega (arith, results_few h.result);
         frame = omega (arith, slots-few h);
-        instructions = all_of (IsInRange (lower_program source) r) (body ++ end) (in_range (lower_program source) r (slot_types h) (body ++ end) (code_in h words numbered_body));
+        instructions = All-from_recursion (IsInRange (lower_program source) r) (body ++ end) (in_range (lower_program source) r (slot_types h) (body ++ end) (code_in h words numbered_body));
         last = subst (λ (o : Option Instruction). IsSomeAnd o (λ i. leaves i ≡ true)) (sym (last_behind body end (omega arith))) refl;
       }
 
@@ -1495,7 +1497,7 @@ module _ (source : Program) (is_fitting : IsFitting source) where
   well_formed words few =
       let main = known_functions source.main _ is_fitting.main in
       record {
-        functions = all_of (IsRoutine (lower_program source)) (map (lower_function source.structs (globals_of source) (scopes_of source)) source.functions) (functions_well source.functions words.functions is_fitting.functions);
+        functions = All-from_recursion (IsRoutine (lower_program source)) (map (lower_function source.structs (globals_of source) (scopes_of source)) source.functions) (functions_well source.functions words.functions is_fitting.functions);
         main = main.there;
         main_parameters = main.parameters;
         main_results = main.results;

@@ -29,24 +29,17 @@ use Rattle.cyc_plain.specs.declared.limits.TheConstants.{RECORD_WORDS, GLOBALS_B
 use Rattle.cyc_lower.specs.declared.statements.Exits.{Exits}
 use Rattle.cyc_lower.specs.Slots.{with_counter, slot_of, Starts, bytes_from, field_in, global_of}
 use Rattle.std.specs.Prelude.{◌==◌, if◌then◌else◌, replicate, ◌%◌, ◌^◌}
+use Rattle.std.proofs.lemmas.List.Elements.{All-from_recursion}
+use Rattle.cyc_words.proofs.Lists.{all_append}
 use Rattle.cyc_types.specs.Types.{words_of, Ty}
-use Rattle.cyc_types.specs.Numbered.{argument_count}
 use Rattle.cyc_store.specs.declared.range.TheConstants.{HEAP, UNIQUE}
 use Rattle.cyc_meaning.specs.Values.{words_of_kind, is_thin, kind_of}
 use Rattle.cyc_lower.specs.Lowering.{begun_code, filled_code, ended_code, elements_code, counter_operand, are_as_wide, converts_there, passed_words, source_of, source_slot, converted_by, moved_by, move_of, operand_of, operand_or, code_unless, slot_or, code_unless_slot, left_with, left_of, value_slot, next_slot, left_slot, value_operand, converted_operand, printed_operand, check_code, conversion_code, divisor_code, checked_code, operator_code, truth_code, load_code, test_code, is_in, copy_code, expression_code, arguments_code, converted_code, converted_operand_code, printed_code, initial_code, assignment_code, operations_code, discarded_code, failing_comparison, compared_or, compared_of, slot_with, first_code, second_code, pair_code, condition_code, condition_of, return_code, declaration_code, statement_code, items_code, first_temporary, initial_word, lower_function, lower_program, behind_left, pointer_code, outside_loops, inside_loop, index_of, first_two, pointer_instructions, stores_code, object_code, made_code, place_operand, place_offset, place_code, address_code, addressed_by, store_address_code, store_code, guard_code, blocks, leave_code, clause_code, caught_code, clauses_code, function_code, right_slot, side_code, read_side, write_side, exchange_code, swap_code, element_by, count_code, span_of, null_of, tested_code, widened_code, conversion_by, tested_by, saved_code, all_passed, bounds_code, stepped_code, bounded_code, thinned_code, reached_code, followed_code, followed_operand, followed_by, span_in, pointer_of, pointer_slot, reached_operand, word_by_word, load_word, store_word, global_code, globals_of, lower_globals, starts_with, raises_of, asked_code, load_at, opened_code, closed_code, named_code, dynamic_code, scopes_code, scopes_code_in, handlers_code, marks_code, kept_code, kept_code_in, restored_code, restored_code_in, behind_record, inside_try, inside_region, scopes_of, scopes_words}
 use Rattle.cyc_lower.proofs.slots.Widths.{kind_few, type_words}
 use Rattle.cyc_lower.specs.declared.statements.Opened.{Opened}
+use Rattle.cyc_lower.proofs.acceptance.LowerableLemmas.{all_few}
 
 -- ---- lists
-
-pub all_append : {X : Type 0} (P : X → Type 0) (xs ys : List X) → AllByRecursion P xs → AllByRecursion P ys → AllByRecursion P (xs ++ ys)
-all_append P [] ys all more = more
-all_append P (x ∷ xs) ys (first, rest) more = (first, all_append P xs ys rest more)
-
-pub all_of : {X : Type 0} (P : X → Type 0) (xs : List X) → AllByRecursion P xs → All P xs
-all_of P [] all k d below = absurd (omega arith)
-all_of P (x ∷ xs) (first, rest) zero d below = first
-all_of P (x ∷ xs) (first, rest) (suc k) d below = all_of P xs rest k d (omega arith)
 
 all_told : {X : Type 0} (P Q : X → Type 0) → ((x : X) → P x → Q x) → (xs : List X) → AllByRecursion P xs → AllByRecursion Q xs
 all_told P Q tells [] all = tt
@@ -70,13 +63,8 @@ made_no_return i made = refl
 abbrev HaveWords : List Instruction → Type 0
 HaveWords code = AllByRecursion IsMade code
 
-passed_few : (c : Converted) → passed_words c ≤ 3
+pub passed_few : (c : Converted) → passed_words c ≤ 3
 passed_few (Convert from to a) = kind_few to
-
--- no value that is passed has more words than three
-all_few : (cs : Arguments) → all_passed cs ≤ 3 * argument_count cs
-all_few NoArguments = omega arith
-all_few (MoreArguments c cs) = omega (arith, passed_few c, all_few cs)
 
 append : (x y : List Instruction) → HaveWords x → HaveWords y → HaveWords (x ++ y)
 append x y first rest = all_append IsMade x y first rest
@@ -771,12 +759,12 @@ function_words structs globals scopes h words =
 -- no function returns while handlers are open
 pub no_return : (structs : List StructType) (globals : List ℕ) (scopes : Option ℕ) (h : Function) → AreOfWordsItems h.body → All (λ i. is_return i ≡ false) (function_code structs globals scopes h)
 no_return structs globals scopes h words =
-    all_of (λ i. is_return i ≡ false) (function_code structs globals scopes h) (all_told IsMade (λ i. is_return i ≡ false) made_no_return (function_code structs globals scopes h) (function_words structs globals scopes h words))
+    All-from_recursion (λ i. is_return i ≡ false) (function_code structs globals scopes h) (all_told IsMade (λ i. is_return i ≡ false) made_no_return (function_code structs globals scopes h) (function_words structs globals scopes h words))
 
 functions_words : (structs : List StructType) (globals : List ℕ) (scopes : Option ℕ) (hs : List Function) → AreOfWordsFunctions hs → AllByRecursion (λ r. All HasWord r.code) (map (lower_function structs globals scopes) hs)
 functions_words structs globals scopes [] words = tt
 functions_words structs globals scopes (h ∷ hs) (first, rest) =
-    (all_of HasWord (function_code structs globals scopes h) (all_told IsMade HasWord made_word (function_code structs globals scopes h) (function_words structs globals scopes h first)), functions_words structs globals scopes hs rest)
+    (All-from_recursion HasWord (function_code structs globals scopes h) (all_told IsMade HasWord made_word (function_code structs globals scopes h) (function_words structs globals scopes h first)), functions_words structs globals scopes hs rest)
 
 constant_word : (c : Constant) → IsOfWordsConstant c → IsWord (initial_word c)
 constant_word (Word n) word = word
@@ -799,6 +787,6 @@ pub has_words : (source : Program) → IsOfWordsProgram source → HasWords (low
 has_words source words =
     let scopes = scopes_of source in
     record {
-      functions = all_of (λ r. All HasWord r.code) (map (lower_function source.structs (globals_of source) scopes) source.functions) (functions_words source.structs (globals_of source) scopes source.functions words.functions);
-      globals = all_of IsWord (lower_globals source.globals ++ scopes_words scopes) (all_append IsWord (lower_globals source.globals) (scopes_words scopes) (globals_words source.globals words.globals) (scopes_word scopes));
+      functions = All-from_recursion (λ r. All HasWord r.code) (map (lower_function source.structs (globals_of source) scopes) source.functions) (functions_words source.structs (globals_of source) scopes source.functions words.functions);
+      globals = All-from_recursion IsWord (lower_globals source.globals ++ scopes_words scopes) (all_append IsWord (lower_globals source.globals) (scopes_words scopes) (globals_words source.globals words.globals) (scopes_word scopes));
     }

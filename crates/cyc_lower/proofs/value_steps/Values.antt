@@ -7,6 +7,7 @@ use Rattle.std.proofs.lemmas.Option.{same_Some, none-some}
 use Rattle.cyc_words.specs.Word.{signed, slt_of, add_of}
 use Rattle.cyc_words.specs.Word.{IsWord as IsMachineWord}
 use Rattle.cyc_words.proofs.WordLemmas.{slt_of_cases}
+use Rattle.cyc_words.proofs.Booleans.{and_left, not_not}
 use Rattle.cyc_types.specs.declared.typed.Kind.{Kind}
 use Rattle.cyc_types.specs.declared.typed.Kind.TheVariants as kinds
 use Rattle.cyc_types.specs.declared.typed.Callee.{Callee}
@@ -212,11 +213,6 @@ module _ (t : Tables) where
   kept_in from to v slots (operands.Slot n) gives is = kept_at from to v slots n gives is
   kept_in from to v slots (operands.Word w) gives is = kept_word from to v w gives is
 
--- a check that did not hold goes wrong
-first_holds : (a b : Bool) → (a && b) ≡ true → a ≡ true
-first_holds true b holds = refl
-first_holds false b holds = holds
-
 -- a value that is converted where it is to be has as many words before
 pub as_wide : (from to : Kind) → converts_there from to ≡ true → words_of_kind from ≡ words_of_kind to
 as_wide from kinds.NonNull quiet = absurd (let f : false ≡ true = quiet in cc)
@@ -251,14 +247,10 @@ untrue : (b : Bool) → (truth b == 0) ≡ not b
 untrue true = refl
 untrue false = refl
 
-twice_not : (b : Bool) → not (not b) ≡ b
-twice_not true = refl
-twice_not false = refl
-
 -- what an operator gives is 0 where the comparison holds with which it fails
 pub fails_by : (u : Operator) (failing : Comparison) (a b : ℕ) → failing_comparison u ≡ Some failing → (binary_word u a b == 0) ≡ compares failing a b
 fails_by operators.Equal failing a b is = untrue (a == b) ∙ ap (λ f. compares f a b) (same_Some comparisons.NotEqual failing is)
-fails_by operators.NotEqual failing a b is = untrue (not (a == b)) ∙ twice_not (a == b) ∙ ap (λ f. compares f a b) (same_Some comparisons.Equal failing is)
+fails_by operators.NotEqual failing a b is = untrue (not (a == b)) ∙ not_not (a == b) ∙ ap (λ f. compares f a b) (same_Some comparisons.Equal failing is)
 fails_by operators.Less failing a b is = not_less a b ∙ ap (λ f. compares f a b) (same_Some comparisons.GreaterOrEqual failing is)
 fails_by operators.LessOrEqual failing a b is =
     untrue (int_le (signed a) (signed b)) ∙ not_at_most (signed a) (signed b) ∙ ap (λ f. compares f a b) (same_Some comparisons.Greater failing is)
@@ -330,7 +322,7 @@ module _ (source : Program) (pages calls : ℕ) where
   converted_from : (from to : Kind) (target : Option Kind) (v : Kinded) (k : List Entry) (e : Environment) (w : World) → IsWell (step source (Running (Given v) (Needs (ConvertTo from to target) ∷ k) e w)) → v.kind ≡ from
   converted_from from to target v k e w well =
       same_kind v.kind from
-      (first_holds (is_kind v.kind from) (leads_to w target (followed v.value)) (is_fitting (is_kind v.kind from && leads_to w target (followed v.value)) (computed to (conversion to v.value) k e w) w well))
+      (and_left (is_kind v.kind from) (leads_to w target (followed v.value)) (is_fitting (is_kind v.kind from && leads_to w target (followed v.value)) (computed to (conversion to v.value) k e w) w well))
 
   converted : (from to : Kind) (target : Option Kind) (i : Kind) (v : Value) (o : Operand) (k : List Entry) (e : Environment) (w : World) (c : Configuration) → IsWell (computed to (conversion to v) k e w)
       → step source (Running (Given (of_kind i v)) (Needs (ConvertTo from to target) ∷ k) e w) ≡ computed to (conversion to v) k e w → words_of_kind i ≡ words_of_kind to → Stands (of_kind i v) o k e w c
@@ -1199,7 +1191,7 @@ module _ (source : Program) (pages calls : ℕ) where
   follows_thin pointer target i (Fat object start many index) o k e w c well (shared, facts, is, holds) (q, thin, check, place) =
       let reach = followed (Fat object start many index) in
       let fits = is_fitting (is_kind i pointer && leads_to w target reach) (arrives reach k e w) w well in
-      let kind : i ≡ pointer = same_kind i pointer (first_holds (is_kind i pointer) (leads_to w target reach) fits) in
+      let kind : i ≡ pointer = same_kind i pointer (and_left (is_kind i pointer) (leads_to w target reach) fits) in
       let (words, p, same, is_it) = in_words shared.tables (of_kind i (Fat object start many index)) c.active.slots o is in
       absurd (not_fat shared.tables i object start many index words p (ap is_thin kind ∙ thin) is_it)
   follows_thin pointer target i (Int a) o k e w c well stands stack = absurd (goes_wrong (is_kind i pointer && leads_to w target (followed (Int a))) w well)
@@ -1213,7 +1205,7 @@ module _ (source : Program) (pages calls : ℕ) where
   follows pointer target v o k e w c well (shared, facts, is, holds) (q, low, access, place) = by (is_thin pointer) refl access place
     where
       kind : v.kind ≡ pointer
-      kind = same_kind v.kind pointer (first_holds (is_kind v.kind pointer) (leads_to w target (followed v.value)) (is_fitting (is_kind v.kind pointer && leads_to w target (followed v.value)) (arrives (followed v.value) k e w) w well))
+      kind = same_kind v.kind pointer (and_left (is_kind v.kind pointer) (leads_to w target (followed v.value)) (is_fitting (is_kind v.kind pointer && leads_to w target (followed v.value)) (arrives (followed v.value) k e w) w well))
 
       by : (thin : Bool) → is_thin pointer ≡ thin
           → FollowedAt (code_of source c.active.function) (bounds_at source c.active.function) (types_on source c.active.function k) thin (option_map words_of_kind target) o (top source c.active.function k) c.active.next q

@@ -1,8 +1,10 @@
 -- What the rules of expressions and of places derive is well typed.
-use Rattle.std.proofs.Common.{◌≡◌, ◌≢◌, ◌⊎◌, ℕ, zero, suc, ◌+◌, ◌<◌, ◌≤◌, Bool, true, false, cond, not, nat_eq, ◌&&◌, ◌||◌, List, [], ◌∷◌, ◌++◌, Option, Some, None, map, length, replicate, slice_get, inl, inr, refl, sym, ap, subst, ◌∙◌, arith}
+use Rattle.std.proofs.Common.{◌≡◌, ◌≢◌, ◌⊎◌, ℕ, zero, suc, ◌+◌, ◌<◌, ◌≤◌, Bool, true, false, cond, not, nat_eq, ◌&&◌, ◌||◌, List, [], ◌∷◌, ◌++◌, Option, Some, None, map, length, slice_get, inl, inr, refl, sym, ap, subst, ◌∙◌, arith}
 use Rattle.std.specs.Prelude.{Contains, is_some, unwrap_or}
 use Rattle.std.specs.List.{list_any}
-use Rattle.std.proofs.lemmas.Bool.{and_parts, eqb-true, true≢false}
+use Rattle.std.proofs.lemmas.Bool.{and_parts, eqb-true, true≢false, not-true}
+use Rattle.std.proofs.lemmas.List.{length-map, length-replicate}
+use Rattle.cyc_words.proofs.Booleans.{some_there}
 use Rattle.cyc_syntax.specs.declared.tree.PointerKind.{PointerKind}
 use Rattle.cyc_syntax.specs.declared.tree.PointerKind.TheVariants as marks
 use Rattle.cyc_syntax.specs.declared.tree.PrefixOperator.TheVariants as prefixes
@@ -39,7 +41,7 @@ use Rattle.cyc_types.specs.typing.WellTyped.{LocalInScope, Context, IsLive, AreL
 use Rattle.cyc_types.specs.typing.WellTyped as judgement
 use Rattle.cyc_types.proofs.RegionLemmas.{region_eq-true}
 use Rattle.cyc_types.proofs.ClosureLemmas.{any-true, outliving-sound}
-use Rattle.cyc_types.proofs.typing.TestLemmas.{kept_append, ty_eq-true, int_of, unique_of, fat_of, not_moved, not_so, other_region}
+use Rattle.cyc_types.proofs.typing.TestLemmas.{kept_append, ty_eq-true, int_of, unique_of, fat_of, not_moved, other_region}
 
 -- ---- lists
 
@@ -53,14 +55,6 @@ pub aligned : (g : Scope) (es : Expressions) (as' : List typed.Expression) → D
 aligned g NoExpressions as' (u, eq) = subst (Aligned NoExpressions) (sym eq) tt
 aligned g (MoreExpressions e es) as' (a, h, (bs, hs, (u, eq))) = subst (Aligned (MoreExpressions e es)) (sym eq) (aligned g es bs hs)
 
-map-length : {A B : Type 0} (f : A → B) (xs : List A) → length (map f xs) ≡ length xs
-map-length f [] = refl
-map-length f (x ∷ xs) = ap suc (map-length f xs)
-
-replicate-length : {A : Type 0} (n : ℕ) (x : A) → length (replicate n x) ≡ n
-replicate-length zero x = refl
-replicate-length (suc n) x = ap suc (replicate-length n x)
-
 -- a field by its name is there by its number
 field_there : (fs : List Field) (x : ℕ) (t : Ty) → field_among fs x ≡ Some t → slice_get (map (λ (f : Field). f.of_type) fs) (field_number fs x) ≡ Some t
 field_there [] x t h = absurd (cc)
@@ -70,10 +64,6 @@ field_there (f ∷ fs) x t h = go (nat_eq f.name x) h (field_there fs x t)
         → slice_get (map (λ (f : Field). f.of_type) (f ∷ fs)) (cond b 0 (suc (field_number fs x))) ≡ Some t
     go true e rest = e
     go false e rest = rest e
-
-some_of : {A : Type 0} (o : Option A) → is_some o ≡ true → (x : A) × (o ≡ Some x)
-some_of None h = absurd (cc)
-some_of (Some x) h = (x, refl)
 
 abbrev pub in_scope_of : Sort → LocalVariable → List LocalInScope → List LocalInScope
 in_scope_of Ordinary v vs = record { number = v.number; of_type = v.of_type; region = v.region; is_place = true } ∷ vs
@@ -276,7 +266,7 @@ module _ (p : typed.Program) (h : typed.Function) where
 
     converts_of : (v : ValueType) (t : Ty) → is_alike v t ≡ true → is_null_allowed v t ≡ true → is_outlived g.regions v t ≡ true → Converts here v t
     converts_of Void t a n o = absurd (cc)
-    converts_of types.Null (Pointer k u r) a n o = not_so (is_non_null (Pointer k u r)) n
+    converts_of types.Null (Pointer k u r) a n o = not-true (is_non_null (Pointer k u r)) n
     converts_of types.Null t a n o = absurd (cc)
     converts_of (Value Int) Int a n o = tt
     converts_of (Value (Pointer k t r)) (Pointer l u s) a n o = (ty_eq-true t u a, outlived_of r s o)
@@ -308,7 +298,7 @@ module _ (p : typed.Program) (h : typed.Function) where
 
     variable_well : (l : Lvalue) (t : Ty) (home : Region) → IsMeant (in_scope g.locals) g.counters (scopes.Variable l t home) → is_readable l t ≡ true → IsWell (variable_read l t)
     variable_well (typed.Local q n) t home k i = by_moved q n t (is_moved t) refl (variable_of_place g (typed.Local q n) t home (place_of_variable g (typed.Local q n) t home k))
-    variable_well (typed.Global n) t home (e, known, key) i = (known, not_moved t (not_so (is_unique t) i) key, refl)
+    variable_well (typed.Global n) t home (e, known, key) i = (known, not_moved t (not-true (is_unique t) i) key, refl)
 
     by_unique : (q : Place) (n : ℕ) (t : Ty) (b : Bool) → is_unique t ≡ b → IsVariable here (typed.Local q n) t → IsWell (variable_read (typed.Local q n) t)
         → let a = cond b (typed.Peek q n t) (variable_read (typed.Local q n) t) in IsSeen a (type_of a)
@@ -389,7 +379,7 @@ module _ (p : typed.Program) (h : typed.Function) where
         → (s : typed.StructType) × (v : Ty) × (slice_get p.structs n ≡ Some s) × (slice_get s.fields (field_number (unwrap_or o []) x) ≡ Some v) × (field_among (unwrap_or o []) x ≡ Some v)
     member_there n x None e k = absurd (cc)
     member_there n x (Some fs) e k =
-        let (t, found) = some_of (field_among fs x) k in
+        let (t, found) = some_there (field_among fs x) k in
         let (s, there, same) = fits.members n fs e in
         (s, t, there, subst (λ ts. slice_get ts (field_number fs x) ≡ Some t) (sym same) (field_there fs x t found), found)
 
@@ -410,7 +400,7 @@ module _ (p : typed.Program) (h : typed.Function) where
     loaded_well : (q : Place) (w : Reached) (a : typed.Expression) → IsReached w → Derives (loaded q w) a → IsWell a
     loaded_well q w a k (kept, eq) =
         let (asked, (s, (u, t))) = kept_append w.asked (content_demanded (type_of_place w.cell) q) kept in
-        subst IsWell (sym eq) (type_of_place w.cell, w.region, k asked, not_so (is_struct (type_of_place w.cell)) s, not_so (is_unique (type_of_place w.cell)) u, refl)
+        subst IsWell (sym eq) (type_of_place w.cell, w.region, k asked, not-true (is_struct (type_of_place w.cell)) s, not-true (is_unique (type_of_place w.cell)) u, refl)
 
     reached_well : (w : Reached) (x : Found) → IsReached w → Derives (reached w) x → IsFound x
     reached_well w x k (kept, eq) = subst IsFound (sym eq) (k kept)
@@ -423,7 +413,7 @@ module _ (p : typed.Program) (h : typed.Function) where
     addressed_well q x a k ((key, (shared, u)), eq) =
         let (unique, region) = and_parts (not (is_unique (type_of_side x.side))) (not (region_eq x.region regions.Unique)) shared in
         subst IsWell (sym eq)
-        (address_well x.side x.region k (not_moved (type_of_side x.side) (not_so (is_unique (type_of_side x.side)) unique) (not_so (is_key (type_of_side x.side)) key)) (other_region x.region regions.Unique region))
+        (address_well x.side x.region k (not_moved (type_of_side x.side) (not-true (is_unique (type_of_side x.side)) unique) (not-true (is_key (type_of_side x.side)) key)) (other_region x.region regions.Unique region))
 
     assignment_well : (s : Side) (r : Region) (b : typed.Expression) → IsFoundIn s r → IsConverted here (converted b (type_of_side s)) (type_of_side s) → IsWell (assignment s b)
     assignment_well (VariableSide l t) r b k c = (t, r, k, c, refl, refl)
@@ -647,7 +637,7 @@ module _ (p : typed.Program) (h : typed.Function) where
     none_unique es (a ∷ as') [] al k = refl
     none_unique NoExpressions (a ∷ as') (t ∷ ts) al k = absurd al
     none_unique (MoreExpressions e es) (a ∷ as') (t ∷ ts) al (one, k) =
-        none_append (paired_argument t (type_of a)) (paired_arguments ts as') (not_so (list_any is_unique_for_variable (paired_argument t (type_of a))) one) (none_unique es as' ts al k)
+        none_append (paired_argument t (type_of a)) (paired_arguments ts as') (not-true (list_any is_unique_for_variable (paired_argument t (type_of a))) one) (none_unique es as' ts al k)
 
     constraints_hold : (q : Place) (ps : List (Region × Region)) → AllKept (constraints_demanded g.regions q ps) → AreOutliving here ps
     constraints_hold q [] k = tt
@@ -674,7 +664,7 @@ module _ (p : typed.Program) (h : typed.Function) where
           callee_of g f s k,
           ap suc (firsts-length (paired_arguments s.parameters as') s.variables 1),
           (heap_not_unique, firsts_not_unique (paired_arguments s.parameters as') s.variables 1 (none_unique es as' s.parameters al shared)),
-          passed_well es as' c.parameters al ws (eqb-true (length as') (length s.parameters) count ∙ sym (map-length (substituted_ty m) s.parameters)) converted,
+          passed_well es as' c.parameters al ws (eqb-true (length as') (length s.parameters) count ∙ sym (length-map s.parameters (substituted_ty m))) converted,
           effect_live q c.effect effect,
           constraints_hold q c.constraints constraints,
           refl,
@@ -730,8 +720,8 @@ module _ (p : typed.Program) (h : typed.Function) where
     array_by c p a b v w x i n = absurd (cc)
 
     arguments-length : (names : List RegionName) (k : ℕ) (rs : List Named) → is_count (Some k) rs ≡ true → length (arguments_or names k rs) ≡ k
-    arguments-length names k [] i = replicate-length k regions.Heap
-    arguments-length names k (r ∷ rs) i = map-length (formation.region_of names) (r ∷ rs) ∙ eqb-true (length (r ∷ rs)) k i
+    arguments-length names k [] i = length-replicate k regions.Heap
+    arguments-length names k (r ∷ rs) i = length-map (r ∷ rs) (formation.region_of names) ∙ eqb-true (length (r ∷ rs)) k i
 
     field_types-map : (rs : List Region) (fs : List Field) → field_types rs fs ≡ map (substituted_ty rs) (map (λ (f : Field). f.of_type) fs)
     field_types-map rs [] = refl
@@ -742,7 +732,7 @@ module _ (p : typed.Program) (h : typed.Function) where
         let number : ℕ = struct_number g.structs s.name in
         let ts : List Ty = field_types (arguments_written g s rs) (fields_known g s) in
         let ((there, (count, names)), (given, passing)) = kept_append (struct_demanded g.structs g.names None s.place s rs) (_ ∷ passed_demanded g.regions es as' ts) kept in
-        let (k, is) = some_of (parameters_among g.structs s.name) there in
+        let (k, is) = some_there (parameters_among g.structs s.name) there in
         let (d, at_number, parameters) = fits.structs s.name k is in
         let (fs, at_fields, types) = fits.fields number d at_number in
         let known : fields_known g s ≡ fs = ap (λ o. unwrap_or o []) at_fields in
@@ -750,7 +740,7 @@ module _ (p : typed.Program) (h : typed.Function) where
         ap (field_types (arguments_written g s rs)) known ∙ (field_types-map (arguments_written g s rs) fs ∙ ap (map (substituted_ty (arguments_written g s rs))) (sym types)) in
         let counted : length (arguments_written g s rs) ≡ k =
         ap (λ o. length (arguments_or g.names (unwrap_or o 0) rs)) is ∙ arguments-length g.names k rs (subst (λ o. is_count o rs ≡ true) is count) in
-        let long : length as' ≡ length ts = eqb-true (length as') (length (fields_known g s)) given ∙ sym (map-length (λ (f : Field). substituted_ty (arguments_written g s rs) f.of_type) (fields_known g s)) in (
+        let long : length as' ≡ length ts = eqb-true (length as') (length (fields_known g s)) given ∙ sym (length-map (fields_known g s) (λ (f : Field). substituted_ty (arguments_written g s rs) f.of_type)) in (
           number,
           arguments_written g s rs,
           d,
@@ -833,9 +823,9 @@ module _ (p : typed.Program) (h : typed.Function) where
     made_well : (g : Scope) (fits : Fits g) (i : Initial) (m : Made) → Derives (rule_made g i) m → IsMadeOf g fits m
     made_well g fits (Plain e) m (a, ka, (u, eq)) =
         subst (IsMadeOf g fits) (sym eq)
-        (λ (kept : AllKept (plain_made (place_of e) a).asked). plain_by g fits a (type_of a) (well g fits e a ka) kept.0 (not_so (is_value is_key (type_of a)) (kept.1).0))
+        (λ (kept : AllKept (plain_made (place_of e) a).asked). plain_by g fits a (type_of a) (well g fits e a ka) kept.0 (not-true (is_value is_key (type_of a)) (kept.1).0))
     made_well g fits (Fields s rs es) m (as', ks, (u, eq)) = subst (IsMadeOf g fits) (sym eq) (fields_well g fits s rs es as' (aligned g es as' ks) (all_well g fits es as' ks))
     made_well g fits (Array q x n e) m (a, ka, (b, kb, (u, eq))) =
         subst (IsMadeOf g fits) (sym eq)
         (λ (kept : AllKept (array_made g.counters q (place_of n) a (place_of e) b).asked).
-        array_by g fits (at g) q a b (type_of b) (int_well g fits a (well g fits n a ka) kept.0) (well (with_counter x g) (counting g x fits) e b kb) (kept.1).0 (not_so (is_value is_key (type_of b)) ((kept.1).1).0))
+        array_by g fits (at g) q a b (type_of b) (int_well g fits a (well g fits n a ka) kept.0) (well (with_counter x g) (counting g x fits) e b kb) (kept.1).0 (not-true (is_value is_key (type_of b)) ((kept.1).1).0))

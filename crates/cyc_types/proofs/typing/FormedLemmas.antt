@@ -2,6 +2,7 @@
 use Rattle.std.proofs.Common.{◌≡◌, ℕ, zero, suc, ◌<◌, ◌≤◌, Bool, true, false, cond, nat_eq, List, [], ◌∷◌, ◌++◌, Option, Some, None, map, length, replicate, slice_get, refl, sym, ap, subst, ◌∙◌, arith}
 use Rattle.std.specs.Prelude.{unwrap_or, option_map, slice_index_or}
 use Rattle.std.proofs.lemmas.Bool.{and_parts, eqb-true, true≢false}
+use Rattle.std.proofs.lemmas.List.{length-map, length-replicate}
 use Rattle.cyc_syntax.specs.declared.tree.PrefixOperator.TheVariants as prefixes
 use Rattle.cyc_syntax.specs.declared.tree.BinaryOperator.{BinaryOperator}
 use Rattle.cyc_syntax.specs.declared.tree.BinaryOperator.TheVariants as operators
@@ -46,14 +47,6 @@ heaps_known : (n k : ℕ) → AllOf (IsKnown n) (replicate k regions.Heap)
 heaps_known n zero = tt
 heaps_known n (suc k) = (tt, heaps_known n k)
 
-pub map-length : {A B : Type 0} (f : A → B) (xs : List A) → length (map f xs) ≡ length xs
-map-length f [] = refl
-map-length f (x ∷ xs) = ap suc (map-length f xs)
-
-replicate-length : {A : Type 0} (n : ℕ) (x : A) → length (replicate n x) ≡ n
-replicate-length zero x = refl
-replicate-length (suc n) x = ap suc (replicate-length n x)
-
 -- the variables of a list stand for regions that are known
 known_at : (n : ℕ) (rs : List Region) (i : ℕ) (d : Region) → AllOf (IsKnown n) rs → i < length rs → IsKnown n (slice_index_or rs i d)
 known_at n [] i d k l = absurd (omega arith)
@@ -89,7 +82,7 @@ counted_substituted structs rs Int c = tt
 counted_substituted structs rs (Pointer k t r) c = counted_substituted structs rs t c
 counted_substituted structs rs (Handle r) c = tt
 counted_substituted structs rs (Key r) c = tt
-counted_substituted structs rs (Struct n ss) c = λ s at. map-length (substituted_region rs) ss ∙ c s at
+counted_substituted structs rs (Struct n ss) c = λ s at. length-map ss (substituted_region rs) ∙ c s at
 
 -- so many regions are known, and each struct has its arguments
 abbrev pub IsFormed : List StructName → ℕ → Ty → Type 0
@@ -142,9 +135,9 @@ module _ (structs : List StructName) (names : List RegionName) where
 
   pub arguments_counted : (x : ℕ) (rs : List Named) → is_count (parameters_among structs x) rs ≡ true → (s : StructName) → slice_get structs (struct_number structs x) ≡ Some s
       → length (arguments_or names (unwrap_or (parameters_among structs x) 0) rs) ≡ s.parameters
-  arguments_counted x [] i s at = ap (λ o. length (replicate (unwrap_or o 0) regions.Heap)) (number_of_name structs x s at) ∙ replicate-length s.parameters regions.Heap
+  arguments_counted x [] i s at = ap (λ o. length (replicate (unwrap_or o 0) regions.Heap)) (number_of_name structs x s at) ∙ length-replicate s.parameters regions.Heap
   arguments_counted x (r ∷ rs) i s at =
-      map-length (formation.region_of names) (r ∷ rs) ∙ eqb-true (length (r ∷ rs)) s.parameters (subst (λ o. is_count o (r ∷ rs) ≡ true) (number_of_name structs x s at) i)
+      length-map (r ∷ rs) (formation.region_of names) ∙ eqb-true (length (r ∷ rs)) s.parameters (subst (λ o. is_count o (r ∷ rs) ≡ true) (number_of_name structs x s at) i)
 
 module _ (structs : List StructName) (names : List RegionName) (n : ℕ) (known : (x : ℕ) (r : Region) → region_among names x ≡ Some r → IsKnown n r) where
   pub name_known : (r : Named) → IsKnown n (formation.region_of names r)

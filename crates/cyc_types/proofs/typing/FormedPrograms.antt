@@ -1,7 +1,8 @@
 -- What the typing rules derive declares no type with a region that is not there yet.
 use Rattle.std.proofs.Common.{◌≡◌, ℕ, zero, suc, pred, ◌+◌, ◌<◌, ◌≤◌, Bool, true, false, cond, nat_eq, List, [], ◌∷◌, ◌++◌, Option, Some, None, map, length, slice_get, inl, inr, refl, sym, ap, subst, ◌∙◌, arith}
 use Rattle.std.specs.Prelude.{unwrap_or, codes}
-use Rattle.std.proofs.lemmas.Bool.{true≢false}
+use Rattle.std.proofs.lemmas.Bool.{true≢false, not-true}
+use Rattle.std.proofs.lemmas.List.{length-map}
 use Rattle.cyc_syntax.specs.Names.{number_of}
 use Rattle.cyc_syntax.specs.Symbols.{Place}
 use Rattle.cyc_syntax.specs.Trees.{Named, Pointer as Mark, BaseType, WrittenType, Expression, Statement, Block, Labelled, Empty, Evaluate, Swap, If, IfElse, While, Return, Break, Continue, Throw, Try, Body, Braces, Items, NoItems, MoreItems, Execute, Local, Region, Alias, DynamicRegion, Clauses, NoClauses, Default, Case, Member, Parameters, Declaration, StructType, Exceptions, Global, Function, place_of}
@@ -23,12 +24,12 @@ use Rattle.cyc_types.specs.typing.Statements.{exception_among, left_out_of, rule
 use Rattle.cyc_types.specs.typing.Heads.{Known, structs_of, parameter_names, fields_written, fields_of, members_of, parameter_naming, signature_of, declared_from, rule_fields, rule_parameters, rule_function_head, Before, after_head, rule_heads}
 use Rattle.cyc_types.specs.typing.Programs.{declared_before, known_of, before_all, Program, program_known, parameter_locals, body_scope, rule_functions, globals_of, struct_types, IsTypedProgram}
 use Rattle.cyc_types.specs.typing.Formed.{AllOf, AllIn, IsKnown, IsFormedStatement, AreFormedItems, AreFormedClauses, AreFormedFunctions, AreFormedGlobals, AreFormedFields, AreFormedStructs, IsFormedProgram}
-use Rattle.cyc_types.proofs.typing.TestLemmas.{kept_append, not_so}
+use Rattle.cyc_types.proofs.typing.TestLemmas.{kept_append}
 use Rattle.cyc_types.proofs.typing.ProgramLemmas.{base_before}
 use Rattle.cyc_types.proofs.typing.NamingLemmas.{IsBase, none_is_not_some, IsNumbered, after_members_numbered, types_named}
 use Rattle.cyc_types.proofs.typing.CountLemmas.{statement_counted, items_counted, thrown_shape}
 use Rattle.cyc_types.specs.typing.WellTyped.{IsNamed, AreNamed, IsNamedIn, AreNamedIn}
-use Rattle.cyc_types.proofs.typing.FormedLemmas.{map-length, known_more, IsCounted, IsFormed, formed_more, IsFormedValue, region_formed, name_known, arguments_counted, written_formed, AreFormedLocals, locals_more, IsFormedMeaning, IsFormedResult, AreFormedFieldTypes, IsFormedScope, meant_formed, formed_well}
+use Rattle.cyc_types.proofs.typing.FormedLemmas.{known_more, IsCounted, IsFormed, formed_more, IsFormedValue, region_formed, name_known, arguments_counted, written_formed, AreFormedLocals, locals_more, IsFormedMeaning, IsFormedResult, AreFormedFieldTypes, IsFormedScope, meant_formed, formed_well}
 
 -- ---- a scope is formed further on
 
@@ -260,7 +261,7 @@ parameter_counted structs names own n w kept = marked (after_base n w.base) (bas
     base : (b : BaseType) → AllKept (base_demanded structs names own w.place b) → IsCounted structs (base_for structs n b)
     base written.Int k = tt
     base (written.Struct s []) (there, (count, more)) = arguments_counted structs names s.name [] count
-    base (written.Struct s (r ∷ rs)) (there, (count, more)) = λ s' at. regions-length n (r ∷ rs) ∙ (sym (map-length (formation.region_of names) (r ∷ rs)) ∙ arguments_counted structs names s.name (r ∷ rs) count s' at)
+    base (written.Struct s (r ∷ rs)) (there, (count, more)) = λ s' at. regions-length n (r ∷ rs) ∙ (sym (length-map (r ∷ rs) (formation.region_of names)) ∙ arguments_counted structs names s.name (r ∷ rs) count s' at)
     base (written.Handle r) k = tt
     base (written.Key r) k = tt
 
@@ -321,7 +322,7 @@ module _ (k : Known) (base : IsBase k.regions) where
       let (type_kept, (no_key, z)) = kept_append (type_demanded k.structs names None m.of_type) _ kept in
       let one = written_formed k.structs names n known None regions.Heap m.of_type tt type_kept in
       let rest = fields_formed names n (m.name.name ∷ before) ms u known d in
-      ((one, rest.0), (one.0, no_key_written k.structs names regions.Heap m.of_type.base m.of_type.marks (not_so (is_key_base m.of_type.base) no_key), rest.1))
+      ((one, rest.0), (one.0, no_key_written k.structs names regions.Heap m.of_type.base m.of_type.marks (not-true (is_key_base m.of_type.base) no_key), rest.1))
 
   heads_formed : (b : Before) (tree : List Declaration) → Derives (rule_heads k b tree) tt
       → ((n : ℕ) (fs : List Field) → slice_get (fields_of k tree) n ≡ Some fs → (s : StructName) × (slice_get (structs_of tree) n ≡ Some s) × AreFormedFieldTypes k.structs s.parameters fs)

@@ -1,7 +1,7 @@
 -- What a function's head names: the regions of its types are those that its parameters declare, the heap's, or that of unique pointers.
 use Rattle.std.proofs.Common.{◌≡◌, ◌≢◌, ◌⊎◌, ℕ, zero, suc, ◌+◌, ◌<◌, ◌≤◌, Bool, true, false, cond, not, nat_eq, ◌&&◌, ◌||◌, List, [], ◌∷◌, Option, Some, None, map, replicate, inl, inr, refl, sym, ap, subst, ◌∙◌, arith}
 use Rattle.std.specs.Prelude.{is_some, unwrap_or}
-use Rattle.std.proofs.lemmas.Bool.{and_parts, and_from, or_left, eqb-true, true≢false}
+use Rattle.std.proofs.lemmas.Bool.{and_parts, and_from, or_left, eqb-true, true≢false, not-true}
 use Rattle.cyc_syntax.specs.Trees.{Named, Pointer, BaseType, Struct, WrittenType, Member, Constraint, Parameters}
 use Rattle.cyc_syntax.specs.Trees as written
 use Rattle.cyc_types.specs.declared.region.Region.{Region}
@@ -17,7 +17,7 @@ use Rattle.cyc_types.specs.typing.Heads.{Known, result_written, has_key, and_res
 use Rattle.cyc_types.specs.typing.WellTyped.{IsNamed, AreNamed, IsNamedIn, AreNamedIn, IsNamedResult, AreConstraints, IsKeyless, AreKeyless}
 use Rattle.cyc_types.proofs.RegionLemmas.{region_eq-refl}
 use Rattle.cyc_types.proofs.ClosureLemmas.{not_unique}
-use Rattle.cyc_types.proofs.typing.TestLemmas.{kept_append, not_so}
+use Rattle.cyc_types.proofs.typing.TestLemmas.{kept_append}
 use Rattle.cyc_types.proofs.typing.ExpressionLemmas.{IsKeyOfVariable}
 
 -- names that are there already stand for the heap or for unique pointers
@@ -272,13 +272,13 @@ other_than_unique names r k u = go (region_among names r.name) k u
 
     go : (o : Option Region) → is_some o ≡ true → not (stands Unique o) ≡ true → unwrap_or o Heap ≢ Unique
     go None k u = absurd (cc)
-    go (Some s) k u = λ is. absurd (true≢false (sym (subst (λ z. region_eq z Unique ≡ true) (sym is) refl) ∙ not_so (region_eq s Unique) u))
+    go (Some s) k u = λ is. absurd (true≢false (sym (subst (λ z. region_eq z Unique ≡ true) (sym is) refl) ∙ not-true (region_eq s Unique) u))
 
 written_keyless : (names : List RegionName) (ts : List Ty) (o : Option Ty) (rs : List Named) → AllKept (effect_demanded names (and_result ts o) rs) → AreKeyless (map (region_of names) rs) ts
 written_keyless names ts o [] kept = tt
 written_keyless names ts o (r ∷ rs) (known, (one, kept)) =
     let (unique, keyless) = and_parts (not (is_name_of names Unique r)) (not (has_key (and_result ts o) (region_of names r))) one in
-    ((other_than_unique names r known unique, no_key_keyless (region_of names r) ts (without_result (region_of names r) ts o (not_so (has_key (and_result ts o) (region_of names r)) keyless))), written_keyless names ts o rs kept)
+    ((other_than_unique names r known unique, no_key_keyless (region_of names r) ts (without_result (region_of names r) ts o (not-true (has_key (and_result ts o) (region_of names r)) keyless))), written_keyless names ts o rs kept)
 
 pub effect_keyless : (names : List RegionName) (ts : List Ty) (o : Option Ty) (n : ℕ) (e : Option (List Named)) → Derives (rule_effect names (and_result ts o) e) tt → AreKeyless (effect_of names (and_result ts o) n e) ts
 effect_keyless names ts o n None d = variables_keyless ts o n 1

@@ -1,7 +1,7 @@
 -- A program that the typing rules derive is well typed.
 use Rattle.std.proofs.Common.{◌≡◌, ◌⊎◌, ℕ, zero, suc, pred, ◌+◌, ◌^◌, ◌%◌, ◌-◌, ◌≤◌, Bool, true, false, cond, if◌then◌else◌, not, nat_eq, ◌&&◌, ◌||◌, List, [], ◌∷◌, ◌++◌, Option, Some, None, map, length, slice_get, inl, inr, refl, sym, ap, subst, ◌∙◌, arith}
 use Rattle.std.specs.Prelude.{codes as bytes}
-use Rattle.std.proofs.lemmas.Bool.{and_parts, true≢false}
+use Rattle.std.proofs.lemmas.Bool.{and_parts, true≢false, not-true}
 use Rattle.cyc_syntax.specs.Names.{number_of}
 use Rattle.cyc_syntax.specs.Symbols.{Place}
 use Rattle.cyc_syntax.specs.Trees.{Named, Pointer, BaseType, Struct, WrittenType, Body, Braces, Items, Member, GlobalValue, Positive, Negative, Byte, NullPointer, Constraint, Listed, Parameters, Declaration, StructType, Exceptions, Global, Function}
@@ -27,7 +27,7 @@ use Rattle.cyc_types.specs.typing.WellTyped.{LocalInScope, WellTypedItems, param
 use Rattle.cyc_types.specs.typing.WellTyped as judgement
 use Rattle.cyc_types.proofs.ClosureLemmas.{Contains-head}
 use Rattle.cyc_types.proofs.typing.ListLemmas.{Holds, front_of, back_of}
-use Rattle.cyc_types.proofs.typing.TestLemmas.{kept_append, not_so}
+use Rattle.cyc_types.proofs.typing.TestLemmas.{kept_append}
 use Rattle.cyc_types.proofs.typing.ExpressionLemmas.{in_scope, all_variables, all_globals, at, IsMeantDeclared, AreKnown, IsExceptionOf, Fits}
 use Rattle.cyc_types.proofs.typing.CountLemmas.{items_counted}
 use Rattle.cyc_types.proofs.typing.StatementLemmas.{items_well}
@@ -125,11 +125,11 @@ global_well t q x (Some (Positive o n)) (inl e) kept = inl (e, (n, refl))
 global_well t q x (Some (Negative o n)) (inl e) kept = inl (e, ((2 ^ 32 - n) % 2 ^ 32, refl))
 global_well t q x (Some (Byte o n)) (inl e) kept = inl (e, (n, refl))
 global_well t q x (Some (NullPointer o)) (inl e) (i, (n, z)) = absurd (true≢false (sym i ∙ ap is_pointer e))
-global_well t q x None (inr (k, u, r, e)) (n, z) = inr (k, u, r, e, not_so (is_non_null t) n, ap (λ s. if is_pointer s then typed.Null else typed.Word 0) e)
+global_well t q x None (inr (k, u, r, e)) (n, z) = inr (k, u, r, e, not-true (is_non_null t) n, ap (λ s. if is_pointer s then typed.Null else typed.Word 0) e)
 global_well t q x (Some (Positive o n)) (inr (k, u, r, e)) (i, z) = absurd (true≢false (sym i ∙ ap (λ s. is_int (Value s)) e))
 global_well t q x (Some (Negative o n)) (inr (k, u, r, e)) (i, z) = absurd (true≢false (sym i ∙ ap (λ s. is_int (Value s)) e))
 global_well t q x (Some (Byte o n)) (inr (k, u, r, e)) (i, z) = absurd (true≢false (sym i ∙ ap (λ s. is_int (Value s)) e))
-global_well t q x (Some (NullPointer o)) (inr (k, u, r, e)) (i, (n, z)) = inr (k, u, r, e, not_so (is_non_null t) n, refl)
+global_well t q x (Some (NullPointer o)) (inr (k, u, r, e)) (i, (n, z)) = inr (k, u, r, e, not-true (is_non_null t) n, refl)
 
 globals_well : (k : Known) (b : Before) (tree : List Declaration) → Derives (rule_heads k b tree) tt → AreWellTypedGlobals (globals_of k tree)
 globals_well k b [] d = tt

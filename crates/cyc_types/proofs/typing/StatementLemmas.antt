@@ -1,7 +1,7 @@
 -- What the rules of statements and of items derive is well typed.
 use Rattle.std.proofs.Common.{◌≡◌, ℕ, suc, ◌+◌, ◌≤◌, Bool, true, false, not, ◌&&◌, ◌||◌, List, [], ◌∷◌, ◌++◌, Option, Some, None, length, slice_get, refl, sym, ap, subst, ◌∙◌, arith}
 use Rattle.std.specs.Prelude.{is_some, unwrap_or, option_map}
-use Rattle.std.proofs.lemmas.Bool.{and_parts, or_left, or_right, true≢false}
+use Rattle.std.proofs.lemmas.Bool.{and_parts, or_left, or_right, true≢false, not-true}
 use Rattle.cyc_syntax.specs.Symbols.{Place}
 use Rattle.cyc_syntax.specs.Trees.{Named, Pointer, BaseType, Struct, WrittenType, Expression, Statement, Block, Labelled, Empty, Evaluate, Swap, If, IfElse, While, Return, Break, Continue, Throw, Try, Body, Braces, Items, NoItems, MoreItems, Item, Execute, Local, Region, Alias, DynamicRegion, Clauses, NoClauses, Default, Case, place_of}
 use Rattle.cyc_syntax.specs.Trees as written
@@ -29,7 +29,7 @@ use Rattle.cyc_types.specs.typing.WellTyped as judgement
 use Rattle.cyc_types.proofs.ClosureLemmas.{Contains-head, Contains-tail}
 use Rattle.cyc_types.proofs.RegionLemmas.{region_eq-true}
 use Rattle.cyc_types.proofs.typing.ListLemmas.{Holds, front_of, back_of}
-use Rattle.cyc_types.proofs.typing.TestLemmas.{kept_append, ty_eq-true, not_so}
+use Rattle.cyc_types.proofs.typing.TestLemmas.{kept_append, ty_eq-true}
 use Rattle.cyc_types.proofs.typing.ExpressionLemmas.{IsKeyOfVariable, in_scope, all_variables, at, IsMeant, Fits, meant, converted_well, int_well, place_of_variable, variable_of_place, seen_well, IsFoundIn, well, found_well}
 use Rattle.cyc_types.proofs.typing.CountLemmas.{AreCounted, statement_counted, items_counted}
 
@@ -210,7 +210,7 @@ module _ (p : typed.Program) (h : typed.Function) where
         type_of_side x.side,
         side_well g fits x.side x.region (type_of_side x.side) refl (found_well p h g fits (place_of a) a x kx),
         side_well g fits y.side y.region (type_of_side x.side) (sym (ty_eq-true (type_of_side x.side) (type_of_side y.side) same)) (found_well p h g fits (place_of b) b y ky),
-        not_so (is_struct (type_of_side x.side)) whole,
+        not-true (is_struct (type_of_side x.side)) whole,
       )
 
   -- ---- exceptions

@@ -1,6 +1,6 @@
 -- What the tests on types decide.
 use Rattle.std.proofs.Common.{◌≡◌, ◌≢◌, nat_eq, Bool, true, false, not, ◌&&◌, ◌||◌, List, [], ◌∷◌, ◌++◌, refl, sym, ap, subst, ◌∙◌}
-use Rattle.std.proofs.lemmas.Bool.{and_parts, eqb-true, true≢false}
+use Rattle.std.proofs.lemmas.Bool.{and_parts, eqb-true, true≢false, not-true}
 use Rattle.cyc_syntax.specs.declared.tree.PointerKind.{PointerKind}
 use Rattle.cyc_syntax.specs.declared.tree.PointerKind.TheVariants.{Nullable, NonNull, Fat}
 use Rattle.cyc_types.specs.declared.region.Region.{Region}
@@ -70,10 +70,5 @@ handle_of v h = absurd (cc)
 pub not_moved : (t : Ty) → is_unique t ≡ false → is_key t ≡ false → is_moved t ≡ false
 not_moved t u k = ap (λ b. b || is_key t) u ∙ k
 
--- a test that fails
-pub not_so : (b : Bool) → not b ≡ true → b ≡ false
-not_so true h = absurd (cc)
-not_so false h = refl
-
 pub other_region : (r s : Region) → not (region_eq r s) ≡ true → r ≢ s
-other_region r s h e = let k : region_eq r s ≡ true = subst (λ z. region_eq r z ≡ true) e (region_eq-refl r) in absurd (true≢false (sym k ∙ not_so (region_eq r s) h))
+other_region r s h e = let k : region_eq r s ≡ true = subst (λ z. region_eq r z ≡ true) e (region_eq-refl r) in absurd (true≢false (sym k ∙ not-true (region_eq r s) h))

@@ -1,13 +1,14 @@
 use Rattle.std.proofs.Common.{map, option_map, sym, ap, subst}
+use Rattle.std.proofs.lemmas.List.{drop_all}
+use Rattle.cyc_words.proofs.Lists.{drop_read}
 use Rattle.cyc_syntax.specs.TreeView.{view_name, view_type, view_parameters, view_block, view_declaration}
-use Rattle.cyc_expressions.proofs.Loops.{read, drop_all}
 use Rattle.cyc_check.proofs.FunctionLoops.{HasNoBody, passes, adds, ends}
 use Rattle.cyc_check.proofs.functions.functions_of.Goals as goal
 use Rattle.cyc_check.proofs.functions.functions_of.Goals.{in-Struct, in-Exceptions, in-Global, in-Function+in_ok-checked-in-Function+in_ok-push-in-Function}
 
 pub loop-declaration-preserved : goal.loop-declaration-preserved
 loop-declaration-preserved c =
-    let is = read c.args.declarations.now c.loop-declaration.declaration-index c.declaration-item.result c.loop-declaration-test.true c.declaration-item.is in
+    let is = drop_read c.args.declarations.now c.loop-declaration.declaration-index c.declaration-item.result c.loop-declaration-test.true c.declaration-item.is in
     elim c.match-declaration.branch [
       | in-Struct w ↦
           rw w.all-is
@@ -25,4 +26,4 @@ loop-declaration-preserved c =
     ]
 
 pub returns : goal.returns
-returns c = ends c.loop-declaration.all.items c.args.program.now _ _ (ap (map view_declaration) (drop_all c.args.declarations.now c.loop-declaration.declaration-index c.loop-declaration-test.false)) c.loop-declaration.invariant
+returns c = ends c.loop-declaration.all.items c.args.program.now _ _ (ap (map view_declaration) (drop_all c.loop-declaration.declaration-index c.args.declarations.now c.loop-declaration-test.false)) c.loop-declaration.invariant

@@ -3,6 +3,8 @@ use borrow.Enum.Known.{ValuesAt}
 use Rattle.cyc_syntax.specs.contracts.tree.Stmt.{enum}
 use Rattle.std.proofs.Common.{◌≡◌, Some, Ok, OnOk, ◌+◌, [], ◌∷◌, drop, option_map, sym, ap, subst, ◌∙◌}
 use Rattle.std.proofs.lemmas.Result.{err_from_is_err_and}
+use Rattle.std.proofs.lemmas.List.{drop_all}
+use Rattle.cyc_words.proofs.Lists.{drop_read}
 use Rattle.cyc_syntax.specs.declared.tree.Stmt.TheVariants as stmt
 use Rattle.cyc_syntax.specs.TreeView.{place_of_span, view_name, view_expression, view_statement, view_item, items_of, clauses_of, default_of}
 use Rattle.cyc_syntax.specs.Trees.{NoClauses, Default, Case, Try}
@@ -15,7 +17,6 @@ use Rattle.cyc_types.specs.typing.Scopes.{in_block, in_labelled, behind}
 use Rattle.cyc_types.specs.typing.Statements.{new_name_demanded, rule_statement, rule_items, rule_item, rule_clauses}
 use Rattle.cyc_scope.specs.Code.{Gives, Stops}
 use Rattle.cyc_check.specs.Walks.{behind_block, behind_labelled, behind_clauses, view_boxed_statement}
-use Rattle.cyc_expressions.proofs.Loops.{read, drop_all}
 use Rattle.cyc_check.proofs.Blocks.{Walked, walk_starts, walk_goes_on, walk_stops, walk_gives, block_is_left, labelled_is_left, if_behind, on_ok}
 use Rattle.cyc_check.proofs.Clauses.{CaughtSoFar, catch_goes_on, catch_stops, default_gives, default_stops, try_behind, default_behind, clause_is_left, clause_in_order}
 use Rattle.cyc_check.proofs.Catches.{try_gives, try_stops, clauses_stop_before}
@@ -25,7 +26,7 @@ use Rattle.cyc_check.proofs.statements.+statement.Goals as goal
 
 pub check_items-returns-in_err-item-clause-gives : goal.check_items-returns-in_err-item-clause-gives
 check_items-returns-in_err-item-clause-gives t c =
-    let is = read c.args.items.now c.loop-item.item-index c.item-item.result c.loop-item-test.true c.item-item.is in
+    let is = drop_read c.args.items.now c.loop-item.item-index c.item-item.result c.loop-item-test.true c.item-item.is in
     let p = err_from_is_err_and c.from_residual-in_err-item.result c.from_residual-in_err-item.ensures.1 in
     rw (p.1, p.2)
     (walk_stops c.in_err-item.field-0.0 c.args.scope.now c.loop-item.scope c.loop-item.all.items (view_item c.item-item.result) (items_of (drop (c.loop-item.item-index + 1) c.args.items.now)) (items_of c.args.items.now)
@@ -33,7 +34,7 @@ check_items-returns-in_err-item-clause-gives t c =
 
 pub check_items-loop-item-preserved : goal.check_items-loop-item-preserved
 check_items-loop-item-preserved t c =
-    let is = read c.args.items.now c.loop-item.item-index c.item-item.result c.loop-item-test.true c.item-item.is in
+    let is = drop_read c.args.items.now c.loop-item.item-index c.item-item.result c.loop-item-test.true c.item-item.is in
     rw (c.in_ok-item.ensures.behind, c.in_ok-push.ensures.items)
     (walk_goes_on c.args.scope.now c.loop-item.scope c.loop-item.all.items (view_item c.item-item.result) (items_of (drop (c.loop-item.item-index + 1) c.args.items.now)) (items_of c.args.items.now) c.in_ok-item.item
     (subst (λ xs. Walked c.args.scope.now c.loop-item.scope c.loop-item.all.items (items_of xs) (items_of c.args.items.now)) is c.loop-item.invariant) c.in_ok-item.ensures.gives)
@@ -41,7 +42,7 @@ check_items-loop-item-preserved t c =
 pub check_items-returns-clause-gives : goal.check_items-returns-clause-gives
 check_items-returns-clause-gives t c =
     walk_gives c.args.scope.now c.loop-item.scope c.loop-item.all.items (items_of c.args.items.now)
-    (subst (λ xs. Walked c.args.scope.now c.loop-item.scope c.loop-item.all.items (items_of xs) (items_of c.args.items.now)) (drop_all c.args.items.now c.loop-item.item-index c.loop-item-test.false) c.loop-item.invariant)
+    (subst (λ xs. Walked c.args.scope.now c.loop-item.scope c.loop-item.all.items (items_of xs) (items_of c.args.items.now)) (drop_all c.loop-item.item-index c.args.items.now c.loop-item-test.false) c.loop-item.invariant)
 
 pub check_items-loop-item-init : goal.check_items-loop-item-init
 check_items-loop-item-init t c = rw c.in_ok-all.ensures.items (walk_starts c.args.scope.now (items_of c.args.items.now))
@@ -116,7 +117,7 @@ check_clause-returns-clause-behind t c =
 pub check_clauses-loop-clause-preserved : goal.check_clauses-loop-clause-preserved
 check_clauses-loop-clause-preserved t c =
     let z = c.clause-item.result in
-    let is = read c.args.clauses.now c.loop-clause.clause-index c.clause-item.result c.loop-clause-test.true c.clause-item.is in
+    let is = drop_read c.args.clauses.now c.loop-clause.clause-index c.clause-item.result c.loop-clause-test.true c.clause-item.is in
     rw (c.in_ok-clause.ensures.before, c.in_ok-push.ensures.items)
     (catch_goes_on c.args.scope.now c.loop-clause.scope c.check_clause.new.scope c.loop-clause.before c.loop-clause.all.items (view_name z.exception) (option_map view_name z.variable) (items_of z.items.items)
     (clauses_of (drop (c.loop-clause.clause-index + 1) c.args.clauses.now) NoClauses) (clauses_of c.args.clauses.now NoClauses) c.in_ok-clause.clause
@@ -126,7 +127,7 @@ check_clauses-loop-clause-preserved t c =
 pub check_clauses-returns-in_err-clause-clause-gives : goal.check_clauses-returns-in_err-clause-clause-gives
 check_clauses-returns-in_err-clause-clause-gives t c =
     let z = c.clause-item.result in
-    let is = read c.args.clauses.now c.loop-clause.clause-index c.clause-item.result c.loop-clause-test.true c.clause-item.is in
+    let is = drop_read c.args.clauses.now c.loop-clause.clause-index c.clause-item.result c.loop-clause-test.true c.clause-item.is in
     let p = err_from_is_err_and c.from_residual.result c.from_residual.ensures.1 in
     rw (p.1, p.2)
     (catch_stops c.in_err-clause.field-0.0 c.args.scope.now c.loop-clause.scope c.loop-clause.before c.loop-clause.all.items (view_name z.exception) (option_map view_name z.variable) (items_of z.items.items)

@@ -1,16 +1,18 @@
 use Rattle.std.proofs.Common.{rules, ◌≡◌, ◌+◌, ◌<◌, length, [], ◌∷◌, map, drop, option_map, Ok, Err, None, ◌≢◌, sym, ap, subst, ◌∙◌}
 use Rattle.std.proofs.lemmas.Result.{err_from_is_err_and}
+use Rattle.std.proofs.lemmas.List.{drop_all}
 use Rattle.cyc_syntax.specs.Trees.{Call, Fields, place_of}
 use Rattle.cyc_syntax.specs.TreeView.{place_of_span, view_name, view_initial, view_expression, expressions_of, postfixes_of, operations_of}
 use Rattle.cyc_syntax.proofs.TreeViewLemmas.{view_call, view_chained, view_binary, view_fields}
 use Rattle.cyc_words.specs.declared.fault.Code.TheVariants as codes
+use Rattle.cyc_words.proofs.Lists.{drop_read}
 use Rattle.cyc_types.specs.Rules.{fault_at, and_then, settled, gives, run}
 use Rattle.cyc_types.specs.typing.Tests.{value_of}
 use Rattle.cyc_types.specs.typing.Expressions.{value_wanted, is_looking_first, loaded, reached, on_heap, created, rule, rule_place, rule_postfixed, rule_made, rule_placement}
 use Rattle.cyc_scope.specs.Code.{Gives, Stops}
 use Rattle.cyc_forms.specs.Forms.{GivesOne, IsReached, IsPlaced, IsMade, view_given, view_boxed, view_found, value_in}
 use Rattle.cyc_expressions.specs.Walks.{one_postfix, left_of, peeked_behind}
-use Rattle.cyc_expressions.proofs.Loops.{read, first_of, drop_all}
+use Rattle.cyc_expressions.proofs.Loops.{first_of}
 use Rattle.cyc_expressions.proofs.Chains.{looked_named, looked_unnamed, values_go_on, chain_goes_on, chain_ends, chain_whole, one_of}
 use Rattle.cyc_expressions.proofs.Arms.{behind_gives, behind_stops, behind_nothing, chain_gives, chain_fails, operation_at, region_new_gives, further_starts, further_goes_on, load_stops}
 use Rattle.cyc_expressions.proofs.walk.+expression.Goals as goal
@@ -120,7 +122,7 @@ check_postfixes-loop-i-init t c =
       same = c.in_ok-cell.ensures.same;
       reached = one.0;
       is = one.2;
-      gives = further_starts c.args.scope.now (place_of_span c.args.span) (view_boxed c.args.value) c.args.postfixes.now (drop 1 c.args.postfixes.now) c.index-postfixes-0.result one.0 (read c.args.postfixes.now 0 c.index-postfixes-0.result some c.index-postfixes-0.is) one.1;
+      gives = further_starts c.args.scope.now (place_of_span c.args.span) (view_boxed c.args.value) c.args.postfixes.now (drop 1 c.args.postfixes.now) c.index-postfixes-0.result one.0 (drop_read c.args.postfixes.now 0 c.index-postfixes-0.result some c.index-postfixes-0.is) one.1;
     }
 
 pub check_postfixes-returns-in_err-value-clause-gives : goal.check_postfixes-returns-in_err-value-clause-gives
@@ -141,7 +143,7 @@ check_postfixes-loop-i-preserved t c =
       is = one.2;
       gives =
           further_goes_on c.args.scope.now p c.loop-i.invariant.reached one.0 (view_boxed c.in_ok-value.value) (drop c.loop-i.i c.args.postfixes.now) (drop (c.loop-i.i + 1) c.args.postfixes.now) c.index-postfixes-i.result _
-          (read c.args.postfixes.now c.loop-i.i c.index-postfixes-i.result c.loop-i-test.true c.index-postfixes-i.is) (c.in_ok-value.ensures c.loop-i.invariant.reached c.loop-i.invariant.is)
+          (drop_read c.args.postfixes.now c.loop-i.i c.index-postfixes-i.result c.loop-i-test.true c.index-postfixes-i.is) (c.in_ok-value.ensures c.loop-i.invariant.reached c.loop-i.invariant.is)
           (subst (λ g. one_postfix g p (view_boxed c.in_ok-value.value) c.index-postfixes-i.result ≡ Ok one.0) c.loop-i.invariant.same one.1) c.loop-i.invariant.gives;
     }
 
@@ -149,7 +151,7 @@ check_postfixes-loop-i-preserved t c =
 
 pub check_values-loop-expression-preserved : goal.check_values-loop-expression-preserved
 check_values-loop-expression-preserved t c =
-    let is = read c.args.expressions.now c.loop-expression.expression-index c.expression-item.result c.loop-expression-test.true c.expression-item.is in
+    let is = drop_read c.args.expressions.now c.loop-expression.expression-index c.expression-item.result c.loop-expression-test.true c.expression-item.is in
     record {
       same = c.in_ok-value.ensures.same ∙ c.loop-expression.invariant.same;
       gives =
@@ -159,7 +161,7 @@ check_values-loop-expression-preserved t c =
 
 pub check_operations-loop-operation-preserved : goal.check_operations-loop-operation-preserved
 check_operations-loop-operation-preserved t c =
-    let is = read c.args.operations.now c.loop-operation.operation-index c.operation-item.result c.loop-operation-test.true c.operation-item.is in
+    let is = drop_read c.args.operations.now c.loop-operation.operation-index c.operation-item.result c.loop-operation-test.true c.operation-item.is in
     let g = c.args.scope.now in
     let p = place_of_span c.args.first.span in
     let k = peeked_behind c.args.first.peeked c.loop-operation.of_type in
@@ -179,7 +181,7 @@ check_operations-returns-clause-gives t c =
     let p = place_of_span c.args.first.span in
     let k = peeked_behind c.args.first.peeked c.loop-operation.of_type in
     let left = left_of (view_given c.args.first.given) c.loop-operation.of_type in
-    chain_ends g p k left c.loop-operation.rest.items (drop c.loop-operation.operation-index c.args.operations.now) _ (drop_all c.args.operations.now c.loop-operation.operation-index c.loop-operation-test.false) c.loop-operation.invariant.gives
+    chain_ends g p k left c.loop-operation.rest.items (drop c.loop-operation.operation-index c.args.operations.now) _ (drop_all c.loop-operation.operation-index c.args.operations.now c.loop-operation-test.false) c.loop-operation.invariant.gives
     ∙ chain_whole c.loop-operation.rest.items (settled None (value_wanted left p ∷ [])) (value_of left) _ c.in_ok-of_type.ensures
 
 -- ---- new objects

@@ -1,8 +1,6 @@
-use Rattle.std.proofs.Common.{◌≡◌, map, take}
-use Rattle.cyc_plain.specs.Program.{routine_of}
-use Rattle.cyc_frame.specs.Layout.{frame_of}
+use Rattle.cyc_frame.specs.Layout.{AreFirstFrames}
 use Rattle.cyc_frame.proofs.layouts.frames_of.Given as goal
 
 -- the functions so far have their frames
-abbrev pub invariant-loop-function : goal.invariant-loop-function
-invariant-loop-function l = l.frames.items ≡ map frame_of (map routine_of (take l.function-index l.functions))
+abbrev pub invariant-loop-number : goal.invariant-loop-number
+invariant-loop-number l = AreFirstFrames l.plain l.number l.frames.items

@@ -1,5 +1,6 @@
-use Rattle.std.proofs.Common.{◌∙◌, sym}
-use Rattle.cyc_frame.proofs.Sound.{all_slots_fit, framed, too_large}
+use Rattle.std.proofs.Common.{◌∙◌, sym, subst, length}
+use Rattle.cyc_frame.specs.Layout.{AreFirstFrames}
+use Rattle.cyc_frame.proofs.Sound.{framed, small_frames, too_large}
 use Rattle.cyc_frame.proofs.layouts.layout.Goals as goal
 
 pub returns-in-Some : goal.returns-in-Some
@@ -11,12 +12,11 @@ returns-in-Some c =
 pub frames_of-requires : goal.frames_of-requires
 frames_of-requires c =
     let functions = c.functions-functions in
-    all_slots_fit c.args.plain.now functions.result.now functions.ensures.plain.well_formed functions.ensures.value
-    (sym c.first_too_large.ensures ∙ c.in_default.is)
+    small_frames c.args.plain.now functions.result.now functions.ensures.value (sym c.first_too_large.ensures ∙ c.in_default.is)
 
 pub returns : goal.returns
 returns c =
     let functions = c.functions-functions in
-    let same = c.new-2.ensures ∙ c.in_ok-frames.ensures in
-    framed c.args.plain.now functions.result.now functions.ensures.value functions.ensures.plain.well_formed
-    c.new-2.result same (sym c.first_too_large.ensures ∙ c.in_default.is)
+    framed c.args.plain.now functions.result.now functions.ensures.value c.new-2.result
+    (subst (AreFirstFrames c.args.plain.now (length c.args.plain.now.functions)) (sym c.new-2.ensures) c.in_ok-frames.ensures)
+    (sym c.first_too_large.ensures ∙ c.in_default.is)

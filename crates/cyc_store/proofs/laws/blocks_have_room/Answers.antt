@@ -1,8 +1,9 @@
 -- Room.
 use Rattle.std.proofs.Common.{◌^◌, refl}
 use Rattle.cyc_words.specs.Demand.{class_of}
+use Rattle.cyc_words.proofs.Numbers.{when_equal}
 use Rattle.cyc_store.specs.declared.range.TheConstants.{UNIQUE}
-use Rattle.cyc_store.proofs.LookupLemmas.{when_equal, when_other}
+use Rattle.cyc_store.proofs.LookupLemmas.{when_other}
 use Rattle.cyc_store.proofs.CountLemmas.{class_of-holds}
 use Rattle.cyc_store.proofs.laws.blocks_have_room.Goals as goal
 

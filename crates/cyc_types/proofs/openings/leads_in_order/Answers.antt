@@ -5,9 +5,10 @@ use Rattle.cyc_types.specs.Closure.{written_in}
 use Rattle.cyc_types.specs.Openings.{scope_at}
 use Rattle.cyc_types.proofs.RegionLemmas.{derived-region_eq, region_eq-true}
 use Rattle.cyc_types.proofs.ClosureLemmas.{leads-above}
-use Rattle.cyc_types.proofs.OpeningLemmas.{never, same-region, leads-by_place, leads-by_no_place}
+use Rattle.cyc_types.proofs.OpeningLemmas.{never, leads-by_place, leads-by_no_place}
 use Rattle.cyc_types.proofs.openings.leads_in_order.Goals as goal
 use Rattle.cyc_types.proofs.openings.leads_in_order.Goals.{else-eq-via-then-eq+else-is_outlived_by_live, else-eq-via-else-eq}
+use Rattle.cyc_types.proofs.TableLemmas.{eq_true_at}
 
 pub returns-then-table_leads : goal.returns-then-table_leads
 returns-then-table_leads c =
@@ -33,7 +34,7 @@ returns-else-eq c =
       | else-eq-via-then-eq+else-is_outlived_by_live v ↦ never (is_outlived_by_live (scope_at c.args.scopes.now c.opening_of-place.result).kind) k (sym v.is_outlived_by_live.ensures ∙ v.if-is_outlived_by_live.false)
       | else-eq-via-else-eq v ↦
           let scope = scope_at c.args.scopes.now c.opening_of-place.result in
-          never (region_eq scope.region c.args.b) (same-region scope.region c.args.b same)
+          never (region_eq scope.region c.args.b) (eq_true_at scope.region c.args.b same)
           (sym (derived-region_eq scope.region c.args.b) ∙ sym c.eq.ensures ∙ v.if-eq.false)
     ]))
 

@@ -1,10 +1,13 @@
-use Rattle.std.proofs.Common.{◌<◌, Err, true, sym, ap, subst, ◌∙◌}
+use Rattle.std.proofs.Common.{ℕ, ◌<◌, Ok, Err, true, sym, ap, subst, ◌∙◌}
 use Rattle.std.proofs.lemmas.Result.{err_from_is_err_and}
 use Rattle.cyc_store.specs.Answers.{refused, Responds}
 use Rattle.cyc_store.specs.Ledger.{Stored, held_of}
 use Rattle.cyc_store.specs.Services.{Allocate, Allocated, Serves}
 use Rattle.cyc_store.specs.Slots.{HasSlot, IsSpent, Stocks, Fills}
 use Rattle.cyc_store.specs.State.{demand}
+use Rattle.std.specs.Prelude.{Result}
+use Rattle.cyc_store.specs.declared.answer.No.{No}
+use Rattle.cyc_store.specs.declared.answer.No.TheVariants as No
 use Rattle.cyc_store.specs.declared.range.TheConstants.{UNIQUE}
 use Rattle.cyc_store.proofs.KeptSlots.{slot-dead, slot-left, slot-none}
 use Rattle.cyc_store.proofs.KeptUnique.{unique-bound, unique-has, unique-filled, unique-stocked, unique-refused}
@@ -18,8 +21,8 @@ stock-requires-clause-none c =
     subst (λ (v : Stored). HasSlot (held_of v) c.class_of-class.result → ⊥) c.self.view_is
     (slot-none f.table f.lexicals.items f.classes f.ledger.blocks k c.class_of-class.result bound c.if-slots.true c.if-slots-eq0.true)
 
-pub returns-in_err-stock : goal.returns-in_err-stock
-returns-in_err-stock c =
+pub returns-in_err-stock-clause-answer : goal.returns-in_err-stock-clause-answer
+returns-in_err-stock-clause-answer c =
     let f = c.self.inside in let k = c.self.invariant in
     let bound = unique-bound f.table f.lexicals.items f.classes f.ledger.blocks k c.args.words c.requires.least c.requires.most c.class_of-class.result c.class_of-class.ensures in
     let p = err_from_is_err_and c.from_residual.result c.from_residual.ensures.1 in
@@ -31,6 +34,16 @@ returns-in_err-stock c =
     (λ e. subst (λ (v : Stored). IsSpent (held_of v)) (sym c.self.view_is) (refusal.full (ap (λ w. Err w) e)))
     (λ e. subst (λ (v : Stored). demand (held_of v) < v.pages) (sym c.self.view_is) (refusal.memory (ap (λ w. Err w) e)))
     (refusal.same ∙ sym (ap held_of c.self.view_is))))
+
+-- the reason of a refusal, whatever would have been answered
+abbrev reason : Result ℕ No → No
+reason (Ok address) = No.Memory
+reason (Err why) = why
+
+pub returns-in_err-stock-clause-grew : goal.returns-in_err-stock-clause-grew
+returns-in_err-stock-clause-grew c =
+    let p = err_from_is_err_and c.from_residual.result c.from_residual.ensures.1 in
+    rw (p.1, p.2) (λ e. c.in_err-stock.ensures.grew (ap (λ w. Err w) (ap reason e)))
 
 pub fill-requires-clause-some : goal.fill-requires-clause-some
 fill-requires-clause-some c =
@@ -48,8 +61,8 @@ fill-requires-clause-some c =
           ])
     ]
 
-pub returns : goal.returns
-returns c =
+pub returns-clause-answer : goal.returns-clause-answer
+returns-clause-answer c =
     let f = c.self.inside in let k = c.self.invariant in
     let bound = unique-bound f.table f.lexicals.items f.classes f.ledger.blocks k c.args.words c.requires.least c.requires.most c.class_of-class.result c.class_of-class.ensures in
     subst (λ (v : Stored). Serves (held_of v) (Allocate UNIQUE c.args.words) (Allocated c.fill.result) (held_of c.fill.new.self)) c.self.view_is

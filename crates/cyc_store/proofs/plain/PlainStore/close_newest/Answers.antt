@@ -1,4 +1,5 @@
 use Rattle.std.proofs.Common.{◌≡◌, ℕ, ◌/◌, ◌<◌, length, sym, subst, arith}
+use Rattle.std.specs.Prelude.{vec_capacity}
 use Rattle.cyc_store.specs.Ledger.{Stored, Unwinds}
 use Rattle.cyc_store.specs.State.{lexical_count}
 use Rattle.cyc_store.proofs.KeptServices.{kept-lexicals}
@@ -52,6 +53,6 @@ invariant_of-self-2 c =
 pub returns : goal.returns
 returns c =
     let f = c.self.inside in
-    subst (λ (v : Stored). Unwinds v (record { pages = c.give_back.new.self.most; words = c.give_back.new.self.words.items; blocks = c.with-self-inside.result.blocks })) c.self.view_is
+    subst (λ (v : Stored). Unwinds v (record { pages = c.give_back.new.self.most; words = c.give_back.new.self.words.items; blocks = c.with-self-inside.result.blocks; room = vec_capacity c.pop.new.self })) c.self.view_is
     (newest-unwinds f.table f.lexicals.items f.classes f.ledger.blocks c.self.invariant c.pop.new.self.items c.in-Some.handle c.in-Some.ensures.items c.with-self-inside.result.blocks c.with-self-inside.ensures
-    c.give_back.new.self c.give_back.ensures.most c.give_back.ensures.words)
+    c.give_back.new.self (vec_capacity f.lexicals) (vec_capacity c.pop.new.self) c.give_back.ensures.most c.give_back.ensures.words c.in-Some.ensures.capacity)

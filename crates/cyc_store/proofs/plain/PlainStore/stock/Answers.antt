@@ -1,8 +1,8 @@
 use Rattle.std.proofs.Common.{◌<◌, refl, sym, subst}
-use Rattle.cyc_store.specs.Ledger.{Stored, held_of, store_of}
+use Rattle.cyc_store.specs.Ledger.{Stored, IsUsedUp, held_of, store_of}
 use Rattle.cyc_store.specs.Slots.{HasSlot, IsSpent, Stocks}
 use Rattle.cyc_store.specs.State.{demand}
-use Rattle.cyc_store.proofs.KeptServices.{not-true, kept-unchanged}
+use Rattle.cyc_store.proofs.KeptServices.{not-true, kept-unchanged, kept-used}
 use Rattle.cyc_store.proofs.KeptSlots.{stock-full, stock-room, stock-kept, stock-stocks}
 use Rattle.cyc_store.proofs.plain.PlainStore.stock.Goals as goal
 
@@ -24,6 +24,11 @@ returns-in_default-clause-memory c =
     λ e. subst (λ (v : Stored). demand (held_of v) < v.pages) c.self.view_is
     (stock-room f.table f.lexicals.items f.classes f.ledger.blocks k c.args.class c.requires.class
     (subst (λ (v : Stored). HasSlot (held_of v) c.args.class → ⊥) (sym c.self.view_is) c.requires.none) (λ full. not-true (c.if-is_full.ensures.1 full)))
+
+pub returns-in_default-clause-grew : goal.returns-in_default-clause-grew
+returns-in_default-clause-grew c =
+    let f = c.self.inside in
+    λ e. subst (λ (v : Stored). IsUsedUp v) c.self.view_is (kept-used f.table f.lexicals.items f.classes f.ledger.blocks c.self.invariant c.in_default.ensures.grew)
 
 pub invariant_of-self-2 : goal.invariant_of-self-2
 invariant_of-self-2 c =

@@ -1,11 +1,11 @@
 use Rattle.std.proofs.Common.{◌≡◌, ◌+◌, ◌*◌, ◌<◌, true, length, Some, sym, ap, subst}
 use Rattle.std.specs.Prelude.{is_some}
+use Rattle.cyc_words.proofs.Booleans.{some_there}
 use Rattle.cyc_store.specs.Ledger.{Stored, held_of, store_of}
 use Rattle.cyc_store.specs.Lookup.{lookup, without}
 use Rattle.cyc_store.specs.Services.{CloseDynamic, Done, Serves, names_dynamic}
 use Rattle.cyc_store.specs.State.{handle_of}
 use Rattle.cyc_store.proofs.Responses.{refuses-close}
-use Rattle.cyc_store.proofs.ServiceLemmas.{some-there}
 use Rattle.cyc_store.proofs.KeptMaking.{root-there, first-counted}
 use Rattle.cyc_store.proofs.KeptClosing.{dynamic-named, dynamic-left, dynamic-closes, close-there, close-kept}
 use Rattle.cyc_store.proofs.plain.PlainStoreStore.close_dynamic.Goals as goal
@@ -16,7 +16,7 @@ returns-in_default c = refuses-close (held_of c.args.self.now) c.args.handle (ap
 pub give_back-requires : goal.give_back-requires
 give_back-requires c =
     let f = c.self.inside in let k = c.self.invariant in
-    let (q, found) = some-there (lookup handle_of f.ledger.blocks.regions (2 * c.in-Some.root + 1))
+    let (q, found) = some_there (lookup handle_of f.ledger.blocks.regions (2 * c.in-Some.root + 1))
     (subst (λ h. is_some (lookup handle_of f.ledger.blocks.regions h) ≡ true) c.in-Some.ensures.0
     (subst (λ (v : Stored). is_some (lookup handle_of v.blocks.regions c.args.handle) ≡ true) (sym c.self.view_is) c.in-Some.ensures.1)) in
     close-there f.table f.lexicals.items f.classes f.ledger.blocks k c.in-Some.root q found c.index-first.result.now c.index-first.ensures
@@ -25,7 +25,7 @@ give_back-requires c =
 pub invariant_of-self : goal.invariant_of-self
 invariant_of-self c =
     let f = c.self.inside in let k = c.self.invariant in
-    let (q, found) = some-there (lookup handle_of f.ledger.blocks.regions (2 * c.in-Some.root + 1))
+    let (q, found) = some_there (lookup handle_of f.ledger.blocks.regions (2 * c.in-Some.root + 1))
     (subst (λ h. is_some (lookup handle_of f.ledger.blocks.regions h) ≡ true) c.in-Some.ensures.0
     (subst (λ (v : Stored). is_some (lookup handle_of v.blocks.regions c.args.handle) ≡ true) (sym c.self.view_is) c.in-Some.ensures.1)) in
     let there : c.in-Some.root < length f.table.rows.items = root-there f.table f.lexicals.items f.classes f.ledger.blocks k c.in-Some.root q found in
@@ -40,7 +40,7 @@ invariant_of-self c =
 pub returns : goal.returns
 returns c =
     let f = c.self.inside in let k = c.self.invariant in
-    let (q, found) = some-there (lookup handle_of f.ledger.blocks.regions (2 * c.in-Some.root + 1))
+    let (q, found) = some_there (lookup handle_of f.ledger.blocks.regions (2 * c.in-Some.root + 1))
     (subst (λ h. is_some (lookup handle_of f.ledger.blocks.regions h) ≡ true) c.in-Some.ensures.0
     (subst (λ (v : Stored). is_some (lookup handle_of v.blocks.regions c.args.handle) ≡ true) (sym c.self.view_is) c.in-Some.ensures.1)) in
     let there : c.in-Some.root < length f.table.rows.items = root-there f.table f.lexicals.items f.classes f.ledger.blocks k c.in-Some.root q found in

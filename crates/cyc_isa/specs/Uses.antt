@@ -1,0 +1,53 @@
+-- Which general registers an instruction reads and which it sets, by its row of the architecture's manual, volume II. HI
+-- and LO, the memory and the program counter are no registers here.
+use Rattle.std.specs.Prelude.{ℕ, Bool, false, not, ◌==◌, ◌||◌, ◌&&◌}
+use Rattle.cyc_isa.specs.declared.instr.Instr.{Instr}
+use Rattle.cyc_isa.specs.declared.instr.Instr.TheVariants.{Immediate, LoadUpper, Memory, Branch, BranchZero, Jump, Shift, ShiftVariable, JumpRegister, JumpRegisterLink, Exception, MoveFrom, MultiplyDivide, Arithmetic}
+use Rattle.cyc_isa.specs.declared.instr.MemoryOp.TheVariants.{LoadWord, StoreWord}
+use Rattle.cyc_isa.specs.declared.instr.JumpOp.TheVariants.{Plain, AndLink}
+use Rattle.cyc_isa.specs.declared.instr.ExceptionOp.TheVariants.{Syscall, Break}
+
+-- The register of this number is a source. `syscall` hands a service's number, in 2, and its arguments, in 4 and 5, to the
+-- system: this project's own choice.
+abbrev pub reads : Instr → ℕ → Bool
+reads (Immediate op target source immediate) number = source.number == number
+reads (LoadUpper target immediate) number = false
+reads (Memory LoadWord target base offset) number = base.number == number
+reads (Memory StoreWord target base offset) number = target.number == number || base.number == number
+reads (Branch op left right offset) number = left.number == number || right.number == number
+reads (BranchZero op source offset) number = source.number == number
+reads (Jump op index) number = false
+reads (Shift op destination source amount) number = source.number == number
+reads (ShiftVariable op destination source by) number = source.number == number || by.number == number
+reads (JumpRegister source) number = source.number == number
+reads (JumpRegisterLink destination source) number = source.number == number
+reads (Exception Syscall code) number = number == 2 || (number == 4 || number == 5)
+reads (Exception Break code) number = false
+reads (MoveFrom op destination) number = false
+reads (MultiplyDivide op left right) number = left.number == number || right.number == number
+reads (Arithmetic op destination left right) number = left.number == number || right.number == number
+
+-- The register of this number is where the result goes. `jal` leaves its return address in 31, and `syscall` its answers in
+-- 2 and 3.
+abbrev pub names_result : Instr → ℕ → Bool
+names_result (Immediate op target source immediate) number = target.number == number
+names_result (LoadUpper target immediate) number = target.number == number
+names_result (Memory LoadWord target base offset) number = target.number == number
+names_result (Memory StoreWord target base offset) number = false
+names_result (Branch op left right offset) number = false
+names_result (BranchZero op source offset) number = false
+names_result (Jump Plain index) number = false
+names_result (Jump AndLink index) number = number == 31
+names_result (Shift op destination source amount) number = destination.number == number
+names_result (ShiftVariable op destination source by) number = destination.number == number
+names_result (JumpRegister source) number = false
+names_result (JumpRegisterLink destination source) number = destination.number == number
+names_result (Exception Syscall code) number = number == 2 || number == 3
+names_result (Exception Break code) number = false
+names_result (MoveFrom op destination) number = destination.number == number
+names_result (MultiplyDivide op left right) number = false
+names_result (Arithmetic op destination left right) number = destination.number == number
+
+-- The register is set. Register 0 never is, whatever goes to it.
+abbrev pub writes : Instr → ℕ → Bool
+writes instruction number = not (number == 0) && names_result instruction number

@@ -1,0 +1,91 @@
+//! Which registers an instruction reads, and which it sets.
+
+ghost use Rattle.std.specs.Prelude.{◌≡◌, ◌<◌};
+ghost use Rattle.cyc_isa.specs.Uses.{reads, names_result, writes};
+
+use crate::instr::{ExceptionOp, Instr, JumpOp, MemoryOp};
+
+/// The register in which `jal` leaves its return address.
+const RETURN_ADDRESS: u8 = 31;
+
+/// Whether an instruction reads the general register of this number: whether its row has it as a source.
+///
+/// `syscall` reads 2, 4 and 5. HI and LO, memory and the program counter are no registers here.
+pub fn reads(instr: Instr, register: u8) -> bool
+    requires { register < 32 }
+    ensures { result ≡ reads instr register }
+{
+    match instr {
+        Instr::Immediate { source, .. } => source.number == register,
+        Instr::LoadUpper { .. } => false,
+        Instr::Memory {
+            op,
+            target,
+            base,
+            ..
+        } => match op {
+            MemoryOp::LoadWord => base.number == register,
+            MemoryOp::StoreWord => target.number == register || base.number == register,
+        },
+        Instr::Branch { left, right, .. } => left.number == register || right.number == register,
+        Instr::BranchZero { source, .. } => source.number == register,
+        Instr::Jump { .. } => false,
+        Instr::Shift { source, .. } => source.number == register,
+        Instr::ShiftVariable { source, by, .. } => {
+            source.number == register || by.number == register
+        }
+        Instr::JumpRegister { source } => source.number == register,
+        Instr::JumpRegisterLink { source, .. } => source.number == register,
+        Instr::Exception { op, .. } => match op {
+            ExceptionOp::Syscall => register == 2 || register == 4 || register == 5,
+            ExceptionOp::Break => false,
+        },
+        Instr::MoveFrom { .. } => false,
+        Instr::MultiplyDivide { left, right, .. } => {
+            left.number == register || right.number == register
+        }
+        Instr::Arithmetic { left, right, .. } => {
+            left.number == register || right.number == register
+        }
+    }
+}
+
+/// Whether the result of an instruction goes to the register of this number.
+fn names_result(instr: Instr, register: u8) -> bool
+    ensures { result ≡ names_result instr register }
+{
+    match instr {
+        Instr::Immediate { target, .. } => target.number == register,
+        Instr::LoadUpper { target, .. } => target.number == register,
+        Instr::Memory { op, target, .. } => match op {
+            MemoryOp::LoadWord => target.number == register,
+            MemoryOp::StoreWord => false,
+        },
+        Instr::Branch { .. } | Instr::BranchZero { .. } => false,
+        Instr::Jump { op, .. } => match op {
+            JumpOp::Plain => false,
+            JumpOp::AndLink => register == RETURN_ADDRESS,
+        },
+        Instr::Shift { destination, .. } => destination.number == register,
+        Instr::ShiftVariable { destination, .. } => destination.number == register,
+        Instr::JumpRegister { .. } => false,
+        Instr::JumpRegisterLink { destination, .. } => destination.number == register,
+        Instr::Exception { op, .. } => match op {
+            ExceptionOp::Syscall => register == 2 || register == 3,
+            ExceptionOp::Break => false,
+        },
+        Instr::MoveFrom { destination, .. } => destination.number == register,
+        Instr::MultiplyDivide { .. } => false,
+        Instr::Arithmetic { destination, .. } => destination.number == register,
+    }
+}
+
+/// Whether an instruction sets the general register of this number.
+///
+/// Register 0 is never set, `jal` sets 31, and `syscall` sets 2 and 3.
+pub fn writes(instr: Instr, register: u8) -> bool
+    requires { register < 32 }
+    ensures { result ≡ writes instr register }
+{
+    register != 0 && names_result(instr, register)
+}
