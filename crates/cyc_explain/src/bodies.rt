@@ -1,10 +1,10 @@
 //! The words for a fault in a function's body. The forms that the fault stands in are found by its place. What is declared before it there is
 //! brought into scope, and the rest is passed over. Then these forms are asked, from the innermost one outwards.
 use crate::expressions::explain_expression;
-use crate::homes::{Home, Origin};
+use crate::homes::Origin;
 use crate::names::{explain_region_twice, explain_twice};
 use crate::outline::{Node, Outline, Site};
-use crate::scopes::{enter, pass};
+use crate::scopes::{enter, note_home, pass_item};
 use crate::statements::{
     explain_alias, explain_exception, explain_local, explain_opened, explain_statement,
 };
@@ -51,31 +51,28 @@ pub(crate) fn words_in_body(
     let scope = Scope::of_body(alloc, &program, tables, &signature, name, members).ok()?;
     let Outline {
         sites,
-        mut homes,
+        homes,
         endings,
+        is_whole,
         ..
     } = outline;
-    let _ = homes.push(Home {
-        region: 0,
-        name: Some(name.name.number),
-        span: name.span,
-        origin: Origin::Block,
-    });
     let mut teller = Teller::new(alloc, tree, fault);
     teller.function = Some(name);
     teller.homes = homes;
     teller.endings = endings;
+    teller.is_whole = is_whole;
     let mut walk = Walk {
         program: &program,
         scope,
         teller,
     };
+    note_home(&mut walk, 0, Some(name), name.span, Origin::Block);
     let steps = steps_to(alloc, &walk.teller, &sites);
     for step in steps.iter().rev() {
         if step.is_around {
             enter(&mut walk, &step.site);
-        } else {
-            pass(&mut walk, &step.site);
+        } else if let Node::Item(item) = step.site.node {
+            pass_item(&mut walk, item);
         }
     }
     explain_steps(&mut walk, &steps, members);
@@ -86,13 +83,19 @@ pub(crate) fn words_in_body(
 fn steps_to<'t>(alloc: Global, teller: &Teller<'_>, sites: &[Site<'t>]) -> Vec<Step<'t>> {
     let mut steps = Vec::new(alloc);
     let mut depth = usize::MAX;
+    let mut behind = Span {
+        line: u32::MAX,
+        column: 0,
+    };
     for site in sites.iter().rev() {
+        let mut site = *site;
+        if let Node::Default = site.node {
+            site.span = behind;
+        }
+        behind = site.span;
         if site.depth <= depth && teller.is_from(site.span) {
             let is_around = site.depth < depth;
-            let _ = steps.push(Step {
-                site: *site,
-                is_around,
-            });
+            let _ = steps.push(Step { site, is_around });
             depth = site.depth;
         }
     }

@@ -1,7 +1,7 @@
 //! What a call asks, in the words of the caller and of the function that is called.
 use crate::bodies::Walk;
 use crate::conversions::{explain_conversion, say_closed, say_shorter};
-use crate::homes::find_home;
+use crate::homes::find_name;
 use crate::names::{Sort, explain_unknown};
 use crate::outline::Outline;
 use crate::teller::{Part, Teller};
@@ -152,8 +152,8 @@ pub(crate) fn explain_passed(
 
 /// What a region of the function that is called is at the call.
 fn say_here(teller: &mut Teller<'_>, function: Ident, own: Region, here: Region) {
-    let theirs = find_home(&teller.theirs, own).and_then(|home| home.name);
-    let ours = find_home(&teller.homes, here).and_then(|home| home.name);
+    let theirs = find_name(&teller.theirs, own);
+    let ours = find_name(&teller.homes, here);
     match teller.function {
         Some(caller) if theirs.is_some() && theirs == ours => {
             let parts = [
@@ -200,16 +200,6 @@ fn explain_constraints(
     }
 }
 
-/// Says the effect of a function that is called.
-fn say_effect(teller: &mut Teller<'_>, function: Ident, effect: &[Region]) {
-    teller.say("the effect of % is {", &[Part::Name(function)]);
-    for i in 0..effect.len() {
-        let text = if i == 0 { "%" } else { ", %" };
-        teller.say(text, &[Part::Theirs(effect[i])]);
-    }
-    teller.say("}", &[]);
-}
-
 /// The words for the first region of a callee's effect that is not live.
 fn explain_effect(
     teller: &mut Teller<'_>,
@@ -224,7 +214,12 @@ fn explain_effect(
             return;
         };
         if teller.is_fault(Code::EffectNotCovered, function.span) && !scope.is_live(*region) {
-            say_effect(teller, function, &signature.effect);
+            teller.say("the effect of % is {", &[Part::Name(function)]);
+            for j in 0..signature.effect.len() {
+                let text = if j == 0 { "%" } else { ", %" };
+                teller.say(text, &[Part::Theirs(signature.effect[j])]);
+            }
+            teller.say("}", &[]);
             say_here(teller, function, own, *region);
             teller.say("\n", &[]);
             say_closed(teller, *region);
@@ -236,14 +231,15 @@ fn explain_effect(
 fn explain_lent(teller: &mut Teller<'_>, function: Ident, arguments: &[Expr], parameters: &[Ty]) {
     for i in 0..arguments.len() {
         if let Some(Ty::Pointer { region, .. }) = parameters.get(i) {
-            if teller.is_fault(Code::RegionOrKeyMisused, span_of(&arguments[i])) {
-                let parts = [Part::Theirs(*region), Part::Name(function)];
-                teller.say("% of % would be `U", &parts);
-                teller.hint(
-                    "lend the pointer by let alias, or write `U in the parameter's type",
-                    &[],
-                );
-            }
+            let parts = [Part::Theirs(*region), Part::Name(function)];
+            let text =
+                "% of % would be `U\nhint: lend the pointer by let alias, or write `U in the parameter's type";
+            teller.say_of(
+                Code::RegionOrKeyMisused,
+                span_of(&arguments[i]),
+                text,
+                &parts,
+            );
         }
     }
 }

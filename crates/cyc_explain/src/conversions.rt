@@ -70,68 +70,86 @@ pub(crate) fn explain_closed(
 
 // ---- regions that do not outlive others
 
-/// Whether there is more to say of where a region begins than by what it is called.
-fn has_beginning(home: Option<Home>) -> bool {
-    !matches!(home, Some(Home { name: None, .. }))
+/// Where a region begins that has this home, if there is more to say of that than what it is called.
+fn beginning_of(region: Region, home: Option<Home>) -> &'static str {
+    match (region, home) {
+        (_, Some(Home { name: None, .. })) => "",
+        (Region::Heap, _) => "% lives for the whole run",
+        (Region::Unique, _) => "% stands apart from all regions",
+        (_, Some(home)) => match home.origin {
+            Origin::Caller => "% comes from the caller",
+            Origin::Block | Origin::Item => "% begins at %",
+            Origin::Dynamic => "% is a dynamic region, declared at %",
+        },
+        (_, None) => "",
+    }
+}
+
+/// Says where a region begins behind a mark, if there is anything to say.
+fn say_beginning(teller: &mut Teller<'_>, mark: &str, region: Region) -> bool {
+    let home = find_home(&teller.homes, region);
+    let text = beginning_of(region, home);
+    if text.is_empty() {
+        return false;
+    }
+    let span = match home {
+        Some(home) => home.span,
+        None => Span { line: 0, column: 0 },
+    };
+    teller.say(mark, &[]);
+    teller.say(text, &[Part::Region(region), Part::Place(span)]);
+    true
 }
 
 /// Says in a line of its own which region does not outlive which, and where each begins, and then what to do.
 pub(crate) fn say_shorter(teller: &mut Teller<'_>, region: Region, other: Region) {
-    let home = find_home(&teller.homes, region);
-    let other_home = find_home(&teller.homes, other);
     let parts = [Part::Region(region), Part::Region(other)];
     teller.say("\n% does not outlive %", &parts);
-    let is_begun = has_beginning(home);
-    if is_begun {
-        teller.say(": %", &[Part::Beginning(region)]);
+    let is_begun = say_beginning(teller, ": ", region);
+    if region != other {
+        say_beginning(teller, if is_begun { ", " } else { ": " }, other);
     }
-    if has_beginning(other_home) && region != other {
-        let text = if is_begun { ", %" } else { ": %" };
-        teller.say(text, &[Part::Beginning(other)]);
-    }
-    match (home, other_home) {
-        (Some(home), Some(other)) => {
-            teller.hint(advice_between(home, other), &parts);
-        }
-        (Some(home), None) => teller.hint(advice_below_heap(home, other), &parts),
-        _ => {}
+    if let Some(home) = find_home(&teller.homes, region) {
+        let other_home = find_home(&teller.homes, other);
+        teller.hint(advice_on_regions(home, other, other_home), &parts);
     }
 }
 
-/// What to do about a region that does not outlive another one of the function at hand.
-fn advice_between(home: Home, other: Home) -> &'static str {
-    match (home.origin, other.origin) {
-        (Origin::Caller, Origin::Caller) => {
-            if home.name.is_some() && other.name.is_some() {
-                "if it does at each call, declare so behind the parameters: % > %"
-            } else {
-                "name the regions of both types, as one, or as two with a constraint: `a > `b"
-            }
-        }
-        (_, Origin::Dynamic) => {
-            "a dynamic region ends where its key is given back: only the heap is known to outlive it"
-        }
-        (Origin::Block, _) => {
-            "a variable is gone when its block ends: make an object by new, or by rnew in the other region"
-        }
-        (Origin::Item, _) => { "what is in % is gone when its block ends: make the object in %" }
-        _ => "",
-    }
-}
-
-/// What to do about a region of the function at hand that does not outlive the heap, or that of unique pointers.
-fn advice_below_heap(home: Home, other: Region) -> &'static str {
-    match (home.origin, other) {
-        (Origin::Caller, Region::Heap) => {
+/// What to do about a region of the function at hand that does not outlive another.
+fn advice_on_regions(home: Home, other: Region, other_home: Option<Home>) -> &'static str {
+    match (home.origin, other, other_home) {
+        (_, Region::Unique, _) => "",
+        (Origin::Caller, Region::Heap, _) => {
             "a parameter's pointer may lead anywhere: write `H behind its mark to take heap pointers alone, or name one region on both sides, as in int *`r same(int *`r p)"
         }
-        (Origin::Block, Region::Heap) => {
+        (Origin::Block, Region::Heap, _) => {
             "a variable is gone when its block ends: make the object by new"
         }
-        (Origin::Item | Origin::Dynamic, Region::Heap) => {
+        (_, Region::Heap, _) => {
             "what is in % is gone when its region ends: make the object by new, or write the region into the type"
         }
-        _ => "",
+        (
+            _,
+            _,
+            Some(
+                Home {
+                    origin: Origin::Dynamic,
+                    ..
+                },
+            ),
+        ) => {
+            "a dynamic region ends where its key is given back: only the heap is known to outlive it"
+        }
+        (Origin::Caller, _, Some(Home { name: Some(_), .. })) if home.name.is_some() => {
+            "if it does at each call, declare so behind the parameters: % > %"
+        }
+        (Origin::Caller, _, _) => {
+            "name the regions of both types, as one, or as two with a constraint: `a > `b"
+        }
+        (Origin::Block, _, _) => {
+            "a variable is gone when its block ends: make an object by new, or by rnew in the other region"
+        }
+        (_, _, _) => "what is in % is gone when its block ends: make the object in %",
     }
 }
 
@@ -166,31 +184,13 @@ fn has_shape(of_type: &Ty, wanted: &Ty) -> bool {
 fn advice(given: Given<'_>, wanted: &Ty) -> &'static str {
     match (given, wanted) {
         (Given::Void, _) => "a function that returns no value is called by itself",
-        (Given::Int, Ty::Pointer { .. }) => "write NULL for a null pointer",
+        (Given::Int | Given::Value(Ty::Int), Ty::Pointer { .. }) => "write NULL for a null pointer",
         (Given::Value(Ty::Pointer { target, .. }), Ty::Pointer { .. })
             if !matches!(**target, Ty::Int) => {
             "what a pointer leads to is not converted: put a value of that very type there"
         }
         (Given::Value(Ty::Pointer { .. }), Ty::Int) => "write *p for what p leads to",
         _ => "",
-    }
-}
-
-/// Says that a value is not of a type that is wanted.
-pub(crate) fn say_conversion(teller: &mut Teller<'_>, given: Given<'_>, wanted: &Ty) {
-    teller.say(
-        "expected %, found %",
-        &[Part::Type(wanted), Part::Given(given)],
-    );
-    match (teller.fault.code, given, wanted) {
-        (Code::TypeMismatch, Given::Value(of_type), _) if has_shape(of_type, wanted) => {
-            teller.say(", with other regions inside", &[]);
-        }
-        (Code::TypeMismatch, _, _) => teller.hint(advice(given, wanted), &[]),
-        (Code::NotOutlived, _, Ty::Pointer { region, .. }) => {
-            say_shorter(teller, given.region(), *region);
-        }
-        _ => {}
     }
 }
 
@@ -204,9 +204,22 @@ pub(crate) fn explain_conversion(
 ) {
     let mut settled = Settled::new();
     convert(&mut settled, scope, given, wanted, span);
-    if let Some(broken) = settled.known {
-        if teller.is_fault(broken.code, span) {
-            say_conversion(teller, given, wanted);
+    let Some(broken) = settled.known else {
+        return;
+    };
+    if !teller.is_fault(broken.code, span) {
+        return;
+    }
+    let parts = [Part::Given(Given::Value(wanted)), Part::Given(given)];
+    teller.say("expected %, found %", &parts);
+    match (broken.code, given, wanted) {
+        (Code::TypeMismatch, Given::Value(of_type), _) if has_shape(of_type, wanted) => {
+            teller.say(", with other regions inside", &[]);
         }
+        (Code::TypeMismatch, _, _) => teller.hint(advice(given, wanted), &[]),
+        (Code::NotOutlived, _, Ty::Pointer { region, .. }) => {
+            say_shorter(teller, given.region(), *region);
+        }
+        _ => {}
     }
 }

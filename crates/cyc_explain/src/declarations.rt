@@ -1,5 +1,5 @@
 //! Words for the heads of declarations, and for the values of globals.
-use crate::names::{explain_twice, first_among};
+use crate::names::explain_twice;
 use crate::teller::{Part, Teller};
 use crate::written::{explain_region, explain_written};
 use cyc_heads::members;
@@ -18,13 +18,9 @@ pub(crate) fn explain_head(
 ) {
     teller.function = None;
     match declaration {
-        Declaration::Struct {
-            name,
-            regions,
-            fields,
-        } => {
+        Declaration::Struct { name, fields, .. } => {
             explain_twice(teller, *name, first_declared(before, *name, true));
-            explain_fields(teller, regions, fields);
+            explain_fields(teller, fields);
         }
         Declaration::Exceptions { constructors } => explain_constructors(teller, constructors),
         Declaration::Global {
@@ -96,15 +92,12 @@ fn explain_members(teller: &mut Teller<'_>, members: &[Member]) {
     }
 }
 
-/// The words for the region parameters of a struct and its fields.
-fn explain_fields(teller: &mut Teller<'_>, regions: &[Ident], fields: &[Member]) {
-    for i in 0..regions.len() {
-        let first = first_among(&regions[..i], regions[i].name.number);
-        explain_twice(teller, regions[i], first);
-    }
+/// The words for the fields of a struct.
+fn explain_fields(teller: &mut Teller<'_>, fields: &[Member]) {
     for field in fields {
         if let BaseType::Key { .. } = &field.of_type.base {
-            let text = "a key is a variable, a parameter or a result, and no field";
+            let text =
+                "a key is a variable, a parameter or a result, and no field\nhint: pass the key beside the struct";
             teller.say_of(Code::RegionOrKeyMisused, field.of_type.span, text, &[]);
         }
         let unknown = "`% is no region parameter of the struct: write it behind the struct's name";
@@ -123,7 +116,8 @@ fn explain_asked(teller: &mut Teller<'_>, parameters: &Parameters) {
         explain_region(teller, constraint.shorter, UNKNOWN, unique);
     }
     if let Some(effect) = &parameters.effect {
-        let misused = "`% has a key in this head, or is `U: so no effect names it";
+        let misused =
+            "`% has a key in this head, or is `U: so no effect names it\nhint: leave it out of the effect";
         for region in effect {
             explain_region(teller, *region, UNKNOWN, misused);
         }

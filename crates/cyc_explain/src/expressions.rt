@@ -26,7 +26,8 @@ pub(crate) fn explain_expression(walk: &mut Walk<'_, '_>, expression: &Expr) {
     match expression {
         Expr::Variable { name } => explain_name(teller, scope, *name),
         Expr::UniqueRegion { span } => {
-            let text = "unique_region stands alone between the brackets of rnew, and is no value";
+            let text =
+                "unique_region stands alone between the brackets of rnew, and is no value\nhint: write rnew(unique_region) and what the object is made of";
             teller.say_of(Code::RegionOrKeyMisused, *span, text, &[]);
         }
         Expr::FreeKey { key, .. } => explain_key(teller, scope, *key),
@@ -92,18 +93,10 @@ pub(crate) fn explain_key(teller: &mut Teller<'_>, scope: &Scope<'_>, name: Iden
         _ => &Ty::Int,
     };
     if !is_key(of_type) {
-        let parts = [Part::Name(name), Part::Type(of_type)];
-        let text = "% is no key of a dynamic region: found %";
+        let parts = [Part::Name(name), Part::Given(Given::Value(of_type))];
+        let text =
+            "% is no key of a dynamic region: found %\nhint: a key is declared so: let NewDynamicRegion{<`k> key} = new_ukey();";
         teller.say_of(Code::RegionOrKeyMisused, name.span, text, &parts);
-    }
-}
-
-/// The name that an expression is, brackets aside.
-fn name_in(expression: &Expr) -> Option<Ident> {
-    match expression {
-        Expr::Variable { name } => Some(*name),
-        Expr::Bracketed { inner, .. } => name_in(inner),
-        _ => None,
     }
 }
 
@@ -112,24 +105,20 @@ pub(crate) fn explain_place(teller: &mut Teller<'_>, scope: &Scope<'_>, expressi
     if !teller.is_fault(Code::NotAPlace, span_of(expression)) {
         return;
     }
-    let Some(name) = name_in(expression) else {
+    let Some(name) = root_of(expression) else {
         teller.hint("a variable, *p, p->f and p[i] are places", &[]);
         return;
     };
-    let parts = [Part::Name(name)];
-    match scope.meaning(name) {
+    let text = match scope.meaning(name) {
         Meaning::Fixed { .. } => {
-            let text = "% is the handle of a region item: it is not assigned and has no address";
-            teller.say(text, &parts);
-            teller.hint("copy it into a variable: region_t<`r> copy = %;", &parts);
+            "% is the handle of a region item: it is not assigned and has no address\nhint: copy it into a variable: region_t<`r> copy = %;"
         }
         Meaning::Counter { .. } => {
-            let text = "% counts the elements: it is not assigned and has no address";
-            teller.say(text, &parts);
-            teller.hint("copy it into a variable", &[]);
+            "% counts the elements: it is not assigned and has no address\nhint: copy it into a variable"
         }
-        _ => teller.say("% is a function, and no variable", &parts),
-    }
+        _ => "% is a function, and no variable",
+    };
+    teller.say(text, &[Part::Name(name), Part::Name(name)]);
 }
 
 /// The words for a value that is assigned to a place of another type.
@@ -146,13 +135,17 @@ fn explain_assigned(teller: &mut Teller<'_>, scope: &mut Scope<'_>, target: &Exp
     }
 }
 
-/// The variable that an address is taken through.
+/// The variable that a place is, or is reached through.
 fn root_of(expression: &Expr) -> Option<Ident> {
     match expression {
         Expr::Variable { name } => Some(*name),
         Expr::Bracketed { inner, .. } => root_of(inner),
         Expr::Chained { base, .. } => root_of(base),
-        Expr::Prefixed { operand, .. } => root_of(operand),
+        Expr::Prefixed {
+            operator: PrefixOperator::Dereference,
+            operand,
+            ..
+        } => root_of(operand),
         _ => None,
     }
 }
@@ -163,17 +156,10 @@ fn explain_address(teller: &mut Teller<'_>, scope: &Scope<'_>, operand: &Expr) {
     explain_place(teller, scope, operand);
     teller.say_of(Code::RegionOrKeyMisused, span, "a key has no address", &[]);
     if let Some(name) = root_of(operand) {
-        if teller.is_fault(Code::UniqueShared, span) {
-            let parts = [Part::Name(name)];
-            teller.say(
-                "what % leads to may be given back while its address is kept",
-                &parts,
-            );
-            teller.hint(
-                "lend it: let alias <`a> int *`a x = %; with the pointer's own type, and take the address by x",
-                &parts,
-            );
-        }
+        let parts = [Part::Name(name), Part::Name(name)];
+        let text =
+            "what % leads to may be given back while its address is kept\nhint: lend it: let alias <`a> int *`a x = %; with the pointer's own type, and take the address by x";
+        teller.say_of(Code::UniqueShared, span, text, &parts);
     }
 }
 

@@ -3,7 +3,7 @@ use cyc_types::Region;
 use cyc_words::Span;
 
 /// What makes a region.
-#[derive(Clone, Copy, PartialEq, Eq)]
+#[derive(Clone, Copy)]
 pub(crate) enum Origin {
     /// The caller.
     Caller,
@@ -35,4 +35,12 @@ pub(crate) fn find_home(homes: &[Home], region: Region) -> Option<Home> {
         }
     }
     None
+}
+
+/// The name of a region, if it has one.
+pub(crate) fn find_name(homes: &[Home], region: Region) -> Option<usize> {
+    match find_home(homes, region) {
+        Some(home) => home.name,
+        None => None,
+    }
 }

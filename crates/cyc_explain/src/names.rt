@@ -32,31 +32,27 @@ fn is_known(scope: &Scope<'_>, sort: Sort, name: Ident) -> bool {
     }
 }
 
-/// How many bytes two texts begin with alike.
-fn alike_from_start(a: &[u8], b: &[u8]) -> usize {
-    for i in 0..a.len() {
-        if b.get(i) != a.get(i) {
-            return i;
-        }
-    }
-    a.len()
-}
-
-/// How many bytes two texts end with alike.
-fn alike_from_end(a: &[u8], b: &[u8]) -> usize {
-    for i in 0..a.len() {
-        if i >= b.len() || a[a.len() - 1 - i] != b[b.len() - 1 - i] {
-            return i;
-        }
-    }
-    a.len()
-}
-
-/// Whether texts of at least three bytes differ in one place: by a byte that is another, is missing or is too many.
+/// Whether texts of at least three bytes differ in one place: by a byte that is another, is missing or is too many, or by two
+/// that stand the other way round.
 fn is_near(a: &[u8], b: &[u8]) -> bool {
-    let longest = a.len().max(b.len());
-    let alike = alike_from_start(a, b).saturating_add(alike_from_end(a, b));
-    a.len() > 2 && b.len() > 2 && alike.saturating_add(1) >= longest
+    let shortest = a.len().min(b.len());
+    let mut from_start = 0usize;
+    let mut from_end = 0usize;
+    for i in 0..shortest {
+        if from_start == i && a[i] == b[i] {
+            from_start = i + 1;
+        }
+        if from_end == i && a[a.len() - 1 - i] == b[b.len() - 1 - i] {
+            from_end = i + 1;
+        }
+    }
+    let alike = from_start.saturating_add(from_end);
+    let most = if a.len() == b.len() && shortest > 3 {
+        2
+    } else {
+        1
+    };
+    shortest > 2 && alike.saturating_add(most) >= a.len().max(b.len())
 }
 
 /// A declared name that is near to this one.
@@ -101,16 +97,6 @@ pub(crate) fn explain_twice(teller: &mut Teller<'_>, name: Ident, first: Option<
             &parts,
         );
     }
-}
-
-/// Where one of these names is first declared that has this number.
-pub(crate) fn first_among(names: &[Ident], number: usize) -> Option<Span> {
-    for name in names {
-        if name.name.number == number {
-            return Some(name.span);
-        }
-    }
-    None
 }
 
 /// The words for a region that is declared in a function which has one of this name.

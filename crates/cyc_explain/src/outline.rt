@@ -13,7 +13,7 @@ pub(crate) enum Node<'t> {
     Item(&'t Item),
     Statement(&'t Stmt),
     Clause(&'t Clause),
-    /// A default clause.
+    /// A default clause, which has no place of its own: it begins where the next form does.
     Default,
     Expression(&'t Expr),
 }
@@ -33,12 +33,14 @@ pub(crate) struct Ending {
     pub(crate) span: Span,
 }
 
-/// The forms and the regions of a function. Once memory has run out what is met is left out.
+/// The forms and the regions of a function.
 #[derive(Drop)]
 pub(crate) struct Outline<'t> {
     pub(crate) sites: Vec<Site<'t>>,
     pub(crate) homes: Vec<Home>,
     pub(crate) endings: Vec<Ending>,
+    /// Whether memory did not run out, so that nothing was left out.
+    pub(crate) is_whole: bool,
     /// Where the block ends that stands around what is next.
     block_end: Option<Span>,
 }
@@ -50,6 +52,7 @@ impl<'t> Outline<'t> {
             sites: Vec::new(alloc),
             homes: Vec::new(alloc),
             endings: Vec::new(alloc),
+            is_whole: true,
             block_end: None,
         }
     }
@@ -78,20 +81,17 @@ impl<'t> Outline<'t> {
         }
     }
 
-    fn add_home(&mut self, region: usize, name: Option<usize>, span: Span, origin: Origin) {
-        let _ = self.homes.push(Home {
-            region,
-            name,
-            span,
-            origin,
-        });
-    }
-
     /// Adds a region of the caller, where it is not known yet.
     fn add_caller(&mut self, region: Region, name: Option<usize>, span: Span, origin: Origin) {
         if let Region::Variable(number) = region {
             if find_home(&self.homes, region).is_none() {
-                self.add_home(number, name, span, origin);
+                let home = Home {
+                    region: number,
+                    name,
+                    span,
+                    origin,
+                };
+                self.is_whole = self.homes.push(home).is_ok() && self.is_whole;
             }
         }
     }
@@ -144,7 +144,8 @@ impl<'t> Outline<'t> {
     // ---- the body
 
     fn add(&mut self, node: Node<'t>, span: Span, depth: usize) {
-        let _ = self.sites.push(Site { node, span, depth });
+        let site = Site { node, span, depth };
+        self.is_whole = self.sites.push(site).is_ok() && self.is_whole;
     }
 
     /// Adds the items of a block that stands in so many forms.
@@ -173,7 +174,8 @@ impl<'t> Outline<'t> {
                 self.add(Node::Item(item), region.span, depth);
                 if let Some(span) = self.block_end {
                     let name = region.name.number;
-                    let _ = self.endings.push(Ending { name, span });
+                    let ending = Ending { name, span };
+                    self.is_whole = self.endings.push(ending).is_ok() && self.is_whole;
                 }
             }
             Item::Region { region, .. }
@@ -244,11 +246,11 @@ impl<'t> Outline<'t> {
                 clauses,
                 default,
             } => {
-                self.add(Node::Statement(statement), *span, depth);
-                self.add_statement(body, inside);
-                self.add_clauses(clauses, inside);
+                self.add_statement(body, depth);
+                self.add_clauses(clauses, depth);
                 if let Some(items) = default {
-                    self.add_default(items, *span, inside);
+                    self.add(Node::Default, *span, depth);
+                    self.add_items(items, inside);
                 }
             }
             Stmt::Empty { .. } | Stmt::Break { .. } | Stmt::Continue { .. } => {}
@@ -261,20 +263,6 @@ impl<'t> Outline<'t> {
             let span = clause.exception.span;
             self.add(Node::Clause(clause), span, depth);
             self.add_items(&clause.items, depth.saturating_add(1));
-        }
-    }
-
-    /// Adds a default clause, which has no place but that of its first form, if there is one.
-    #[cycle(statement)]
-    fn add_default(&mut self, items: &'t [Item], span: Span, depth: usize) {
-        let before = self.sites.len();
-        self.add(Node::Default, span, depth);
-        self.add_items(items, depth.saturating_add(1));
-        if let Some(first) = self.sites.get(before.saturating_add(1)) {
-            let span = first.span;
-            if let Some(own) = self.sites.get_mut(before) {
-                own.span = span;
-            }
         }
     }
 

@@ -36,28 +36,30 @@ pub(crate) fn left_out_of(value: &Option<ValueType>) -> Region {
     }
 }
 
-/// Notes where the next region begins: where its name stands, if it has one.
-fn note_home(walk: &mut Walk<'_, '_>, name: Option<Ident>, span: Span, origin: Origin) {
-    let region = walk.scope.next_region();
-    let home = match name {
-        Some(name) => Home {
-            region,
-            name: Some(name.name.number),
-            span: name.span,
-            origin,
-        },
-        None => Home {
-            region,
-            name: None,
-            span,
-            origin,
-        },
+/// Notes where a region begins: where its name stands, if it has one.
+pub(crate) fn note_home(
+    walk: &mut Walk<'_, '_>,
+    region: usize,
+    name: Option<Ident>,
+    span: Span,
+    origin: Origin,
+) {
+    let (name, span) = match name {
+        Some(name) => (Some(name.name.number), name.span),
+        None => (None, span),
     };
-    let _ = walk.teller.homes.push(home);
+    let home = Home {
+        region,
+        name,
+        span,
+        origin,
+    };
+    walk.teller.is_whole = walk.teller.homes.push(home).is_ok() && walk.teller.is_whole;
 }
 
 fn enter_block(walk: &mut Walk<'_, '_>, label: Option<Ident>, span: Span) {
-    note_home(walk, label, span, Origin::Block);
+    let region = walk.scope.next_region();
+    note_home(walk, region, label, span, Origin::Block);
     let _ = match label {
         Some(label) => walk.scope.enter_labelled(label),
         None => walk.scope.enter_block(),
@@ -66,10 +68,10 @@ fn enter_block(walk: &mut Walk<'_, '_>, label: Option<Ident>, span: Span) {
 
 /// Behind an item that makes and opens a region of this name.
 fn open_region(walk: &mut Walk<'_, '_>, kind: Kind, name: Ident) -> Region {
-    let own = Region::Variable(walk.scope.next_region());
-    note_home(walk, Some(name), name.span, Origin::Item);
+    let region = walk.scope.next_region();
+    note_home(walk, region, Some(name), name.span, Origin::Item);
     let _ = walk.scope.open_region(kind, name);
-    own
+    Region::Variable(region)
 }
 
 /// Behind the declaration of a local of a written type.
@@ -90,7 +92,7 @@ fn left_out_of_alias(scope: &Scope<'_>, source: Ident) -> Region {
 }
 
 /// Behind an item that is well typed. What a statement declares is out of scope behind it.
-fn pass_item(walk: &mut Walk<'_, '_>, item: &Item) {
+pub(crate) fn pass_item(walk: &mut Walk<'_, '_>, item: &Item) {
     match item {
         Item::Statement { .. } => {}
         Item::Local {
@@ -132,10 +134,13 @@ fn pass_item(walk: &mut Walk<'_, '_>, item: &Item) {
             declare(&mut walk.scope, of_type, left_out, *name);
         }
         Item::DynamicRegion { region, key } => {
-            let own = Region::Variable(walk.scope.next_region());
-            note_home(walk, Some(*region), region.span, Origin::Dynamic);
+            let own = walk.scope.next_region();
+            note_home(walk, own, Some(*region), region.span, Origin::Dynamic);
             let _ = walk.scope.declare_region(*region);
-            let _ = walk.scope.declare_local(*key, Ty::Key { region: own });
+            let of_type = Ty::Key {
+                region: Region::Variable(own),
+            };
+            let _ = walk.scope.declare_local(*key, of_type);
         }
     }
 }
@@ -176,12 +181,5 @@ pub(crate) fn enter(walk: &mut Walk<'_, '_>, site: &Site<'_>) {
             open_region(walk, Kind::Alias, *region);
         }
         Node::Item(_) => {}
-    }
-}
-
-/// Behind a form that ends before the fault, in a block that the fault stands in.
-pub(crate) fn pass(walk: &mut Walk<'_, '_>, site: &Site<'_>) {
-    if let Node::Item(item) = site.node {
-        pass_item(walk, item);
     }
 }

@@ -8,8 +8,8 @@ use crate::teller::{Part, Teller};
 use crate::values::{given, place_type, value_type};
 use crate::wanted::{Wanted, explain_content, explain_value};
 use crate::written::{explain_region, explain_written};
-use cyc_forms::span_of;
 use cyc_forms::types::{is_unique, region_of as region_of_type};
+use cyc_forms::{Given, span_of};
 use cyc_scope::{Meaning, Scope};
 use cyc_syntax::{BaseType, Expr, Ident, Stmt, WrittenType};
 use cyc_types::Ty;
@@ -76,8 +76,8 @@ fn explain_return(
     let Some(written) = value else {
         if let Some(of_type) = scope.result_type() {
             if teller.is_fault(Code::TypeMismatch, span) {
-                teller.say("expected %, found no value", &[Part::Type(of_type)]);
-                teller.hint("write a value behind return", &[]);
+                let text = "expected %, found no value\nhint: write a value behind return";
+                teller.say(text, &[Part::Given(Given::Value(of_type))]);
             }
         }
         return;
@@ -105,7 +105,10 @@ fn explain_swap(teller: &mut Teller<'_>, scope: &mut Scope<'_>, left: &Expr, rig
     }
     if let (Some(first), Some(second)) = (place_type(scope, left), place_type(scope, right)) {
         explain_content(teller, &first, span);
-        let parts = [Part::Type(&first), Part::Type(&second)];
+        let parts = [
+            Part::Given(Given::Value(&first)),
+            Part::Given(Given::Value(&second)),
+        ];
         let text = "expected the same type, with the same regions, found % and %";
         teller.say_of(Code::TypeMismatch, span, text, &parts);
     }
@@ -174,7 +177,7 @@ pub(crate) fn explain_alias(
             ..
         } => {
             explain_lent_type(teller, scope, region, written, of_type);
-            let parts = [Part::Name(source), Part::Type(of_type)];
+            let parts = [Part::Name(source), Part::Given(Given::Value(of_type))];
             if let Lvalue::Global { .. } = target {
                 let text = "% is a global: only a local is lent";
                 teller.say_of(Code::UniqueShared, source.span, text, &parts);
@@ -213,7 +216,10 @@ fn explain_lent_type(
             target,
             region: region_of(scope.names(), region),
         };
-        let parts = [Part::Type(&wanted), Part::Type(&found)];
+        let parts = [
+            Part::Given(Given::Value(&wanted)),
+            Part::Given(Given::Value(&found)),
+        ];
         teller.say("expected %, found %", &parts);
         teller.hint(
             "an alias has its source's type, with its own region in place of `U",

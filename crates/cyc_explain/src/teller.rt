@@ -15,16 +15,13 @@ pub(crate) enum Part<'a> {
     Number(usize),
     Place(Span),
     Name(Ident),
-    Type(&'a Ty),
+    Given(Given<'a>),
     /// A type as it is written, in which what is left out is the heap.
     Written(&'a WrittenType),
-    Given(Given<'a>),
     /// A region of the function at hand, by its name or else by its place.
     Region(Region),
     /// The same of a function that is called, as its own head names it.
     Theirs(Region),
-    /// Where a region of the function at hand begins.
-    Beginning(Region),
 }
 
 /// The lines that are said of a fault, and what they name.
@@ -41,7 +38,8 @@ pub(crate) struct Teller<'t> {
     /// Where blocks end that open a dynamic region.
     pub(crate) endings: Vec<Ending>,
     bytes: Vec<u8>,
-    is_whole: bool,
+    /// Whether memory did not run out.
+    pub(crate) is_whole: bool,
 }
 
 fn mark_of(kind: PointerKind) -> &'static str {
@@ -89,15 +87,11 @@ impl<'t> Teller<'t> {
         None
     }
 
-    pub(crate) fn has_said(&self) -> bool {
-        !self.bytes.is_empty()
-    }
-
     // ---- the fault
 
     /// Whether the fault stands at this place, and nothing was said of it yet.
     pub(crate) fn is_at(&self, span: Span) -> bool {
-        self.fault.line == span.line && self.fault.column == span.column && !self.has_said()
+        self.fault.line == span.line && self.fault.column == span.column && self.bytes.is_empty()
     }
 
     /// Whether the fault is this one, and nothing was said of it yet.
@@ -140,10 +134,11 @@ impl<'t> Teller<'t> {
         if text.is_empty() {
             return;
         }
-        if self.has_said() {
-            self.put(b"\n");
-        }
-        self.put(b"hint: ");
+        self.put(if self.bytes.is_empty() {
+            b"hint: "
+        } else {
+            b"\nhint: "
+        });
         self.say(text, parts);
     }
 
@@ -151,10 +146,6 @@ impl<'t> Teller<'t> {
         if self.bytes.extend_from_slice(bytes).is_err() {
             self.is_whole = false;
         }
-    }
-
-    fn put_text(&mut self, text: &str) {
-        self.put(text.as_bytes());
     }
 
     fn put_number(&mut self, number: usize) {
@@ -179,13 +170,16 @@ impl<'t> Teller<'t> {
 
     fn say_part(&mut self, part: Part<'_>) {
         match part {
-            Part::Text(text) => self.put_text(text),
+            Part::Text(text) => self.put(text.as_bytes()),
             Part::Number(number) => self.put_number(number),
             Part::Place(span) => self.put_place(span),
             Part::Name(name) => self.put_name(name.name.number),
-            Part::Type(of_type) => self.say_type(of_type),
+            Part::Given(Given::Void) => self.put(b"no value"),
+            Part::Given(Given::Null) => self.put(b"NULL"),
+            Part::Given(Given::Int) => self.put(b"int"),
+            Part::Given(Given::HeapHandle) => self.put(b"region_t<`H>"),
+            Part::Given(Given::Value(of_type)) => self.say_type(of_type),
             Part::Written(written) => self.say_written(written),
-            Part::Given(given) => self.say_given(given),
             Part::Region(region) => {
                 let home = find_home(&self.homes, region);
                 self.say_region(region, home);
@@ -194,84 +188,64 @@ impl<'t> Teller<'t> {
                 let home = find_home(&self.theirs, region);
                 self.say_region(region, home);
             }
-            Part::Beginning(region) => self.say_beginning(region),
         }
     }
 
-    // ---- regions
-
-    /// A region by its name, if it has one.
-    fn say_named(&mut self, region: Region, home: Option<Home>) {
-        match region {
-            Region::Heap => self.put(b"`H"),
-            Region::Unique => self.put(b"`U"),
-            Region::Variable(_) => {
-                if let Some(name) = home.and_then(|home| home.name) {
-                    self.put(b"`");
-                    self.put_name(name);
-                }
-            }
-        }
-    }
+    // ---- regions and types
 
     /// A region by its name, or else by its place.
     fn say_region(&mut self, region: Region, home: Option<Home>) {
-        if let Some(
-            Home {
-                name: None,
-                origin,
-                span,
-                ..
-            },
-        ) = home
-        {
-            self.put_text(match origin {
-                Origin::Block => "the region that begins at ",
-                _ => "a region left out at ",
-            });
-            self.put_place(span);
-        } else {
-            self.say_named(region, home);
-        }
-    }
-
-    fn say_beginning(&mut self, region: Region) {
-        let home = find_home(&self.homes, region);
-        self.say_region(region, home);
         match home {
-            Some(home) => match home.origin {
-                Origin::Caller => self.put(b" comes from the caller"),
-                Origin::Block | Origin::Item => {
-                    self.put(b" begins at ");
-                    self.put_place(home.span);
-                }
-                Origin::Dynamic => {
-                    self.put(b" is a dynamic region, declared at ");
-                    self.put_place(home.span);
-                }
-            },
-            None => self.put_text(match region {
-                Region::Unique => " stands apart from all regions",
-                _ => " lives for the whole run",
-            }),
+            Some(
+                Home {
+                    name: None,
+                    origin,
+                    span,
+                    ..
+                },
+            ) => {
+                self.put(match origin {
+                    Origin::Block => b"the region that begins at ",
+                    _ => b"a region left out at ",
+                });
+                self.put_place(span);
+            }
+            _ => self.say_named(region, home),
         }
     }
 
-    // ---- types
-
-    fn say_own(&mut self, region: Region) {
-        let home = find_home(&self.homes, region);
-        self.say_named(region, home);
+    /// A region by its name, if it has one.
+    fn say_named(&mut self, region: Region, home: Option<Home>) {
+        match (region, home) {
+            (Region::Heap, _) => self.put(b"`H"),
+            (Region::Unique, _) => self.put(b"`U"),
+            (
+                _,
+                Some(
+                    Home {
+                        name: Some(name),
+                        ..
+                    },
+                ),
+            ) => {
+                self.put(b"`");
+                self.put_name(name);
+            }
+            _ => {}
+        }
     }
 
-    fn say_arguments(&mut self, regions: &[Region]) {
+    /// The regions of a type between these texts.
+    fn say_arguments(&mut self, open: &str, regions: &[Region], close: &str) {
+        self.put(open.as_bytes());
         for i in 0..regions.len() {
-            self.put_text(if i == 0 { "<" } else { "," });
-            self.say_own(regions[i]);
+            if i > 0 {
+                self.put(b",");
+            }
+            let home = find_home(&self.homes, regions[i]);
+            self.say_named(regions[i], home);
         }
-        if !regions.is_empty() {
-            self.put(b">");
-        }
+        self.put(close.as_bytes());
     }
 
     /// A type as it is written, where a region without a name is left out.
@@ -284,65 +258,42 @@ impl<'t> Teller<'t> {
                 region,
             } => {
                 self.say_type(target);
-                self.put_text(mark_of(*kind));
-                self.say_own(*region);
+                self.say_arguments(mark_of(*kind), &[*region], "");
             }
-            Ty::Handle { region } => {
-                self.put(b"region_t<");
-                self.say_own(*region);
-                self.put(b">");
-            }
-            Ty::Key { region } => {
-                self.put(b"uregion_key_t<");
-                self.say_own(*region);
-                self.put(b">");
-            }
+            Ty::Handle { region } => self.say_arguments("region_t<", &[*region], ">"),
+            Ty::Key { region } => self.say_arguments("uregion_key_t<", &[*region], ">"),
             Ty::Struct { number, regions } => {
                 self.put(b"struct ");
                 if let Some(name) = struct_name(&self.tree.declarations, *number) {
                     self.put_name(name.name.number);
                 }
-                self.say_arguments(regions);
+                if !regions.is_empty() {
+                    self.say_arguments("<", regions, ">");
+                }
             }
         }
-    }
-
-    fn say_given(&mut self, given: Given<'_>) {
-        match given {
-            Given::Void => self.put(b"no value"),
-            Given::Null => self.put(b"NULL"),
-            Given::Int => self.put(b"int"),
-            Given::HeapHandle => self.put(b"region_t<`H>"),
-            Given::Value(of_type) => self.say_type(of_type),
-        }
-    }
-
-    fn say_base(&mut self, base: &BaseType) {
-        let (text, name, end) = match base {
-            BaseType::Int => {
-                self.put(b"int");
-                return;
-            }
-            BaseType::Struct { name, .. } => ("struct ", *name, ""),
-            BaseType::Handle { region } => ("region_t<`", *region, ">"),
-            BaseType::Key { region } => ("uregion_key_t<`", *region, ">"),
-        };
-        self.put_text(text);
-        self.put_name(name.name.number);
-        self.put_text(end);
     }
 
     /// A type as it is written, in which what is left out is the heap.
     fn say_written(&mut self, written: &WrittenType) {
-        self.say_base(&written.base);
+        match &written.base {
+            BaseType::Int => self.put(b"int"),
+            BaseType::Struct { name, .. } => {
+                self.put(b"struct ");
+                self.put_name(name.name.number);
+            }
+            BaseType::Handle { region } | BaseType::Key { region } => {
+                self.put(b"region_t<`");
+                self.put_name(region.name.number);
+                self.put(b">");
+            }
+        }
         for mark in &written.marks {
-            self.put_text(mark_of(mark.kind));
+            self.put(mark_of(mark.kind).as_bytes());
+            self.put(b"`");
             match mark.region {
-                Some(region) => {
-                    self.put(b"`");
-                    self.put_name(region.name.number);
-                }
-                None => self.put(b"`H"),
+                Some(region) => self.put_name(region.name.number),
+                None => self.put(b"H"),
             }
         }
     }

@@ -143,31 +143,17 @@ pub(crate) fn explain_given(
         );
         teller.hint(wanted.advice(value), &[]);
     }
-    if teller.is_fault(Code::RegionOrKeyMisused, span) {
-        explain_misused(teller, wanted, value);
-    }
-    explain_closed(teller, scope, value, span);
-}
-
-/// The words for a value that is no unique pointer where one is given back, and for a key where there may be none.
-fn explain_misused(teller: &mut Teller<'_>, wanted: Wanted, value: Given<'_>) {
-    match wanted {
+    let parts = [Part::Given(value)];
+    let text = match wanted {
         Wanted::Freed => {
-            teller.say(
-                "ufree takes a unique pointer (`U), found %",
-                &[Part::Given(value)],
-            );
-            teller.hint(
-                "make the object by rnew(unique_region) if it is to be given back",
-                &[],
-            );
+            "ufree takes a unique pointer (`U), found %\nhint: make the object by rnew(unique_region) if it is to be given back"
         }
-        Wanted::Content => {
-            teller.say("no object holds a key", &[]);
-            teller.hint("keep the key in a variable, a parameter or a result", &[]);
+        _ => {
+            "no object holds a key, found %\nhint: keep the key in a variable, a parameter or a result"
         }
-        _ => {}
-    }
+    };
+    teller.say_of(Code::RegionOrKeyMisused, span, text, &parts);
+    explain_closed(teller, scope, value, span);
 }
 
 /// The words where an operand is not what is wanted.
@@ -189,7 +175,7 @@ pub(crate) fn explain_value(
 /// The words for a cell of this type that is read at this place, where it is a struct or a unique pointer.
 pub(crate) fn explain_content(teller: &mut Teller<'_>, of_type: &Ty, span: Span) {
     if is_struct(of_type) {
-        let parts = [Part::Type(of_type)];
+        let parts = [Part::Given(Given::Value(of_type))];
         teller.say_of(
             Code::TypeMismatch,
             span,
@@ -198,7 +184,7 @@ pub(crate) fn explain_content(teller: &mut Teller<'_>, of_type: &Ty, span: Span)
         );
     }
     if is_unique(of_type) || is_key(of_type) {
-        let parts = [Part::Type(of_type)];
+        let parts = [Part::Given(Given::Value(of_type))];
         let text = "found %, which stays where it is: no second pointer leads to a unique object";
         teller.say_of(Code::UniqueShared, span, text, &parts);
     }

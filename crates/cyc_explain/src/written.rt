@@ -28,8 +28,10 @@ pub(crate) fn say_count(teller: &mut Teller<'_>, wanted: usize, found: usize, th
         Part::Text(if wanted == 1 { "" } else { "s" }),
         Part::Number(found),
     ];
-    teller.say("expected % %%, found %", &parts);
-    teller.hint("give as many as are wanted", &[]);
+    teller.say(
+        "expected % %%, found %\nhint: give as many as are wanted",
+        &parts,
+    );
 }
 
 /// What a type is that nothing has.
@@ -84,7 +86,7 @@ pub(crate) fn explain_written(teller: &mut Teller<'_>, written: &WrittenType, un
         }
         BaseType::Handle { region } => {
             let misused =
-                "`% has no handle but the name unique_region, between the brackets of rnew";
+                "`% has no handle but the name unique_region\nhint: write rnew(unique_region) where the object is made";
             explain_region(teller, *region, unknown, misused);
         }
         BaseType::Key { region } => {
@@ -92,7 +94,7 @@ pub(crate) fn explain_written(teller: &mut Teller<'_>, written: &WrittenType, un
                 teller,
                 *region,
                 unknown,
-                "`% is always open, and has no key",
+                "`% is always open, and has no key\nhint: name a dynamic region",
             );
         }
     }
