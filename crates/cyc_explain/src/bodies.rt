@@ -69,9 +69,10 @@ pub(crate) fn words_in_body(
     note_home(&mut walk, 0, Some(name), name.span, Origin::Block);
     let steps = steps_to(alloc, &walk.teller, &sites);
     for step in steps.iter().rev() {
-        if step.is_around {
-            enter(&mut walk, &step.site);
-        } else if let Node::Item(item) = step.site.node {
+        let Step { site, is_around } = *step;
+        if is_around {
+            enter(&mut walk, &site);
+        } else if let Node::Item(item) = site.node {
             pass_item(&mut walk, item);
         }
     }
@@ -108,9 +109,7 @@ fn explain_steps(walk: &mut Walk<'_, '_>, steps: &[Step<'_>], members: &[Member]
         let step = steps[i];
         if step.is_around {
             explain_site(walk, &step.site);
-            if let Node::Item(item) = step.site.node {
-                explain_declared(&mut walk.teller, &steps[i..], members, item);
-            }
+            explain_declared(&mut walk.teller, &steps[i..], members);
         }
     }
 }
@@ -152,37 +151,41 @@ fn explain_item(walk: &mut Walk<'_, '_>, item: &Item) {
 
 // ---- locals that are declared twice
 
-/// The local that an item declares.
-fn local_of(item: &Item) -> Option<Ident> {
-    match item {
-        Item::Statement { .. } => None,
-        Item::Local { name, .. }
-        | Item::Region { handle: name, .. }
-        | Item::Alias { name, .. }
-        | Item::DynamicRegion { key: name, .. } => Some(*name),
+/// The local that a form declares.
+fn local_of(node: Node<'_>) -> Option<Ident> {
+    match node {
+        Node::Item(
+            Item::Local { name, .. }
+            | Item::Region { handle: name, .. }
+            | Item::Alias { name, .. }
+            | Item::DynamicRegion { key: name, .. },
+        ) => Some(*name),
+        _ => None,
     }
 }
 
 /// Where a local of this number is declared before the first of these forms, in the same block.
 fn first_in_block(steps: &[Step<'_>], number: usize) -> Option<Span> {
     for i in 1..steps.len() {
-        if steps[i].is_around {
+        let Step { site, is_around } = steps[i];
+        if is_around {
             return None;
         }
-        if let Node::Item(item) = steps[i].site.node {
-            if let Some(name) = local_of(item) {
-                if name.name.number == number {
-                    return Some(name.span);
-                }
+        if let Some(name) = local_of(site.node) {
+            if name.name.number == number {
+                return Some(name.span);
             }
         }
     }
     None
 }
 
-/// The words for a local that its block has already, or the parameters. Behind it are the forms before it.
-fn explain_declared(teller: &mut Teller<'_>, steps: &[Step<'_>], members: &[Member], item: &Item) {
-    let Some(name) = local_of(item) else {
+/// The words where the first of these forms declares a local that its block has already, or the parameters.
+fn explain_declared(teller: &mut Teller<'_>, steps: &[Step<'_>], members: &[Member]) {
+    let Some(first) = steps.first() else {
+        return;
+    };
+    let Some(name) = local_of(first.site.node) else {
         return;
     };
     let number = name.name.number;

@@ -213,7 +213,8 @@ pub(crate) fn explain_conversion(
     let parts = [Part::Given(Given::Value(wanted)), Part::Given(given)];
     teller.say("expected %, found %", &parts);
     match (broken.code, given, wanted) {
-        (Code::TypeMismatch, Given::Value(of_type), _) if has_shape(of_type, wanted) => {
+        (Code::TypeMismatch, Given::Value(of_type), Ty::Pointer { .. })
+            if has_shape(of_type, wanted) => {
             teller.say(", with other regions inside", &[]);
         }
         (Code::TypeMismatch, _, _) => teller.hint(advice(given, wanted), &[]),

@@ -29,7 +29,9 @@ pub(crate) fn explain_head(
             value,
         } => {
             explain_global(teller, of_type, *value);
-            explain_twice(teller, *name, first_declared(before, *name, false));
+            explain_named(teller, before, *name);
+            let text = "main is a variable, and no function";
+            teller.say_of(Code::BadMain, name.span, text, &[]);
         }
         Declaration::Function {
             result,
@@ -38,7 +40,7 @@ pub(crate) fn explain_head(
             ..
         } => {
             explain_main(teller, *name, result, parameters);
-            explain_twice(teller, *name, first_declared(before, *name, false));
+            explain_named(teller, before, *name);
             if let Some(written) = result {
                 explain_written(teller, written, UNKNOWN);
             }
@@ -66,6 +68,13 @@ fn first_declared(before: &[Declaration], name: Ident, is_struct: bool) -> Optio
         }
     }
     None
+}
+
+/// The words for a global or a function whose name is there already.
+fn explain_named(teller: &mut Teller<'_>, before: &[Declaration], name: Ident) {
+    explain_twice(teller, name, first_declared(before, name, false));
+    let text = "`%` is there in each program";
+    teller.say_of(Code::DeclaredTwice, name.span, text, &[Part::Name(name)]);
 }
 
 fn explain_constructors(teller: &mut Teller<'_>, constructors: &[Constructor]) {

@@ -7,7 +7,6 @@ use crate::teller::{Part, Teller};
 use crate::values::{given, place_type, value_type};
 use crate::wanted::{Wanted, explain_content, explain_given, explain_value, wanted_by};
 use crate::written::{explain_region, say_count};
-use cyc_forms::types::is_key;
 use cyc_forms::{Given, is_looking, span_inside, span_of};
 use cyc_scope::{Meaning, Scope};
 use cyc_syntax::{BinaryOperator, Expr, Ident, Initial, Operation, Postfix, PrefixOperator};
@@ -88,14 +87,20 @@ pub(crate) fn explain_name(teller: &mut Teller<'_>, scope: &Scope<'_>, name: Ide
 /// The words for what a name means at a place where a key is wanted.
 pub(crate) fn explain_key(teller: &mut Teller<'_>, scope: &Scope<'_>, name: Ident) {
     explain_name(teller, scope, name);
-    let of_type = match scope.meaning(name) {
-        Meaning::Variable { of_type, .. } | Meaning::Fixed { of_type, .. } => of_type,
-        _ => &Ty::Int,
-    };
-    if !is_key(of_type) {
-        let parts = [Part::Name(name), Part::Given(Given::Value(of_type))];
+    match scope.meaning(name) {
+        Meaning::Variable { of_type, .. } | Meaning::Fixed { of_type, .. } => {
+            explain_no_key(teller, name, Given::Value(of_type));
+        }
+        Meaning::Counter { .. } => explain_no_key(teller, name, Given::Int),
+        _ => {}
+    }
+}
+
+fn explain_no_key(teller: &mut Teller<'_>, name: Ident, given: Given<'_>) {
+    if !given.is_key() {
         let text =
             "% is no key of a dynamic region: found %\nhint: a key is declared so: let NewDynamicRegion{<`k> key} = new_ukey();";
+        let parts = [Part::Name(name), Part::Given(given)];
         teller.say_of(Code::RegionOrKeyMisused, name.span, text, &parts);
     }
 }
@@ -106,7 +111,10 @@ pub(crate) fn explain_place(teller: &mut Teller<'_>, scope: &Scope<'_>, expressi
         return;
     }
     let Some(name) = root_of(expression) else {
-        teller.hint("a variable, *p, p->f and p[i] are places", &[]);
+        teller.hint(
+            "assign to a variable, *p, p->f or p[i]: these alone have an address",
+            &[],
+        );
         return;
     };
     let text = match scope.meaning(name) {
@@ -313,8 +321,9 @@ fn explain_operation(
     if matches!(operator, BinaryOperator::Equal | BinaryOperator::NotEqual)
         && teller.is_fault(Code::TypeMismatch, span)
     {
-        let parts = [Part::Text(COMPARED), Part::Given(left), Part::Given(right)];
-        teller.say("expected %, found % and %", &parts);
+        teller.say("expected %, found ", &[Part::Text(COMPARED)]);
+        teller.say("% and ", &[Part::Given(left)]);
+        teller.say("%", &[Part::Given(right)]);
         teller.hint(advice_on_compared(left, right), &[]);
     }
 }

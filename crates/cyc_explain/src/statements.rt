@@ -67,6 +67,15 @@ pub(crate) fn explain_exception(teller: &mut Teller<'_>, scope: &Scope<'_>, exce
     teller.say_of(Code::DeclaredTwice, exception.span, text, &parts);
 }
 
+/// The words for a `return` without a value at this place.
+fn explain_nothing(teller: &mut Teller<'_>, scope: &Scope<'_>, span: Span) {
+    if let Some(of_type) = scope.result_type() {
+        let text = "expected %, found no value\nhint: write a value behind return";
+        let parts = [Part::Given(Given::Value(of_type))];
+        teller.say_of(Code::TypeMismatch, span, text, &parts);
+    }
+}
+
 fn explain_return(
     teller: &mut Teller<'_>,
     scope: &mut Scope<'_>,
@@ -74,12 +83,7 @@ fn explain_return(
     value: &Option<Expr>,
 ) {
     let Some(written) = value else {
-        if let Some(of_type) = scope.result_type() {
-            if teller.is_fault(Code::TypeMismatch, span) {
-                let text = "expected %, found no value\nhint: write a value behind return";
-                teller.say(text, &[Part::Given(Given::Value(of_type))]);
-            }
-        }
+        explain_nothing(teller, scope, span);
         return;
     };
     if let Some(found) = value_type(scope, written, false) {

@@ -134,11 +134,10 @@ impl<'t> Teller<'t> {
         if text.is_empty() {
             return;
         }
-        self.put(if self.bytes.is_empty() {
-            b"hint: "
-        } else {
-            b"\nhint: "
-        });
+        if !self.bytes.is_empty() {
+            self.put(b"\n");
+        }
+        self.put(b"hint: ");
         self.say(text, parts);
     }
 
@@ -204,10 +203,11 @@ impl<'t> Teller<'t> {
                     ..
                 },
             ) => {
-                self.put(match origin {
-                    Origin::Block => b"the region that begins at ",
-                    _ => b"a region left out at ",
-                });
+                let text = match origin {
+                    Origin::Block => "the region that begins at ",
+                    _ => "a region left out at ",
+                };
+                self.put(text.as_bytes());
                 self.put_place(span);
             }
             _ => self.say_named(region, home),
