@@ -85,14 +85,6 @@ any ~~ INT_MAX ~~ write 2147483647
 any ~~ INT_MIN ~~ write -2147483647 - 1
 any ~~ char~short~long~signed~unsigned~float~double~bool~_Bool~size_t~int8_t~uint8_t~int32_t~uint32_t~int64_t~uint64_t ~~ int is the only number type: it holds a character too, as in int c = 'a';";
 
-const TYPE_MISMATCH: &str = "\
-=~return~(~,~{ ~~ 0;~0)~0,~0} ~~ the null pointer is written NULL
-&&~||~!~if (~while ( ~~ NULL ~~ compare a pointer with NULL by == or !=
-: ~~ NULL ~~ NULL alone has no type: put it into a variable of the elements' type, and write that";
-
-const NOT_OUTLIVED: &str = "\
-return ~~ & ~~ a variable is gone when its function returns: make the object by new";
-
 /// Whether a byte that begins or ends a word, and the one beside it, are of one name.
 fn is_joined(edge: Option<&u8>, beside: Option<&u8>) -> bool {
     match (edge, beside) {
@@ -148,8 +140,6 @@ fn habits_of(code: Code) -> &'static str {
         Code::NumberTooLarge => NUMBER_TOO_LARGE,
         Code::UnexpectedToken => UNEXPECTED_TOKEN,
         Code::UnknownName => UNKNOWN_NAME,
-        Code::TypeMismatch => TYPE_MISMATCH,
-        Code::NotOutlived => NOT_OUTLIVED,
         _ => "",
     }
 }
