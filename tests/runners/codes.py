@@ -1,12 +1,13 @@
 #!/usr/bin/env python3
 """Compares what stands elsewhere of the codes of refusals with docs/codes.txt, and tries the smallest text of each
-code.
+code; the same of the habits of C programmers with docs/habits.txt, and of the text of each.
 
     python3 tests/runners/codes.py [--program PATH] [--write]
 
 The docstrings of crates/cyc_words/src/fault.rt, the messages and hints of crates/cyc_terminal/src/advice.rt and the
 table of codes in docs/LANGUAGE.md have to say what docs/codes.txt says. --write makes the table in docs/LANGUAGE.md of it, and
-tries nothing. The last line is `N passed, M failed`, of the three files and the codes.
+tries nothing. The table in crates/cyc_terminal/src/habits.rt has to be that of docs/habits.txt, row by row. The last line is
+`N passed, M failed`, of the four files, the codes and the habits.
 """
 import os
 import re
@@ -20,6 +21,9 @@ LANGUAGE = os.path.join(suite.ROOT, "docs", "LANGUAGE.md")
 FAULTS = os.path.join(suite.ROOT, "crates", "cyc_words", "src", "fault.rt")
 ADVICE = os.path.join(suite.ROOT, "crates", "cyc_terminal", "src", "advice.rt")
 FIELDS = {"meaning", "place", "message", "hint", "text", "at", "by"}
+HABITS = os.path.join(suite.ROOT, "docs", "habits.txt")
+HABITS_CODE = os.path.join(suite.ROOT, "crates", "cyc_terminal", "src", "habits.rt")
+HABIT_FIELDS = {"code", "before", "at", "hint", "text", "place"}
 # The table of codes in docs/LANGUAGE.md, from its head to the empty line behind it.
 HEAD = "| Code | What it means | Its place | Smallest text |\n|---|---|---|---|\n"
 PART = re.compile(r'"([^"]*)"(?: \* (\d+))?')
@@ -57,6 +61,22 @@ class Code:
         return f"| {self.number} | {self.meaning} | {self.place} | {smallest} |\n"
 
 
+class Habit:
+    """A habit of the table."""
+
+    def __init__(self, name):
+        self.name = name
+
+    def row(self, names):
+        """What the code's table has of it, with the names of codes by their numbers."""
+        return names[int(self.code)], listed(self.before), listed(self.at), self.hint
+
+
+def listed(words):
+    """A list of words of the table: each in brackets, or `any`."""
+    return ["any"] if words == "any" else re.findall(r"\[(.+?)\](?= \[|$)", words)
+
+
 def words_of(piece, times):
     """A piece of a text that is repeated, for people."""
     if times == 1:
@@ -87,6 +107,46 @@ def codes():
     return found
 
 
+def habits():
+    """The habits of the table."""
+    found = []
+    for line in content(HABITS).split("\n"):
+        word, _, rest = line.partition(" ")
+        if word == "habit":
+            found.append(Habit(rest.strip()))
+        elif word in HABIT_FIELDS:
+            setattr(found[-1], word, rest.strip())
+        elif line and not line.startswith("#"):
+            sys.exit(f"{HABITS}: no field is called {word}")
+    return found
+
+
+def faults_of_habits(found, kinds):
+    """What the table in the code says otherwise than that of the habits."""
+    names = {kind.number: kind.name for kind in kinds}
+    code = content(HABITS_CODE)
+    lines = dict(re.findall(r'^const (\w+): &str = "\\\n(.*?)";\n', code, re.M | re.S))
+    written = []
+    for kind, constant in re.findall(r"Code::(\w+) => (\w+),", code):
+        for line in re.sub(r"\\(.)", r"\1", lines.pop(constant)).split("\n"):
+            before, at, hint = line.split(" ~~ ")
+            written.append((kind, before.split("~"), at.split("~"), hint))
+    wanted = [habit.row(names) for habit in found]
+    faults = [suite.difference("a row", one, other) for one, other in zip(wanted, written) if one != other]
+    faults += [suite.difference("rows of no code", [], name) for name in lines]
+    return faults or ([] if len(wanted) == len(written) else ["the tables are not of one length"])
+
+
+def faults_of_habit(habit, program, folder):
+    """What the program says of the text of a habit otherwise."""
+    source = os.path.join(folder, "habit.cyc")
+    with open(source, "w", encoding="ascii") as file:
+        file.write(habit.text)
+    done = suite.said([program, "check", source])
+    wanted = [f"    hint: {habit.hint}", f"fault {habit.code} at {habit.place}"]
+    return [suite.difference(habit.text, wanted, done[-2:])] if done[-2:] != wanted else []
+
+
 def faults_of_docstrings(found):
     """What the docstrings in the code say otherwise."""
     body = content(FAULTS).split("pub enum Code {\n")[1].split("\n}\n")[0]
@@ -107,7 +167,7 @@ def faults_of_advice(found):
     """What the program's words say otherwise."""
     faults = []
     for function, field in (("meaning", "message"), ("hint", "hint")):
-        body = content(ADVICE).split(f"pub fn {function}(")[1].split("\n}\n")[0]
+        body = content(ADVICE).split(f"fn {function}(")[1].split("\n}\n")[0]
         written = dict(re.findall(r'Code::(\w+) =>\s*"([^"]*)",', body))
         faults += differences({code.name: getattr(code, field) for code in found}, written)
     return faults
@@ -166,11 +226,14 @@ def main():
         with open(LANGUAGE, "w", encoding="utf-8") as file:
             file.write(before + table_for(found) + behind)
         return
+    usual = habits()
     files = [(FAULTS, faults_of_docstrings), (ADVICE, faults_of_advice), (LANGUAGE, faults_of_language)]
-    program = suite.program_of(options, len(files) + len(found))
+    program = suite.program_of(options, len(files) + 1 + len(found) + len(usual))
     with tempfile.TemporaryDirectory(prefix="cyclone-codes-") as folder:
         things = [(os.path.relpath(path), lambda compare=compare: compare(found)) for path, compare in files]
+        things += [(os.path.relpath(HABITS_CODE), lambda: faults_of_habits(usual, found))]
         things += [(f"code {code.number}", lambda code=code: faults_of_code(code, program, folder)) for code in found]
+        things += [(habit.name, lambda habit=habit: faults_of_habit(habit, program, folder)) for habit in usual]
         suite.try_each(things, lambda thing: thing[0], lambda thing: thing[1]())
 
 

@@ -35,6 +35,12 @@ def answer(words, given=b""):
     return done.stdout, last_line(done.stderr), done.returncode
 
 
+def said(words):
+    """The lines on standard error."""
+    done = subprocess.run(words, input=b"", capture_output=True, timeout=SECONDS)
+    return done.stderr.decode("latin-1").split("\n")[:-1]
+
+
 def difference(what, wanted, got):
     """What is otherwise than wanted, in words."""
     return f"{what}\n  wanted {shown(wanted)}\n  got    {shown(got)}"

@@ -1,25 +1,40 @@
 -- Words by computation.
-use Rattle.std.proofs.Common.{◌≡◌, ℕ, [], ◌∷◌, Some, pos, refl}
+use Rattle.std.proofs.Common.{◌≡◌, ℕ, suc, List, [], ◌∷◌, false, Some, pos, refl, ap, ◌∙◌}
+use Rattle.std.specs.Prelude.{slice_get}
+use Rattle.cyc_isa.specs.Encoding.{word_of}
 use Rattle.cyc_isa.specs.Decoding.{register_of, trap_code_of}
-use Rattle.cyc_isa.specs.declared.instr.Instr.TheVariants.{Immediate, Arithmetic, Exception}
+use Rattle.cyc_isa.specs.declared.instr.Instr.{Instr}
+use Rattle.cyc_isa.specs.declared.instr.Instr.TheVariants.{Immediate, Memory, Arithmetic, MoveFrom, MultiplyDivide, Exception}
 use Rattle.cyc_isa.specs.declared.instr.ArithmeticOp.TheVariants as operations
 use Rattle.cyc_isa.specs.declared.instr.ExceptionOp.TheVariants.{Syscall}
 use Rattle.cyc_isa.specs.declared.instr.ImmediateOp.TheVariants as immediates
+use Rattle.cyc_isa.specs.declared.instr.MemoryOp.TheVariants.{LoadWord, StoreWord}
+use Rattle.cyc_isa.specs.declared.instr.MoveFromOp.TheVariants.{Low}
+use Rattle.cyc_isa.specs.declared.instr.MultiplyDivideOp.TheVariants.{Multiply}
 use Rattle.cyc_isa.specs.declared.instr.BranchOp.TheVariants.{Equal, NotEqual}
+use Rattle.cyc_isa.specs.declared.instr.BranchZeroOp.TheVariants as signs
+use Rattle.cyc_isa.specs.declared.instr.JumpOp.TheVariants.{Plain}
 use Rattle.cyc_store.specs.State.{StoreState, start}
 use Rattle.cyc_store.specs.Services.{any_choice}
 use Rattle.cyc_select.specs.Labelled.{Labelled}
 use Rattle.cyc_select.specs.declared.code.Condition.TheVariants as conditions
+use Rattle.cyc_select.specs.declared.code.Line.{Line}
 use Rattle.cyc_select.specs.declared.code.Line.TheVariants as lines
 use Rattle.cyc_machine.specs.declared.event.End.TheVariants.{Returned}
 use Rattle.cyc_machine.specs.Run.{end_of}
 use Rattle.cyc_machine.specs.Step.{instruction_of}
 use Rattle.cyc_machine.proofs.Choosing.{after}
 use Rattle.cyc_words.specs.Word.{sign_extended}
-use Rattle.cyc_asm.specs.Words.{assembled}
+use Rattle.cyc_asm.specs.Slots.{filling}
+use Rattle.cyc_asm.specs.Layout.{is_near, position}
+use Rattle.cyc_asm.specs.Words.{jump_words, head_of_branch, head_in, round_words, words_filled, words_ordinary, words_in, assembled}
 use Rattle.cyc_asm.specs.Machine.{start_in}
 
--- Register 8 counts down from 3. The words are worked out by hand from the architecture's manual.
+-- The words are worked out by hand from the architecture's manual. A line's number stands before it, and behind it what
+-- is put into its slot.
+
+-- Register 8 counts down from 3. No slot is filled: a label stands at the first branch, a call stands before the jump and a
+-- branch before each call and return, and the second branch asks for what is set before it.
 abbrev counting : Labelled
 counting = record {
   lines =
@@ -47,7 +62,134 @@ counting_words : assembled counting ≡
     ∷ []
 counting_words = refl
 
--- the sum of 3, 2 and 1 by a loop that calls a function, which the machine comes to by 36 instructions
+-- what sets register 8 moves behind a branch on register 9 and behind a jump, and not behind a branch on register 8; what
+-- reads the return address does not move behind a call
+abbrev moving : Labelled
+moving = record {
+  lines =
+      lines.Ordinary (Immediate immediates.AddUnsigned (register_of 8) (register_of 8) 1)
+      ∷ lines.Branch (conditions.Registers NotEqual (register_of 9) (register_of 0)) 0
+      ∷ lines.Ordinary (Immediate immediates.AddUnsigned (register_of 8) (register_of 8) 1)
+      ∷ lines.Jump 0
+      ∷ lines.Ordinary (Immediate immediates.AddUnsigned (register_of 8) (register_of 8) 1)
+      ∷ lines.Branch (conditions.Registers NotEqual (register_of 8) (register_of 0)) 0
+      ∷ lines.Ordinary (Arithmetic operations.AddUnsigned (register_of 8) (register_of 31) (register_of 0))
+      ∷ lines.Call 0
+      ∷ lines.Return
+      ∷ [];
+  globals = [];
+}
+
+moving_words : assembled moving ≡
+    0x1520ffff ∷ 0x25080001
+    ∷ 0x08100000 ∷ 0x25080001
+    ∷ 0x25080001
+    ∷ 0x1500fffa ∷ 0
+    ∷ 0x03e04021
+    ∷ 0x0c100000 ∷ 0
+    ∷ 0x03e00008 ∷ 0
+    ∷ []
+moving_words = refl
+
+-- Register 31 behind a call: what sets it does not move, what has nothing to do with it does. Before a return a load into it
+-- stays, and the release of a frame moves.
+abbrev calling : Labelled
+calling = record {
+  lines =
+      lines.Ordinary (Immediate immediates.AddUnsigned (register_of 31) (register_of 0) 4)
+      ∷ lines.Call 4
+      ∷ lines.Ordinary (Memory StoreWord (register_of 8) (register_of 29) 4)
+      ∷ lines.Call 4
+      ∷ lines.Ordinary (Memory LoadWord (register_of 31) (register_of 29) 4)
+      ∷ lines.Ordinary (Immediate immediates.AddUnsigned (register_of 29) (register_of 29) 32)
+      ∷ lines.Return
+      ∷ lines.Ordinary (Memory LoadWord (register_of 31) (register_of 29) 4)
+      ∷ lines.Return
+      ∷ [];
+  globals = [];
+}
+
+calling_words : assembled calling ≡
+    0x241f0004
+    ∷ 0x0c100005 ∷ 0
+    ∷ 0x0c100005 ∷ 0xafa80004
+    ∷ 0x8fbf0004
+    ∷ 0x03e00008 ∷ 0x27bd0020
+    ∷ 0x8fbf0004
+    ∷ 0x03e00008 ∷ 0
+    ∷ []
+calling_words = refl
+
+-- HI and LO are no registers of a branch: `mult` and `mflo` move, but for one into the register that is asked for. A branch
+-- behind a branch, and a jump behind a `syscall`, have empty slots.
+abbrev multiplying : Labelled
+multiplying = record {
+  lines =
+      lines.Ordinary (MultiplyDivide Multiply (register_of 8) (register_of 9))
+      ∷ lines.Branch (conditions.Registers Equal (register_of 10) (register_of 0)) 9
+      ∷ lines.Ordinary (MoveFrom Low (register_of 8))
+      ∷ lines.Branch (conditions.Sign signs.Less (register_of 10)) 9
+      ∷ lines.Branch (conditions.Sign signs.Greater (register_of 11)) 9
+      ∷ lines.Ordinary (MoveFrom Low (register_of 10))
+      ∷ lines.Branch (conditions.Sign signs.LessOrEqual (register_of 10)) 9
+      ∷ lines.Ordinary (Exception Syscall (trap_code_of 0))
+      ∷ lines.Jump 9
+      ∷ lines.Return
+      ∷ [];
+  globals = [];
+}
+
+multiplying_words : assembled multiplying ≡
+    0x1140000b ∷ 0x01090018
+    ∷ 0x05400009 ∷ 0x00004012
+    ∷ 0x1d600007 ∷ 0
+    ∷ 0x00005012
+    ∷ 0x19400004 ∷ 0
+    ∷ 0x0000000c
+    ∷ 0x0810000c ∷ 0
+    ∷ 0x03e00008 ∷ 0
+    ∷ []
+multiplying_words = refl
+
+-- Two jumps to one label: each has its own instruction in its slot. The branch at the label has none, and what goes to an
+-- instruction that moved goes to the branch or jump behind it.
+abbrev meeting : Labelled
+meeting = record {
+  lines =
+      lines.Ordinary (Immediate immediates.AddUnsigned (register_of 8) (register_of 0) 1)
+      ∷ lines.Jump 5
+      ∷ lines.Ordinary (Immediate immediates.AddUnsigned (register_of 8) (register_of 0) 2)
+      ∷ lines.Jump 5
+      ∷ lines.Ordinary (Immediate immediates.AddUnsigned (register_of 9) (register_of 0) 3)
+      ∷ lines.Branch (conditions.Registers Equal (register_of 8) (register_of 0)) 2
+      ∷ [];
+  globals = [];
+}
+
+meeting_words : assembled meeting ≡
+    0x08100005 ∷ 0x24080001
+    ∷ 0x08100005 ∷ 0x24080002
+    ∷ 0x24090003
+    ∷ 0x1100fffc ∷ 0
+    ∷ []
+meeting_words = refl
+
+-- A branch that is not near is its inverse round a jump, with the instruction in the inverse's slot. (Here of any code.)
+far_words : (code : List Line) (number label : ℕ) (i : Instr) → slice_get code number ≡ Some (lines.Ordinary i) → filling code (suc number) ≡ Some i
+    → slice_get code (suc number) ≡ Some (lines.Branch (conditions.Registers NotEqual (register_of 9) (register_of 0)) label) → is_near code (suc number) label ≡ false
+    → (words_in code number (slice_get code number) ≡ 0x11200003 ∷ [])
+    × (words_in code (suc number) (slice_get code (suc number)) ≡ word_of i ∷ jump_words Plain (position code label))
+far_words code number label i at some branch far = (
+  ap (words_in code number) at ∙ ap (λ o. words_ordinary o code number i) some
+      ∙ ap (λ o. word_of (head_in code (position code number) (suc number) o) ∷ []) branch
+      ∙ ap (λ b. word_of (head_of_branch b code (position code number) (conditions.Registers NotEqual (register_of 9) (register_of 0)) label) ∷ []) far,
+  ap (words_in code (suc number)) branch
+      ∙ ap (λ o. words_filled o code (suc number) (lines.Branch (conditions.Registers NotEqual (register_of 9) (register_of 0)) label)) some
+      ∙ ap (λ b. word_of i ∷ round_words b code label) far,
+)
+
+-- the sum of 3, 2 and 1 by a loop that calls a function, which the machine comes to by 30 instructions: what adds is in the
+-- slot of the return, and what counts down in that of the jump
 abbrev summing : Labelled
 summing = record {
   lines =
@@ -69,6 +211,6 @@ summing = record {
 abbrev empty_store : StoreState
 empty_store = start 3 (λ (x : ℕ). 0)
 
-sum_is_six : end_of (after 36 (any_choice empty_store) (start_in (assembled summing) [] [] empty_store 1 [])) ≡ Some (Returned (pos 6))
+sum_is_six : end_of (after 30 (any_choice empty_store) (start_in (assembled summing) [] [] empty_store 1 [])) ≡ Some (Returned (pos 6))
 unfolding instruction_of sign_extended
 sum_is_six = refl

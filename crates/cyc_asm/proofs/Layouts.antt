@@ -1,5 +1,5 @@
 -- Laws of the layout.
-use Rattle.std.proofs.Common.{◌≡◌, ℕ, zero, suc, ◌+◌, ◌-◌, ◌≤◌, ◌<◌, List, [], ◌∷◌, ◌++◌, length, get_or, take, Bool, true, false, cond, nat_le, Some, append-nil, refl, sym, ap, subst, ◌∙◌, arith, inl, inr}
+use Rattle.std.proofs.Common.{◌≡◌, ℕ, zero, suc, ◌+◌, ◌-◌, ◌≤◌, ◌<◌, List, [], ◌∷◌, ◌++◌, length, get_or, take, Bool, true, false, nat_le, Option, None, Some, append-nil, refl, sym, ap, subst, ◌∙◌, arith, inl, inr}
 use Rattle.std.specs.Prelude.{◌&&◌, slice_get}
 use Rattle.std.specs.List.{range_with_len, flat_map}
 use Rattle.std.proofs.Math.Seq.{take-suc}
@@ -9,11 +9,14 @@ use Rattle.std.proofs.lemmas.List.{take_all}
 use Rattle.std.proofs.lemmas.List.Sums.{sum_by-append}
 use Rattle.std.proofs.lemmas.Option.{slice_get_within, get_or_from_slice_get, slice_get-get_or}
 use Rattle.cyc_machine.specs.State.{text_base}
+use Rattle.cyc_isa.specs.declared.instr.Instr.{Instr}
+use Rattle.cyc_select.specs.declared.code.Condition.{Condition}
 use Rattle.cyc_select.specs.declared.code.Line.{Line}
 use Rattle.cyc_select.specs.declared.code.Line.TheVariants as lines
 use Rattle.cyc_select.specs.Labelled.{Labelled, Fits, AreAddresses, words_of, all_words}
 use Rattle.cyc_asm.specs.declared.constants.TheConstants.{MAX_REACH}
-use Rattle.cyc_asm.specs.Layout.{most_before, is_near, width_of, width_in, width_at, position, addresses_of}
+use Rattle.cyc_asm.specs.Slots.{filling}
+use Rattle.cyc_asm.specs.Layout.{most_before, is_near, head_width, tail_width, width_of, width_in, width_at, position, addresses_of}
 use Rattle.cyc_asm.specs.Text.{stretch, own}
 use Rattle.cyc_asm.proofs.Stretches.{own-stretch, stretch-append}
 
@@ -21,17 +24,29 @@ use Rattle.cyc_asm.proofs.Stretches.{own-stretch, stretch-append}
 pub line_there : (code : List Line) (number : ℕ) → number < length code → (line : Line) × (slice_get code number ≡ Some line)
 line_there code number below = (_, slice_get-get_or code number lines.Return below)
 
+pub head_width-most : (o : Option Instr) → head_width o ≤ 1
+head_width-most (Some i) = omega arith
+head_width-most None = omega arith
+
+tail_width-most : (near : Bool) → tail_width near ≤ 3
+tail_width-most true = omega arith
+tail_width-most false = omega arith
+
+tail_width-some : (near : Bool) → 0 < tail_width near
+tail_width-some true = omega arith
+tail_width-some false = omega arith
+
 -- a line is as wide as it may be, or less
 pub width_of-most : (code : List Line) (number : ℕ) (line : Line) → width_of code number line ≤ words_of line
 width_of-most code number (lines.Ordinary i) = omega arith
-width_of-most code number (lines.Branch condition label) = elim (is_near code number label) as (λ b. cond b 2 4 ≤ 4) [ true ↦ omega arith | false ↦ omega arith ]
-width_of-most code number (lines.Jump label) = omega arith
-width_of-most code number (lines.Call label) = omega arith
-width_of-most code number lines.Return = omega arith
+width_of-most code number (lines.Branch condition label) = omega (arith, head_width-most (filling code number), tail_width-most (is_near code number label))
+width_of-most code number (lines.Jump label) = omega (arith, head_width-most (filling code number))
+width_of-most code number (lines.Call label) = omega (arith, head_width-most (filling code number))
+width_of-most code number lines.Return = omega (arith, head_width-most (filling code number))
 
 pub width_of-some : (code : List Line) (number : ℕ) (line : Line) → 0 < width_of code number line
 width_of-some code number (lines.Ordinary i) = omega arith
-width_of-some code number (lines.Branch condition label) = elim (is_near code number label) as (λ b. 0 < cond b 2 4) [ true ↦ omega arith | false ↦ omega arith ]
+width_of-some code number (lines.Branch condition label) = omega (arith, tail_width-some (is_near code number label))
 width_of-some code number (lines.Jump label) = omega arith
 width_of-some code number (lines.Call label) = omega arith
 width_of-some code number lines.Return = omega arith
@@ -115,11 +130,16 @@ and-second true b both = both
 and-second false b both = cc
 
 -- a near label is in reach
-pub near_below : (code : List Line) (from to : ℕ) → is_near code from to ≡ true → from < length code → to < length code → from ≤ to → position code to ≤ position code from + 32767
-near_below code from to near in_from in_to up =
-    let most = (between_lines code from to up (omega (arith, in_to))).most in
+-- (Of the four words that a branch may take, a near one has at most two.)
+pub near_below : (code : List Line) (from to : ℕ) (condition : Condition) → is_near code from to ≡ true → slice_get code from ≡ Some (lines.Branch condition to) → to < length code → from < to → position code to ≤ position code from + 32765
+near_below code from to condition near found in_to up =
+    let line : Line = lines.Branch condition to in
+    let most = (between_lines code (suc from) to up (omega (arith, in_to))).most in
     let first : most_before code to ≤ most_before code from + MAX_REACH = leb-true (most_before code to) (most_before code from + MAX_REACH) (and-first (nat_le (most_before code to) (most_before code from + MAX_REACH)) (nat_le (most_before code from) (most_before code to + MAX_REACH)) near) in
-    omega (arith, most, first)
+    let wide = most_before-suc code from line found in
+    let narrow = position-suc code from line found in
+    let few : tail_width (is_near code from to) ≡ 1 = ap tail_width near in
+    omega (arith, most, first, wide, narrow, few, head_width-most (filling code from))
 
 pub near_above : (code : List Line) (from to : ℕ) → is_near code from to ≡ true → from < length code → to < length code → to ≤ from → position code from ≤ position code to + 32767
 near_above code from to near in_from in_to up =

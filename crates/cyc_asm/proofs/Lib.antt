@@ -3,6 +3,8 @@ pub mod Running
 pub mod Stretches
 pub mod Standing
 -- what those lemmas rest on
+pub mod Fillings
+pub mod Moving
 pub mod Fetching
 pub mod Layouts
 pub mod Ordinary

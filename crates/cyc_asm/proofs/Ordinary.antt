@@ -135,39 +135,39 @@ module _ (words : List ℕ) (inside : text_base + 4 * length words ≤ text_end)
   there StoreWord target base offset none =
       known (address base offset) (third _ _ ((is_dead (memory_of c) (place_of (memory_of c) (address base offset)), causes.DeadCell) ∷ (is_text (place_of (memory_of c) (address base offset)), causes.WriteToText) ∷ (false, causes.Break) ∷ (false, causes.BadService) ∷ []) none)
 
-  memory_cause : (at : ℕ) (op : MemoryOp) (target base : Register) (offset : ℕ) → cause_of (machine_of c) (Memory op target base offset) ≡ None → Known (address base offset)
-      → cause_of (world_at words c at (add_of at 4) false).machine (Memory op target base offset) ≡ None
-  memory_cause at LoadWord target base offset none (globals n without with) =
+  memory_cause : (at next : ℕ) (in_slot : Bool) (op : MemoryOp) (target base : Register) (offset : ℕ) → cause_of (machine_of c) (Memory op target base offset) ≡ None → Known (address base offset)
+      → cause_of (world_at words c at next in_slot).machine (Memory op target base offset) ≡ None
+  memory_cause at next in_slot LoadWord target base offset none (globals n without with) =
       ap (cause_at memory_with LoadWord target base offset) with ∙ sym (ap (cause_at (memory_of c) LoadWord target base offset) without) ∙ none
-  memory_cause at LoadWord target base offset none (stack n without with) =
+  memory_cause at next in_slot LoadWord target base offset none (stack n without with) =
       ap (cause_at memory_with LoadWord target base offset) with ∙ sym (ap (cause_at (memory_of c) LoadWord target base offset) without) ∙ none
-  memory_cause at LoadWord target base offset none (cells n without with) =
+  memory_cause at next in_slot LoadWord target base offset none (cells n without with) =
       ap (cause_at memory_with LoadWord target base offset) with ∙ sym (ap (cause_at (memory_of c) LoadWord target base offset) without) ∙ none
-  memory_cause at StoreWord target base offset none (globals n without with) =
+  memory_cause at next in_slot StoreWord target base offset none (globals n without with) =
       ap (cause_at memory_with StoreWord target base offset) with ∙ sym (ap (cause_at (memory_of c) StoreWord target base offset) without) ∙ none
-  memory_cause at StoreWord target base offset none (stack n without with) =
+  memory_cause at next in_slot StoreWord target base offset none (stack n without with) =
       ap (cause_at memory_with StoreWord target base offset) with ∙ sym (ap (cause_at (memory_of c) StoreWord target base offset) without) ∙ none
-  memory_cause at StoreWord target base offset none (cells n without with) =
+  memory_cause at next in_slot StoreWord target base offset none (cells n without with) =
       ap (cause_at memory_with StoreWord target base offset) with ∙ sym (ap (cause_at (memory_of c) StoreWord target base offset) without) ∙ none
 
   -- what is not refused without the text is not refused with it
-  pub same_cause : (at : ℕ) (i : Instr) → is_ordinary i ≡ true → cause_of (machine_of c) i ≡ None → cause_of (world_at words c at (add_of at 4) false).machine i ≡ None
-  same_cause at (Memory op t b h) ordinary none = memory_cause at op t b h none (there op t b h none)
-  same_cause at (Immediate op t b h) ordinary none = none
-  same_cause at (LoadUpper t h) ordinary none = none
-  same_cause at (Branch op l r h) ordinary none = cc
-  same_cause at (BranchZero op b h) ordinary none = cc
-  same_cause at (Jump op x) ordinary none = cc
-  same_cause at (Shift op d b a) ordinary none = none
-  same_cause at (ShiftVariable op d b k) ordinary none = none
-  same_cause at (JumpRegister b) ordinary none = cc
-  same_cause at (JumpRegisterLink d b) ordinary none = cc
-  same_cause at (Exception Syscall x) ordinary none = none
-  same_cause at (Exception Break x) ordinary none = none
-  same_cause at (MoveFrom op d) ordinary none = none
-  same_cause at (MultiplyDivide Multiply l r) ordinary none = none
-  same_cause at (MultiplyDivide Divide l r) ordinary none = none
-  same_cause at (Arithmetic op d l r) ordinary none = none
+  pub same_cause : (at next : ℕ) (in_slot : Bool) (i : Instr) → is_ordinary i ≡ true → cause_of (machine_of c) i ≡ None → cause_of (world_at words c at next in_slot).machine i ≡ None
+  same_cause at next in_slot (Memory op t b h) ordinary none = memory_cause at next in_slot op t b h none (there op t b h none)
+  same_cause at next in_slot (Immediate op t b h) ordinary none = none
+  same_cause at next in_slot (LoadUpper t h) ordinary none = none
+  same_cause at next in_slot (Branch op l r h) ordinary none = cc
+  same_cause at next in_slot (BranchZero op b h) ordinary none = cc
+  same_cause at next in_slot (Jump op x) ordinary none = cc
+  same_cause at next in_slot (Shift op d b a) ordinary none = none
+  same_cause at next in_slot (ShiftVariable op d b k) ordinary none = none
+  same_cause at next in_slot (JumpRegister b) ordinary none = cc
+  same_cause at next in_slot (JumpRegisterLink d b) ordinary none = cc
+  same_cause at next in_slot (Exception Syscall x) ordinary none = none
+  same_cause at next in_slot (Exception Break x) ordinary none = none
+  same_cause at next in_slot (MoveFrom op d) ordinary none = none
+  same_cause at next in_slot (MultiplyDivide Multiply l r) ordinary none = none
+  same_cause at next in_slot (MultiplyDivide Divide l r) ordinary none = none
+  same_cause at next in_slot (Arithmetic op d l r) ordinary none = none
 
   -- ---- effects
 
@@ -178,92 +178,92 @@ module _ (words : List ℕ) (inside : text_base + 4 * length words ≤ text_end)
       ⊎ ((end : End) × (above.machine.phase ≡ phases.Over end) × (below.machine.phase ≡ phases.Over end) × (below.output ≡ above.output))
 
   -- the action above tells an event too, and leaves a world that the one below shows
-  abbrev pub Matched : (at : ℕ) → Action → (event : Event) → machines.State → Type 0
-  Matched at above event s =
+  abbrev pub Matched : (at next : ℕ) (in_slot : Bool) → Action → (event : Event) → machines.State → Type 0
+  Matched at next in_slot above event s =
       (e : Event) × (t : machines.State) × Acts above (machine_of c) e t
-      × Shown (add_of at 4) (told (world_of c) e t) (told (world_at words c at (add_of at 4) false) event s)
+      × Shown next (told (world_of c) e t) (told (world_at words c at next in_slot) event s)
 
-  abbrev world_here : ℕ → World
-  world_here at = world_at words c at (add_of at 4) false
+  abbrev world_here : (at next : ℕ) (in_slot : Bool) → World
+  world_here at next in_slot = world_at words c at next in_slot
 
-  told_same : (at : ℕ) (event told_event : Event) (s left : machines.State) → event ≡ told_event → s ≡ left → told (world_here at) event s ≡ told (world_here at) told_event left
-  told_same at event told_event s left same_event same_state = ap (λ e. told (world_here at) e s) same_event ∙ ap (λ x. told (world_here at) told_event x) same_state
+  told_same : (at next : ℕ) (in_slot : Bool) (event told_event : Event) (s left : machines.State) → event ≡ told_event → s ≡ left → told (world_here at next in_slot) event s ≡ told (world_here at next in_slot) told_event left
+  told_same at next in_slot event told_event s left same_event same_state = ap (λ e. told (world_here at next in_slot) e s) same_event ∙ ap (λ x. told (world_here at next in_slot) told_event x) same_state
 
-  did : (at : ℕ) (above left : machines.State) (event : Event) (s : machines.State) → above.phase ≡ phases.Running
-      → told (world_here at) Ran left ≡ world_at words (from_world (told (world_of c) Ran above) 0) (add_of at 4) (add_of (add_of at 4) 4) false
-      → Acts (Does Ran left) (world_here at).machine event s → Matched at (Does Ran above) event s
-  did at above left event s running is acts =
-      (Ran, above, (refl, refl), inl (running, told_same at event Ran s left acts.0 acts.1 ∙ is))
+  did : (at next : ℕ) (in_slot : Bool) (above left : machines.State) (event : Event) (s : machines.State) → above.phase ≡ phases.Running
+      → told (world_here at next in_slot) Ran left ≡ world_at words (from_world (told (world_of c) Ran above) 0) next (add_of next 4) false
+      → Acts (Does Ran left) (world_here at next in_slot).machine event s → Matched at next in_slot (Does Ran above) event s
+  did at next in_slot above left event s running is acts =
+      (Ran, above, (refl, refl), inl (running, told_same at next in_slot event Ran s left acts.0 acts.1 ∙ is))
 
-  memory_did : (at : ℕ) (op : MemoryOp) (t b : Register) (h : ℕ) (event : Event) (s : machines.State) → Known (address b h)
-      → Acts (Does Ran (after (world_here at).machine (Memory op t b h))) (world_here at).machine event s → Matched at (Does Ran (after (machine_of c) (Memory op t b h))) event s
-  memory_did at LoadWord t b h event s (globals n without with) acts =
-      did at _ _ event s refl (
-      ap (λ place. told (world_here at) Ran (loads (world_here at).machine t place)) with
-      ∙ sym (ap (λ place. world_at words (from_world (told (world_of c) Ran (loads (machine_of c) t place)) 0) (add_of at 4) (add_of (add_of at 4) 4) false) without)) acts
-  memory_did at LoadWord t b h event s (stack n without with) acts =
-      did at _ _ event s refl (
-      ap (λ place. told (world_here at) Ran (loads (world_here at).machine t place)) with
-      ∙ sym (ap (λ place. world_at words (from_world (told (world_of c) Ran (loads (machine_of c) t place)) 0) (add_of at 4) (add_of (add_of at 4) 4) false) without)) acts
-  memory_did at LoadWord t b h event s (cells n without with) acts =
-      did at _ _ event s refl (
-      ap (λ place. told (world_here at) Ran (loads (world_here at).machine t place)) with
-      ∙ sym (ap (λ place. world_at words (from_world (told (world_of c) Ran (loads (machine_of c) t place)) 0) (add_of at 4) (add_of (add_of at 4) 4) false) without)) acts
-  memory_did at StoreWord t b h event s (globals n without with) acts =
-      did at _ _ event s refl (
-      ap (λ place. told (world_here at) Ran (stores (world_here at).machine t place)) with
-      ∙ sym (ap (λ place. world_at words (from_world (told (world_of c) Ran (stores (machine_of c) t place)) 0) (add_of at 4) (add_of (add_of at 4) 4) false) without)) acts
-  memory_did at StoreWord t b h event s (stack n without with) acts =
-      did at _ _ event s refl (
-      ap (λ place. told (world_here at) Ran (stores (world_here at).machine t place)) with
-      ∙ sym (ap (λ place. world_at words (from_world (told (world_of c) Ran (stores (machine_of c) t place)) 0) (add_of at 4) (add_of (add_of at 4) 4) false) without)) acts
-  memory_did at StoreWord t b h event s (cells n without with) acts =
-      did at _ _ event s refl (
-      ap (λ place. told (world_here at) Ran (stores (world_here at).machine t place)) with
-      ∙ sym (ap (λ place. world_at words (from_world (told (world_of c) Ran (stores (machine_of c) t place)) 0) (add_of at 4) (add_of (add_of at 4) 4) false) without)) acts
+  memory_did : (at next : ℕ) (in_slot : Bool) (op : MemoryOp) (t b : Register) (h : ℕ) (event : Event) (s : machines.State) → Known (address b h)
+      → Acts (Does Ran (after (world_here at next in_slot).machine (Memory op t b h))) (world_here at next in_slot).machine event s → Matched at next in_slot (Does Ran (after (machine_of c) (Memory op t b h))) event s
+  memory_did at next in_slot LoadWord t b h event s (globals n without with) acts =
+      did at next in_slot _ _ event s refl (
+      ap (λ place. told (world_here at next in_slot) Ran (loads (world_here at next in_slot).machine t place)) with
+      ∙ sym (ap (λ place. world_at words (from_world (told (world_of c) Ran (loads (machine_of c) t place)) 0) next (add_of next 4) false) without)) acts
+  memory_did at next in_slot LoadWord t b h event s (stack n without with) acts =
+      did at next in_slot _ _ event s refl (
+      ap (λ place. told (world_here at next in_slot) Ran (loads (world_here at next in_slot).machine t place)) with
+      ∙ sym (ap (λ place. world_at words (from_world (told (world_of c) Ran (loads (machine_of c) t place)) 0) next (add_of next 4) false) without)) acts
+  memory_did at next in_slot LoadWord t b h event s (cells n without with) acts =
+      did at next in_slot _ _ event s refl (
+      ap (λ place. told (world_here at next in_slot) Ran (loads (world_here at next in_slot).machine t place)) with
+      ∙ sym (ap (λ place. world_at words (from_world (told (world_of c) Ran (loads (machine_of c) t place)) 0) next (add_of next 4) false) without)) acts
+  memory_did at next in_slot StoreWord t b h event s (globals n without with) acts =
+      did at next in_slot _ _ event s refl (
+      ap (λ place. told (world_here at next in_slot) Ran (stores (world_here at next in_slot).machine t place)) with
+      ∙ sym (ap (λ place. world_at words (from_world (told (world_of c) Ran (stores (machine_of c) t place)) 0) next (add_of next 4) false) without)) acts
+  memory_did at next in_slot StoreWord t b h event s (stack n without with) acts =
+      did at next in_slot _ _ event s refl (
+      ap (λ place. told (world_here at next in_slot) Ran (stores (world_here at next in_slot).machine t place)) with
+      ∙ sym (ap (λ place. world_at words (from_world (told (world_of c) Ran (stores (machine_of c) t place)) 0) next (add_of next 4) false) without)) acts
+  memory_did at next in_slot StoreWord t b h event s (cells n without with) acts =
+      did at next in_slot _ _ event s refl (
+      ap (λ place. told (world_here at next in_slot) Ran (stores (world_here at next in_slot).machine t place)) with
+      ∙ sym (ap (λ place. world_at words (from_world (told (world_of c) Ran (stores (machine_of c) t place)) 0) next (add_of next 4) false) without)) acts
 
-  ended : (at : ℕ) (end : End) (event : Event) (s : machines.State) → (event ≡ Ended end) × (s ≡ machines.over (world_here at).machine end)
-      → Shown (add_of at 4) (told (world_of c) (Ended end) (machines.over (machine_of c) end)) (told (world_here at) event s)
-  ended at end event s acts =
-      let same = told_same at event (Ended end) s (machines.over (world_here at).machine end) acts.0 acts.1 in
+  ended : (at next : ℕ) (in_slot : Bool) (end : End) (event : Event) (s : machines.State) → (event ≡ Ended end) × (s ≡ machines.over (world_here at next in_slot).machine end)
+      → Shown next (told (world_of c) (Ended end) (machines.over (machine_of c) end)) (told (world_here at next in_slot) event s)
+  ended at next in_slot end event s acts =
+      let same = told_same at next in_slot event (Ended end) s (machines.over (world_here at next in_slot).machine end) acts.0 acts.1 in
       inr (end, refl, ap (λ (w : World). w.machine.phase) same, ap (λ (w : World). w.output) same)
 
   -- with the store's answer
-  gone_on : (at : ℕ) (answer : Answer) (store : StoreState) (event : Event) (s : machines.State) → event ≡ told_by answer → s ≡ answered (with_store (world_here at).machine store) answer
-      → Shown (add_of at 4) (told (world_of c) (told_by answer) (answered (with_store (machine_of c) store) answer)) (told (world_here at) event s)
-  gone_on at (Refused why) store event s same_event same_state =
-      let same = told_same at event (Ended (refused_by why)) s _ same_event same_state in
+  gone_on : (at next : ℕ) (in_slot : Bool) (answer : Answer) (store : StoreState) (event : Event) (s : machines.State) → event ≡ told_by answer → s ≡ answered (with_store (world_here at next in_slot).machine store) answer
+      → Shown next (told (world_of c) (told_by answer) (answered (with_store (machine_of c) store) answer)) (told (world_here at next in_slot) event s)
+  gone_on at next in_slot (Refused why) store event s same_event same_state =
+      let same = told_same at next in_slot event (Ended (refused_by why)) s _ same_event same_state in
       inr (refused_by why, refl, ap (λ (w : World). w.machine.phase) same, ap (λ (w : World). w.output) same)
-  gone_on at Done store event s same_event same_state = inl (refl, told_same at event Ran s _ same_event same_state)
-  gone_on at (Opened handle) store event s same_event same_state = inl (refl, told_same at event Ran s _ same_event same_state)
-  gone_on at (OpenedLexical handle mark) store event s same_event same_state = inl (refl, told_same at event Ran s _ same_event same_state)
-  gone_on at (Allocated block) store event s same_event same_state = inl (refl, told_same at event Ran s _ same_event same_state)
+  gone_on at next in_slot Done store event s same_event same_state = inl (refl, told_same at next in_slot event Ran s _ same_event same_state)
+  gone_on at next in_slot (Opened handle) store event s same_event same_state = inl (refl, told_same at next in_slot event Ran s _ same_event same_state)
+  gone_on at next in_slot (OpenedLexical handle mark) store event s same_event same_state = inl (refl, told_same at next in_slot event Ran s _ same_event same_state)
+  gone_on at next in_slot (Allocated block) store event s same_event same_state = inl (refl, told_same at next in_slot event Ran s _ same_event same_state)
 
-  served : (at : ℕ) (service : Option Service) (event : Event) (s : machines.State) → Acts (calls service (world_here at).machine) (world_here at).machine event s → Matched at (calls service (machine_of c)) event s
-  served at (Some GetByte) event s acts = (WantsByte, _, (refl, refl), inl (refl, told_same at event WantsByte s _ acts.0 acts.1))
-  served at (Some PutByte) event s acts = (Puts _, _, (refl, refl), inl (refl, told_same at event (Puts _) s _ acts.0 acts.1))
-  served at (Some EndReturned) event s acts = (Ended _, _, (refl, refl), ended at _ event s acts)
-  served at (Some EndUncaught) event s acts = (Ended _, _, (refl, refl), ended at _ event s acts)
-  served at (Some (Asks call)) event s (answer, store, serves, same_event, same_state) =
-      (told_by answer, answered (with_store (machine_of c) store) answer, (answer, store, serves, refl, refl), gone_on at answer store event s same_event same_state)
-  served at (Some EndFull) event s acts = (Ended _, _, (refl, refl), ended at _ event s acts)
-  served at None event s acts = (Ended _, _, (refl, refl), ended at _ event s acts)
+  served : (at next : ℕ) (in_slot : Bool) (service : Option Service) (event : Event) (s : machines.State) → Acts (calls service (world_here at next in_slot).machine) (world_here at next in_slot).machine event s → Matched at next in_slot (calls service (machine_of c)) event s
+  served at next in_slot (Some GetByte) event s acts = (WantsByte, _, (refl, refl), inl (refl, told_same at next in_slot event WantsByte s _ acts.0 acts.1))
+  served at next in_slot (Some PutByte) event s acts = (Puts _, _, (refl, refl), inl (refl, told_same at next in_slot event (Puts _) s _ acts.0 acts.1))
+  served at next in_slot (Some EndReturned) event s acts = (Ended _, _, (refl, refl), ended at next in_slot _ event s acts)
+  served at next in_slot (Some EndUncaught) event s acts = (Ended _, _, (refl, refl), ended at next in_slot _ event s acts)
+  served at next in_slot (Some (Asks call)) event s (answer, store, serves, same_event, same_state) =
+      (told_by answer, answered (with_store (machine_of c) store) answer, (answer, store, serves, refl, refl), gone_on at next in_slot answer store event s same_event same_state)
+  served at next in_slot (Some EndFull) event s acts = (Ended _, _, (refl, refl), ended at next in_slot _ event s acts)
+  served at next in_slot None event s acts = (Ended _, _, (refl, refl), ended at next in_slot _ event s acts)
 
-  pub performed : (at : ℕ) (i : Instr) → is_ordinary i ≡ true → cause_of (machine_of c) i ≡ None → (event : Event) (s : machines.State)
-      → Acts (performs (world_here at).machine i) (world_here at).machine event s → Matched at (performs (machine_of c) i) event s
-  performed at (Memory op t b h) ordinary none event s acts = memory_did at op t b h event s (there op t b h none) acts
-  performed at (Immediate op t b h) ordinary none event s acts = did at _ _ event s refl refl acts
-  performed at (LoadUpper t h) ordinary none event s acts = did at _ _ event s refl refl acts
-  performed at (Branch op l r h) ordinary none event s acts = cc
-  performed at (BranchZero op b h) ordinary none event s acts = cc
-  performed at (Jump op x) ordinary none event s acts = cc
-  performed at (Shift op d b a) ordinary none event s acts = did at _ _ event s refl refl acts
-  performed at (ShiftVariable op d b k) ordinary none event s acts = did at _ _ event s refl refl acts
-  performed at (JumpRegister b) ordinary none event s acts = cc
-  performed at (JumpRegisterLink d b) ordinary none event s acts = cc
-  performed at (Exception Syscall x) ordinary none event s acts = served at (asked (machine_of c).core) event s acts
-  performed at (Exception Break x) ordinary none event s acts = cc
-  performed at (MoveFrom High d) ordinary none event s acts = did at _ _ event s refl refl acts
-  performed at (MoveFrom Low d) ordinary none event s acts = did at _ _ event s refl refl acts
-  performed at (MultiplyDivide op l r) ordinary none event s acts = did at _ _ event s refl refl acts
-  performed at (Arithmetic op d l r) ordinary none event s acts = did at _ _ event s refl refl acts
+  pub performed : (at next : ℕ) (in_slot : Bool) (i : Instr) → is_ordinary i ≡ true → cause_of (machine_of c) i ≡ None → (event : Event) (s : machines.State)
+      → Acts (performs (world_here at next in_slot).machine i) (world_here at next in_slot).machine event s → Matched at next in_slot (performs (machine_of c) i) event s
+  performed at next in_slot (Memory op t b h) ordinary none event s acts = memory_did at next in_slot op t b h event s (there op t b h none) acts
+  performed at next in_slot (Immediate op t b h) ordinary none event s acts = did at next in_slot _ _ event s refl refl acts
+  performed at next in_slot (LoadUpper t h) ordinary none event s acts = did at next in_slot _ _ event s refl refl acts
+  performed at next in_slot (Branch op l r h) ordinary none event s acts = cc
+  performed at next in_slot (BranchZero op b h) ordinary none event s acts = cc
+  performed at next in_slot (Jump op x) ordinary none event s acts = cc
+  performed at next in_slot (Shift op d b a) ordinary none event s acts = did at next in_slot _ _ event s refl refl acts
+  performed at next in_slot (ShiftVariable op d b k) ordinary none event s acts = did at next in_slot _ _ event s refl refl acts
+  performed at next in_slot (JumpRegister b) ordinary none event s acts = cc
+  performed at next in_slot (JumpRegisterLink d b) ordinary none event s acts = cc
+  performed at next in_slot (Exception Syscall x) ordinary none event s acts = served at next in_slot (asked (machine_of c).core) event s acts
+  performed at next in_slot (Exception Break x) ordinary none event s acts = cc
+  performed at next in_slot (MoveFrom High d) ordinary none event s acts = did at next in_slot _ _ event s refl refl acts
+  performed at next in_slot (MoveFrom Low d) ordinary none event s acts = did at next in_slot _ _ event s refl refl acts
+  performed at next in_slot (MultiplyDivide op l r) ordinary none event s acts = did at next in_slot _ _ event s refl refl acts
+  performed at next in_slot (Arithmetic op d l r) ordinary none event s acts = did at next in_slot _ _ event s refl refl acts

@@ -10,7 +10,7 @@ use Rattle.cyc_isa.specs.Encoding.{word_of, IsEncodable}
 use Rattle.cyc_isa.specs.Decoding.{jump_index_of}
 use Rattle.cyc_isa.specs.Effect.{branch_target, jump_target}
 use Rattle.cyc_isa.specs.declared.instr.Instr.{Instr}
-use Rattle.cyc_isa.specs.declared.instr.Instr.TheVariants.{Jump, JumpRegister}
+use Rattle.cyc_isa.specs.declared.instr.Instr.TheVariants.{Jump}
 use Rattle.cyc_isa.specs.declared.instr.JumpOp.{JumpOp}
 use Rattle.cyc_isa.specs.declared.instr.JumpOp.TheVariants.{Plain, AndLink}
 use Rattle.cyc_machine.specs.declared.constants.TheConstants.{TEXT_WORDS}
@@ -21,10 +21,12 @@ use Rattle.cyc_select.specs.declared.code.Line.{Line}
 use Rattle.cyc_select.specs.declared.code.Line.TheVariants as lines
 use Rattle.cyc_select.specs.Labelled.{Labelled, Fits, IsFormed, IsFormedLine}
 use Rattle.cyc_asm.specs.declared.constants.TheConstants.{ROUND_OFFSET, FIRST_INDEX}
-use Rattle.cyc_asm.specs.Layout.{is_near, width_of, width_in, position, addresses_of}
-use Rattle.cyc_asm.specs.Text.{text_of, IsAt, nothing, return_register, branch_of, inverse_of, IsJumpAt, StandsBranch, Stands, stretch, IsTextOf}
-use Rattle.cyc_asm.specs.Words.{offset_of, words_of_branch, words_of_line, words_in, words_before, assembled}
-use Rattle.cyc_asm.proofs.Layouts.{position-suc, position-most, position-less, addresses_fit, near_below, near_above, own_words}
+use Rattle.cyc_asm.specs.Slots.{filling}
+use Rattle.cyc_asm.specs.Layout.{is_near, head_width, tail_width, width_of, width_in, position, addresses_of}
+use Rattle.cyc_asm.specs.Text.{text_of, nothing, branch_of, inverse_of, IsJumpAt, StandsBranch, StandsFrom, StandsFilled, StandsOrdinary, Stands, stretch, IsTextOf}
+use Rattle.cyc_asm.specs.Words.{offset_of, IsHeadPosition, head_of_branch, head_of, head_in, round_words, tail_of, words_filled, words_ordinary, words_of_line, words_in, words_before, assembled}
+use Rattle.cyc_asm.proofs.Fillings.{is_jump, IsFilled, filled}
+use Rattle.cyc_asm.proofs.Layouts.{position-suc, position-most, position-less, between_lines, addresses_fit, near_below, near_above, own_words}
 
 -- ---- how many words there are
 
@@ -32,16 +34,31 @@ branch_encodable : (condition : Condition) (offset : ℕ) → offset < 2 ^ 16 �
 branch_encodable (conditions.Registers op left right) offset fits = fits
 branch_encodable (conditions.Sign op source) offset fits = fits
 
-length-words_of_branch : (b : Bool) (code : List Line) (number : ℕ) (condition : Condition) (label : ℕ) → length (words_of_branch b code number condition label) ≡ cond b 2 4
-length-words_of_branch true code number condition label = refl
-length-words_of_branch false code number condition label = refl
+length-round_words : (b : Bool) (code : List Line) (label : ℕ) → length (round_words b code label) + 1 ≡ tail_width b
+length-round_words true code label = refl
+length-round_words false code label = refl
+
+length-words_filled : (o : Option Instr) (code : List Line) (number : ℕ) (line : Line) → length (words_filled o code number line) ≡ head_width o + length (tail_of code number line 0)
+length-words_filled (Some i) code number (lines.Ordinary other) = refl
+length-words_filled (Some i) code number (lines.Branch condition label) = omega arith
+length-words_filled (Some i) code number (lines.Jump label) = refl
+length-words_filled (Some i) code number (lines.Call label) = refl
+length-words_filled (Some i) code number lines.Return = refl
+length-words_filled None code number line = omega arith
+
+length-words_ordinary : (o : Option Instr) (code : List Line) (number : ℕ) (i : Instr) → length (words_ordinary o code number i) ≡ 1
+length-words_ordinary (Some slotted) code number i = refl
+length-words_ordinary None code number i = refl
 
 pub length-words_of_line : (code : List Line) (number : ℕ) (line : Line) → length (words_of_line code number line) ≡ width_of code number line
-length-words_of_line code number (lines.Ordinary i) = refl
-length-words_of_line code number (lines.Branch condition label) = length-words_of_branch (is_near code number label) code number condition label
-length-words_of_line code number (lines.Jump label) = refl
-length-words_of_line code number (lines.Call label) = refl
-length-words_of_line code number lines.Return = refl
+length-words_of_line code number (lines.Ordinary i) = length-words_ordinary (filling code (suc number)) code number i
+length-words_of_line code number (lines.Branch condition label) =
+    let round = length-round_words (is_near code number label) code label in
+    let whole = length-words_filled (filling code number) code number (lines.Branch condition label) in
+    omega (arith, round, whole)
+length-words_of_line code number (lines.Jump label) = length-words_filled (filling code number) code number (lines.Jump label)
+length-words_of_line code number (lines.Call label) = length-words_filled (filling code number) code number (lines.Call label)
+length-words_of_line code number lines.Return = length-words_filled (filling code number) code number lines.Return
 
 length-words_in : (code : List Line) (number : ℕ) (line : Option Line) → length (words_in code number line) ≡ width_in code number line
 length-words_in code number (Some line) = length-words_of_line code number line
@@ -102,20 +119,23 @@ pub record AreNear (from to : ℕ) : Type 0 where
   pub low_from : from ≤ TEXT_WORDS
   pub low_to : to ≤ TEXT_WORDS
 
--- a branch that is near, and its label
-pub are_near_at : (code : List Line) (number label : ℕ) → Fits code → number < length code → label < length code → is_near code number label ≡ true → AreNear (position code number) (position code label)
-are_near_at code number label fits below is_label near = record {
-  below = λ least. elim (cases_lt label number) [
-    | inl before ↦ omega (arith, position-less code label number before (omega (arith, below)), least)
-    | inr behind ↦ near_below code number label near below is_label behind
-  ];
-  above = λ least. elim (cases_lt number label) [
-    | inl before ↦ omega (arith, position-less code number label before (omega (arith, is_label)), least)
-    | inr behind ↦ near_above code number label near below is_label behind
-  ];
-  low_from = omega (arith, fits, position-most code number (omega (arith, below)));
-  low_to = omega (arith, fits, position-most code label (omega (arith, is_label)));
-}
+-- a branch that is near, from where its word stands, and its label
+pub are_near_at : (code : List Line) (number label from : ℕ) (condition : Condition) → Fits code → slice_get code number ≡ Some (lines.Branch condition label) → label < length code → is_near code number label ≡ true
+    → IsHeadPosition code number from → AreNear from (position code label)
+are_near_at code number label from condition fits found is_label near (least, most) =
+    let below = slice_get_within code number (lines.Branch condition label) found in
+    let low_to : position code label ≤ TEXT_WORDS = omega (arith, fits, position-most code label (omega (arith, is_label))) in
+    let low_from : from ≤ TEXT_WORDS = omega (arith, least, fits, position-most code number (omega (arith, below))) in
+    elim (cases_lt number label) [
+      | inl before ↦
+          let up = position-less code number label before (omega (arith, is_label)) in
+          let reach = near_below code number label condition near found is_label before in
+          record { below = λ forward. omega (arith, reach, most); above = λ backward. absurd (omega (arith, up, least, backward)); low_from = low_from; low_to = low_to }
+      | inr behind ↦
+          let up = (between_lines code label number behind (omega (arith, below))).up in
+          let reach = near_above code number label near below is_label behind in
+          record { below = λ forward. omega (arith, up, most); above = λ backward. omega (arith, reach, least); low_from = low_from; low_to = low_to }
+    ]
 
 pub offset_of-half : (from to : ℕ) → AreNear from to → offset_of from to < 2 ^ 16
 offset_of-half from to near = elim (nat_lt from to) as (λ b. nat_lt from to ≡ b → cond b (to - (from + 1)) (65535 - (from - to)) < 2 ^ 16) [
@@ -165,9 +185,6 @@ module _ (code : Labelled) (formed : IsFormed code) (fits : Fits code.lines) whe
         ∙ ap (λ (ws : List ℕ). slice_index_or (text_of ws) (length (words_before code.lines number) + j) None) there
         ∙ found_behind (words_before code.lines number) (words_of_line code.lines number line) rest j w has
 
-    is_there : (j : ℕ) (i : Instr) (address : ℕ) → address ≡ at number + 4 * j → IsEncodable i → slice_get (words_of_line code.lines number line) j ≡ Some (word_of i) → IsAt words address i
-    is_there j i address is encodable has = record { encodable = encodable; word = word_there j (word_of i) address is has }
-
     -- a label's address is in the text range
     low : (label : ℕ) → label ≤ length code.lines → position code.lines label ≤ TEXT_WORDS
     low label within = let most = position-most code.lines label within in omega (arith, fits, most)
@@ -175,75 +192,144 @@ module _ (code : Labelled) (formed : IsFormed code) (fits : Fits code.lines) whe
     line_formed : IsFormedLine (length code.lines) line
     line_formed = subst (IsFormedLine (length code.lines)) (get_or_from_slice_get code.lines number line line found) (formed number line below)
 
-    -- ---- the lines
+    inside : at (suc number) ≤ text_end
+    inside = let last = position-most code.lines (suc number) (let b = below in omega (arith, b)) in omega (arith, fits, last)
 
-    abbrev has : List ℕ → ℕ → ℕ → Type 0
-    has ws j w = slice_get ws j ≡ Some w
+  -- ---- branches and jumps
 
-    inside : at number + 4 * width_of code.lines number line ≤ text_end
-    inside =
-        let last = position-most code.lines (suc number) (let b = below in omega (arith, b)) in
-        let more = position-suc code.lines number line found in
-        omega (arith, fits, last, more)
+  abbrev word_at : (address word : ℕ) → Type 0
+  word_at address word = text_at (text_of words) address ≡ Some word
 
-    -- the words of a jump, from the word j of the line on
-    jump_there : (j : ℕ) (op : JumpOp) (label address : ℕ) → label < length code.lines → address ≡ at number + 4 * j → address < text_end
-        → has (words_of_line code.lines number line) j (word_of (Jump op (jump_index_of (FIRST_INDEX + position code.lines label))))
-        → has (words_of_line code.lines number line) (j + 1) 0 → IsJumpAt words op address (at label)
-    jump_there j op label address is_label is in_text first second = record {
-      index = jump_index_of (FIRST_INDEX + position code.lines label);
-      jump = is_there j (Jump op (jump_index_of (FIRST_INDEX + position code.lines label))) address is tt first;
-      target = index_target address (position code.lines label) in_text (low label (omega (arith, is_label)));
-      slot = is_there (j + 1) nothing (address + 4) (omega (arith, is)) (omega arith) second;
-    }
-
-    branch_there : (b : Bool) (condition : Condition) (label : ℕ) → label < length code.lines → is_near code.lines number label ≡ b
-        → words_of_line code.lines number line ≡ words_of_branch b code.lines number condition label → width_of code.lines number line ≡ cond b 2 4
-        → StandsBranch b words (addresses_of code) number condition label
-    branch_there true condition label is_label near same wide = (
+  jump_there : (op : JumpOp) (label address : ℕ) (slotted : Instr) → label < length code.lines → address < text_end → IsEncodable slotted
+      → word_at address (word_of (Jump op (jump_index_of (FIRST_INDEX + position code.lines label)))) → word_at (address + 4) (word_of slotted) → IsJumpAt words op slotted address (at label)
+  jump_there op label address slotted is_label in_text encodable first second =
+      let most = position-most code.lines label (omega (arith, is_label)) in
       record {
-        offset = offset_of (position code.lines number) (position code.lines label);
-        branch = is_there 0 (branch_of condition (offset_of (position code.lines number) (position code.lines label))) (at number) (omega arith) (branch_encodable condition _ (offset_of-half _ _ (are_near_at code.lines number label fits below is_label near)))
-            (ap (λ ws. slice_get ws 0) same);
-        target = offset_of-target (position code.lines number) (position code.lines label) (are_near_at code.lines number label fits below is_label near);
-        slot = is_there 1 nothing (at number + 4) (omega arith) (omega arith) (ap (λ ws. slice_get ws 1) same);
-      },
-      (let n = next in omega (arith, n, wide)),
+        index = jump_index_of (FIRST_INDEX + position code.lines label);
+        jump = record { encodable = tt; word = first };
+        target = index_target address (position code.lines label) in_text (omega (arith, fits, most));
+        slot = record { encodable = encodable; word = second };
+      }
+
+  -- A branch or jump whose word stands here, with these words behind it.
+  module _ (number from : ℕ) (slotted : Instr) (encodable : IsEncodable slotted) (is_head : IsHeadPosition code.lines number from) where
+    abbrev here : ℕ
+    here = text_base + 4 * from
+
+    abbrev Head : Line → Type 0
+    Head line = word_at here (word_of (head_of code.lines from number line))
+
+    abbrev Tail : List ℕ → Type 0
+    Tail tail = (j w address : ℕ) → address ≡ here + 4 + 4 * j → slice_get tail j ≡ Some w → word_at address w
+
+    abbrev Next : List ℕ → Type 0
+    Next tail = at (suc number) ≡ here + 4 + 4 * length tail
+
+    branch_there : (b : Bool) (condition : Condition) (label : ℕ) → slice_get code.lines number ≡ Some (lines.Branch condition label) → is_near code.lines number label ≡ b
+        → word_at here (word_of (head_of_branch b code.lines from condition label)) → Tail (word_of slotted ∷ round_words b code.lines label) → Next (word_of slotted ∷ round_words b code.lines label)
+        → StandsBranch b words (addresses_of code) number condition label slotted here
+    branch_there true condition label found near head tail next =
+        let is_label = line_formed number (lines.Branch condition label) found in
+        let reach = are_near_at code.lines number label from condition fits found is_label near is_head in (
+          record {
+            offset = offset_of from (position code.lines label);
+            branch = record { encodable = branch_encodable condition _ (offset_of-half _ _ reach); word = head };
+            target = offset_of-target from (position code.lines label) reach;
+            slot = record { encodable = encodable; word = tail 0 (word_of slotted) (here + 4) (omega arith) refl };
+          },
+          (omega (arith, next)),
+        )
+    branch_there false condition label found far head tail next =
+        let is_label = line_formed number (lines.Branch condition label) found in
+        let in_text = inside number (lines.Branch condition label) found in (
+          record {
+            offset = ROUND_OFFSET;
+            branch = record { encodable = branch_encodable (inverse_of condition) ROUND_OFFSET (omega arith); word = head };
+            target = round_target from (omega (arith, next, in_text)) ∙ (let e : here + 16 ≡ at (suc number) = omega (arith, next) in e);
+            slot = record { encodable = encodable; word = tail 0 (word_of slotted) (here + 4) (omega arith) refl };
+          },
+          jump_there Plain label (here + 8) nothing is_label (omega (arith, next, in_text)) (omega arith) (tail 1 _ (here + 8) (omega arith) refl) (tail 2 0 (here + 8 + 4) (omega arith) refl),
+          (omega (arith, next)),
+        )
+
+    from_here : (line : Line) → slice_get code.lines number ≡ Some line → is_jump line ≡ true → Head line → Tail (tail_of code.lines number line (word_of slotted)) → Next (tail_of code.lines number line (word_of slotted))
+        → StandsFrom code words (addresses_of code) number line slotted here
+    from_here (lines.Ordinary i) found jumps head tail next = absurd (let e : false ≡ true = jumps in cc)
+    from_here (lines.Branch condition label) found jumps head tail next = branch_there (is_near code.lines number label) condition label found refl head tail next
+    from_here (lines.Jump label) found jumps head tail next = (
+      jump_there Plain label here slotted (line_formed number (lines.Jump label) found) (let i = inside number (lines.Jump label) found in omega (arith, i, next)) encodable head
+          (tail 0 (word_of slotted) (here + 4) (omega arith) refl),
+      (omega (arith, next)),
     )
-    branch_there false condition label is_label far same wide = (
-      record {
-        offset = ROUND_OFFSET;
-        branch = is_there 0 (branch_of (inverse_of condition) ROUND_OFFSET) (at number) (omega arith) (branch_encodable (inverse_of condition) ROUND_OFFSET (omega arith)) (ap (λ ws. slice_get ws 0) same);
-        target = round_target (position code.lines number) (low number (let b = below in omega (arith, b))) ∙ (let n = next in omega (arith, n, wide));
-        slot = is_there 1 nothing (at number + 4) (omega arith) (omega arith) (ap (λ ws. slice_get ws 1) same);
-      },
-      jump_there 2 Plain label (at number + 8) is_label (omega arith) (let i = inside in omega (arith, i, wide)) (ap (λ ws. slice_get ws 2) same) (ap (λ ws. slice_get ws 3) same),
-      (let n = next in omega (arith, n, wide)),
+    from_here (lines.Call label) found jumps head tail next = (
+      jump_there AndLink label here slotted (line_formed number (lines.Call label) found) (let i = inside number (lines.Call label) found in omega (arith, i, next)) encodable head
+          (tail 0 (word_of slotted) (here + 4) (omega arith) refl),
+      (omega (arith, next)),
+    )
+    from_here lines.Return found jumps head tail next = (
+      record { encodable = tt; word = head },
+      record { encodable = encodable; word = tail 0 (word_of slotted) (here + 4) (omega arith) refl },
+      (omega (arith, next)),
     )
 
-  stands : (number : ℕ) (line : Line) → slice_get code.lines number ≡ Some line → Stands code words (addresses_of code) number line
-  stands number (lines.Ordinary i) found = (
-    is_there number (lines.Ordinary i) found 0 i (at number) (omega arith) (line_formed number (lines.Ordinary i) found).1 refl,
+  -- ---- the lines
+
+  words_of_jump : (number : ℕ) (line : Line) → is_jump line ≡ true → words_of_line code.lines number line ≡ words_filled (filling code.lines number) code.lines number line
+  words_of_jump number (lines.Ordinary i) jumps = absurd (let e : false ≡ true = jumps in cc)
+  words_of_jump number (lines.Branch condition label) jumps = refl
+  words_of_jump number (lines.Jump label) jumps = refl
+  words_of_jump number (lines.Call label) jumps = refl
+  words_of_jump number lines.Return jumps = refl
+
+  filled_there : (number : ℕ) (line : Line) → slice_get code.lines number ≡ Some line → is_jump line ≡ true → (o : Option Instr) → filling code.lines number ≡ o
+      → StandsFilled o code words (addresses_of code) number line
+  filled_there number line found jumps None none =
+      let mine : words_of_line code.lines number line ≡ word_of (head_of code.lines (position code.lines number) number line) ∷ tail_of code.lines number line 0 =
+      words_of_jump number line jumps ∙ ap (λ o. words_filled o code.lines number line) none in
+      let long = length-words_of_line code.lines number line in
+      let wide = next number line found in
+      from_here number (position code.lines number) nothing (omega arith) ((omega arith), (omega arith)) line found jumps
+      (word_there number line found 0 _ (at number) (omega arith) (ap (λ (ws : List ℕ). slice_get ws 0) mine))
+      (λ j w address is has. word_there number line found (suc j) w address (omega (arith, is)) (ap (λ (ws : List ℕ). slice_get ws (suc j)) mine ∙ has))
+      (omega (arith, wide, long, ap length mine))
+  filled_there number line found jumps (Some i) some =
+      let f = filled code.lines number i some in
+      let mine : words_of_line code.lines number line ≡ tail_of code.lines number line (word_of i) =
+      words_of_jump number line jumps ∙ ap (λ o. words_filled o code.lines number line) some in
+      let one : filling code.lines (suc f.before) ≡ Some i = ap (filling code.lines) (sym f.is) ∙ some in
+      let its : words_of_line code.lines f.before (lines.Ordinary i) ≡ word_of (head_of code.lines (position code.lines f.before) number line) ∷ [] =
+      ap (λ o. words_ordinary o code.lines f.before i) one
+      ∙ ap (λ (n : ℕ). word_of (head_in code.lines (position code.lines f.before) n (slice_get code.lines n)) ∷ []) (sym f.is)
+      ∙ ap (λ o. word_of (head_in code.lines (position code.lines f.before) number o) ∷ []) found in
+      let long = length-words_of_line code.lines number line in
+      let wide = next number line found in
+      let behind : at number ≡ at f.before + 4 = ap at f.is ∙ (let w = next f.before (lines.Ordinary i) f.from in omega (arith, w)) in
+      let encodable : IsEncodable i = (line_formed f.before (lines.Ordinary i) f.from).1 in (
+        at f.before,
+        behind,
+        from_here number (position code.lines f.before) i encodable ((omega (arith, behind)), (omega (arith, behind))) line found jumps
+            (word_there f.before (lines.Ordinary i) f.from 0 _ (at f.before) (omega arith) (ap (λ (ws : List ℕ). slice_get ws 0) its))
+            (λ j w address is has. word_there number line found j w address (omega (arith, is, behind)) (ap (λ (ws : List ℕ). slice_get ws j) mine ∙ has))
+            (omega (arith, wide, long, ap length mine, behind)),
+      )
+
+  ordinary_there : (number : ℕ) (i : Instr) → slice_get code.lines number ≡ Some (lines.Ordinary i) → (o : Option Instr) → filling code.lines (suc number) ≡ o
+      → StandsOrdinary o words (addresses_of code) number i
+  ordinary_there number i found None none = (
+    record {
+      encodable = (line_formed number (lines.Ordinary i) found).1;
+      word = word_there number (lines.Ordinary i) found 0 (word_of i) (at number) (omega arith) (ap (λ o. slice_get (words_ordinary o code.lines number i) 0) none);
+    },
     (let n = next number (lines.Ordinary i) found in omega (arith, n)),
   )
-  stands number (lines.Branch condition label) found =
-      branch_there number (lines.Branch condition label) found (is_near code.lines number label) condition label
-      (line_formed number (lines.Branch condition label) found) refl refl refl
-  stands number (lines.Jump label) found = (
-    jump_there number (lines.Jump label) found 0 Plain label (at number) (line_formed number (lines.Jump label) found) (omega arith)
-        (let i = inside number (lines.Jump label) found in omega (arith, i)) refl refl,
-    (let n = next number (lines.Jump label) found in omega (arith, n)),
-  )
-  stands number (lines.Call label) found = (
-    jump_there number (lines.Call label) found 0 AndLink label (at number) (line_formed number (lines.Call label) found) (omega arith)
-        (let i = inside number (lines.Call label) found in omega (arith, i)) refl refl,
-    (let n = next number (lines.Call label) found in omega (arith, n)),
-  )
-  stands number lines.Return found = (
-    is_there number lines.Return found 0 (JumpRegister return_register) (at number) (omega arith) tt refl,
-    is_there number lines.Return found 1 nothing (at number + 4) (omega arith) tt refl,
-    (let n = next number lines.Return found in omega (arith, n)),
-  )
+  ordinary_there number i found (Some slotted) some = (let n = next number (lines.Ordinary i) found in omega (arith, n))
+
+  stands : (number : ℕ) (line : Line) → slice_get code.lines number ≡ Some line → Stands code words (addresses_of code) number line
+  stands number (lines.Ordinary i) found = ordinary_there number i found (filling code.lines (suc number)) refl
+  stands number (lines.Branch condition label) found = filled_there number (lines.Branch condition label) found refl (filling code.lines number) refl
+  stands number (lines.Jump label) found = filled_there number (lines.Jump label) found refl (filling code.lines number) refl
+  stands number (lines.Call label) found = filled_there number (lines.Call label) found refl (filling code.lines number) refl
+  stands number lines.Return found = filled_there number lines.Return found refl (filling code.lines number) refl
 
   pub assembled_means : IsTextOf code (addresses_of code) (assembled code)
   assembled_means = record {

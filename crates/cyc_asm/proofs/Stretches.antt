@@ -1,12 +1,19 @@
 -- Stretches of addresses.
-use Rattle.std.proofs.Common.{◌≡◌, ℕ, zero, suc, ◌+◌, ◌-◌, ◌*◌, ◌/◌, ◌<◌, List, ◌∷◌, ◌++◌, length, refl, sym, ap, subst, ◌∙◌, arith}
+use Rattle.std.proofs.Common.{◌≡◌, ℕ, zero, suc, ◌+◌, ◌-◌, ◌*◌, ◌/◌, ◌≤◌, ◌<◌, List, ◌∷◌, ◌++◌, length, get_or, Bool, true, false, Option, Some, None, refl, sym, ap, subst, ◌∙◌, arith}
 use Rattle.std.specs.Prelude.{Contains}
 use Rattle.std.specs.List.{range_with_len, flat_map}
 use Rattle.std.proofs.lemmas.Grind.{flat_map-append}
 use Rattle.std.proofs.lemmas.List.{length-append}
+use Rattle.std.proofs.lemmas.Option.{slice_get-get_or}
+use Rattle.cyc_isa.specs.declared.instr.Instr.{Instr}
 use Rattle.cyc_machine.specs.State.{text_base}
+use Rattle.cyc_select.specs.declared.code.Condition.{Condition}
+use Rattle.cyc_select.specs.declared.code.Line.{Line}
+use Rattle.cyc_select.specs.declared.code.Line.TheVariants as lines
 use Rattle.cyc_select.specs.Labelled.{Labelled}
-use Rattle.cyc_asm.specs.Text.{stretch, own, IsTextOf}
+use Rattle.cyc_asm.specs.Slots.{filling}
+use Rattle.cyc_asm.specs.Layout.{is_near}
+use Rattle.cyc_asm.specs.Text.{nothing, StandsBranch, StandsOrdinary, Stands, stretch, own, IsTextOf}
 
 pub length-stretch : (from count : ℕ) → length (stretch from count) ≡ count
 length-stretch from zero = refl
@@ -43,3 +50,30 @@ own-parts code addresses words text some others parts =
     let both = ap length (sym (flat_map-append (own addresses) some others) ∙ ap (flat_map (own addresses)) parts ∙ text.all) in
     let sum = length-append (flat_map (own addresses) some) (flat_map (own addresses) others) in
     omega (arith, both, sum, length-stretch text_base (length words))
+
+-- ---- where there is a line, there is a word
+
+branch_wide : (near : Bool) (words : List ℕ) (addresses : ℕ → ℕ) (number : ℕ) (condition : Condition) (label : ℕ) (slotted : Instr) (from : ℕ)
+    → StandsBranch near words addresses number condition label slotted from → from + 4 ≤ addresses (suc number)
+branch_wide true words addresses number condition label slotted from (branches, next) = omega (arith, next)
+branch_wide false words addresses number condition label slotted from (branches, jumps, next) = omega (arith, next)
+
+ordinary_wide : (o : Option Instr) (words : List ℕ) (addresses : ℕ → ℕ) (number : ℕ) (i : Instr) → StandsOrdinary o words addresses number i → addresses number + 4 ≤ addresses (suc number)
+ordinary_wide None words addresses number i (at, next) = omega (arith, next)
+ordinary_wide (Some slotted) words addresses number i next = omega (arith, next)
+
+first_wide : (code : Labelled) (words : List ℕ) (addresses : ℕ → ℕ) (line : Line) → Stands code words addresses 0 line → addresses 0 + 4 ≤ addresses 1
+first_wide code words addresses (lines.Ordinary i) stands = ordinary_wide (filling code.lines 1) words addresses 0 i stands
+first_wide code words addresses (lines.Branch condition label) stands = branch_wide (is_near code.lines 0 label) words addresses 0 condition label nothing (addresses 0) stands
+first_wide code words addresses (lines.Jump label) (jumps, next) = omega (arith, next)
+first_wide code words addresses (lines.Call label) (jumps, next) = omega (arith, next)
+first_wide code words addresses lines.Return (at, slot, next) = omega (arith, next)
+
+pub text_has_words : (code : Labelled) (addresses : ℕ → ℕ) (words : List ℕ) → 0 < length code.lines → IsTextOf code addresses words → 0 < length words
+text_has_words code addresses words some text =
+    let rest : ℕ = length code.lines - 1 in
+    let wide = first_wide code words addresses (get_or code.lines 0 lines.Return) (text.stands 0 (get_or code.lines 0 lines.Return) (slice_get-get_or code.lines 0 lines.Return some)) in
+    let all = ap length (sym (ap (λ (n : ℕ). flat_map (own addresses) (range_with_len 0 n)) (let e : length code.lines ≡ suc rest = omega (arith, some) in e)) ∙ text.all) in
+    let parts = length-append (own addresses 0) (flat_map (own addresses) (range_with_len 1 rest)) in
+    let first = length-stretch (addresses 0) ((addresses 1 - addresses 0) / 4) in
+    omega (arith, wide, all, parts, first, length-stretch text_base (length words))

@@ -1,19 +1,27 @@
 -- What the tables of the layout hold.
-use Rattle.std.proofs.Common.{◌≡◌, ℕ, suc, ◌+◌, ◌≤◌, ◌<◌, List, [], ◌∷◌, ◌++◌, length, get_or, map, Bool, true, cond, nat_le, Some, refl, sym, ap, subst, ◌∙◌, arith, inl, inr}
+use Rattle.std.proofs.Common.{◌≡◌, ℕ, suc, ◌+◌, ◌≤◌, ◌<◌, List, [], ◌∷◌, ◌++◌, length, get_or, map, Bool, true, false, nat_le, None, Some, refl, sym, ap, subst, ◌∙◌, arith, inl, inr, append_assoc}
 use Rattle.std.specs.Prelude.{◌&&◌, All, slice_get}
 use Rattle.std.specs.List.{range_with_len}
 use Rattle.std.proofs.lemmas.Bool.{cases_lt}
 use Rattle.std.proofs.lemmas.List.FromFn.{length-map-range_with_len, get_or-map-range_with_len, map-range_with_len_more}
-use Rattle.std.proofs.lemmas.Option.{slice_get-get_or}
+use Rattle.std.proofs.lemmas.Option.{slice_get-get_or, slice_get_within}
+use Rattle.cyc_isa.specs.Encoding.{word_of}
+use Rattle.cyc_isa.specs.Decoding.{jump_index_of}
+use Rattle.cyc_isa.specs.declared.instr.Instr.{Instr}
+use Rattle.cyc_isa.specs.declared.instr.Instr.TheVariants.{Jump}
+use Rattle.cyc_isa.specs.declared.instr.JumpOp.{JumpOp}
 use Rattle.cyc_machine.specs.declared.constants.TheConstants.{TEXT_WORDS}
 use Rattle.cyc_select.specs.declared.code.Condition.{Condition}
 use Rattle.cyc_select.specs.declared.code.Line.{Line}
 use Rattle.cyc_select.specs.declared.code.Line.TheVariants as lines
 use Rattle.cyc_select.specs.Labelled.{Fits, IsFormedLine, words_of}
-use Rattle.cyc_asm.specs.declared.constants.TheConstants.{MAX_REACH}
-use Rattle.cyc_asm.specs.Layout.{most_before, most_of_each, is_near, width_of, width_in, width_at, position, position_of_each}
-use Rattle.cyc_asm.specs.Words.{offset_of, branch_words, words_of_branch, words_of_line, words_in}
-use Rattle.cyc_asm.proofs.Layouts.{between_lines, most_before-suc, most_before-all, position-most}
+use Rattle.cyc_asm.specs.declared.constants.TheConstants.{MAX_REACH, FIRST_INDEX}
+use Rattle.cyc_asm.specs.Slots.{filling}
+use Rattle.cyc_asm.specs.Layout.{most_before, most_of_each, is_near, head_width, tail_width, width_of, width_in, width_at, position, position_of_each}
+use Rattle.cyc_asm.specs.Text.{branch_of}
+use Rattle.cyc_asm.specs.Words.{offset_of, IsHeadPosition, head_of_branch, head_of, head_in, round_words, tail_of, tail_in, words_filled, filled_in, words_ordinary, words_of_line, words_in}
+use Rattle.cyc_asm.proofs.Fillings.{is_jump, IsFilled, filled}
+use Rattle.cyc_asm.proofs.Layouts.{between_lines, most_before-suc, most_before-all, position-suc, position-most}
 use Rattle.cyc_asm.proofs.Standing.{are_near_at}
 
 pub length-most_of_each : (code : List Line) (most : List ℕ) → most ≡ most_of_each code → length most ≡ length code
@@ -97,36 +105,126 @@ near_here code most number label near b is below is_label by_table known =
     ∙ sym by_table ∙ known
 
 pub width_of_branch : (code : List Line) (number : ℕ) (d : Line) (condition : Condition) (label : ℕ) (b : Bool) → number < length code
-    → get_or code number d ≡ lines.Branch condition label → is_near code number label ≡ b → width_at code number ≡ cond b 2 4
+    → get_or code number d ≡ lines.Branch condition label → is_near code number label ≡ b → width_at code number ≡ head_width (filling code number) + tail_width b
 width_of_branch code number d condition label b below here near =
-    width_here code number d (lines.Branch condition label) below here ∙ ap (λ b. cond b 2 4) near
+    width_here code number d (lines.Branch condition label) below here ∙ ap (λ b. head_width (filling code number) + tail_width b) near
 
-pub words_of_branch_here : (code : List Line) (number : ℕ) (d : Line) (condition : Condition) (label : ℕ) (b : Bool) → number < length code
+-- the branch or jump of a line, and the words behind it
+
+pub head_here : (code : List Line) (from number : ℕ) (d line : Line) → number < length code → get_or code number d ≡ line → head_in code from number (slice_get code number) ≡ head_of code from number line
+head_here code from number d line below here = ap (head_in code from number) (line_here code number d line below here)
+
+pub head_of_branch_here : (code : List Line) (from number : ℕ) (d : Line) (condition : Condition) (label : ℕ) (b : Bool) → number < length code
     → get_or code number d ≡ lines.Branch condition label → is_near code number label ≡ b
-    → words_in code number (slice_get code number) ≡ words_of_branch b code number condition label
-words_of_branch_here code number d condition label b below here near =
-    words_here code number d (lines.Branch condition label) below here ∙ ap (λ b. words_of_branch b code number condition label) near
+    → head_in code from number (slice_get code number) ≡ head_of_branch b code from condition label
+head_of_branch_here code from number d condition label b below here near =
+    head_here code from number d (lines.Branch condition label) below here ∙ ap (λ b. head_of_branch b code from condition label) near
+
+pub tail_here : (code : List Line) (number : ℕ) (d line : Line) (slot : ℕ) → number < length code → get_or code number d ≡ line → tail_in code number (slice_get code number) slot ≡ tail_of code number line slot
+tail_here code number d line slot below here = ap (λ o. tail_in code number o slot) (line_here code number d line below here)
+
+pub tail_of_branch_here : (code : List Line) (number : ℕ) (d : Line) (condition : Condition) (label : ℕ) (b : Bool) (slot : ℕ) → number < length code
+    → get_or code number d ≡ lines.Branch condition label → is_near code number label ≡ b
+    → tail_in code number (slice_get code number) slot ≡ slot ∷ round_words b code label
+tail_of_branch_here code number d condition label b slot below here near =
+    tail_here code number d (lines.Branch condition label) slot below here ∙ ap (λ b. slot ∷ round_words b code label) near
 
 -- a near branch and its label, from the table
-pub reach_here : (code : List Line) (positions : List ℕ) (number label : ℕ) → Fits code → positions ≡ position_of_each code → number < length code → label < length code
-    → is_near code number label ≡ true
-    → (get_or positions number 0 ≤ get_or positions label 0 + MAX_REACH) × (get_or positions label 0 ≤ get_or positions number 0 + MAX_REACH)
-reach_here code positions number label fits is below is_label near =
-    let here = position_at code positions number is below in
+pub reach_here : (code : List Line) (positions : List ℕ) (number label from : ℕ) (d : Line) (condition : Condition) → Fits code → positions ≡ position_of_each code → number < length code → label < length code
+    → get_or code number d ≡ lines.Branch condition label → is_near code number label ≡ true → IsHeadPosition code number from
+    → (from ≤ get_or positions label 0 + MAX_REACH) × (get_or positions label 0 ≤ from + MAX_REACH)
+reach_here code positions number label from d condition fits is below is_label here near is_head =
     let there = position_at code positions label is is_label in
-    let reach = are_near_at code number label fits below is_label near in
-    elim (cases_lt (position code number) (position code label)) [
-      | inl up ↦ let r = reach.below (omega (arith, up)) in (omega (arith, here, there, up), omega (arith, here, there, r))
-      | inr down ↦ let r = reach.above (omega (arith, down)) in (omega (arith, here, there, r), omega (arith, here, there, down))
+    let reach = are_near_at code number label from condition fits (line_here code number d (lines.Branch condition label) below here) is_label near is_head in
+    elim (cases_lt from (position code label)) [
+      | inl up ↦ let r = reach.below (omega (arith, up)) in (omega (arith, there, up), omega (arith, there, r))
+      | inr down ↦ let r = reach.above down in (omega (arith, there, r), omega (arith, there, down))
     ]
 
--- the words of a near branch, from the table
-pub offset_words_here : (code : List Line) (positions : List ℕ) (number : ℕ) (d : Line) (condition : Condition) (label offset : ℕ) → positions ≡ position_of_each code
+-- a near branch, from the table
+pub near_branch_here : (code : List Line) (positions : List ℕ) (number from : ℕ) (d : Line) (condition : Condition) (label offset : ℕ) → positions ≡ position_of_each code
     → number < length code → label < length code → get_or code number d ≡ lines.Branch condition label → is_near code number label ≡ true
-    → offset ≡ offset_of (get_or positions number 0) (get_or positions label 0)
-    → branch_words condition offset ≡ words_in code number (slice_get code number)
-offset_words_here code positions number d condition label offset is below is_label here near by_table =
-    ap (branch_words condition) (
-    by_table ∙ ap (λ (n : ℕ). offset_of n (get_or positions label 0)) (position_at code positions number is below)
-    ∙ ap (λ (n : ℕ). offset_of (position code number) n) (position_at code positions label is is_label))
-    ∙ sym (words_of_branch_here code number d condition label true below here near)
+    → offset ≡ offset_of from (get_or positions label 0)
+    → branch_of condition offset ≡ head_in code from number (slice_get code number)
+near_branch_here code positions number from d condition label offset is below is_label here near by_table =
+    ap (branch_of condition) (by_table ∙ ap (offset_of from) (position_at code positions label is is_label))
+    ∙ sym (head_of_branch_here code from number d condition label true below here near)
+
+-- a jump, from the table
+pub jump_here : (code : List Line) (positions : List ℕ) (op : JumpOp) (label : ℕ) → positions ≡ position_of_each code → label < length code
+    → word_of (Jump op (jump_index_of (FIRST_INDEX + get_or positions label 0))) ≡ word_of (Jump op (jump_index_of (FIRST_INDEX + position code label)))
+jump_here code positions op label is is_label = ap (λ (n : ℕ). word_of (Jump op (jump_index_of (FIRST_INDEX + n)))) (position_at code positions label is is_label)
+
+-- where the branch or jump of a line stands
+
+pub head_at_line : (code : List Line) (positions : List ℕ) (number : ℕ) → positions ≡ position_of_each code → number < length code → IsHeadPosition code number (get_or positions number 0)
+head_at_line code positions number is below = let at = position_at code positions number is below in (omega (arith, at), omega (arith, at))
+
+pub head_before_line : (code : List Line) (positions : List ℕ) (number : ℕ) (d : Line) (i : Instr) → positions ≡ position_of_each code → number < length code → get_or code number d ≡ lines.Ordinary i
+    → IsHeadPosition code (number + 1) (get_or positions number 0)
+head_before_line code positions number d i is below here =
+    let at = position_at code positions number is below in
+    let wide = position-suc code number (lines.Ordinary i) (line_here code number d (lines.Ordinary i) below here) in
+    let one : number + 1 ≡ suc number = omega arith in
+    let next = ap (position code) one in
+    (omega (arith, at, wide, next), omega (arith, at, wide, next))
+
+-- words one behind the other
+
+pub pushed_two : (old first second : List ℕ) (a : ℕ) (rest : List ℕ) → first ≡ old ++ a ∷ [] → second ≡ first ++ rest → second ≡ old ++ a ∷ rest
+pushed_two old first second a rest one two = two ∙ ap (λ (xs : List ℕ). xs ++ rest) one ∙ append_assoc old (a ∷ []) rest
+
+pub pushed_three : (old first second third : List ℕ) (a b c : ℕ) → first ≡ old ++ a ∷ [] → second ≡ first ++ b ∷ [] → third ≡ second ++ c ∷ [] → third ≡ old ++ a ∷ b ∷ c ∷ []
+pushed_three old first second third a b c one two three =
+    pushed_two old first third a (b ∷ c ∷ []) one (pushed_two first second third b (c ∷ []) two three)
+
+-- the words of an ordinary instruction's line, from what fills the slot behind it
+
+pub words_alone : (code : List Line) (number : ℕ) (i : Instr) → filling code (number + 1) ≡ None → word_of i ∷ [] ≡ words_ordinary (filling code (number + 1)) code number i
+words_alone code number i none = sym (ap (λ o. words_ordinary o code number i) none)
+
+pub words_moved : (code : List Line) (number word from : ℕ) (i slotted : Instr) → filling code (number + 1) ≡ Some slotted → from ≡ position code number
+    → word ≡ word_of (head_in code from (number + 1) (slice_get code (number + 1))) → word ∷ [] ≡ words_ordinary (filling code (number + 1)) code number i
+words_moved code number word from i slotted some place is =
+    let one : number + 1 ≡ suc number = omega arith in
+    ap (λ (w : ℕ). w ∷ [])
+    (is ∙ ap (λ (n : ℕ). word_of (head_in code n (number + 1) (slice_get code (number + 1)))) place
+    ∙ ap (λ (n : ℕ). word_of (head_in code (position code number) n (slice_get code n))) one)
+    ∙ sym (ap (λ o. words_ordinary o code number i) some)
+
+pub within_moved : (code : List Line) (number : ℕ) (slotted : Instr) → filling code (number + 1) ≡ Some slotted → number + 1 < length code
+within_moved code number slotted some = let f = filled code (number + 1) slotted some in slice_get_within code (number + 1) f.line f.at
+
+-- those of a branch or jump, from what fills its slot
+
+pub words_behind : (code : List Line) (number : ℕ) (d line : Line) (slotted : Instr) → number < length code → get_or code number d ≡ line → filling code number ≡ Some slotted
+    → tail_in code number (slice_get code number) (word_of slotted) ≡ filled_in code number (slice_get code number)
+words_behind code number d line slotted below here some =
+    tail_here code number d line (word_of slotted) below here
+    ∙ sym (ap (filled_in code number) (line_here code number d line below here) ∙ ap (λ o. words_filled o code number line) some)
+
+pub words_empty : (code : List Line) (number word from : ℕ) (d line : Line) → number < length code → get_or code number d ≡ line → filling code number ≡ None → from ≡ position code number
+    → word ≡ word_of (head_in code from number (slice_get code number)) → word ∷ tail_in code number (slice_get code number) 0 ≡ filled_in code number (slice_get code number)
+words_empty code number word from d line below here none place is =
+    ap (λ (w : ℕ). w ∷ tail_in code number (slice_get code number) 0)
+    (is ∙ ap (λ (n : ℕ). word_of (head_in code n number (slice_get code number))) place ∙ ap word_of (head_here code (position code number) number d line below here))
+    ∙ ap (λ (ws : List ℕ). word_of (head_of code (position code number) number line) ∷ ws) (tail_here code number d line 0 below here)
+    ∙ sym (ap (filled_in code number) (line_here code number d line below here) ∙ ap (λ o. words_filled o code number line) none)
+
+pub words_of_jump_here : (code : List Line) (number : ℕ) (d line : Line) → number < length code → get_or code number d ≡ line → is_jump line ≡ true
+    → filled_in code number (slice_get code number) ≡ words_in code number (slice_get code number)
+words_of_jump_here code number d line below here jumps =
+    ap (filled_in code number) (line_here code number d line below here) ∙ by line jumps ∙ sym (ap (words_in code number) (line_here code number d line below here))
+  where
+    by : (line : Line) → is_jump line ≡ true → words_filled (filling code number) code number line ≡ words_of_line code number line
+    by (lines.Ordinary i) jumps = absurd (let e : false ≡ true = jumps in cc)
+    by (lines.Branch condition label) jumps = refl
+    by (lines.Jump label) jumps = refl
+    by (lines.Call label) jumps = refl
+    by lines.Return jumps = refl
+
+pub words_of_ordinary_here : (code : List Line) (number : ℕ) (d : Line) (i : Instr) → number < length code → get_or code number d ≡ lines.Ordinary i
+    → words_ordinary (filling code (number + 1)) code number i ≡ words_in code number (slice_get code number)
+words_of_ordinary_here code number d i below here =
+    let one : number + 1 ≡ suc number = omega arith in
+    ap (λ (n : ℕ). words_ordinary (filling code n) code number i) one ∙ sym (words_here code number d (lines.Ordinary i) below here)

@@ -6,7 +6,9 @@ use Rattle.cyc_machine.specs.State.{text_base}
 use Rattle.cyc_select.specs.Labelled.{Labelled, all_words}
 use Rattle.cyc_select.specs.declared.code.Line.{Line}
 use Rattle.cyc_select.specs.declared.code.Line.TheVariants as lines
+use Rattle.cyc_isa.specs.declared.instr.Instr.{Instr}
 use Rattle.cyc_asm.specs.declared.constants.TheConstants.{MAX_REACH}
+use Rattle.cyc_asm.specs.Slots.{filling}
 
 -- how many words the lines before this one take at most
 abbrev pub most_before : List Line → ℕ → ℕ
@@ -17,13 +19,23 @@ is_near code from to =
     nat_le (most_before code to) (most_before code from + MAX_REACH)
     && nat_le (most_before code from) (most_before code to + MAX_REACH)
 
--- How many words a line takes. A branch and a jump have a delay slot; a branch that is not near goes round a jump.
+-- A branch or jump whose slot is filled has its word where the line before lies, and the slot's where it lies itself.
+abbrev pub head_width : Option Instr → ℕ
+head_width (Some instruction) = 0
+head_width None = 1
+
+-- the delay slot, and where a branch is not near the jump that it goes round, with its own
+abbrev pub tail_width : (near : Bool) → ℕ
+tail_width near = if near then 1 else 3
+
+-- how many words a line takes
 abbrev pub width_of : List Line → (number : ℕ) → Line → ℕ
 width_of code number (lines.Ordinary instruction) = 1
-width_of code number (lines.Branch condition label) = if is_near code number label then 2 else 4
-width_of code number (lines.Jump label) = 2
-width_of code number (lines.Call label) = 2
-width_of code number lines.Return = 2
+width_of code number (lines.Branch condition label) =
+    head_width (filling code number) + tail_width (is_near code number label)
+width_of code number (lines.Jump label) = head_width (filling code number) + 1
+width_of code number (lines.Call label) = head_width (filling code number) + 1
+width_of code number lines.Return = head_width (filling code number) + 1
 
 abbrev pub width_in : List Line → (number : ℕ) → Option Line → ℕ
 width_in code number (Some line) = width_of code number line

@@ -1,7 +1,7 @@
--- When the words of a text mean labelled code whose lines lie at given addresses: each line's instruction stands once, at
--- the line's address, each label is its line's address, and each delay slot is empty. Branches, jumps and delay slots are
--- those of the MIPS32 architecture, volume II; how a branch goes far is this project's own choice.
-use Rattle.std.specs.Prelude.{◌≡◌, ℕ, zero, suc, ◌+◌, ◌-◌, ◌*◌, ◌/◌, ◌≤◌, Bool, true, false, List, [], ◌∷◌, length, map, Option, Some, slice_get}
+-- When the words of a text mean labelled code whose lines lie at given addresses: each line's instruction stands once, each
+-- label is its line's address, and each delay slot has the instruction that fills it, or is empty. Branches, jumps and
+-- delay slots are those of the MIPS32 architecture, volume II; how a branch goes far is this project's own choice.
+use Rattle.std.specs.Prelude.{◌≡◌, ℕ, zero, suc, ◌+◌, ◌-◌, ◌*◌, ◌/◌, ◌≤◌, Bool, true, false, List, [], ◌∷◌, length, map, Option, Some, None, slice_get}
 use Rattle.std.specs.List.{range_with_len, flat_map}
 use Rattle.cyc_isa.specs.Encoding.{word_of, IsEncodable}
 use Rattle.cyc_isa.specs.Decoding.{register_of, shift_amount_of}
@@ -23,6 +23,7 @@ use Rattle.cyc_select.specs.declared.code.Condition.TheVariants as conditions
 use Rattle.cyc_select.specs.declared.code.Line.{Line}
 use Rattle.cyc_select.specs.declared.code.Line.TheVariants as lines
 use Rattle.cyc_asm.specs.Layout.{is_near}
+use Rattle.cyc_asm.specs.Slots.{filling}
 
 -- the text that these words are
 abbrev pub text_of : List ℕ → List (Option ℕ)
@@ -33,7 +34,7 @@ pub record IsAt (words : List ℕ) (address : ℕ) (i : Instr) : Type 0 where
   pub encodable : IsEncodable i
   pub word : text_at (text_of words) address ≡ Some (word_of i)
 
--- the instruction that does nothing, whose word is 0: a delay slot is filled with it
+-- the instruction that does nothing, whose word is 0: it stands in a slot that no other fills
 abbrev pub nothing : Instr
 nothing = Shift Left (register_of 0) (register_of 0) (shift_amount_of 0)
 
@@ -55,50 +56,68 @@ inverse_of (conditions.Sign signs.Greater source) = conditions.Sign signs.LessOr
 inverse_of (conditions.Sign signs.Less source) = conditions.Sign signs.GreaterOrEqual source
 inverse_of (conditions.Sign signs.GreaterOrEqual source) = conditions.Sign signs.Less source
 
--- a branch from one address to another, with its delay slot
-pub record IsBranchAt (words : List ℕ) (condition : Condition) (from to : ℕ) : Type 0 where
+-- a branch from one address to another, with this in its delay slot
+pub record IsBranchAt (words : List ℕ) (condition : Condition) (slotted : Instr) (from to : ℕ) : Type 0 where
   pub offset : ℕ
   pub branch : IsAt words from (branch_of condition offset)
   pub target : branch_target from offset ≡ to
-  pub slot : IsAt words (from + 4) nothing
+  pub slot : IsAt words (from + 4) slotted
 
--- a jump from one address to another, with its delay slot
-pub record IsJumpAt (words : List ℕ) (op : JumpOp) (from to : ℕ) : Type 0 where
+-- a jump from one address to another, with this in its delay slot
+pub record IsJumpAt (words : List ℕ) (op : JumpOp) (slotted : Instr) (from to : ℕ) : Type 0 where
   pub index : JumpIndex
   pub jump : IsAt words from (Jump op index)
   pub target : jump_target from index.index ≡ to
-  pub slot : IsAt words (from + 4) nothing
+  pub slot : IsAt words (from + 4) slotted
 
--- A line stands in the text, from its address up to the next line's. A branch that is not near is its inverse, which goes
--- round a jump.
-abbrev pub StandsBranch : Bool → List ℕ → (ℕ → ℕ) → (number : ℕ) → Condition → (label : ℕ) → Type 0
-StandsBranch true words addresses number condition label =
-    IsBranchAt words condition (addresses number) (addresses label)
-    × (addresses (suc number) ≡ addresses number + 8)
-StandsBranch false words addresses number condition label =
-    IsBranchAt words (inverse_of condition) (addresses number) (addresses (suc number))
-    × IsJumpAt words Plain (addresses number + 8) (addresses label)
-    × (addresses (suc number) ≡ addresses number + 16)
+-- A branch or jump stands in the text, from this address up to the next line's. A branch that is not near is its inverse,
+-- which goes round a jump.
+abbrev pub StandsBranch : Bool → List ℕ → (ℕ → ℕ) → (number : ℕ) → Condition → (label : ℕ) → (slotted : Instr) → (from : ℕ) → Type 0
+StandsBranch true words addresses number condition label slotted from =
+    IsBranchAt words condition slotted from (addresses label) × (addresses (suc number) ≡ from + 8)
+StandsBranch false words addresses number condition label slotted from =
+    IsBranchAt words (inverse_of condition) slotted from (addresses (suc number))
+    × IsJumpAt words Plain nothing (from + 8) (addresses label)
+    × (addresses (suc number) ≡ from + 16)
+
+abbrev pub StandsFrom : Labelled → List ℕ → (ℕ → ℕ) → (number : ℕ) → Line → (slotted : Instr) → (from : ℕ) → Type 0
+StandsFrom code words addresses number (lines.Ordinary instruction) slotted from = ⊥
+StandsFrom code words addresses number (lines.Branch condition label) slotted from =
+    StandsBranch (is_near code.lines number label) words addresses number condition label slotted from
+StandsFrom code words addresses number (lines.Jump label) slotted from =
+    IsJumpAt words Plain slotted from (addresses label) × (addresses (suc number) ≡ from + 8)
+StandsFrom code words addresses number (lines.Call label) slotted from =
+    IsJumpAt words AndLink slotted from (addresses label) × (addresses (suc number) ≡ from + 8)
+StandsFrom code words addresses number lines.Return slotted from =
+    IsAt words from (JumpRegister return_register) × IsAt words (from + 4) slotted
+    × (addresses (suc number) ≡ from + 8)
+
+-- With an empty slot it stands at its line's address. With a filled one it stands at that of the line before, so that what
+-- goes there meets it first, and its slot is at its own.
+abbrev pub StandsFilled : Option Instr → Labelled → List ℕ → (ℕ → ℕ) → (number : ℕ) → Line → Type 0
+StandsFilled None code words addresses number line =
+    StandsFrom code words addresses number line nothing (addresses number)
+StandsFilled (Some slotted) code words addresses number line =
+    (from : ℕ) × (addresses number ≡ from + 4) × StandsFrom code words addresses number line slotted from
+
+-- an ordinary instruction stands at its line's address, or in the slot of the line behind it
+abbrev pub StandsOrdinary : Option Instr → List ℕ → (ℕ → ℕ) → (number : ℕ) → Instr → Type 0
+StandsOrdinary None words addresses number instruction =
+    IsAt words (addresses number) instruction × (addresses (suc number) ≡ addresses number + 4)
+StandsOrdinary (Some slotted) words addresses number instruction = addresses (suc number) ≡ addresses number + 4
 
 abbrev pub Stands : Labelled → List ℕ → (ℕ → ℕ) → (number : ℕ) → Line → Type 0
 Stands code words addresses number (lines.Ordinary instruction) =
-    IsAt words (addresses number) instruction × (addresses (suc number) ≡ addresses number + 4)
-Stands code words addresses number (lines.Branch condition label) =
-    StandsBranch (is_near code.lines number label) words addresses number condition label
-Stands code words addresses number (lines.Jump label) =
-    IsJumpAt words Plain (addresses number) (addresses label) × (addresses (suc number) ≡ addresses number + 8)
-Stands code words addresses number (lines.Call label) =
-    IsJumpAt words AndLink (addresses number) (addresses label) × (addresses (suc number) ≡ addresses number + 8)
-Stands code words addresses number lines.Return =
-    IsAt words (addresses number) (JumpRegister return_register) × IsAt words (addresses number + 4) nothing
-    × (addresses (suc number) ≡ addresses number + 8)
+    StandsOrdinary (filling code.lines (suc number)) words addresses number instruction
+Stands code words addresses number line = StandsFilled (filling code.lines number) code words addresses number line
 
 -- so many addresses of words, from this one on
 abbrev pub stretch : (from count : ℕ) → List ℕ
 stretch from zero = []
 stretch from (suc count) = from ∷ stretch (from + 4) count
 
--- the addresses of a line's own words: those up to the next line
+-- The addresses of a line's own words: those up to the next line. Where a slot is filled, the line before has the word of
+-- the branch or jump, and this line has its slot.
 abbrev pub own : (ℕ → ℕ) → ℕ → List ℕ
 own addresses number = stretch (addresses number) ((addresses (suc number) - addresses number) / 4)
 

@@ -8,7 +8,7 @@ ghost use Rattle.cyc_asm.specs.Text.{IsTextOf};
 ghost use Rattle.cyc_asm.specs.Words.{words_before};
 ghost use Rattle.cyc_asm.specs.Machine.{Runs};
 
-use crate::{emission, layout};
+use crate::{emission, layout, slots};
 use cyc_select::{Code, Line};
 use cyc_words::Fault;
 use std::alloc::{AllocError, Global};
@@ -18,17 +18,18 @@ fn words_of(alloc: Global, lines: &[Line]) -> Result<Vec<u32>, AllocError>
     requires fits { Fits lines.now }
     ensures { IfOk result (λ words. words.items ≡ words_before lines.now (length lines.now)) }
 {
+    let named = slots::named_of_each(alloc, lines)?;
     let most = layout::most_of_each(alloc, lines)?;
-    let positions = layout::position_of_each(alloc, lines, &most)?;
-    emission::words_of_all(alloc, lines, &most, &positions)
+    let positions = layout::position_of_each(alloc, lines, &named, &most)?;
+    emission::words_of_all(alloc, lines, &named, &most, &positions)
 }
 
 /// The words of labelled code, as they stand from the beginning of the machine's text range on.
 ///
 /// Only want of memory is refused.
 pub fn assemble(alloc: Global, code: &Code) -> Result<Vec<u32>, Fault>
-    // The words mean the code: each line's instruction stands once, each label is its line's address, each delay slot is
-    // empty, and there is nothing else.
+    // The words mean the code: each line's instruction stands once, each label is its line's address, each delay slot has
+    // the instruction just before its branch or jump, where that may move, or is empty, and there is nothing else.
     ensures means { IfOk result (λ words. IsTextOf code.now (addresses_of code.now) words.items) }
     // And the machine that runs them does what the labelled machine does.
     ensures runs { IfOk result (λ words. Runs code.now (addresses_of code.now) words.items) }

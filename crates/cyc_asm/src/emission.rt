@@ -1,14 +1,19 @@
 //! The words of each line.
 
-ghost use Rattle.std.specs.Prelude.{◌≡◌, ◌∷◌, [], ◌++◌, ◌+◌, ◌<◌, ◌≤◌, length, slice_get, All, OnOk, IfOk};
+ghost use Rattle.std.specs.Prelude.{◌≡◌, ◌++◌, ◌+◌, ◌<◌, ◌≤◌, length, Some, slice_get, All, OnOk, IfOk};
 ghost use Rattle.cyc_isa.specs.Encoding.{word_of};
+ghost use Rattle.cyc_isa.specs.Decoding.{jump_index_of};
+ghost use Rattle.cyc_isa.specs.declared.instr.Instr.TheVariants.{Jump};
 ghost use Rattle.cyc_select.specs.Labelled.{Fits, IsFormedLine};
 ghost use Rattle.cyc_asm.specs.Layout.{most_of_each, position_of_each};
 ghost use Rattle.cyc_asm.specs.Text.{branch_of, inverse_of};
-ghost use Rattle.cyc_asm.specs.Words.{offset_of, jump_words, words_before, words_in};
+ghost use Rattle.cyc_select.specs.declared.code.Line.TheVariants.{Ordinary};
+ghost use Rattle.cyc_asm.specs.Slots.{filling, AreNamed};
+ghost use Rattle.cyc_asm.specs.Words.{offset_of, IsHeadPosition, head_in, tail_in, words_ordinary, filled_in, words_before, words_in};
 
 use crate::constants::{FIRST_INDEX, MAX_REACH, ROUND_OFFSET};
 use crate::layout::is_near;
+use crate::slots::filling;
 use cyc_isa::{BranchOp, BranchZeroOp, Instr, JumpIndex, JumpOp, Register, encode};
 use cyc_machine::constants::{RETURN_ADDRESS, TEXT_WORDS};
 use cyc_select::{Condition, Line};
@@ -69,30 +74,116 @@ fn offset(from: u32, to: u32) -> u16
     }
 }
 
-/// An instruction with an empty delay slot.
-fn push_with_slot(words: &mut Vec<u32>, instruction: Instr) -> Result<(), AllocError>
-    ensures { OnOk result (words.new.items ≡ words.old.items ++ word_of instruction ∷ 0 ∷ []) }
-{
-    words.push(encode(instruction))?;
-    words.push(EMPTY_SLOT)?;
-    Ok(())
-}
-
-/// A jump to the line with `to` words before it.
-fn push_jump(words: &mut Vec<u32>, op: JumpOp, to: u32) -> Result<(), AllocError>
+/// The jump to the line with `to` words before it.
+fn jump(op: JumpOp, to: u32) -> Instr
     requires { to ≤ TEXT_WORDS }
-    ensures { OnOk result (words.new.items ≡ words.old.items ++ jump_words op to) }
+    ensures { word_of result ≡ word_of (Jump op (jump_index_of (FIRST_INDEX + to))) }
 {
     let index = JumpIndex {
         index: FIRST_INDEX + to,
     };
-    push_with_slot(words, Instr::Jump { op, index })
+    Instr::Jump { op, index }
 }
 
-/// The words of the line of this number.
-fn push_line(
+/// The branch or jump of the line of this number, from its place with `from` words before it.
+fn head(lines: &[Line], most: &[u32], positions: &[u32], from: u32, number: usize) -> Instr
+    requires within { number < length lines.now }
+    requires formed { All (IsFormedLine (length lines.now)) lines.now }
+    requires fits { Fits lines.now }
+    requires most { most.now ≡ most_of_each lines.now }
+    requires positions { positions.now ≡ position_of_each lines.now }
+    requires from { IsHeadPosition lines.now number from }
+    ensures { word_of result ≡ word_of (head_in lines.now from number (slice_get lines.now number)) }
+{
+    match lines[number] {
+        Line::Ordinary { instruction } => instruction,
+        Line::Branch { condition, label } => {
+            if is_near(most[number], most[label]) {
+                let offset = offset(from, positions[label]);
+                let near = branch(condition, offset);
+                return near;
+            }
+            let far = branch(inverse(condition), ROUND_OFFSET);
+            far
+        }
+        Line::Jump { label } => jump(JumpOp::Plain, positions[label]),
+        Line::Call { label } => jump(JumpOp::AndLink, positions[label]),
+        Line::Return => {
+            let source = Register {
+                number: RETURN_ADDRESS,
+            };
+            Instr::JumpRegister { source }
+        }
+    }
+}
+
+/// The words behind the branch or jump of the line of this number: its slot's, and where it goes round a jump that one's.
+fn push_tail(
     words: &mut Vec<u32>,
     lines: &[Line],
+    most: &[u32],
+    positions: &[u32],
+    number: usize,
+    slot: u32,
+) -> Result<(), AllocError>
+    requires within { number < length lines.now }
+    requires formed { All (IsFormedLine (length lines.now)) lines.now }
+    requires fits { Fits lines.now }
+    requires most { most.now ≡ most_of_each lines.now }
+    requires positions { positions.now ≡ position_of_each lines.now }
+    ensures { OnOk result (words.new.items ≡ words.old.items ++ tail_in lines.now number (slice_get lines.now number) slot) }
+{
+    words.push(slot)?;
+    match lines[number] {
+        Line::Branch { label, .. } => {
+            if is_near(most[number], most[label]) {
+                return Ok(());
+            }
+            let round = jump(JumpOp::Plain, positions[label]);
+            words.push(encode(round))?;
+            words.push(EMPTY_SLOT)?;
+            Ok(())
+        }
+        Line::Ordinary { .. } | Line::Jump { .. } | Line::Call { .. } | Line::Return => Ok(()),
+    }
+}
+
+/// The word of an ordinary instruction, or of the branch or jump behind it, into whose slot it moves.
+fn push_ordinary(
+    words: &mut Vec<u32>,
+    lines: &[Line],
+    named: &[bool],
+    most: &[u32],
+    positions: &[u32],
+    number: usize,
+    instruction: Instr,
+) -> Result<(), AllocError>
+    requires here { slice_get lines.now number ≡ Some (Ordinary instruction) }
+    requires formed { All (IsFormedLine (length lines.now)) lines.now }
+    requires fits { Fits lines.now }
+    requires named { AreNamed lines.now (length lines.now) named.now }
+    requires most { most.now ≡ most_of_each lines.now }
+    requires positions { positions.now ≡ position_of_each lines.now }
+    ensures { OnOk result (words.new.items ≡ words.old.items ++ words_ordinary (filling lines.now (number + 1)) lines.now number instruction) }
+{
+    match filling(lines, named, number + 1) {
+        Some(_) => {
+            let behind = head(lines, most, positions, positions[number], number + 1);
+            words.push(encode(behind))?;
+            Ok(())
+        }
+        None => {
+            words.push(encode(instruction))?;
+            Ok(())
+        }
+    }
+}
+
+/// The words of the branch or jump of the line of this number, with what fills its slot.
+fn push_jump(
+    words: &mut Vec<u32>,
+    lines: &[Line],
+    named: &[bool],
     most: &[u32],
     positions: &[u32],
     number: usize,
@@ -100,30 +191,44 @@ fn push_line(
     requires within { number < length lines.now }
     requires formed { All (IsFormedLine (length lines.now)) lines.now }
     requires fits { Fits lines.now }
+    requires named { AreNamed lines.now (length lines.now) named.now }
+    requires most { most.now ≡ most_of_each lines.now }
+    requires positions { positions.now ≡ position_of_each lines.now }
+    ensures { OnOk result (words.new.items ≡ words.old.items ++ filled_in lines.now number (slice_get lines.now number)) }
+{
+    match filling(lines, named, number) {
+        Some(slotted) => push_tail(words, lines, most, positions, number, encode(slotted)),
+        None => {
+            let first = head(lines, most, positions, positions[number], number);
+            words.push(encode(first))?;
+            push_tail(words, lines, most, positions, number, EMPTY_SLOT)
+        }
+    }
+}
+
+/// The words of the line of this number.
+fn push_line(
+    words: &mut Vec<u32>,
+    lines: &[Line],
+    named: &[bool],
+    most: &[u32],
+    positions: &[u32],
+    number: usize,
+) -> Result<(), AllocError>
+    requires within { number < length lines.now }
+    requires formed { All (IsFormedLine (length lines.now)) lines.now }
+    requires fits { Fits lines.now }
+    requires named { AreNamed lines.now (length lines.now) named.now }
     requires most { most.now ≡ most_of_each lines.now }
     requires positions { positions.now ≡ position_of_each lines.now }
     ensures { OnOk result (words.new.items ≡ words.old.items ++ words_in lines.now number (slice_get lines.now number)) }
 {
     match lines[number] {
         Line::Ordinary { instruction } => {
-            words.push(encode(instruction))?;
-            Ok(())
+            push_ordinary(words, lines, named, most, positions, number, instruction)
         }
-        Line::Branch { condition, label } => {
-            if is_near(most[number], most[label]) {
-                let offset = offset(positions[number], positions[label]);
-                return push_with_slot(words, branch(condition, offset));
-            }
-            push_with_slot(words, branch(inverse(condition), ROUND_OFFSET))?;
-            push_jump(words, JumpOp::Plain, positions[label])
-        }
-        Line::Jump { label } => push_jump(words, JumpOp::Plain, positions[label]),
-        Line::Call { label } => push_jump(words, JumpOp::AndLink, positions[label]),
-        Line::Return => {
-            let source = Register {
-                number: RETURN_ADDRESS,
-            };
-            push_with_slot(words, Instr::JumpRegister { source })
+        Line::Branch { .. } | Line::Jump { .. } | Line::Call { .. } | Line::Return => {
+            push_jump(words, lines, named, most, positions, number)
         }
     }
 }
@@ -132,18 +237,20 @@ fn push_line(
 pub(crate) fn words_of_all(
     alloc: Global,
     lines: &[Line],
+    named: &[bool],
     most: &[u32],
     positions: &[u32],
 ) -> Result<Vec<u32>, AllocError>
     requires formed { All (IsFormedLine (length lines.now)) lines.now }
     requires fits { Fits lines.now }
+    requires named { AreNamed lines.now (length lines.now) named.now }
     requires most { most.now ≡ most_of_each lines.now }
     requires positions { positions.now ≡ position_of_each lines.now }
     ensures { IfOk result (λ words. words.items ≡ words_before lines.now (length lines.now)) }
 {
     let mut words = Vec::new(alloc);
     for number in 0..lines.len() {
-        push_line(&mut words, lines, most, positions, number)?;
+        push_line(&mut words, lines, named, most, positions, number)?;
     }
     Ok(words)
 }

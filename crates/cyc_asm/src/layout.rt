@@ -2,9 +2,11 @@
 
 ghost use Rattle.std.specs.Prelude.{◌≡◌, ◌+◌, ◌<◌, ◌≤◌, ◌&&◌, nat_le, length, All, IfOk};
 ghost use Rattle.cyc_select.specs.Labelled.{Fits, IsFormedLine, words_of};
-ghost use Rattle.cyc_asm.specs.Layout.{most_of_each, position_of_each, width_at};
+ghost use Rattle.cyc_asm.specs.Slots.{filling, AreNamed};
+ghost use Rattle.cyc_asm.specs.Layout.{most_of_each, position_of_each, head_width, width_at};
 
 use crate::constants::MAX_REACH;
+use crate::slots;
 use cyc_machine::constants::TEXT_WORDS;
 use cyc_select::Line;
 use std::alloc::{AllocError, Global};
@@ -42,22 +44,38 @@ pub(crate) fn is_near(from: u32, to: u32) -> bool
     to <= from + MAX_REACH && from <= to + MAX_REACH
 }
 
+/// How many words of its own the branch or jump of a line has before its slot.
+fn head_width(lines: &[Line], named: &[bool], number: usize) -> u32
+    requires named { AreNamed lines.now (length lines.now) named.now }
+    ensures { result ≡ head_width (filling lines.now number) }
+{
+    match slots::filling(lines, named, number) {
+        Some(_) => 0,
+        None => 1,
+    }
+}
+
 /// How many words the line of this number takes.
-fn width_at(lines: &[Line], most: &[u32], number: usize) -> u32
+fn width_at(lines: &[Line], named: &[bool], most: &[u32], number: usize) -> u32
     requires within { number < length lines.now }
     requires formed { All (IsFormedLine (length lines.now)) lines.now }
     requires fits { Fits lines.now }
+    requires named { AreNamed lines.now (length lines.now) named.now }
     requires most { most.now ≡ most_of_each lines.now }
     ensures { result ≡ width_at lines.now number }
 {
     match lines[number] {
         Line::Ordinary { .. } => 1,
-        Line::Branch { label, .. } => if is_near(most[number], most[label]) {
-            2
-        } else {
-            4
-        },
-        Line::Jump { .. } | Line::Call { .. } | Line::Return => 2,
+        Line::Branch { label, .. } => {
+            if is_near(most[number], most[label]) {
+                head_width(lines, named, number) + 1
+            } else {
+                head_width(lines, named, number) + 3
+            }
+        }
+        Line::Jump { .. } | Line::Call { .. } | Line::Return => {
+            head_width(lines, named, number) + 1
+        }
     }
 }
 
@@ -65,10 +83,12 @@ fn width_at(lines: &[Line], most: &[u32], number: usize) -> u32
 pub(crate) fn position_of_each(
     alloc: Global,
     lines: &[Line],
+    named: &[bool],
     most: &[u32],
 ) -> Result<Vec<u32>, AllocError>
     requires formed { All (IsFormedLine (length lines.now)) lines.now }
     requires fits { Fits lines.now }
+    requires named { AreNamed lines.now (length lines.now) named.now }
     requires most { most.now ≡ most_of_each lines.now }
     ensures { IfOk result (λ positions. positions.items ≡ position_of_each lines.now) }
 {
@@ -76,7 +96,7 @@ pub(crate) fn position_of_each(
     let mut before: u32 = 0;
     for number in 0..lines.len() {
         positions.push(before)?;
-        before += width_at(lines, most, number);
+        before += width_at(lines, named, most, number);
     }
     Ok(positions)
 }

@@ -1,7 +1,7 @@
 //! The assembler: labelled code as words of text.
 //!
-//! A branch or a jump is followed by an empty delay slot, and a branch whose label may be out of reach goes round a jump.
-//! Nothing else is added.
+//! The delay slot of a branch or jump has the instruction just before it where that changes nothing, else it is empty. A
+//! branch whose label may be out of reach goes round a jump. Nothing else is added.
 #![tactic(auto)]
 
 mod assembler;
@@ -9,5 +9,6 @@ pub mod constants;
 mod emission;
 pub mod laws;
 mod layout;
+mod slots;
 
 pub use assembler::assemble;

@@ -1,5 +1,9 @@
--- what the contract of `layout` rests on, and the functions inside the crate
+-- what the contract of `layout` rests on
 pub mod Uses
 pub mod Homes
 pub mod Frame
 pub mod Layout
+-- the functions inside the crate
+pub mod Masks
+pub mod Live
+pub mod Allocation

@@ -6,9 +6,10 @@ ghost use Rattle.cyc_plain.specs.Program.{routine_of};
 ghost use Rattle.cyc_frame.specs.Homes.{AreHomes};
 ghost use Rattle.cyc_frame.specs.Layout.{AreFirstFrames, AreFrames, HasSmallFrames, IsAccepted, IsFrame, IsTooLarge, first_too_large};
 
+use crate::allocation::allocate;
 use crate::frame::{Frame, MOST_FRAME_WORDS};
 use crate::frames::Frames;
-use crate::home::Home;
+use crate::gains::choose;
 use cyc_plain::{Function, LAYOUT_WORDS, Plain};
 use cyc_words::{Code, Fault, Span};
 use std::alloc::{AllocError, Global};
@@ -25,14 +26,6 @@ fn first_too_large(functions: &[Function]) -> Option<Span>
     None
 }
 
-/// Every slot lives in memory.
-#[tactic(auto, using(crate::proofs::InMemory::memory_homes))]
-fn homes_of(alloc: Global, plain: &Plain, function: &Function) -> Result<Vec<Home>, AllocError>
-    ensures { IfOk result (λ homes. AreHomes plain.now (routine_of function.now) homes.items) }
-{
-    Ok(vec![in alloc; Home::Memory; function.slots]?)
-}
-
 /// The frame of a function: the words that are kept for the layout, of which the first is for the return address, and
 /// then the slots in order.
 #[tactic(auto, using(crate::proofs::Sound::is_frame))]
@@ -42,7 +35,8 @@ fn frame_of(alloc: Global, plain: &Plain, function: &Function) -> Result<Frame, 
     ensures frame { IfOk result (λ frame. IsFrame (routine_of function.now) frame) }
     ensures homes { IfOk result (λ frame. AreHomes plain.now (routine_of function.now) frame.homes) }
 {
-    let homes = homes_of(alloc, plain, function)?;
+    let chosen = choose(alloc, plain, function)?;
+    let homes = allocate(alloc, plain, function, &chosen)?;
     Ok(Frame {
         words: LAYOUT_WORDS + function.slots,
         return_address: 0,

@@ -1,10 +1,14 @@
 //! Frames: which word of a function's frame each of its slots has, and which slots live in registers.
 #![tactic(auto)]
 
+mod allocation;
 mod frame;
 mod frames;
+mod gains;
 mod home;
 mod layouts;
+mod live;
+mod masks;
 
 pub use frame::{Frame, MOST_FRAME_WORDS};
 pub use frames::Frames;

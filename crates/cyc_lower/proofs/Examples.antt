@@ -29,7 +29,8 @@ use Rattle.cyc_plain.proofs.RunLaws.{zeros}
 use Rattle.cyc_meaning.specs.State.{status_of as status_of_source}
 use Rattle.cyc_meaning.specs.Run.{limited_run}
 use Rattle.cyc_meaning.specs.FrameCount.{frame_count, expression_need}
-use Rattle.cyc_lower.specs.Lowering.{jump_if_zero, function_code, lower_program, blocks, lower_globals}
+use Rattle.cyc_lower.specs.ValueCode.{jump_if_zero, blocks}
+use Rattle.cyc_lower.specs.Lowering.{function_code, lower_program, lower_globals}
 use Rattle.cyc_meaning.specs.SourceMachine.{status_in}
 use Rattle.cyc_lower.specs.Slots.{starts_from, global_types}
 
@@ -446,11 +447,11 @@ source_throws_from_region : source_ends 600 (calling_out (in_region (Throw 5 Non
 unfolding slt_of
 source_throws_from_region = refl
 
--- its mark is in the first temporary, and the word behind the globals tells how many are open
-region_code : function_code [] [] (Some 0) (function [] (Int ∷ Handle Heap ∷ []) (all (in_region [] ∷ []))) ≡
-    instructions.Ask (requests.OpenLexical 3) ∷ Move 2 (Slot 4) ∷ instructions.Binary plain_binary.Add 4 (Slot 2) (Constant 1) ∷ instructions.StoreGlobal 0 (Slot 4)
+-- its mark is in the first temporary
+region_code : function_code [] [] (Some 4) (function [] (Int ∷ Handle Heap ∷ []) (all (in_region [] ∷ []))) ≡
+    instructions.Ask (requests.OpenLexical 3) ∷ Move 2 (Slot 4)
     ∷ Move 1 (Slot 3)
-    ∷ instructions.Ask (requests.CloseTo (Slot 2)) ∷ instructions.StoreGlobal 0 (Slot 2)
+    ∷ instructions.Ask (requests.CloseTo (Slot 2))
     ∷ instructions.Finish 2 ∷ blocks
 region_code = refl
 

@@ -5,4 +5,7 @@ pub mod Conditions
 pub mod Handlers
 pub mod NeedsFound
 pub mod Lengths
+pub mod OperandBridge
+pub mod ExpressionBridge
+pub mod StatementBridge
 pub mod Bridge

@@ -5,6 +5,7 @@ pub mod Rows
 pub mod GlobalRows
 pub mod Stands
 pub mod Fitting
+pub mod HeldValues
 pub mod Relation
 pub mod Data
 pub mod Weights

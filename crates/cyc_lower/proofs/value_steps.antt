@@ -1,4 +1,5 @@
 -- the steps that begin an expression, and that hand a value on
 pub mod Evaluations
 pub mod GlobalSteps
+pub mod ValueWords
 pub mod Values

@@ -11,7 +11,7 @@ use Rattle.cyc_types.specs.Texts.{stands_alone}
 use Rattle.cyc_types.specs.Numbered.{Numbering, IsSignature, IsWithin, argument_count, numbering_of, signatures_of}
 use Rattle.cyc_store.specs.declared.range.TheConstants.{MOST_BLOCK_WORDS}
 use Rattle.cyc_meaning.specs.Values.{is_thin, is_kind}
-use Rattle.cyc_lower.specs.Lowering.{are_as_wide, all_passed}
+use Rattle.cyc_lower.specs.ValueCode.{are_as_wide, all_passed}
 
 -- a kind of pointers
 abbrev pub is_pointer : Kind → Bool

@@ -1,5 +1,5 @@
 -- What the lowering promises of the plain program that it makes, and which texts it refuses.
-use Rattle.std.specs.Prelude.{◌≡◌, ℕ, ◌+◌, ◌*◌, ◌≤◌, ◌<◌, List, [], ◌∷◌, Some, length, slice_get}
+use Rattle.std.specs.Prelude.{◌≡◌, ℕ, ◌*◌, ◌≤◌, ◌<◌, List, [], ◌∷◌, Some, length, slice_get}
 use Rattle.std.specs.List.{AllByRecursion}
 use Rattle.cyc_words.specs.declared.fault.Code.TheVariants.{TooManyFunctions}
 use Rattle.cyc_words.specs.declared.fault.Fault.{Fault}
@@ -18,7 +18,7 @@ use Rattle.cyc_meaning.specs.Run.{start}
 use Rattle.cyc_meaning.specs.SourceMachine.{source_machine}
 use Rattle.cyc_meaning.specs.FrameCount.{frame_count, words_of_all}
 use Rattle.cyc_lower.specs.Slots.{global_types}
-use Rattle.cyc_lower.specs.Lowering.{span_of_place, scopes_of, scopes_words}
+use Rattle.cyc_lower.specs.Lowering.{span_of_place}
 use Rattle.cyc_lower.specs.Words.{IsOfWordsProgram}
 use Rattle.cyc_lower.specs.Lowerable.{IsLowerableProgram}
 use Rattle.cyc_lower.specs.declared.limits.TheConstants.{MOST_FUNCTIONS}
@@ -59,22 +59,21 @@ AreLoweredFunctions [] (r ∷ rs) = ⊥
 AreLoweredFunctions (h ∷ hs) [] = ⊥
 
 -- A plain program for a source program: it is well formed, and does what the source does. Of each function it says where its
--- name stands and how large its frame may be, and its globals are the words of the source's, with one more where that may open lexical
--- regions.
+-- name stands and how large its frame may be, and its globals are the words of the source's.
 pub record IsLowered (source : Program) (lowered : PlainProgram) : Type 0 where
   pub well_formed : IsWellFormed lowered
   pub words : HasWords lowered
   pub functions : AreLoweredFunctions source.functions lowered.functions
-  pub globals : length lowered.globals ≡ words_of_all (global_types source.globals) + length (scopes_words (scopes_of source))
+  pub globals : length lowered.globals ≡ words_of_all (global_types source.globals)
   pub follows : (pages calls base : ℕ) (store : StoreState) (input : List ℕ) → IsNew pages store → 1 ≤ pages → pages ≤ MOST_PAGES → 1 ≤ calls → AllByRecursion (λ b. b < 256) input
       → IsBelow lowered lowered.main base slots_end → FollowsSource source lowered pages calls base store input
 
 -- What is asked of the typed tree. That of a text has it all: its forms are lowered and its numbers name what is there, its
--- constants are words, and its globals have no more words than it has tokens. One global more has room.
+-- constants are words, and its globals have no more words than it has tokens.
 pub record CanBeLowered (source : Program) : Type 0 where
   pub lowerable : IsLowerableProgram source
   pub of_words : IsOfWordsProgram source
-  pub few_globals : words_of_all (global_types source.globals) < MOST_GLOBALS
+  pub few_globals : words_of_all (global_types source.globals) ≤ MOST_GLOBALS
 
 -- What is accepted: a program with no more functions than there may be.
 abbrev pub IsAccepted : (given program : Program) → Type 0

@@ -22,7 +22,7 @@ global_types globals = map (λ (g : GlobalVariable). g.of_type) globals
 
 -- The types of a function's locals, and the structs of its program. Behind the place `raises` of its code stand the blocks that raise
 -- exceptions. Of the arrays around, the outermost first, the counters have these slots. The globals of the program have these types, and
--- where the program may open lexical regions, this word behind them tells how many are open.
+-- where the program may open lexical regions, a `try` keeps how many are open so many words behind its record's first.
 pub record Types : Type 0 where
   pub locals : List Ty
   pub structs : List StructType
@@ -32,7 +32,7 @@ pub record Types : Type 0 where
   pub scopes : Option ℕ
 
 -- What tells where things begin: the first slots of a function's locals, the structs of its program, for their fields, the place
--- behind which the blocks stand that raise exceptions, the slots of counters, the first words of globals, and the word that tells how many
+-- behind which the blocks stand that raise exceptions, the slots of counters, the first words of globals, and where a `try` keeps how many
 -- lexical regions are open.
 pub record Starts : Type 0 where
   pub locals : List ℕ

@@ -1,6 +1,6 @@
 //! Checks, and the blocks that raise an exception where one fails.
 ghost use Rattle.std.specs.Prelude.{◌≡◌};
-ghost use Rattle.cyc_lower.specs.Lowering.{raising, blocks, guard_code, check_code};
+ghost use Rattle.cyc_lower.specs.ValueCode.{raising, blocks, guard_code, check_code};
 ghost use Rattle.cyc_lower.specs.Emission.{Appends, view_starts};
 
 use crate::emitter::Emitter;

@@ -1,7 +1,8 @@
 //! Code that is being made.
 ghost use Rattle.std.specs.Prelude.{◌≡◌, ◌<◌, [], ◌∷◌, ◌++◌, length, set, IfOk};
 ghost use Rattle.cyc_types.specs.TypedTreeView.{view_lvalue};
-ghost use Rattle.cyc_lower.specs.Lowering.{failing_jump, load_code};
+ghost use Rattle.cyc_lower.specs.ControlCode.{failing_jump};
+ghost use Rattle.cyc_lower.specs.ExpressionCode.{load_code};
 ghost use Rattle.cyc_lower.specs.Emission.{Appends, view_starts};
 
 use crate::globals::global_of;

@@ -7,7 +7,10 @@ ghost use Rattle.cyc_types.specs.TypedTrees.{Call};
 ghost use Rattle.cyc_meaning.specs.Values.{words_of_kind};
 ghost use Rattle.cyc_plain.specs.declared.instruction.Operand.TheVariants as operands;
 ghost use Rattle.cyc_plain.specs.declared.instruction.Instruction.TheVariants as instructions;
-ghost use Rattle.cyc_lower.specs.Lowering.{operand_of, operand_or, left_of, left_slot, value_operand, converted_operand, printed_operand, check_code, conversion_code, divisor_code, operator_code, truth_code, copy_code, all_passed, expression_code, arguments_code, converted_operand_code, printed_code, initial_code, assignment_code, assigned_operand, operations_code, discarded_code, condition_of, condition_code, first_two, index_code, pointer_instructions, made_code, address_code, place_operand, place_offset, place_code, addressed_by, reached_operand, pointer_of, pointer_slot, code_unless_slot, elements_code, last_element, span_of, saved_code};
+ghost use Rattle.cyc_lower.specs.ValueCode.{operand_or, check_code, conversion_code, divisor_code, operator_code, truth_code, copy_code, all_passed, first_two, index_code, pointer_instructions, address_code, addressed_by, reached_operand, code_unless_slot, span_of};
+ghost use Rattle.cyc_lower.specs.ObjectCode.{elements_code, last_element, saved_code};
+ghost use Rattle.cyc_lower.specs.ExpressionCode.{operand_of, left_of, left_slot, value_operand, converted_operand, printed_operand, expression_code, arguments_code, converted_operand_code, printed_code, initial_code, operations_code, made_code, place_operand, place_offset, place_code, pointer_of, pointer_slot};
+ghost use Rattle.cyc_lower.specs.Lowering.{assignment_code, assigned_operand, discarded_code, condition_of, condition_code};
 ghost use Rattle.cyc_lower.specs.Slots.{with_counter};
 ghost use Rattle.cyc_lower.specs.Emission.{Appends, Gives, HasRoom, HasRoomFor, most_locals, value_code, source_code, slot_code, print_code, converted_slot, converted_slot_code, left_code, operation_code, IsChain, zero_condition, view_starts, pointer_operation_code};
 

@@ -1,5 +1,5 @@
 //! The plain functions of a typed tree, and the program that it becomes.
-ghost use Rattle.std.specs.Prelude.{◌≡◌, ◌+◌, ◌≤◌, ◌++◌, length, map, option_map, IfOk};
+ghost use Rattle.std.specs.Prelude.{◌≡◌, ◌+◌, ◌≤◌, map, option_map, IfOk};
 ghost use Rattle.std.specs.List.{list_any};
 ghost use Rattle.cyc_syntax.specs.TokenRule.{max_tokens};
 ghost use Rattle.cyc_types.specs.TypeView.{view_ty};
@@ -8,7 +8,8 @@ ghost use Rattle.cyc_types.specs.typing.WellTyped.{IsWellTypedProgram};
 ghost use Rattle.cyc_types.specs.Weight.{program_weight};
 ghost use Rattle.cyc_plain.specs.Program.{routine_of};
 ghost use Rattle.cyc_meaning.specs.FrameCount.{frame_count, kept_by_items};
-ghost use Rattle.cyc_lower.specs.Lowering.{items_code, outside_loops, results_of, lower_function, lower_program, is_handle, may_open, scopes_if, scopes_words};
+ghost use Rattle.cyc_lower.specs.ControlCode.{outside_loops};
+ghost use Rattle.cyc_lower.specs.Lowering.{items_code, results_of, lower_function, lower_program, is_handle, may_open, scopes_if};
 ghost use Rattle.cyc_lower.specs.Emission.{most_frame_count, most_locals, view_starts, HaveFewWords};
 ghost use Rattle.cyc_lower.specs.Lowered.{CanBeLowered};
 
@@ -18,7 +19,7 @@ use crate::globals::{starts_of_globals, words_of_globals};
 use crate::locals::slots_of_locals;
 use crate::starts::Starts;
 use crate::statements::{Exits, nothing_opened};
-use cyc_plain::{Function, Instruction, Plain};
+use cyc_plain::{Function, Instruction, Plain, RECORD_WORDS};
 use cyc_types::typed::{self, StructType};
 use cyc_types::{Ty, TypedTree};
 use std::alloc::{AllocError, Global};
@@ -142,20 +143,16 @@ fn may_open(functions: &[typed::Function]) -> bool
     false
 }
 
-/// Behind all globals stands the word that tells how many lexical regions are open, where a program may open some. Its number is
-/// answered.
-fn add_scopes(
-    globals: &mut Vec<u32>,
-    functions: &[typed::Function],
-) -> Result<Option<usize>, AllocError>
-    ensures { IfOk result (λ scopes. (scopes ≡ scopes_if (list_any may_open (map view_function functions.now)) (length globals.old.items)) × (globals.new.items ≡ globals.old.items ++ scopes_words scopes)) }
+/// How many words behind the first of its handler's record a `try` keeps how many lexical regions are open, where one of these functions may
+/// open some.
+fn scopes_of(functions: &[typed::Function]) -> Option<usize>
+    ensures { result ≡ scopes_if (list_any may_open (map view_function functions.now)) }
 {
-    if !may_open(functions) {
-        return Ok(None);
+    if may_open(functions) {
+        Some(RECORD_WORDS)
+    } else {
+        None
     }
-    let scopes = globals.len();
-    globals.push(0)?;
-    Ok(Some(scopes))
 }
 
 /// The program, in which each function keeps its number.
@@ -167,8 +164,8 @@ pub(crate) fn lower_tree(alloc: Global, tree: &TypedTree) -> Result<Plain, Alloc
     ensures { IfOk result (λ plain. plain ≡ lower_program (view_program tree.now)) }
 {
     let starts = starts_of_globals(alloc, &tree.globals)?;
-    let mut globals = words_of_globals(alloc, &tree.globals)?;
-    let scopes = add_scopes(&mut globals, &tree.functions)?;
+    let globals = words_of_globals(alloc, &tree.globals)?;
+    let scopes = scopes_of(&tree.functions);
     let functions = lower_functions(alloc, &tree.structs, &starts, scopes, &tree.functions)?;
     Ok(Plain::new(functions, globals, tree.main))
 }

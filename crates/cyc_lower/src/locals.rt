@@ -5,7 +5,7 @@ ghost use Rattle.cyc_types.specs.TypeView.{view_ty};
 ghost use Rattle.cyc_types.specs.TypedTreeView.{view_function};
 ghost use Rattle.cyc_meaning.specs.FrameCount.{words_of_all, frame_count};
 ghost use Rattle.cyc_lower.specs.Slots.{starts_from, bytes_from, field_of, slot_of, counter_of};
-ghost use Rattle.cyc_lower.specs.Lowering.{slot_types, first_temporary};
+ghost use Rattle.cyc_lower.specs.ValueCode.{slot_types, first_temporary};
 ghost use Rattle.cyc_lower.specs.Emission.{most_frame_count, view_starts};
 
 use crate::frame_count::words_of;

@@ -1,7 +1,7 @@
 //! The code that makes objects and frees them, once their values stand in slots. No object has more words than a block of the store.
 ghost use Rattle.std.specs.Prelude.{◌≡◌, ◌+◌, ◌^◌, ◌<◌, ◌≤◌, length};
 ghost use Rattle.cyc_meaning.specs.Values.{words_of_kind};
-ghost use Rattle.cyc_lower.specs.Lowering.{asked_code, begun_code, free_code, last_element, measured_code, most_elements, object_code, restarted_code, stores_code, written_code};
+ghost use Rattle.cyc_lower.specs.ObjectCode.{asked_code, begun_code, free_code, last_element, measured_code, most_elements, object_code, restarted_code, stores_code, written_code};
 ghost use Rattle.cyc_lower.specs.Emission.{Appends, most_locals, view_starts};
 
 use crate::checks::ARRAY_SIZE;

@@ -6,7 +6,8 @@ ghost use Rattle.cyc_types.specs.TypedTrees.{type_of_place};
 ghost use Rattle.cyc_types.specs.TypeView.{view_ty, view_value_type};
 ghost use Rattle.cyc_meaning.specs.Parts.{target_of_value};
 ghost use Rattle.cyc_meaning.specs.Values.{is_thin, words_of_kind};
-ghost use Rattle.cyc_lower.specs.Lowering.{operand_of, null_of, words_behind, pointer_of, reached_operand, span_in, span_of, value_slot, is_in, index_of, are_as_wide, converts_there};
+ghost use Rattle.cyc_lower.specs.ValueCode.{null_of, words_behind, reached_operand, span_in, span_of, is_in, index_of, are_as_wide, converts_there};
+ghost use Rattle.cyc_lower.specs.ExpressionCode.{operand_of, pointer_of, value_slot};
 ghost use Rattle.cyc_lower.specs.Emission.{most_locals, takes_operand, view_starts};
 
 use crate::frame_count::words_of_kind;

@@ -1,6 +1,7 @@
 //! What operators become.
 ghost use Rattle.std.specs.Prelude.{◌≡◌, ◌≤◌};
-ghost use Rattle.cyc_lower.specs.Lowering.{unary_operator, binary_operator, left_kind, pointer_operator, failing_comparison, move_of, failing_jump, jump_if_zero, jump_if_nonzero, test_jump, tag_operand, other_jump, goes_on, scale_of};
+ghost use Rattle.cyc_lower.specs.ValueCode.{unary_operator, binary_operator, left_kind, pointer_operator, failing_comparison, move_of, jump_if_zero, jump_if_nonzero, test_jump, scale_of};
+ghost use Rattle.cyc_lower.specs.ControlCode.{failing_jump, tag_operand, other_jump, goes_on};
 ghost use Rattle.cyc_lower.specs.Emission.{most_locals};
 
 use crate::operands::Condition;

@@ -3,7 +3,8 @@
 ghost use Rattle.std.specs.Prelude.{◌≡◌, ◌+◌, ◌≤◌, ◌∷◌, length};
 ghost use Rattle.cyc_types.specs.TypedTreeView.{view_lvalue};
 ghost use Rattle.cyc_meaning.specs.Values.{is_thin, words_of_kind};
-ghost use Rattle.cyc_lower.specs.Lowering.{address_of_code, address_of_global, bounded_code, count_code, past_bounded, thinned_code, followed_code, followed_operand, loaded_code, reached_code, reached_operand, saved_code, stepped_code, widened_code};
+ghost use Rattle.cyc_lower.specs.ValueCode.{address_of_code, address_of_global, bounded_code, count_code, past_bounded, thinned_code, followed_code, followed_operand, loaded_code, reached_code, reached_operand, stepped_code, widened_code};
+ghost use Rattle.cyc_lower.specs.ObjectCode.{saved_code};
 ghost use Rattle.cyc_types.specs.declared.typed.Kind.TheVariants as kinds;
 ghost use Rattle.cyc_plain.specs.declared.instruction.BinaryOperator.TheVariants as plain_binary;
 ghost use Rattle.cyc_plain.specs.declared.instruction.Instruction.TheVariants as instructions;

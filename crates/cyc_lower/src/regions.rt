@@ -1,6 +1,6 @@
 //! The code of regions: handles are words, and the marks by which lexical regions are closed stand in slots.
 ghost use Rattle.std.specs.Prelude.{◌≡◌, ◌+◌, ◌≤◌, IfOk, length};
-ghost use Rattle.cyc_lower.specs.Lowering.{behind_record, closed_code, closing_code, dynamic_code, kept_code, named_code, opened_code, restored_code, scopes_code};
+ghost use Rattle.cyc_lower.specs.ControlCode.{behind_record, closed_code, closing_code, dynamic_code, kept_code, named_code, opened_code, restored_code};
 ghost use Rattle.cyc_lower.specs.Emission.{Appends, Gives, most_locals, view_starts};
 
 use crate::emitter::Emitter;
@@ -8,24 +8,11 @@ use crate::locals::slot_of;
 use crate::operands::slot_behind;
 use crate::operators::move_of;
 use crate::starts::Starts;
-use cyc_plain::{BinaryOperator, Instruction, Operand, RECORD_WORDS, Request};
+use cyc_plain::{Instruction, Operand, RECORD_WORDS, Request};
 use cyc_types::typed::Kind;
 use std::alloc::AllocError;
 
 impl Emitter {
-    /// How many lexical regions are open now is kept in the global for it.
-    fn keep_scopes(&mut self, starts: &Starts, count: Operand) -> Result<(), AllocError>
-        ensures { Appends result self.old self.new (scopes_code (view_starts starts.now) count) }
-    {
-        match starts.scopes {
-            Some(global) => self.emit(Instruction::StoreGlobal {
-                global,
-                source: count,
-            }),
-            None => Ok(()),
-        }
-    }
-
     /// A local that is declared gets a value of so many words, which stands in an operand.
     pub(crate) fn name_local(
         &mut self,
@@ -50,7 +37,7 @@ impl Emitter {
         ensures { Appends result self.old self.new (opened_code (view_starts starts.now) number free) }
     {
         let behind = slot_behind(free, Kind::Handle)?;
-        let count = slot_behind(behind, Kind::Handle)?;
+        let mark = slot_behind(behind, Kind::Handle)?;
         self.emit(Instruction::Ask {
             request: Request::OpenLexical {
                 destination: behind,
@@ -58,27 +45,20 @@ impl Emitter {
         })?;
         self.emit(Instruction::Move {
             destination: free,
-            source: Operand::Slot { number: count },
+            source: Operand::Slot { number: mark },
         })?;
-        self.emit(Instruction::Binary {
-            operator: BinaryOperator::Add,
-            destination: count,
-            left: Operand::Slot { number: free },
-            right: Operand::Word { word: 1 },
-        })?;
-        self.keep_scopes(starts, Operand::Slot { number: count })?;
         self.name_local(starts, 1, number, Operand::Slot { number: behind })
     }
 
     /// The newest lexical regions are closed, down to the mark in a slot.
-    pub(crate) fn close_lexical(&mut self, starts: &Starts, mark: usize) -> Result<(), AllocError>
-        ensures { Appends result self.old self.new (closed_code (view_starts starts.now) mark) }
+    pub(crate) fn close_lexical(&mut self, mark: usize) -> Result<(), AllocError>
+        ensures { Appends result self.old self.new (closed_code mark) }
     {
-        let mark = Operand::Slot { number: mark };
         self.emit(Instruction::Ask {
-            request: Request::CloseTo { mark },
-        })?;
-        self.keep_scopes(starts, mark)
+            request: Request::CloseTo {
+                mark: Operand::Slot { number: mark },
+            },
+        })
     }
 
     /// A `try` has the record of its handler in the slots from `free` on, and behind it keeps how many lexical regions are open, where a
@@ -88,12 +68,11 @@ impl Emitter {
         ensures { Gives (behind_record (view_starts starts.now) free) result self.old self.new (kept_code (view_starts starts.now) free) }
     {
         let behind = free + RECORD_WORDS;
-        let Some(global) = starts.scopes else {
+        if starts.scopes.is_none() {
             return Ok(behind);
-        };
-        self.emit(Instruction::LoadGlobal {
+        }
+        self.emit(Instruction::CountLexical {
             destination: behind,
-            global,
         })?;
         Ok(behind + 1)
     }
@@ -104,7 +83,7 @@ impl Emitter {
         ensures { Appends result self.old self.new (restored_code (view_starts starts.now) free) }
     {
         match starts.scopes {
-            Some(_) => self.close_lexical(starts, free + RECORD_WORDS),
+            Some(_) => self.close_lexical(free + RECORD_WORDS),
             None => Ok(()),
         }
     }

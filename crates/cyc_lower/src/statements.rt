@@ -3,7 +3,8 @@ ghost use Rattle.std.specs.Prelude.{◌≡◌, ◌+◌, ◌≤◌, ◌<◌, [], 
 ghost use Rattle.cyc_types.specs.TypedTrees.{NoClauses};
 ghost use Rattle.cyc_types.specs.TypedTreeView.{view_converted, view_expression, view_statement, items_of, clauses_of, default_of};
 ghost use Rattle.cyc_meaning.specs.FrameCount.{kept_by, kept_by_items, kept_by_clauses};
-ghost use Rattle.cyc_lower.specs.Lowering.{nothing_opened, outermost, with_handler, with_mark, inside_try, inside_region, leave_code, other_jump, goes_on, clauses_code, caught_code, break_target, continue_target, inside_loop, return_code, declaration_code, statement_code, items_code};
+ghost use Rattle.cyc_lower.specs.ControlCode.{nothing_opened, outermost, with_handler, with_mark, inside_try, inside_region, leave_code, other_jump, goes_on, break_target, continue_target, inside_loop};
+ghost use Rattle.cyc_lower.specs.Lowering.{clauses_code, caught_code, return_code, declaration_code, statement_code, items_code};
 ghost use Rattle.cyc_lower.specs.Emission.{Appends, most_locals, throw_code, case_code, BeginClauses, item_code, exits_behind, free_behind, kept_by_item, loop_code, view_starts};
 
 use crate::emitter::Emitter;
@@ -127,14 +128,14 @@ fn free_behind(item: &Item, free: usize) -> usize
 
 impl Emitter {
     /// What was opened is closed: all handlers from the outermost on, and then all lexical regions.
-    fn lower_leave(&mut self, starts: &Starts, opened: Opened) -> Result<(), AllocError>
-        ensures { Appends result self.old self.new (leave_code (view_starts starts.now) opened) }
+    fn lower_leave(&mut self, opened: Opened) -> Result<(), AllocError>
+        ensures { Appends result self.old self.new (leave_code opened) }
     {
         if let Some(first) = opened.handler {
             self.emit(Instruction::Leave { first })?;
         }
         match opened.mark {
-            Some(mark) => self.close_lexical(starts, mark),
+            Some(mark) => self.close_lexical(mark),
             None => Ok(()),
         }
     }
@@ -154,7 +155,7 @@ impl Emitter {
             Some(value) => self.convert_to_slot(starts, value, free)?,
             None => free,
         };
-        self.lower_leave(starts, exits.in_function)?;
+        self.lower_leave(exits.in_function)?;
         self.emit(Instruction::Finish { value: from })
     }
 
@@ -380,11 +381,11 @@ impl Emitter {
             } => self.lower_loop(starts, body, condition, exits, free),
             Stmt::Return { value } => self.lower_return(starts, value, exits, free),
             Stmt::Break => {
-                self.lower_leave(starts, exits.in_loop)?;
+                self.lower_leave(exits.in_loop)?;
                 self.lower_break(exits.head)
             }
             Stmt::Continue => {
-                self.lower_leave(starts, exits.in_loop)?;
+                self.lower_leave(exits.in_loop)?;
                 self.lower_continue(exits.head)
             }
             Stmt::Throw { tag, value } => self.lower_throw(starts, *tag, value, free),
@@ -468,7 +469,7 @@ impl Emitter {
         }
         while behind > free {
             behind -= 1;
-            self.close_lexical(starts, behind)?;
+            self.close_lexical(behind)?;
         }
         Ok(())
     }

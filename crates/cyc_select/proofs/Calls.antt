@@ -1,7 +1,7 @@
 -- Calls: a new frame below the caller's, or the end of a run that has no room for one.
-use Rattle.std.proofs.Common.{◌≡◌, ◌≢◌, ℕ, zero, suc, ◌+◌, ◌-◌, ◌*◌, ◌%◌, ◌<◌, ◌≤◌, Bool, false, not, List, [], ◌∷◌, ◌++◌, length, Some, slice_get, refl, sym, ap, subst, ◌∙◌, arith, inl, inr}
+use Rattle.std.proofs.Common.{◌≡◌, ◌≢◌, ℕ, zero, suc, ◌+◌, ◌-◌, ◌*◌, ◌%◌, ◌<◌, ◌≤◌, Bool, true, false, not, List, [], ◌∷◌, ◌++◌, length, Some, slice_get, refl, sym, ap, subst, ◌∙◌, arith, inl, inr}
 use Rattle.std.specs.Prelude.{◌==◌, if◌then◌else◌, nat_le}
-use Rattle.std.proofs.lemmas.Bool.{cases_eq, cases_lt, eq-eqb, ne_eqb, and_right, lt-leb}
+use Rattle.std.proofs.lemmas.Bool.{cases_eq, cases_lt, eq-eqb, ne_eqb, and_right, lt-leb, or_left}
 use Rattle.cyc_select.specs.declared.constants.TheConstants.{CALLS, FRAME, HANDLERS, REGIONS}
 use Rattle.cyc_machine.specs.declared.constants.TheConstants.{RETURN_ADDRESS}
 use Rattle.cyc_words.specs.Ending.{Full}
@@ -19,19 +19,22 @@ use Rattle.cyc_plain.specs.State.{Words, AreWords, put, copied, Configuration}
 use Rattle.cyc_plain.specs.Step.{Choice, instruction_at, performed, executed, advanced, step, is_within, callee_of}
 use Rattle.cyc_plain.specs.WellFormed.{IsWellFormed, IsCallInRange}
 use Rattle.cyc_plain.proofs.RunLaws.{zeros, limited-full, called_at}
-use Rattle.cyc_plain.proofs.SlotLaws.{put-same, copied-inside, copied-above}
+use Rattle.cyc_plain.proofs.SlotLaws.{put-same, put-other, copied-inside, copied-above}
+use Rattle.cyc_frame.specs.Homes.{AreHomes}
+use Rattle.cyc_frame.specs.Uses.{is_among}
 use Rattle.cyc_frame.specs.Layout.{AreFrames, frame_at, slot_word}
-use Rattle.cyc_frame.specs.declared.frame.Frame.{Frame}
+use Rattle.cyc_frame.specs.Frame.{Frame}
 use Rattle.cyc_select.specs.declared.code.Line.{Line}
 use Rattle.cyc_select.specs.declared.code.Condition.TheVariants as conditions
 use Rattle.cyc_select.specs.declared.code.Line.TheVariants as lines
 use Rattle.cyc_select.specs.Labelled.{Labelled, IsFormed, AreAddresses}
 use Rattle.cyc_select.specs.Machine as labelled
 use Rattle.cyc_select.specs.Machine.{State, Running, Ended}
-use Rattle.cyc_select.specs.Selection.{slot_offset, small, minus, store, add_immediate, push_frame, copies, ordinary, syscall, calling_code, function_line, instruction_line}
+use Rattle.cyc_select.specs.Selection.{value_register, is_kept, slot_offset, small, minus, store, add_immediate, push_frame, copies, ordinary, syscall, calling_code, function_line, instruction_line}
 use Rattle.cyc_select.proofs.Cells.{IsCell}
 use Rattle.cyc_select.proofs.Lines.{line_first}
 use Rattle.cyc_select.proofs.Operations.{add_small, take_small}
+use Rattle.cyc_select.proofs.Values.{Caches, among}
 use Rattle.cyc_select.proofs.Views.{Contents, written}
 use Rattle.cyc_select.proofs.Walks.{Stands, stands_front, stands_back, after_r, after_w, Walk, now_at, walk_end, walk_few, walk_block, walk_branch, walk_call, walk_full}
 use Rattle.cyc_select.proofs.Copies.{Copied, copied_all}
@@ -62,14 +65,14 @@ call_last code caller callee here label arguments count stands =
 
 module _ (program : Program) (well : IsWellFormed program) (frames : List Frame) (fit : AreFrames program frames) (code : Labelled) (formed : IsFormed code) (addresses : ℕ → ℕ) (pages calls : ℕ) (few : calls ≤ 4096)
     (lie : AreAddresses code addresses) (c : Configuration) (run : labelled.Configuration) (r : Words) (w : Contents) (base : ℕ)
-    (now : At program well frames fit code formed addresses pages calls few (instruction_line program c.active.function c.active.next) c.output c.input r w run)
+    (now : At program well frames fit code formed addresses pages calls few (instruction_line program frames c.active.function c.active.next) c.output c.input r w run)
     (s : Standing program frames addresses pages calls c r w base (r RETURN_ADDRESS) (suc (length c.frames)) c.active.slots)
     (callee arguments count result : ℕ) (at_i : instruction_at program (states.place_of (states.Running c)) ≡ Some (plain.Call callee arguments count result))
     (in_range : IsCallInRange program (routine_at program c.active.function) callee arguments count result)
-    (inside : behind_line program c.active.function c.active.next callee arguments count result < length code.lines)
-    (stands : Stands code (instruction_line program c.active.function c.active.next) (calling_code (frame_at frames c.active.function) (frame_at frames callee) (instruction_line program c.active.function c.active.next) (function_line program callee) arguments count)) where
+    (inside : behind_line program frames c.active.function c.active.next callee arguments count result < length code.lines)
+    (stands : Stands code (instruction_line program frames c.active.function c.active.next) (calling_code (frame_at frames c.active.function) (frame_at frames callee) (instruction_line program frames c.active.function c.active.next) (function_line program frames callee) arguments count)) where
   abbrev here : ℕ
-  here = instruction_line program c.active.function c.active.next
+  here = instruction_line program frames c.active.function c.active.next
 
   abbrev mine : Frame
   mine = frame_at frames c.active.function
@@ -90,7 +93,7 @@ module _ (program : Program) (well : IsWellFormed program) (frames : List Frame)
   passed = copies mine its arguments 0 count
 
   abbrev call_line : List Line
-  call_line = lines.Call (function_line program callee) ∷ []
+  call_line = lines.Call (function_line program frames callee) ∷ []
 
   -- where the parts stand
   at_full : Stands code (here + 1) (ordinary (small 2 11 ∷ syscall ∷ []))
@@ -104,10 +107,20 @@ module _ (program : Program) (well : IsWellFormed program) (frames : List Frame)
   at_passed : Stands code (here + 3 + 3) (ordinary passed ++ call_line)
   at_passed = stands_back code (here + 3) (ordinary entry) (ordinary passed ++ call_line) at_entry
 
-  at_call : slice_get code.lines (here + 3 + 3 + length passed) ≡ Some (lines.Call (function_line program callee))
+  at_call : slice_get code.lines (here + 3 + 3 + length passed) ≡ Some (lines.Call (function_line program frames callee))
   at_call =
-      subst (λ (n : ℕ). slice_get code.lines (here + 3 + 3 + n) ≡ Some (lines.Call (function_line program callee))) (length_ordinary passed)
+      subst (λ (n : ℕ). slice_get code.lines (here + 3 + 3 + n) ≡ Some (lines.Call (function_line program frames callee))) (length_ordinary passed)
       (stands_back code (here + 3 + 3) (ordinary passed) call_line at_passed).0
+
+  -- the homes of the callee's slots, and of the caller's: what is passed lives in memory
+  its_right : AreHomes program (routine_at program callee) (frame_at frames callee).homes
+  its_right = fit.homes callee in_range.function_in_range
+
+  argument_kept : (slot : ℕ) → slot < count → is_kept mine (arguments + slot) ≡ true
+  argument_kept slot below =
+      (fit.homes c.active.function s.known).passed c.active.next (arguments + slot) (plain.Call callee arguments count result) at_i
+      (or_left (is_among arguments count (arguments + slot)) (is_among result (routine_at program callee).results (arguments + slot))
+      (among arguments count (arguments + slot) (omega arith) (omega (arith, below))))
 
   -- ---- no room
 
@@ -203,7 +216,7 @@ module _ (program : Program) (well : IsWellFormed program) (frames : List Frame)
         let own = fit.each c.active.function s.known in
         copied_all globals_length (words_per_call * calls) mine its (routine_at program c.active.function).slots (routine_at program callee).slots low base low_is
         (omega (arith, frame.within, frame.small)) (omega (arith, own.within, own.small)) (omega (arith, here_lies.0)) own.inside frame.inside frame.apart
-        caller_cell (λ slot below. callee_cell (slot_word its slot) (frame.inside slot below))
+        caller_cell (λ slot below. callee_cell (slot_word its slot) (frame.inside slot below)) its_right.low its_right.high
         arguments 0 count r1 w1 entered_base in_range.arguments_in_range
         (let takes = in_range.takes in let parameters = (well.functions callee no_routine in_range.function_in_range).parameters in omega (arith, takes, parameters))
 
@@ -226,7 +239,7 @@ module _ (program : Program) (well : IsWellFormed program) (frames : List Frame)
       frames = record { caller = (advanced c).active; result = result } ∷ c.frames;
     }
 
-    line_is : here + 3 + 3 + length passed + 1 ≡ behind_line program c.active.function c.active.next callee arguments count result
+    line_is : here + 3 + 3 + length passed + 1 ≡ behind_line program frames c.active.function c.active.next callee arguments count result
     line_is = omega (arith, length-copies mine its arguments 0 count)
 
     above_kept : (a : ℕ) → base ≤ a → w2.words a ≡ w1.words a
@@ -239,12 +252,12 @@ module _ (program : Program) (well : IsWellFormed program) (frames : List Frame)
     saved_is = above_kept (base + 4 * mine.return_address) (omega arith) ∙ (ap (λ (m : Contents). m.words (base + 4 * mine.return_address)) saved ∙ put-same w.words (base + 4 * mine.return_address) (r RETURN_ADDRESS))
 
     new_holds : Holds program frames callee low w2 (copied c.active.slots arguments count choice.contents 0)
-    new_holds slot below = elim (cases_lt slot count) [
+    new_holds slot below slot_kept = elim (cases_lt slot count) [
       | inl argument ↦
           let zero_slot : slot ≡ 0 + slot = omega arith in
           ap (λ (x : ℕ). w2.words (low + slot_offset its x)) zero_slot
           ∙ (copied_now.inside slot argument
-          ∙ (s1.holds (arguments + slot) (omega (arith, argument, in_range.arguments_in_range))
+          ∙ (s1.holds (arguments + slot) (omega (arith, argument, in_range.arguments_in_range)) (argument_kept slot argument)
           ∙ sym (ap (copied c.active.slots arguments count choice.contents 0) zero_slot ∙ copied-inside c.active.slots choice.contents arguments count 0 slot argument)))
       | inr new ↦ sym (copied-above c.active.slots choice.contents arguments count 0 slot (omega (arith, new)))
     ]
@@ -259,13 +272,13 @@ module _ (program : Program) (well : IsWellFormed program) (frames : List Frame)
       refl,
       ap addresses line_is,
       subst (λ (b : ℕ). Holds program frames c.active.function b w2 c.active.slots) (sym low_is)
-          (λ slot below. above_kept (base + slot_offset mine slot) (omega arith) ∙ s1.holds slot below),
+          (λ slot below slot_kept. above_kept (base + slot_offset mine slot) (omega arith) ∙ s1.holds slot below slot_kept),
       subst (λ (b : ℕ). Chain program frames addresses w2 b (w2.words (b + 4 * mine.return_address)) c.active.function c.frames) (sym low_is)
           (subst (λ (x : ℕ). Chain program frames addresses w2 base x c.active.function c.frames) (sym saved_is) own_chain),
     )
 
     newest_same : r3 HANDLERS ≡ r HANDLERS
-    newest_same = copied_now.kept HANDLERS (λ e. absurd (omega (arith, e)))
+    newest_same = copied_now.kept HANDLERS (inr (omega arith))
 
     entered_newest : IsNewest program frames addresses calls (r3 HANDLERS) low callee [] (record { caller = (advanced c).active; result = result } ∷ c.frames)
     entered_newest =
@@ -275,9 +288,9 @@ module _ (program : Program) (well : IsWellFormed program) (frames : List Frame)
     entered_stands : Standing program frames addresses pages calls entered r3 w2 low (r3 RETURN_ADDRESS) (suc (suc (length c.frames))) (copied c.active.slots arguments count choice.contents 0)
     entered_stands = record {
       known = in_range.function_in_range;
-      base_is = copied_now.kept FRAME (λ e. absurd (omega (arith, e))) ∙ entered_base;
-      zero_is = copied_now.kept 0 (λ e. absurd (omega (arith, e))) ∙ s.zero_is;
-      left = left_is (r3 CALLS) (copied_now.kept CALLS (λ e. absurd (omega (arith, e))) ∙ entered_left);
+      base_is = copied_now.kept FRAME (inr (omega arith)) ∙ entered_base;
+      zero_is = copied_now.kept 0 (inl (omega arith)) ∙ s.zero_is;
+      left = left_is (r3 CALLS) (copied_now.kept CALLS (inr (omega arith)) ∙ entered_left);
       deep = deeper;
       holds = new_holds;
       chain = new_chain;
@@ -288,11 +301,23 @@ module _ (program : Program) (well : IsWellFormed program) (frames : List Frame)
       input = s.input;
       store = copied_now.store ∙ s1.store;
       laid = s.laid;
-      counted = copied_now.kept REGIONS (λ e. absurd (omega (arith, e))) ∙ s.counted;
+      counted = copied_now.kept REGIONS (inr (omega arith)) ∙ s.counted;
     }
       where
         left_is : (n : ℕ) → n ≡ r CALLS - 1 → n + suc (suc (length c.frames)) ≡ calls
         left_is n is = omega (arith, is, s.left, left_some)
+
+    -- its parameters are in their registers, where they are wanted
+    entered_caches : Caches program frames callee 0 r3 (copied c.active.slots arguments count choice.contents 0)
+    entered_caches slot k has wanted =
+        let below : slot < count = (let takes = in_range.takes in omega (arith, takes, its_right.entry slot k has wanted)) in
+        let zero_slot : slot ≡ 0 + slot = omega arith in
+        put-other r2 RETURN_ADDRESS k (addresses (here + 3 + 3 + length passed + 1)) (λ e. absurd (omega (arith, e, its_right.high slot k has)))
+        ∙ (copied_now.values slot k below (ap (value_register its) (sym zero_slot) ∙ has)
+        (λ i i_below there.
+        its_right.parameters slot i k has (ap (value_register its) (let e : i ≡ 0 + i = omega arith in e) ∙ there) (let takes = in_range.takes in omega (arith, takes, i_below)) wanted)
+        ∙ (s1.holds (arguments + slot) (omega (arith, below, in_range.arguments_in_range)) (argument_kept slot below)
+        ∙ sym (ap (copied c.active.slots arguments count choice.contents 0) zero_slot ∙ copied-inside c.active.slots choice.contents arguments count 0 slot below)))
 
     -- its slots lie below the caller's
     new_below : IsBelow program callee (low + 4 * its.first_slot) c.active.base
@@ -304,7 +329,7 @@ module _ (program : Program) (well : IsWellFormed program) (frames : List Frame)
           high = omega (arith, low_is, place_is, fits);
         }
 
-    enters : (d : labelled.Configuration) → AtLine (function_line program callee) r3 w2 d → Reached program well frames fit code formed addresses pages calls few c (Running d)
+    enters : (d : labelled.Configuration) → AtLine (function_line program frames callee) r3 w2 d → Reached program well frames fit code formed addresses pages calls few c (Running d)
     enters d later =
         reached program well frames fit code formed addresses pages calls few c choice (plain.Call callee arguments count result) (states.Running entered) (Running d)
         (called_at program c callee choice (ap callee_of at_i) (λ slot. later.w_words (low + slot_offset its slot)) new_below) at_i refl
@@ -315,8 +340,9 @@ module _ (program : Program) (well : IsWellFormed program) (frames : List Frame)
           w = w2;
           base = low;
           is = refl;
-          now = now_at code formed addresses globals_length (words_per_call * calls) (function_line program callee) (instruction_line program callee 0) c.output c.input r3 w2 d (sym (line_first program callee)) later;
+          now = now_at code formed addresses globals_length (words_per_call * calls) (function_line program frames callee) (instruction_line program frames callee 0) c.output c.input r3 w2 d (sym (line_first program frames callee)) later;
           standing = entered_stands;
+          caches = entered_caches;
         }))
 
     room_goes : (d : labelled.Configuration) → AtLine (here + 3) r w d → Goes 0 (suc here) (here + (7 + 2 * count)) (Running d)
@@ -329,8 +355,8 @@ module _ (program : Program) (well : IsWellFormed program) (frames : List Frame)
         walk_block code formed addresses globals_length (words_per_call * calls) passed 1 (here + 3 + 3) (here + 3 + 3) (here + (7 + 2 * count)) c.output c.input _ r1 w1 e after
         (stands_front code (here + 3 + 3) (ordinary passed) call_line at_passed) copied_now.safe (omega arith)
         (λ f there.
-        walk_call code formed addresses globals_length (words_per_call * calls) 0 (here + 3 + 3 + length passed) (here + 3 + 3 + length passed) (here + (7 + 2 * count)) c.output c.input _ r2 w2 f (function_line program callee) there at_call (omega arith)
-        (omega (arith, ap addresses line_is, lie.below (behind_line program c.active.function c.active.next callee arguments count result) inside))
+        walk_call code formed addresses globals_length (words_per_call * calls) 0 (here + 3 + 3 + length passed) (here + 3 + 3 + length passed) (here + (7 + 2 * count)) c.output c.input _ r2 w2 f (function_line program frames callee) there at_call (omega arith)
+        (omega (arith, ap addresses line_is, lie.below (behind_line program frames c.active.function c.active.next callee arguments count result) inside))
         (λ g called.
         walk_end code formed addresses globals_length (words_per_call * calls) (suc (here + 3 + 3 + length passed)) (here + (7 + 2 * count)) c.output _ (Running g) (omega (arith, length-copies mine its arguments 0 count))
         (enters g called)))))

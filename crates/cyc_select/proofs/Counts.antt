@@ -1,5 +1,5 @@
 -- How many lines operands, plans and tests have, as they are counted: so many, and few.
-use Rattle.std.proofs.Common.{◌≡◌, ℕ, zero, suc, ◌+◌, ◌*◌, ◌%◌, ◌^◌, ◌≤◌, Bool, true, false, List, [], ◌∷◌, length, Option, None, Some, refl, ap, ◌∙◌, arith, length-append}
+use Rattle.std.proofs.Common.{◌≡◌, ℕ, zero, suc, ◌+◌, ◌*◌, ◌%◌, ◌^◌, ◌<◌, ◌≤◌, Bool, true, false, List, [], ◌∷◌, length, Option, None, Some, refl, ap, ◌∙◌, arith, length-append}
 use Rattle.std.specs.Prelude.{◌==◌, nat_lt, if◌then◌else◌}
 use Rattle.cyc_isa.specs.declared.instr.Instr.{Instr}
 use Rattle.cyc_isa.specs.declared.instr.ArithmeticOp.{ArithmeticOp}
@@ -14,7 +14,7 @@ use Rattle.cyc_plain.specs.declared.instruction.Operand.TheVariants as operands
 use Rattle.cyc_plain.specs.declared.instruction.Request.{Request}
 use Rattle.cyc_plain.specs.declared.instruction.Request.TheVariants as requests
 use Rattle.cyc_plain.specs.Requests.{first_operand, answer_count, destination_of, operand_size}
-use Rattle.cyc_frame.specs.declared.frame.Frame.{Frame}
+use Rattle.cyc_frame.specs.Frame.{Frame}
 use Rattle.cyc_select.specs.declared.constants.TheConstants.{FIRST, SECOND, THIRD, ZERO}
 use Rattle.cyc_select.specs.declared.plan.Operation.{Operation}
 use Rattle.cyc_select.specs.declared.plan.Operation.TheVariants as operations
@@ -25,7 +25,7 @@ use Rattle.cyc_select.specs.declared.plan.Test.{Test}
 use Rattle.cyc_select.specs.declared.plan.Test.TheVariants as tests
 use Rattle.cyc_select.specs.Plans.{arithmetic_plan, immediate_plan, immediate_or, zero_plan, differs_plan, equal_plan, unary_plan, binary_plan}
 use Rattle.cyc_select.specs.Numbers.{fits_signed, negated_half, is_word, is_zero_word}
-use Rattle.cyc_select.specs.Selection.{load_all, store_all, result_registers, argument_code, argument_count, service_number, answer_code, regions_code, regions_count, small, or_immediate, load_upper, constant, is_tested, word_code, load_code, operand_code, operand_register, operation_code, outcome_code, operands_code, operation_of, computed_code, plan_code, test_code, loads_code, divided_code, store_slot, add_immediate, minus, word_count, load_count, operand_count, far_plan, address_code, address_count, operation_count, outcome_count, count_of_operation, plan_count, test_count, operator_count}
+use Rattle.cyc_select.specs.Selection.{value_register, is_kept, fetch_from, fetch_count, keep_code, keep_count, give_to, give_code, give_count_to, give_count, move_to, move_count_to, move_count, load_words, load_all, store_all, result_registers, argument_code, argument_count, service_number, answer_code, small, or_immediate, load_upper, constant, is_tested, word_code, load_code, operand_code, operand_register, made_in, operation_code, outcome_code, operands_code, operation_of, computed_code, plan_code, test_code, loads_code, divided_code, store_slot, add_immediate, minus, word_count, load_count, operand_count, far_plan, address_code, address_count, operation_count, outcome_count, count_of_operation, plan_count, test_count, divide_count, operator_count, regions_code, regions_count}
 
 -- ---- few
 
@@ -39,6 +39,27 @@ word_either false false false = omega arith
 pub word_small : (word : ℕ) → word_count word ≤ 2
 word_small word = word_either (fits_signed word) (nat_lt word (2 ^ 16)) (word % 2 ^ 16 == 0)
 
+word_some : (word : ℕ) → 0 < word_count word
+word_some word = go (fits_signed word) (nat_lt word (2 ^ 16)) (word % 2 ^ 16 == 0)
+  where
+    go : (a b c : Bool) → 0 < (if a then 1 else (if b then 1 else (if c then 1 else 2)))
+    go true b c = omega arith
+    go false true c = omega arith
+    go false false true = omega arith
+    go false false false = omega arith
+
+-- what is loaded, and what is computed, has some lines
+pub load_some : (o : Operand) → 0 < load_count o
+load_some (operands.Slot number) = omega arith
+load_some (operands.Word word) = word_some word
+
+pub operation_some : (o : Operation) → 0 < operation_count o
+operation_some (operations.Arithmetic op) = omega arith
+operation_some (operations.Immediate op half) = omega arith
+operation_some (operations.Shift op) = omega arith
+operation_some (operations.ShiftBy op amount) = omega arith
+operation_some (operations.MultiplyDivide op from) = omega arith
+
 pub load_small : (o : Operand) → load_count o ≤ 2
 load_small (operands.Slot number) = omega arith
 load_small (operands.Word word) = word_small word
@@ -46,9 +67,6 @@ load_small (operands.Word word) = word_small word
 if_small : (b : Bool) (n : ℕ) → n ≤ 2 → (if b then 0 else n) ≤ 2
 if_small true n small = omega arith
 if_small false n small = small
-
-pub operand_small : (o : Operand) → operand_count o ≤ 2
-operand_small o = if_small (is_zero_word o) (load_count o) (load_small o)
 
 operation_small : (o : Operation) → operation_count o ≤ 2
 operation_small (operations.Arithmetic op) = omega arith
@@ -62,60 +80,104 @@ outcome_small outcomes.AsItIs = omega arith
 outcome_small outcomes.WhetherZero = omega arith
 outcome_small outcomes.WhetherNotZero = omega arith
 
-computed_small : (plan : Plan) → count_of_operation plan ≤ 6
-computed_small plan = omega (arith, operand_small plan.left, operand_small plan.right, operation_small plan.operation)
+module _ (frame : Frame) where
+  fetch_small : (o : Option ℕ) → fetch_count o ≤ 2
+  fetch_small None = omega arith
+  fetch_small (Some own) = omega arith
 
-pub plan_small : (plan : Plan) → plan_count plan ≤ 8
-plan_small plan = omega (arith, computed_small plan, outcome_small plan.outcome)
+  pub operand_small : (o : Operand) → operand_count frame o ≤ 2
+  operand_small (operands.Slot number) = fetch_small (value_register frame number)
+  operand_small (operands.Word word) = if_small (is_zero_word (operands.Word word)) (word_count word) (word_small word)
 
--- what is no multiplication and no division has one line less
+  either_few : (b : Bool) → (if b then 1 else 0) ≤ 1
+  either_few true = omega arith
+  either_few false = omega arith
 
-arithmetic_small : (op : ArithmeticOp) (left right : Operand) (o : Outcome) → plan_count (arithmetic_plan op left right o) ≤ 7
-arithmetic_small op left right o = omega (arith, operand_small left, operand_small right, outcome_small o)
+  pub keep_few : (slot : ℕ) → keep_count frame slot ≤ 1
+  keep_few slot = either_few (is_kept frame slot)
 
-immediate_small : (op : ImmediateOp) (left : Operand) (half : ℕ) (o : Outcome) → plan_count (immediate_plan op left half o) ≤ 7
-immediate_small op left half o = omega (arith, operand_small left, operand_small (operands.Word 0), outcome_small o)
+  pub give_small : (slot : ℕ) → give_count frame slot ≤ 2
+  give_small slot = go (value_register frame slot)
+    where
+      go : (o : Option ℕ) → give_count_to o frame slot ≤ 2
+      go None = omega arith
+      go (Some register) = omega (arith, keep_few slot)
 
-plan_either : (b : Bool) (x y : Plan) → plan_count x ≤ 7 → plan_count y ≤ 7 → plan_count (if b then x else y) ≤ 7
-plan_either true x y first second = first
-plan_either false x y first second = second
+  pub give_some : (slot : ℕ) → 0 < give_count frame slot
+  give_some slot = go (value_register frame slot)
+    where
+      go : (o : Option ℕ) → 0 < give_count_to o frame slot
+      go None = omega arith
+      go (Some register) = omega arith
 
-immediate_or_small : (half : Option ℕ) (op : ImmediateOp) (left : Operand) (o : Outcome) (other : Plan) → plan_count other ≤ 7 → plan_count (immediate_or half op left o other) ≤ 7
-immediate_or_small (Some half) op left o other small = immediate_small op left half o
-immediate_or_small None op left o other small = small
+  pub move_some : (destination : ℕ) (source : Operand) → 0 < move_count frame destination source
+  move_some destination source = go (value_register frame destination)
+    where
+      go : (o : Option ℕ) → 0 < move_count_to o frame destination source
+      go None = omega arith
+      go (Some register) = omega (arith, load_some source)
 
-equal_small : (left right : Operand) → plan_count (equal_plan left right true) ≤ 7
-equal_small left right =
-    plan_either (is_zero_word right) (zero_plan left true) (differs_plan left right outcomes.WhetherZero) (immediate_small immediate.SetLessUnsigned left 1 outcomes.AsItIs)
-    (immediate_or_small (negated_half right) immediate.AddUnsigned left outcomes.WhetherZero (arithmetic_plan arithmetic.SubtractUnsigned left right outcomes.WhetherZero) (arithmetic_small arithmetic.SubtractUnsigned left right outcomes.WhetherZero))
+  pub move_small : (destination : ℕ) (source : Operand) → move_count frame destination source ≤ 3
+  move_small destination source = go (value_register frame destination)
+    where
+      go : (o : Option ℕ) → move_count_to o frame destination source ≤ 3
+      go None = omega (arith, operand_small source)
+      go (Some register) = omega (arith, load_small source, keep_few destination)
 
-pub unary_small : (operator : UnaryOperator) (operand : Operand) → plan_count (unary_plan operator operand) ≤ 7
-unary_small unary.Negate operand = arithmetic_small arithmetic.SubtractUnsigned (operands.Word 0) operand outcomes.AsItIs
-unary_small unary.Complement operand = arithmetic_small arithmetic.Nor (operands.Word 0) operand outcomes.AsItIs
-unary_small unary.Not operand =
-    plan_either (is_word operand) (equal_plan (operands.Word 0) operand true) (equal_plan operand (operands.Word 0) true) (equal_small (operands.Word 0) operand) (equal_small operand (operands.Word 0))
+  computed_small : (plan : Plan) → count_of_operation frame plan ≤ 6
+  computed_small plan = omega (arith, operand_small plan.left, operand_small plan.right, operation_small plan.operation)
 
-pub test_small : (test : Test) → test_count test ≤ 6
-test_small (tests.Operands op left right) = omega (arith, operand_small left, operand_small right)
-test_small (tests.Sign op operand) = omega (arith, operand_small operand)
-test_small (tests.Computed plan) = computed_small plan
+  pub plan_small : (plan : Plan) (destination : ℕ) → plan_count frame plan destination ≤ 8
+  plan_small plan destination = omega (arith, computed_small plan, outcome_small plan.outcome, keep_few destination)
 
-address_either : (b : Bool) (near far : ℕ) → near ≤ 2 → far ≤ 5 → (if b then near else far) ≤ 5
-address_either true near far first second = omega (arith, first)
-address_either false near far first second = second
+  -- what is no multiplication and no division has one line less
 
-pub address_small : (address : Operand) (offset : ℕ) → address_count address offset ≤ 5
-address_small address offset =
-    address_either (fits_signed offset) (operand_count address) (count_of_operation (far_plan address offset)) (operand_small address)
-    (omega (arith, operand_small address, operand_small (operands.Word offset)))
+  arithmetic_small : (destination : ℕ) (op : ArithmeticOp) (left right : Operand) (o : Outcome) → plan_count frame (arithmetic_plan op left right o) destination ≤ 7
+  arithmetic_small destination op left right o = omega (arith, operand_small left, operand_small right, outcome_small o, keep_few destination)
 
-operator_either : (b : Bool) (divided planned : ℕ) → divided ≤ 11 → planned ≤ 8 → (if b then divided else planned) ≤ 11
-operator_either true divided planned few small = few
-operator_either false divided planned few small = omega (arith, small)
+  immediate_small : (destination : ℕ) (op : ImmediateOp) (left : Operand) (half : ℕ) (o : Outcome) → plan_count frame (immediate_plan op left half o) destination ≤ 7
+  immediate_small destination op left half o = omega (arith, operand_small left, operand_small (operands.Word 0), outcome_small o, keep_few destination)
 
-pub operator_small : (operator : BinaryOperator) (left right : Operand) → operator_count operator left right ≤ 11
-operator_small operator left right =
-    operator_either (is_tested operator right) (load_count left + load_count right + 7) (plan_count (binary_plan operator left right)) (omega (arith, load_small left, load_small right)) (plan_small (binary_plan operator left right))
+  plan_either : (destination : ℕ) (b : Bool) (x y : Plan) → plan_count frame x destination ≤ 7 → plan_count frame y destination ≤ 7 → plan_count frame (if b then x else y) destination ≤ 7
+  plan_either destination true x y first second = first
+  plan_either destination false x y first second = second
+
+  immediate_or_small : (destination : ℕ) (half : Option ℕ) (op : ImmediateOp) (left : Operand) (o : Outcome) (other : Plan) → plan_count frame other destination ≤ 7 → plan_count frame (immediate_or half op left o other) destination ≤ 7
+  immediate_or_small destination (Some half) op left o other small = immediate_small destination op left half o
+  immediate_or_small destination None op left o other small = small
+
+  equal_small : (destination : ℕ) (left right : Operand) → plan_count frame (equal_plan left right true) destination ≤ 7
+  equal_small destination left right =
+      plan_either destination (is_zero_word right) (zero_plan left true) (differs_plan left right outcomes.WhetherZero) (immediate_small destination immediate.SetLessUnsigned left 1 outcomes.AsItIs)
+      (immediate_or_small destination (negated_half right) immediate.AddUnsigned left outcomes.WhetherZero (arithmetic_plan arithmetic.SubtractUnsigned left right outcomes.WhetherZero) (arithmetic_small destination arithmetic.SubtractUnsigned left right outcomes.WhetherZero))
+
+  pub unary_small : (operator : UnaryOperator) (operand : Operand) (destination : ℕ) → plan_count frame (unary_plan operator operand) destination ≤ 7
+  unary_small unary.Negate operand destination = arithmetic_small destination arithmetic.SubtractUnsigned (operands.Word 0) operand outcomes.AsItIs
+  unary_small unary.Complement operand destination = arithmetic_small destination arithmetic.Nor (operands.Word 0) operand outcomes.AsItIs
+  unary_small unary.Not operand destination =
+      plan_either destination (is_word operand) (equal_plan (operands.Word 0) operand true) (equal_plan operand (operands.Word 0) true) (equal_small destination (operands.Word 0) operand) (equal_small destination operand (operands.Word 0))
+
+  pub test_small : (test : Test) → test_count frame test ≤ 6
+  test_small (tests.Operands op left right) = omega (arith, operand_small left, operand_small right)
+  test_small (tests.Sign op operand) = omega (arith, operand_small operand)
+  test_small (tests.Computed plan) = computed_small plan
+
+  address_either : (b : Bool) (near far : ℕ) → near ≤ 2 → far ≤ 5 → (if b then near else far) ≤ 5
+  address_either true near far first second = omega (arith, first)
+  address_either false near far first second = second
+
+  pub address_small : (address : Operand) (offset : ℕ) → address_count frame address offset ≤ 5
+  address_small address offset =
+      address_either (fits_signed offset) (operand_count frame address) (count_of_operation frame (far_plan address offset)) (operand_small address)
+      (omega (arith, operand_small address, operand_small (operands.Word offset)))
+
+  operator_either : (b : Bool) (divided planned : ℕ) → divided ≤ 11 → planned ≤ 8 → (if b then divided else planned) ≤ 11
+  operator_either true divided planned few small = few
+  operator_either false divided planned few small = omega (arith, small)
+
+  pub operator_small : (operator : BinaryOperator) (destination : ℕ) (left right : Operand) → operator_count frame operator destination left right ≤ 11
+  operator_small operator destination left right =
+      operator_either (is_tested operator right) (divide_count frame destination left right) (plan_count frame (binary_plan operator left right) destination) (omega (arith, load_small left, load_small right, keep_few destination)) (plan_small (binary_plan operator left right) destination)
 
 pub argument_small : (o : Option Operand) → argument_count o ≤ operand_size o
 argument_small None = omega arith
@@ -173,51 +235,78 @@ length_if : (b : Bool) (is : List Instr) (n : ℕ) → length is ≡ n → lengt
 length_if true is n same = refl
 length_if false is n same = same
 
-pub length_operand : (frame : Frame) (register : ℕ) (o : Operand) → length (operand_code frame register o) ≡ operand_count o
-length_operand frame register o = length_if (is_zero_word o) (load_code frame register o) (load_count o) (length_load frame register o)
+length_fetch : (o : Option ℕ) (frame : Frame) (register slot : ℕ) → length (fetch_from o frame register slot) ≡ fetch_count o
+length_fetch None frame register slot = refl
+length_fetch (Some own) frame register slot = refl
 
-length_operation : (o : Operation) (left right : ℕ) → length (operation_code o left right) ≡ operation_count o
-length_operation (operations.Arithmetic op) left right = refl
-length_operation (operations.Immediate op half) left right = refl
-length_operation (operations.Shift op) left right = refl
-length_operation (operations.ShiftBy op amount) left right = refl
-length_operation (operations.MultiplyDivide op from) left right = refl
+pub length_operand : (frame : Frame) (register : ℕ) (o : Operand) → length (operand_code frame register o) ≡ operand_count frame o
+length_operand frame register (operands.Slot number) = length_fetch (value_register frame number) frame register number
+length_operand frame register (operands.Word word) = length_if (is_zero_word (operands.Word word)) (word_code register word) (word_count word) (length_word register word)
 
-length_outcome : (o : Outcome) → length (outcome_code o) ≡ outcome_count o
-length_outcome outcomes.AsItIs = refl
-length_outcome outcomes.WhetherZero = refl
-length_outcome outcomes.WhetherNotZero = refl
+pub length_keep : (frame : Frame) (slot : ℕ) → length (keep_code frame slot) ≡ keep_count frame slot
+length_keep frame slot = go (is_kept frame slot)
+  where
+    go : (b : Bool) → length (if b then store_slot frame (made_in frame slot) slot ∷ [] else []) ≡ (if b then 1 else 0)
+    go true = refl
+    go false = refl
 
-length_operands : (frame : Frame) (left right : Operand) → length (operands_code frame left right) ≡ operand_count left + operand_count right
+pub length_give : (frame : Frame) (source slot : ℕ) → length (give_code frame source slot) ≡ give_count frame slot
+length_give frame source slot = go (value_register frame slot)
+  where
+    go : (o : Option ℕ) → length (give_to o frame source slot) ≡ give_count_to o frame slot
+    go None = refl
+    go (Some register) = let e : suc (length (keep_code frame slot)) ≡ keep_count frame slot + 1 = omega (arith, length_keep frame slot) in e
+
+pub length_move : (frame : Frame) (destination : ℕ) (source : Operand) → length (move_to (value_register frame destination) frame destination source) ≡ move_count frame destination source
+length_move frame destination source = go (value_register frame destination)
+  where
+    go : (o : Option ℕ) → length (move_to o frame destination source) ≡ move_count_to o frame destination source
+    go None = omega (arith, length-append (operand_code frame FIRST source) (store_slot frame (operand_register frame FIRST source) destination ∷ []), length_operand frame FIRST source)
+    go (Some register) = omega (arith, length-append (load_code frame register source) (keep_code frame destination), length_load frame register source, length_keep frame destination)
+
+length_operation : (o : Operation) (target left right : ℕ) → length (operation_code o target left right) ≡ operation_count o
+length_operation (operations.Arithmetic op) target left right = refl
+length_operation (operations.Immediate op half) target left right = refl
+length_operation (operations.Shift op) target left right = refl
+length_operation (operations.ShiftBy op amount) target left right = refl
+length_operation (operations.MultiplyDivide op from) target left right = refl
+
+length_outcome : (o : Outcome) (target : ℕ) → length (outcome_code o target) ≡ outcome_count o
+length_outcome outcomes.AsItIs target = refl
+length_outcome outcomes.WhetherZero target = refl
+length_outcome outcomes.WhetherNotZero target = refl
+
+length_operands : (frame : Frame) (left right : Operand) → length (operands_code frame left right) ≡ operand_count frame left + operand_count frame right
 length_operands frame left right =
     omega (arith, length-append (operand_code frame FIRST left) (operand_code frame SECOND right), length_operand frame FIRST left, length_operand frame SECOND right)
 
-length_operation_of : (frame : Frame) (plan : Plan) → length (operation_of frame plan) ≡ count_of_operation plan
-length_operation_of frame plan =
-    let last = operation_code plan.operation (operand_register FIRST plan.left) (operand_register SECOND plan.right) in
-    omega (arith, length-append (operands_code frame plan.left plan.right) last, length_operands frame plan.left plan.right, length_operation plan.operation (operand_register FIRST plan.left) (operand_register SECOND plan.right))
+length_operation_of : (frame : Frame) (target : ℕ) (plan : Plan) → length (operation_of frame target plan) ≡ count_of_operation frame plan
+length_operation_of frame target plan =
+    let last = operation_code plan.operation target (operand_register frame FIRST plan.left) (operand_register frame SECOND plan.right) in
+    omega (arith, length-append (operands_code frame plan.left plan.right) last, length_operands frame plan.left plan.right, length_operation plan.operation target (operand_register frame FIRST plan.left) (operand_register frame SECOND plan.right))
 
-pub length_address : (frame : Frame) (address : Operand) (offset : ℕ) → length (address_code frame address offset) ≡ address_count address offset
+pub length_address : (frame : Frame) (address : Operand) (offset : ℕ) → length (address_code frame address offset) ≡ address_count frame address offset
 length_address frame address offset =
-    either (fits_signed offset) (operand_code frame FIRST address) (operation_of frame (far_plan address offset)) (operand_count address) (count_of_operation (far_plan address offset))
-    (length_operand frame FIRST address) (length_operation_of frame (far_plan address offset))
+    either (fits_signed offset) (operand_code frame FIRST address) (operation_of frame FIRST (far_plan address offset)) (operand_count frame address) (count_of_operation frame (far_plan address offset))
+    (length_operand frame FIRST address) (length_operation_of frame FIRST (far_plan address offset))
   where
     either : (b : Bool) (is js : List Instr) (m n : ℕ) → length is ≡ m → length js ≡ n → length (if b then is else js) ≡ (if b then m else n)
     either true is js m n first second = first
     either false is js m n first second = second
 
-pub length_computed : (frame : Frame) (plan : Plan) → length (computed_code frame plan) ≡ count_of_operation plan + outcome_count plan.outcome
-length_computed frame plan =
-    omega (arith, length-append (operation_of frame plan) (outcome_code plan.outcome), length_operation_of frame plan, length_outcome plan.outcome)
+pub length_computed : (frame : Frame) (target : ℕ) (plan : Plan) → length (computed_code frame target plan) ≡ count_of_operation frame plan + outcome_count plan.outcome
+length_computed frame target plan =
+    omega (arith, length-append (operation_of frame target plan) (outcome_code plan.outcome target), length_operation_of frame target plan, length_outcome plan.outcome target)
 
-pub length_plan : (frame : Frame) (plan : Plan) (destination : ℕ) → length (plan_code frame plan destination) ≡ plan_count plan
+pub length_plan : (frame : Frame) (plan : Plan) (destination : ℕ) → length (plan_code frame plan destination) ≡ plan_count frame plan destination
 length_plan frame plan destination =
-    omega (arith, length-append (computed_code frame plan) (store_slot frame FIRST destination ∷ []), length_computed frame plan)
+    let target : ℕ = made_in frame destination in
+    omega (arith, length-append (computed_code frame target plan) (keep_code frame destination), length_computed frame target plan, length_keep frame destination)
 
-pub length_test : (frame : Frame) (test : Test) → length (test_code frame test) ≡ test_count test
+pub length_test : (frame : Frame) (test : Test) → length (test_code frame test) ≡ test_count frame test
 length_test frame (tests.Operands op left right) = length_operands frame left right
 length_test frame (tests.Sign op operand) = length_operand frame FIRST operand
-length_test frame (tests.Computed plan) = length_operation_of frame plan
+length_test frame (tests.Computed plan) = length_operation_of frame FIRST plan
 
 pub length_divided : (frame : Frame) (left right : Operand) → length (divided_code frame left right) ≡ load_count left + load_count right + 1
 length_divided frame left right =
@@ -228,6 +317,10 @@ length_divided frame left right =
 pub length_stores : (f : Frame) (slot : ℕ) (sources : List ℕ) → length (store_all f slot sources) ≡ length sources
 length_stores f slot [] = refl
 length_stores f slot (source ∷ sources) = ap suc (length_stores f (suc slot) sources)
+
+pub length_words : (f : Frame) (slot : ℕ) (targets : List ℕ) → length (load_words f slot targets) ≡ length targets
+length_words f slot [] = refl
+length_words f slot (target ∷ targets) = ap suc (length_words f (suc slot) targets)
 
 pub length_loads : (f : Frame) (slot : ℕ) (targets : List ℕ) → length (load_all f slot targets) ≡ length targets
 length_loads f slot [] = refl

@@ -1,17 +1,24 @@
 -- Lines that are made piece by piece.
-use Rattle.std.proofs.Common.{◌≡◌, ℕ, suc, ◌+◌, ◌-◌, ◌*◌, ◌<◌, List, [], ◌∷◌, ◌++◌, sym, ap, ◌∙◌, append_assoc, arith}
-use Rattle.cyc_select.specs.declared.constants.TheConstants.{FIRST}
-use Rattle.cyc_frame.specs.declared.frame.Frame.{Frame}
+use Rattle.std.proofs.Common.{◌≡◌, ℕ, suc, ◌+◌, ◌-◌, ◌*◌, ◌<◌, List, [], ◌∷◌, ◌++◌, length, drop, refl, sym, ap, ◌∙◌, append_assoc, arith}
+use Rattle.std.specs.Prelude.{sum_by}
+use Rattle.std.proofs.lemmas.List.{drop_more}
+use Rattle.std.proofs.lemmas.List.Sums.{sum_by-drop_more}
+use Rattle.cyc_isa.specs.declared.instr.Instr.{Instr}
+use Rattle.cyc_frame.specs.Frame.{Frame}
+use Rattle.cyc_frame.specs.Homes.{home_of, both_count}
+use Rattle.cyc_frame.specs.declared.home.Home.{Home}
+use Rattle.cyc_frame.specs.declared.home.Home.TheVariants as homes
+use Rattle.cyc_select.specs.declared.code.Line.TheVariants as lines
 use Rattle.cyc_select.specs.declared.code.Line.{Line}
-use Rattle.cyc_select.specs.Selection.{load, store_slot, slot_offset, copies, ordinary}
+use Rattle.cyc_select.specs.Selection.{made_in, load, store_slot, slot_offset, copies, reload, reloads_from, ordinary}
 
 -- one argument more is copied
 pub copied : (caller callee : Frame) (source slot count : ℕ) (all old new : List Line) → slot < count
-    → new ≡ old ++ ordinary (load FIRST (4 * callee.words + slot_offset caller (source + slot)) ∷ store_slot callee FIRST slot ∷ [])
+    → new ≡ old ++ ordinary (load (made_in callee slot) (4 * callee.words + slot_offset caller (source + slot)) ∷ store_slot callee (made_in callee slot) slot ∷ [])
     → old ++ ordinary (copies caller callee (source + slot) slot (count - slot)) ≡ all
     → new ++ ordinary (copies caller callee (source + (slot + 1)) (slot + 1) (count - (slot + 1))) ≡ all
 copied caller callee source slot count all old new below is before =
-    let one = ordinary (load FIRST (4 * callee.words + slot_offset caller (source + slot)) ∷ store_slot callee FIRST slot ∷ []) in
+    let one = ordinary (load (made_in callee slot) (4 * callee.words + slot_offset caller (source + slot)) ∷ store_slot callee (made_in callee slot) slot ∷ []) in
     let left : count - slot ≡ suc (count - (slot + 1)) = omega arith in
     let next : suc (source + slot) ≡ source + (slot + 1) = omega arith in
     let slots : suc slot ≡ slot + 1 = omega arith in
@@ -26,3 +33,19 @@ copied caller callee source slot count all old new below is before =
 pub goes_on : {A : Type 0} (all old new next rest whole : List A) → new ≡ old ++ next → whole ≡ next ++ rest → old ++ whole ≡ all → new ++ rest ≡ all
 goes_on {A} all old new next rest whole is parts before =
     ap (λ (l : List A). l ++ rest) is ∙ append_assoc old next rest ∙ ap (λ (l : List A). old ++ l) (sym parts) ∙ before
+
+ordinary_append : (is js : List Instr) → ordinary (is ++ js) ≡ ordinary is ++ ordinary js
+ordinary_append [] js = refl
+ordinary_append (i ∷ is) js = ap (λ (l : List Line). lines.Ordinary i ∷ l) (ordinary_append is js)
+
+-- one register more is read again
+pub reload_next : (frame : Frame) (slot : ℕ) → slot < length frame.homes
+    → ordinary (reloads_from frame slot (drop slot frame.homes)) ≡ ordinary (reload frame (home_of frame.homes slot) slot) ++ ordinary (reloads_from frame (slot + 1) (drop (slot + 1) frame.homes))
+reload_next frame slot below =
+    let next : suc slot ≡ slot + 1 = omega arith in
+    ap (λ (hs : List Home). ordinary (reloads_from frame slot hs)) (drop_more frame.homes slot homes.Memory below)
+    ∙ ordinary_append (reload frame (home_of frame.homes slot) slot) (reloads_from frame (suc slot) (drop (slot + 1) frame.homes))
+    ∙ ap (λ (n : ℕ). ordinary (reload frame (home_of frame.homes slot) slot) ++ ordinary (reloads_from frame n (drop (slot + 1) frame.homes))) next
+
+pub both_next : (hs : List Home) (slot : ℕ) → slot < length hs → sum_by both_count (drop slot hs) ≡ both_count (home_of hs slot) + sum_by both_count (drop (slot + 1) hs)
+both_next hs slot below = sum_by-drop_more both_count hs slot homes.Memory below

@@ -8,17 +8,17 @@ use Rattle.cyc_plain.specs.declared.instruction.Request.TheVariants.{OpenLexical
 use Rattle.cyc_plain.specs.declared.instruction.Comparison.TheVariants.{Equal, GreaterOrEqualUnsigned}
 use Rattle.cyc_plain.specs.declared.instruction.BinaryOperator.TheVariants.{Add, ShiftLeft}
 use Rattle.cyc_plain.specs.Program.{Program}
-use Rattle.cyc_frame.specs.declared.frame.Frame.{Frame}
+use Rattle.cyc_frame.specs.Frame.{Frame}
 use Rattle.cyc_select.specs.Selection.{body_count, load_word, store_word}
 
 abbrev nothing : Program
 nothing = record { functions = []; globals = []; main = 0 }
 
-abbrev lines_of : List Instruction → ℕ
-lines_of code = sum_by (body_count nothing 0) code
-
 abbrev frame : Frame
-frame = record { words = 12; first_slot = 0; return_address = 11 }
+frame = record { words = 12; first_slot = 0; return_address = 11; homes = [] }
+
+abbrev lines_of : List Instruction → ℕ
+lines_of code = sum_by (body_count nothing (frame ∷ []) 0) code
 
 -- Element i of a fat pointer in the slots 0 to 2 (address, length, index), with i in the slot 3: null and range are tested,
 -- and the word comes into the slot 5.

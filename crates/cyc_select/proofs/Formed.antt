@@ -28,8 +28,10 @@ use Rattle.cyc_plain.specs.WellFormed.{IsOperand, IsArgument, IsInRange, IsWellF
 use Rattle.cyc_plain.proofs.Placed.{holds_at, routine_in, below_of_get, has_code}
 use Rattle.cyc_plain.proofs.Steps.{function_known}
 use Rattle.cyc_frame.specs.Layout.{AreFrames, frame_at, slot_word}
-use Rattle.cyc_frame.specs.declared.frame.Frame.{Frame}
-use Rattle.cyc_select.specs.declared.constants.TheConstants.{FIRST, SECOND, THIRD, ZERO, START_LINES, HANDLERS}
+use Rattle.cyc_frame.specs.Frame.{Frame}
+use Rattle.cyc_frame.specs.declared.home.Home.{Home}
+use Rattle.cyc_frame.specs.declared.home.Home.TheVariants as homes
+use Rattle.cyc_select.specs.declared.constants.TheConstants.{FIRST, SECOND, THIRD, ZERO, START_LINES, HANDLERS, REGIONS}
 use Rattle.cyc_select.specs.declared.code.Line.{Line}
 use Rattle.cyc_select.specs.declared.code.Condition.TheVariants as conditions
 use Rattle.cyc_select.specs.declared.code.Line.TheVariants as lines
@@ -43,10 +45,10 @@ use Rattle.cyc_select.specs.declared.plan.Test.TheVariants as tests
 use Rattle.cyc_select.specs.Plans.{unary_plan, binary_plan, test_of}
 use Rattle.cyc_select.specs.Labelled.{Labelled, IsFormed, IsFormedLine}
 use Rattle.cyc_select.specs.Numbers.{fits_signed, is_zero_word}
-use Rattle.cyc_select.specs.Selection.{slot_offset, ordinary, result_registers, argument_code, service_number, answer_code, regions_code, unwound_code, far_plan, address_code, near_half, at_address, copies, load_all, store_all, store_slot, pop_frame, load_upper, constant, or_immediate, is_tested, part_of, plan_count, small, syscall, add_immediate, minus, upper_of_global, at_global, word_code, load_code, load_count, operand_code, operand_register, operands_code, operation_code, outcome_code, operation_of, computed_code, plan_code, test_code, branch_line, quotient_code, loads_code, divided_code, divide_code, ending_code, ending_count, operator_code, operator_count, body, behind, body_count, count_of, function_count, functions_count, function_line, instruction_line, code_lines, function_lines, start_lines, select_of}
+use Rattle.cyc_select.specs.Selection.{value_register, is_kept, load_from, fetch_from, move_to, keep_code, give_to, give_code, load_words, reloads_from, reloads, opened_code, made_in, slot_offset, ordinary, result_registers, argument_code, service_number, answer_code, unwound_code, far_plan, address_code, near_half, at_address, copies, load_all, store_all, store_slot, pop_frame, load_upper, constant, or_immediate, is_tested, part_of, plan_count, small, syscall, add_immediate, minus, upper_of_global, at_global, word_code, load_code, load_count, operand_code, operand_register, operands_code, operation_code, outcome_code, operation_of, computed_code, plan_code, test_code, branch_line, quotient_code, loads_code, divided_code, divide_code, divide_count, ending_code, ending_count, operator_code, operator_count, body, behind, body_count, count_of, function_count, functions_count, function_line, instruction_line, code_lines, function_lines, start_lines, select_of, regions_code}
 use Rattle.cyc_select.proofs.Lines.{line_first}
 use Rattle.cyc_select.proofs.Plans.{AllOfTest, all_unary, all_binary, all_test}
-use Rattle.cyc_select.proofs.Counts.{length_registers, answer_few, service_small}
+use Rattle.cyc_select.proofs.Counts.{operation_some, move_some, give_some, length_registers, answer_few, service_small}
 use Rattle.cyc_select.proofs.Returns.{loaded}
 use Rattle.cyc_select.proofs.Structure.{length_body, stand}
 use Rattle.cyc_select.proofs.Walks.{Stands}
@@ -77,24 +79,24 @@ within_code code n (l ∷ m ∷ ls) some (first, rest) = omega (arith, within_co
 
 module _ (program : Program) (frames : List Frame) (P : Line → Type 0) where
   code_all : (function here : ℕ) (code : List Instruction)
-      → ((index n : ℕ) (i : Instruction) → slice_get code index ≡ Some i → n ≡ here + sum_by (count_of program function) (take index code) → AllByRecursion P (body program frames function n i ++ behind program frames function i))
+      → ((index n : ℕ) (i : Instruction) → slice_get code index ≡ Some i → n ≡ here + sum_by (count_of program frames function) (take index code) → AllByRecursion P (body program frames function n i ++ behind program frames function i))
       → AllByRecursion P (code_lines program frames function here code)
   code_all function here [] each = tt
   code_all function here (i ∷ code) each =
-      all_front P (body program frames function here i ++ behind program frames function i) (code_lines program frames function (here + count_of program function i) code)
+      all_front P (body program frames function here i ++ behind program frames function i) (code_lines program frames function (here + count_of program frames function i) code)
       (each 0 here i refl (omega arith))
-      (code_all function (here + count_of program function i) code
-      (λ index n j at is. each (suc index) n j at (omega (arith, is, sum_by-cons (count_of program function) i (take index code)))))
+      (code_all function (here + count_of program frames function i) code
+      (λ index n j at is. each (suc index) n j at (omega (arith, is, sum_by-cons (count_of program frames function) i (take index code)))))
 
   functions_all : (first here : ℕ) (routines : List Routine)
-      → ((k n : ℕ) → k < length routines → n ≡ here + functions_count program first (take k routines) → AllByRecursion P (code_lines program frames (first + k) n (slice_index_or routines k no_routine).code))
+      → ((k n : ℕ) → k < length routines → n ≡ here + functions_count program frames first (take k routines) → AllByRecursion P (code_lines program frames (first + k) n (slice_index_or routines k no_routine).code))
       → AllByRecursion P (function_lines program frames first here routines)
   functions_all first here [] each = tt
   functions_all first here (r ∷ routines) each =
       let same : first + 0 ≡ first = omega arith in
-      all_front P (code_lines program frames first here r.code) (function_lines program frames (suc first) (here + function_count program first r) routines)
+      all_front P (code_lines program frames first here r.code) (function_lines program frames (suc first) (here + function_count program frames first r) routines)
       (subst (λ (f : ℕ). AllByRecursion P (code_lines program frames f here r.code)) same (each 0 here (omega arith) (omega arith)))
-      (functions_all (suc first) (here + function_count program first r) routines
+      (functions_all (suc first) (here + function_count program frames first r) routines
       (λ k n below is.
       let next : first + suc k ≡ suc first + k = omega arith in
       subst (λ (f : ℕ). AllByRecursion P (code_lines program frames f n (slice_index_or routines k no_routine).code)) next (each (suc k) n (omega (arith, below)) (omega (arith, is)))))
@@ -115,29 +117,29 @@ range_at program well place i at =
     holds_at (IsInRange program (routine_at program place.function)) (routine_at program place.function).code place.index i
     (routine_in program place.function well (function_known program place i at)).instructions at
 
-pub count_some : (program : Program) (function : ℕ) (i : Instruction) → IsInRange program (routine_at program function) i → 0 < body_count program function i
-count_some program function (plain.Move destination source) in_range = omega arith
-count_some program function (plain.Unary operator destination operand) in_range = omega arith
-count_some program function (plain.Binary operator destination left right) in_range = some_either (is_tested operator right) _ _ (omega arith) (omega arith)
-count_some program function (plain.Jump target) in_range = omega arith
-count_some program function (plain.Branch comparison left right target) in_range = omega arith
-count_some program function (plain.Call callee arguments count result) in_range = omega arith
-count_some program function (plain.Return value) in_range = omega arith
-count_some program function (plain.ReadByte destination) in_range = omega arith
-count_some program function (plain.WriteByte source) in_range = omega arith
-count_some program function (plain.AddressOf destination slot count) in_range = omega arith
-count_some program function (plain.LoadGlobal destination global) in_range = omega arith
-count_some program function (plain.StoreGlobal global source) in_range = omega arith
-count_some program function (plain.MoveWords destination source count) in_range = omega (arith, length_registers count in_range.few, in_range.some)
-count_some program function (plain.Load destination address offset) in_range = omega arith
-count_some program function (plain.Store address offset source) in_range = omega arith
-count_some program function (plain.Ask request) in_range = omega arith
-count_some program function (plain.CountLexical destination) in_range = omega arith
-count_some program function (plain.Try first handler) in_range = omega arith
-count_some program function (plain.Leave first) in_range = omega arith
-count_some program function (plain.Throw tag value) in_range = omega arith
-count_some program function (plain.Finish value) in_range = omega arith
-count_some program function (plain.Uncaught tag value) in_range = omega arith
+pub count_some : (program : Program) (frames : List Frame) (function : ℕ) (i : Instruction) → IsInRange program (routine_at program function) i → 0 < body_count program frames function i
+count_some program frames function (plain.Move destination source) in_range = move_some (frame_at frames function) destination source
+count_some program frames function (plain.Unary operator destination operand) in_range = omega (arith, operation_some (unary_plan operator operand).operation)
+count_some program frames function (plain.Binary operator destination left right) in_range = some_either (is_tested operator right) _ _ (omega arith) (omega (arith, operation_some (binary_plan operator left right).operation))
+count_some program frames function (plain.Jump target) in_range = omega arith
+count_some program frames function (plain.Branch comparison left right target) in_range = omega arith
+count_some program frames function (plain.Call callee arguments count result) in_range = omega arith
+count_some program frames function (plain.Return value) in_range = omega arith
+count_some program frames function (plain.ReadByte destination) in_range = omega arith
+count_some program frames function (plain.WriteByte source) in_range = omega arith
+count_some program frames function (plain.AddressOf destination slot count) in_range = omega arith
+count_some program frames function (plain.LoadGlobal destination global) in_range = omega arith
+count_some program frames function (plain.StoreGlobal global source) in_range = omega arith
+count_some program frames function (plain.MoveWords destination source count) in_range = omega (arith, length_registers count in_range.few, in_range.some)
+count_some program frames function (plain.Load destination address offset) in_range = omega arith
+count_some program frames function (plain.Store address offset source) in_range = omega arith
+count_some program frames function (plain.Ask request) in_range = omega arith
+count_some program frames function (plain.CountLexical destination) in_range = give_some (frame_at frames function) destination
+count_some program frames function (plain.Try first handler) in_range = omega arith
+count_some program frames function (plain.Leave first) in_range = omega arith
+count_some program frames function (plain.Throw tag value) in_range = omega arith
+count_some program frames function (plain.Finish value) in_range = omega arith
+count_some program frames function (plain.Uncaught tag value) in_range = omega arith
 
 module _ (program : Program) (well : IsWellFormed program) (words : HasWords program) (frames : List Frame) (fit : AreFrames program frames) where
   total : ℕ
@@ -148,26 +150,26 @@ module _ (program : Program) (well : IsWellFormed program) (words : HasWords pro
 
   -- the lines of an instruction are in the code
   line_known : (function index : ℕ) (i : Instruction) → instruction_at program (record { function = function; index = index }) ≡ Some i
-      → instruction_line program function index + body_count program function i ≤ length (select_of program frames).lines
+      → instruction_line program frames function index + body_count program frames function i ≤ length (select_of program frames).lines
   line_known function index i at =
-      let n : ℕ = instruction_line program function index in
-      let long = length_body program frames (few_results program well) function (instruction_line program function index) i in
-      let both = length-append (body program frames function (instruction_line program function index) i) (behind program frames function i) in
+      let n : ℕ = instruction_line program frames function index in
+      let long = length_body program frames (few_results program well) function (instruction_line program frames function index) i in
+      let both = length-append (body program frames function (instruction_line program frames function index) i) (behind program frames function i) in
       omega (
         arith,
         long,
         both,
-        within_code (select_of program frames) (instruction_line program function index) (body program frames function (instruction_line program function index) i ++ behind program frames function i) (omega (arith, long, both, count_some program function i (range_at program well (record { function = function; index = index }) i at))) (stand program frames (few_results program well) function index i at),
+        within_code (select_of program frames) (instruction_line program frames function index) (body program frames function (instruction_line program frames function index) i ++ behind program frames function i) (omega (arith, long, both, count_some program frames function i (range_at program well (record { function = function; index = index }) i at))) (stand program frames (few_results program well) function index i at),
       )
 
-  target_known : (function target : ℕ) → target < length (routine_at program function).code → instruction_line program function target < length (select_of program frames).lines
+  target_known : (function target : ℕ) → target < length (routine_at program function).code → instruction_line program frames function target < length (select_of program frames).lines
   target_known function target below =
       let (i, at) = get_below (routine_at program function).code target below in
-      omega (arith, line_known function target i at, count_some program function i (range_at program well (record { function = function; index = target }) i at))
+      omega (arith, line_known function target i at, count_some program frames function i (range_at program well (record { function = function; index = target }) i at))
 
-  function_known_line : (function : ℕ) → function < length program.functions → function_line program function < length (select_of program frames).lines
+  function_known_line : (function : ℕ) → function < length program.functions → function_line program frames function < length (select_of program frames).lines
   function_known_line function below =
-      subst (λ (n : ℕ). n < length (select_of program frames).lines) (line_first program function)
+      subst (λ (n : ℕ). n < length (select_of program frames).lines) (line_first program frames function)
       (target_known function 0 (has_code program (routine_at program function) (routine_in program function well below)))
 
   module _ (function : ℕ) (known : function < length program.functions) where
@@ -186,9 +188,40 @@ module _ (program : Program) (well : IsWellFormed program) (words : HasWords pro
     return_fits : 4 * frame.return_address < 2 ^ 16
     return_fits = let f = fit.each function known in omega (arith, f.return_inside, f.within, f.small)
 
+    loaded_formed : (o : Option ℕ) (target slot : ℕ) → slot < slots → Formed (ordinary (load_from o frame target slot ∷ []))
+    loaded_formed None target slot below = ((refl, slot_fits slot below), tt)
+    loaded_formed (Some register) target slot below = ((refl, tt), tt)
+
     loads_formed : (slot : ℕ) (targets : List ℕ) → slot + length targets ≤ slots → Formed (ordinary (load_all frame slot targets))
     loads_formed slot [] fits = tt
-    loads_formed slot (target ∷ targets) fits = ((refl, slot_fits slot (omega (arith, fits))), loads_formed (suc slot) targets (omega (arith, fits)))
+    loads_formed slot (target ∷ targets) fits = ((loaded_formed (value_register frame slot) target slot (omega (arith, fits))).0, loads_formed (suc slot) targets (omega (arith, fits)))
+
+    words_formed : (slot : ℕ) (targets : List ℕ) → slot + length targets ≤ slots → Formed (ordinary (load_words frame slot targets))
+    words_formed slot [] fits = tt
+    words_formed slot (target ∷ targets) fits = ((refl, slot_fits slot (omega (arith, fits))), words_formed (suc slot) targets (omega (arith, fits)))
+
+    reload_formed : (slot : ℕ) (hs : List Home) → slot + length hs ≤ slots → Formed (ordinary (reloads_from frame slot hs))
+    reload_formed slot [] fits = tt
+    reload_formed slot (homes.Memory ∷ hs) fits = reload_formed (suc slot) hs (omega (arith, fits))
+    reload_formed slot (homes.Both register ∷ hs) fits = ((refl, slot_fits slot (omega (arith, fits))), reload_formed (suc slot) hs (omega (arith, fits)))
+    reload_formed slot (homes.Register register ∷ hs) fits = reload_formed (suc slot) hs (omega (arith, fits))
+
+    reloads_formed : Formed (ordinary (reloads frame))
+    reloads_formed = reload_formed 0 frame.homes (omega (arith, (fit.homes function known).as_many))
+
+    keep_formed : (slot : ℕ) → slot < slots → Formed (ordinary (keep_code frame slot))
+    keep_formed slot below = go (is_kept frame slot)
+      where
+        go : (b : Bool) → Formed (ordinary (if b then store_slot frame (made_in frame slot) slot ∷ [] else []))
+        go true = ((refl, slot_fits slot below), tt)
+        go false = tt
+
+    give_formed : (source slot : ℕ) → slot < slots → Formed (ordinary (give_code frame source slot))
+    give_formed source slot below = go (value_register frame slot)
+      where
+        go : (o : Option ℕ) → Formed (ordinary (give_to o frame source slot))
+        go None = ((refl, slot_fits slot below), tt)
+        go (Some register) = ((refl, tt), keep_formed slot below)
 
     stores_formed : (slot : ℕ) (sources : List ℕ) → slot + length sources ≤ slots → Formed (ordinary (store_all frame slot sources))
     stores_formed slot [] fits = tt
@@ -241,7 +274,7 @@ module _ (program : Program) (well : IsWellFormed program) (words : HasWords pro
         go false false false low = ((refl, high_fits word fits), ((refl, low_fits word), tt))
 
     load_formed : (target : ℕ) (o : Operand) → IsThere o → Formed (ordinary (load_code frame target o))
-    load_formed target (operands.Slot number) (below, fits) = ((refl, slot_fits number below), tt)
+    load_formed target (operands.Slot number) (below, fits) = loaded_formed (value_register frame number) target number below
     load_formed target (operands.Word word) (below, fits) = word_formed target word fits
 
     argument_formed : (register : ℕ) (o : Option Operand) → IsArgument (routine_at program function) o → IsArgumentOfWord o → Formed (ordinary (argument_code frame register o))
@@ -253,7 +286,12 @@ module _ (program : Program) (well : IsWellFormed program) (words : HasWords pro
     either_formed false is all = all
 
     operand_formed : (register : ℕ) (o : Operand) → IsThere o → Formed (ordinary (operand_code frame register o))
-    operand_formed register o there = either_formed (is_zero_word o) (load_code frame register o) (load_formed register o there)
+    operand_formed register (operands.Slot number) (below, fits) = fetch_formed (value_register frame number)
+      where
+        fetch_formed : (o : Option ℕ) → Formed (ordinary (fetch_from o frame register number))
+        fetch_formed None = ((refl, slot_fits number below), tt)
+        fetch_formed (Some own) = tt
+    operand_formed register (operands.Word word) (there, fits) = either_formed (is_zero_word (operands.Word word)) (word_code register word) (word_formed register word fits)
 
     operands_formed : (left right : Operand) → IsThere left → IsThere right → Formed (ordinary (operands_code frame left right))
     operands_formed left right l r =
@@ -263,39 +301,40 @@ module _ (program : Program) (well : IsWellFormed program) (words : HasWords pro
     HalfFits (operations.Immediate op half) = half < 2 ^ 16
     HalfFits operation = Unit {0}
 
-    operation_formed : (o : Operation) (left right : ℕ) → HalfFits o → Formed (ordinary (operation_code o left right))
-    operation_formed (operations.Arithmetic op) left right fits = ((refl, tt), tt)
-    operation_formed (operations.Immediate op half) left right fits = ((refl, fits), tt)
-    operation_formed (operations.Shift op) left right fits = ((refl, tt), tt)
-    operation_formed (operations.ShiftBy op amount) left right fits = ((refl, tt), tt)
-    operation_formed (operations.MultiplyDivide op from) left right fits = ((refl, tt), ((refl, tt), tt))
+    operation_formed : (o : Operation) (target left right : ℕ) → HalfFits o → Formed (ordinary (operation_code o target left right))
+    operation_formed (operations.Arithmetic op) target left right fits = ((refl, tt), tt)
+    operation_formed (operations.Immediate op half) target left right fits = ((refl, fits), tt)
+    operation_formed (operations.Shift op) target left right fits = ((refl, tt), tt)
+    operation_formed (operations.ShiftBy op amount) target left right fits = ((refl, tt), tt)
+    operation_formed (operations.MultiplyDivide op from) target left right fits = ((refl, tt), ((refl, tt), tt))
 
-    outcome_formed : (o : Outcome) → Formed (ordinary (outcome_code o))
-    outcome_formed outcomes.AsItIs = tt
-    outcome_formed outcomes.WhetherZero = ((refl, (omega arith)), tt)
-    outcome_formed outcomes.WhetherNotZero = ((refl, tt), tt)
+    outcome_formed : (o : Outcome) (target : ℕ) → Formed (ordinary (outcome_code o target))
+    outcome_formed outcomes.AsItIs target = tt
+    outcome_formed outcomes.WhetherZero target = ((refl, (omega arith)), tt)
+    outcome_formed outcomes.WhetherNotZero target = ((refl, tt), tt)
 
     -- a plan whose operands and whose number are there
     abbrev IsPlanThere : Plan → Type 0
     IsPlanThere plan = IsThere plan.left × IsThere plan.right × HalfFits plan.operation
 
-    operation_of_formed : (plan : Plan) → IsPlanThere plan → Formed (ordinary (operation_of frame plan))
-    operation_of_formed plan (l, r, fits) =
-        let last : List Instr = operation_code plan.operation (operand_register FIRST plan.left) (operand_register SECOND plan.right) in
-        formed_append (operands_code frame plan.left plan.right) last (operands_formed plan.left plan.right l r) (operation_formed plan.operation _ _ fits)
+    operation_of_formed : (target : ℕ) (plan : Plan) → IsPlanThere plan → Formed (ordinary (operation_of frame target plan))
+    operation_of_formed target plan (l, r, fits) =
+        let last : List Instr = operation_code plan.operation target (operand_register frame FIRST plan.left) (operand_register frame SECOND plan.right) in
+        formed_append (operands_code frame plan.left plan.right) last (operands_formed plan.left plan.right l r) (operation_formed plan.operation target _ _ fits)
 
     plan_formed : (plan : Plan) (destination : ℕ) → IsPlanThere plan → destination < slots → Formed (ordinary (plan_code frame plan destination))
     plan_formed plan destination there below =
-        formed_append (computed_code frame plan) (store_slot frame FIRST destination ∷ [])
-        (formed_append (operation_of frame plan) (outcome_code plan.outcome) (operation_of_formed plan there) (outcome_formed plan.outcome))
-        ((refl, slot_fits destination below), tt)
+        let target : ℕ = made_in frame destination in
+        formed_append (computed_code frame target plan) (keep_code frame destination)
+        (formed_append (operation_of frame target plan) (outcome_code plan.outcome target) (operation_of_formed target plan there) (outcome_formed plan.outcome target))
+        (keep_formed destination below)
 
     address_formed : (address : Operand) (offset : ℕ) → IsThere address → IsWord offset → Formed (ordinary (address_code frame address offset))
     address_formed address offset there fits = go (fits_signed offset)
       where
-        go : (b : Bool) → Formed (ordinary (if b then operand_code frame FIRST address else operation_of frame (far_plan address offset)))
+        go : (b : Bool) → Formed (ordinary (if b then operand_code frame FIRST address else operation_of frame FIRST (far_plan address offset)))
         go true = operand_formed FIRST address there
-        go false = operation_of_formed (far_plan address offset) (there, (tt, fits), tt)
+        go false = operation_of_formed FIRST (far_plan address offset) (there, (tt, fits), tt)
 
     near_fits : (offset : ℕ) → near_half offset < 2 ^ 16
     near_fits offset = go (fits_signed offset)
@@ -318,27 +357,27 @@ module _ (program : Program) (well : IsWellFormed program) (words : HasWords pro
     test_formed : (test : Test) → AllOfTest IsThere zero_there IsPlanThere (λ op left right outcome l r. (l, r, tt)) (λ op left half outcome fits l. (l, zero_there, fits)) test → Formed (ordinary (test_code frame test))
     test_formed (tests.Operands op left right) (l, r) = operands_formed left right l r
     test_formed (tests.Sign op operand) o = operand_formed FIRST operand o
-    test_formed (tests.Computed plan) there = operation_of_formed plan there
+    test_formed (tests.Computed plan) there = operation_of_formed FIRST plan there
 
-    branch_formed : (test : Test) (label : ℕ) → label < length (select_of program frames).lines → IsFormedLine (length (select_of program frames).lines) (branch_line test label)
+    branch_formed : (test : Test) (label : ℕ) → label < length (select_of program frames).lines → IsFormedLine (length (select_of program frames).lines) (branch_line frame test label)
     branch_formed (tests.Operands op left right) label below = below
     branch_formed (tests.Sign op operand) label below = below
     branch_formed (tests.Computed plan) label below = below
 
-    divide_formed : (which : MoveFromOp) (destination : ℕ) (left right : Operand) (n : ℕ) → destination < slots → IsThere left → IsThere right → n + (load_count left + load_count right + 7) ≤ length (select_of program frames).lines
+    divide_formed : (which : MoveFromOp) (destination : ℕ) (left right : Operand) (n : ℕ) → destination < slots → IsThere left → IsThere right → n + (divide_count frame destination left right) ≤ length (select_of program frames).lines
         → Formed (divide_code frame n which destination left right)
     divide_formed which destination left right n below l r long =
         let loads = formed_append (load_code frame FIRST left) (load_code frame SECOND right) (load_formed FIRST left l) (load_formed SECOND right r) in
         all_front (IsFormedLine (length (select_of program frames).lines)) (ordinary (divided_code frame left right))
         (lines.Branch (conditions.Registers branch.NotEqual (register_of SECOND) (register_of THIRD)) (n + (load_count left + load_count right) + 4) ∷ quotient_code frame which destination)
         (formed_append (loads_code frame left right) (add_immediate THIRD ZERO (minus 1) ∷ []) loads ((refl, (omega arith)), tt))
-        ((omega (arith, long)), ((refl, tt), ((refl, (omega arith)), ((refl, tt), ((refl, tt), ((refl, slot_fits destination below), tt))))))
+        ((omega (arith, long)), ((refl, tt), ((refl, (omega arith)), ((refl, tt), ((refl, tt), keep_formed destination below)))))
 
-    operator_formed : (operator : BinaryOperator) (destination : ℕ) (left right : Operand) (n : ℕ) → destination < slots → IsThere left → IsThere right → n + operator_count operator left right ≤ length (select_of program frames).lines
+    operator_formed : (operator : BinaryOperator) (destination : ℕ) (left right : Operand) (n : ℕ) → destination < slots → IsThere left → IsThere right → n + operator_count frame operator destination left right ≤ length (select_of program frames).lines
         → Formed (operator_code frame n operator destination left right)
     operator_formed operator destination left right n below l r long = go (is_tested operator right) refl long
       where
-        go : (b : Bool) → is_tested operator right ≡ b → n + (if b then load_count left + load_count right + 7 else plan_count (binary_plan operator left right)) ≤ length (select_of program frames).lines
+        go : (b : Bool) → is_tested operator right ≡ b → n + (if b then divide_count frame destination left right else plan_count frame (binary_plan operator left right) destination) ≤ length (select_of program frames).lines
             → Formed (if b then divide_code frame n (part_of operator) destination left right else ordinary (plan_code frame (binary_plan operator left right) destination))
         go true tested fits = divide_formed (part_of operator) destination left right n below l r fits
         go false plain fits = plan_formed (binary_plan operator left right) destination (binary_there operator left right plain l r) below
@@ -348,23 +387,27 @@ module _ (program : Program) (well : IsWellFormed program) (words : HasWords pro
     ending_formed true n value is fits long =
         let one : (routine_at program function).results ≡ 1 = ap (λ (f : ℕ). (routine_at program f).results) (eqb-true function program.main is) ∙ well.main_results in
         let four : ending_count program function ≡ 4 = ap (λ (b : Bool). if b then 4 else 0) is in
-        ((omega (arith, long, four)), ((refl, slot_fits value (omega (arith, fits, one))), ((refl, (omega arith)), ((refl, tt), tt))))
+        ((omega (arith, long, four)), ((loaded_formed (value_register frame value) ARGUMENT value (omega (arith, fits, one))).0, ((refl, (omega arith)), ((refl, tt), tt))))
 
     upper_fits : (global : ℕ) → global < length program.globals → (data_base + 4 * global + 2 ^ 15) / 2 ^ 16 < 2 ^ 16
     upper_fits global below = omega (arith, below, well.globals)
 
-    body_formed : (i : Instruction) (n : ℕ) → IsInRange program (routine_at program function) i → HasWord i → n + body_count program function i ≤ length (select_of program frames).lines → Formed (body program frames function n i)
-    body_formed (plain.Move destination source) n (a, b) fits long =
-        formed_append (operand_code frame FIRST source) (store_slot frame (operand_register FIRST source) destination ∷ []) (operand_formed FIRST source (b, fits)) ((refl, slot_fits destination a), tt)
+    body_formed : (i : Instruction) (n : ℕ) → IsInRange program (routine_at program function) i → HasWord i → n + body_count program frames function i ≤ length (select_of program frames).lines → Formed (body program frames function n i)
+    body_formed (plain.Move destination source) n (a, b) fits long = go (value_register frame destination)
+      where
+        go : (o : Option ℕ) → Formed (ordinary (move_to o frame destination source))
+        go None =
+            formed_append (operand_code frame FIRST source) (store_slot frame (operand_register frame FIRST source) destination ∷ []) (operand_formed FIRST source (b, fits)) ((refl, slot_fits destination a), tt)
+        go (Some register) = formed_append (load_code frame register source) (keep_code frame destination) (load_formed register source (b, fits)) (keep_formed destination a)
     body_formed (plain.Unary operator destination operand) n (a, b) fits long =
         plan_formed (unary_plan operator operand) destination (unary_there operator operand (b, fits)) a
     body_formed (plain.Binary operator destination left right) n (a, b, e) (fits, also) long = operator_formed operator destination left right n a (b, fits) (e, also) long
     body_formed (plain.Jump target) n below fits long = (target_known function target below, tt)
     body_formed (plain.Branch comparison left right target) n (a, b, below) (fits, also) long =
         let test : Test = test_of comparison left right in
-        all_front (IsFormedLine (length (select_of program frames).lines)) (ordinary (test_code frame (test_of comparison left right))) (branch_line (test_of comparison left right) (instruction_line program function target) ∷ [])
+        all_front (IsFormedLine (length (select_of program frames).lines)) (ordinary (test_code frame (test_of comparison left right))) (branch_line frame (test_of comparison left right) (instruction_line program frames function target) ∷ [])
         (test_formed test (all_test IsThere zero_there IsPlanThere (λ op l r outcome x y. (x, y, tt)) (λ op l half outcome small x. (x, zero_there, small)) comparison left right (a, fits) (b, also)))
-        (branch_formed test (instruction_line program function target) (target_known function target below), tt)
+        (branch_formed test (instruction_line program frames function target) (target_known function target below), tt)
     body_formed (plain.Call callee arguments count result) n in_range fits long =
         let its = fit.each callee in_range.function_in_range in (
           (omega (arith, long)),
@@ -378,7 +421,7 @@ module _ (program : Program) (well : IsWellFormed program) (words : HasWords pro
                   (refl, (omega arith)),
                   (
                     (refl, (omega (arith, its.return_inside))),
-                    all_front (IsFormedLine (length (select_of program frames).lines)) (ordinary (copies frame (frame_at frames callee) arguments 0 count)) (lines.Call (function_line program callee) ∷ [])
+                    all_front (IsFormedLine (length (select_of program frames).lines)) (ordinary (copies frame (frame_at frames callee) arguments 0 count)) (lines.Call (function_line program frames callee) ∷ [])
                         (copies_formed (frame_at frames callee) (routine_at program callee).slots (omega (arith, its.within, its.small)) its.inside arguments 0 count in_range.arguments_in_range
                         (let takes = in_range.takes in let parameters = (routine_in program callee well in_range.function_in_range).parameters in omega (arith, takes, parameters)))
                         (function_known_line callee in_range.function_in_range, tt),
@@ -404,27 +447,27 @@ module _ (program : Program) (well : IsWellFormed program) (words : HasWords pro
         (ending_formed (function == program.main) n value refl in_range long)
         (formed_append (load_all frame value (result_registers (routine_at program function).results)) (pop_frame frame ∷ []) (loads_formed value (result_registers (routine_at program function).results) (omega (arith, registers, in_range))) ((refl, frame_fits), tt)))
         (tt, tt)
-    body_formed (plain.ReadByte destination) n below fits long = ((refl, (omega arith)), ((refl, tt), ((refl, slot_fits destination below), tt)))
+    body_formed (plain.ReadByte destination) n below fits long = ((refl, (omega arith)), ((refl, tt), give_formed SERVICE destination below))
     body_formed (plain.WriteByte source) n below fits long =
         formed_append (load_code frame ARGUMENT source) (small SERVICE PUT_BYTE ∷ syscall ∷ []) (load_formed ARGUMENT source (below, fits)) ((refl, (omega arith)), ((refl, tt), tt))
     body_formed (plain.AddressOf destination slot count) n (a, some, named) fits long =
-        ((refl, slot_fits slot (omega (arith, some, named))), ((refl, slot_fits destination a), tt))
+        ((refl, slot_fits slot (omega (arith, some, named))), keep_formed destination a)
     body_formed (plain.LoadGlobal destination global) n (a, b) fits long =
-        ((refl, upper_fits global b), ((refl, low_fits (data_base + 4 * global)), ((refl, slot_fits destination a), tt)))
+        ((refl, upper_fits global b), ((refl, low_fits (data_base + 4 * global)), keep_formed destination a))
     body_formed (plain.StoreGlobal global source) n (a, b) fits long =
-        formed_append (operand_code frame FIRST source) (upper_of_global global ∷ at_global StoreWord (operand_register FIRST source) global ∷ []) (operand_formed FIRST source (b, fits))
+        formed_append (operand_code frame FIRST source) (upper_of_global global ∷ at_global StoreWord (operand_register frame FIRST source) global ∷ []) (operand_formed FIRST source (b, fits))
         ((refl, upper_fits global a), ((refl, low_fits (data_base + 4 * global)), tt))
     body_formed (plain.MoveWords destination source count) n in_range fits long =
         let registers = length_registers count in_range.few in
-        formed_append (load_all frame source (result_registers count)) (store_all frame destination (result_registers count))
-        (loads_formed source (result_registers count) (omega (arith, registers, in_range.source_in_range)))
+        formed_append (load_words frame source (result_registers count)) (store_all frame destination (result_registers count))
+        (words_formed source (result_registers count) (omega (arith, registers, in_range.source_in_range)))
         (stores_formed destination (result_registers count) (omega (arith, registers, in_range.destination_in_range)))
     body_formed (plain.Load destination address offset) n (a, b) (fits, near) long =
-        formed_append (address_code frame address offset) (at_address LoadWord FIRST address offset ∷ store_slot frame FIRST destination ∷ []) (address_formed address offset (b, fits) near)
-        ((refl, near_fits offset), ((refl, slot_fits destination a), tt))
+        formed_append (address_code frame address offset) (at_address frame LoadWord (made_in frame destination) address offset ∷ keep_code frame destination) (address_formed address offset (b, fits) near)
+        ((refl, near_fits offset), keep_formed destination a)
     body_formed (plain.Store address offset source) n (a, b) (fits, near, also) long =
         let js : List Instr = operand_code frame SECOND source in
-        let last : List Instr = at_address StoreWord (operand_register SECOND source) address offset ∷ [] in
+        let last : List Instr = at_address frame StoreWord (operand_register frame SECOND source) address offset ∷ [] in
         formed_append (address_code frame address offset) (js ++ last) (address_formed address offset (a, fits) near)
         (formed_append js last (operand_formed SECOND source (b, also)) ((refl, near_fits offset), tt))
     body_formed (plain.Ask request) n in_range (fits, also) long =
@@ -440,7 +483,7 @@ module _ (program : Program) (well : IsWellFormed program) (words : HasWords pro
                 (stores_formed (destination_of request) (result_registers (answer_count request)) (omega (arith, registers, in_range.answer_in_range))),
           ),
         ))
-    body_formed (plain.CountLexical destination) n below fits long = ((refl, slot_fits destination below), tt)
+    body_formed (plain.CountLexical destination) n below fits long = give_formed REGIONS destination below
     body_formed (plain.Try first handler) n in_range fits long =
         let inside : first + 4 ≤ slots = in_range.record_in_range in (
           (refl, slot_fits first (omega (arith, inside))),
@@ -458,10 +501,11 @@ module _ (program : Program) (well : IsWellFormed program) (words : HasWords pro
                       (refl, slot_fits first (omega (arith, inside))),
                       (
                         (refl, slot_fits (suc first) (omega (arith, inside))),
-                        (
-                          target_known function handler in_range.handler_in_range,
-                          ((refl, slot_fits (first + 2) (omega (arith, inside))), ((refl, return_fits), ((refl, slot_fits first (omega (arith, inside))), tt))),
-                        ),
+                        all_front (IsFormedLine (length (select_of program frames).lines)) (ordinary (reloads frame))
+                            (lines.Jump (instruction_line program frames function handler) ∷ ordinary (opened_code frame first)) reloads_formed (
+                              target_known function handler in_range.handler_in_range,
+                              ((refl, slot_fits (first + 2) (omega (arith, inside))), ((refl, return_fits), ((refl, slot_fits first (omega (arith, inside))), tt))),
+                            ),
                       ),
                     ),
                   ),
@@ -482,8 +526,14 @@ module _ (program : Program) (well : IsWellFormed program) (words : HasWords pro
 
     behind_formed : (i : Instruction) → IsInRange program (routine_at program function) i → Formed (behind program frames function i)
     behind_formed (plain.Call callee arguments count result) in_range =
-        let registers = length_registers (routine_at program callee).results (few_results program well callee) in
-        ((refl, return_fits), ((refl, (omega arith)), stores_formed result (result_registers (routine_at program callee).results) (omega (arith, registers, in_range.result_in_range))))
+        let registers = length_registers (routine_at program callee).results (few_results program well callee) in (
+          (refl, return_fits),
+          (
+            (refl, (omega arith)),
+            formed_append (store_all frame result (result_registers (routine_at program callee).results)) (reloads frame)
+                (stores_formed result (result_registers (routine_at program callee).results) (omega (arith, registers, in_range.result_in_range))) reloads_formed,
+          ),
+        )
     behind_formed (plain.Move destination source) in_range = tt
     behind_formed (plain.Unary operator destination operand) in_range = tt
     behind_formed (plain.Binary operator destination left right) in_range = tt
@@ -506,14 +556,14 @@ module _ (program : Program) (well : IsWellFormed program) (words : HasWords pro
     behind_formed (plain.Finish value) in_range = tt
     behind_formed (plain.Uncaught tag value) in_range = tt
 
-  function_formed : (function n : ℕ) → function < length program.functions → n ≡ function_line program function → Formed (code_lines program frames function n (routine_at program function).code)
+  function_formed : (function n : ℕ) → function < length program.functions → n ≡ function_line program frames function → Formed (code_lines program frames function n (routine_at program function).code)
   function_formed function n known is =
       code_all program frames (IsFormedLine (length (select_of program frames).lines)) function n (routine_at program function).code
       (λ index m i at m_is.
       let routine = routine_in program function well known in
       let in_range = holds_at (IsInRange program (routine_at program function)) (routine_at program function).code index i routine.instructions at in
       let has_word = holds_at HasWord (routine_at program function).code index i (words.functions function no_routine known) at in
-      let here : m ≡ instruction_line program function index = omega (arith, m_is, is) in
+      let here : m ≡ instruction_line program frames function index = omega (arith, m_is, is) in
       all_front (IsFormedLine (length (select_of program frames).lines)) (body program frames function m i) (behind program frames function i)
       (body_formed function known i m in_range has_word (omega (arith, here, line_known function index i at)))
       (behind_formed function known i in_range))

@@ -8,7 +8,7 @@ use Rattle.cyc_plain.specs.declared.instruction.Request.{Request}
 use Rattle.cyc_plain.specs.Requests.{first_operand, second_operand, answer_count, destination_of}
 use Rattle.cyc_plain.specs.Program.{Routine}
 use Rattle.cyc_plain.specs.WellFormed.{IsOperand, IsArgument, IsRequestInRange}
-use Rattle.cyc_frame.specs.declared.frame.Frame.{Frame}
+use Rattle.cyc_frame.specs.Frame.{Frame}
 use Rattle.cyc_select.specs.declared.plan.Test.{Test}
 use Rattle.cyc_select.specs.declared.plan.Test.TheVariants as tests
 use Rattle.cyc_select.specs.Plans.{binary_plan, test_of}

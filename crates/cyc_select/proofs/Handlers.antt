@@ -1,7 +1,7 @@
 -- The instructions that open and close handlers, and that throw.
-use Rattle.std.proofs.Common.{◌≡◌, ◌≢◌, ℕ, suc, ◌+◌, ◌*◌, ◌<◌, ◌≤◌, Bool, true, false, not, ◌&&◌, List, [], ◌∷◌, ◌++◌, length, Some, refl, sym, ap, subst, ◌∙◌, arith, inl, inr, length-append}
+use Rattle.std.proofs.Common.{◌≡◌, ◌≢◌, ℕ, suc, ◌+◌, ◌*◌, ◌<◌, ◌≤◌, Bool, true, false, not, ◌&&◌, List, [], ◌∷◌, ◌++◌, length, Some, slice_get, refl, sym, ap, subst, ◌∙◌, arith, inl, inr, length-append}
 use Rattle.std.specs.Prelude.{◌==◌, if◌then◌else◌}
-use Rattle.std.proofs.lemmas.Bool.{cases_eq, cases_lt, eqb-true, eq-eqb, ne_eqb}
+use Rattle.std.proofs.lemmas.Bool.{cases_eq, cases_lt, eqb-true, eq-eqb, ne_eqb, or_left, or_right}
 use Rattle.cyc_words.specs.Ending.{Ending, Uncaught}
 use Rattle.cyc_words.specs.Word.{IsWord, signed, add_of, sign_extended}
 use Rattle.cyc_isa.specs.Effect.{memory_address}
@@ -21,8 +21,10 @@ use Rattle.cyc_plain.specs.Step.{Choice, is_intact, opens, tries, closes, lands,
 use Rattle.cyc_plain.specs.WellFormed.{IsOperand, IsOfWord, IsTryInRange, IsWellFormed}
 use Rattle.cyc_plain.proofs.SlotLaws.{put-same, put-other, copied-inside, copied-below, copied-above}
 use Rattle.cyc_plain.proofs.RunLaws.{zeros, zeros_at, over_within, lies_at}
+use Rattle.cyc_frame.specs.Homes.{AreHomes}
+use Rattle.cyc_frame.specs.Uses.{is_among, is_slot}
 use Rattle.cyc_frame.specs.Layout.{AreFrames, slot_word, frame_at}
-use Rattle.cyc_frame.specs.declared.frame.Frame.{Frame}
+use Rattle.cyc_frame.specs.Frame.{Frame}
 use Rattle.cyc_select.specs.declared.constants.TheConstants.{CALLS, FRAME, HANDLERS, REGIONS, ZERO}
 use Rattle.cyc_select.specs.declared.code.Condition.TheVariants as conditions
 use Rattle.cyc_select.specs.declared.code.Line.{Line}
@@ -30,19 +32,21 @@ use Rattle.cyc_select.specs.declared.code.Line.TheVariants as lines
 use Rattle.cyc_select.specs.Labelled.{Labelled, IsFormed, AreAddresses}
 use Rattle.cyc_select.specs.Machine as labelled
 use Rattle.cyc_select.specs.Machine.{State, Running, Ended, IsReturnPoint}
-use Rattle.cyc_select.specs.Selection.{ordinary, small, syscall, load, load_code, load_count, slot_offset, store_all, recorded_code, caught_code, opened_code, unwound_code, body, instruction_line}
-use Rattle.cyc_select.proofs.Blocks.{lasting, newest_lasts, count_lasts, Puts}
+use Rattle.cyc_select.specs.Selection.{is_kept, reloads, reload_count, ordinary, small, syscall, load, load_code, load_count, slot_offset, store_all, recorded_code, caught_code, opened_code, unwound_code, body, instruction_line}
+use Rattle.cyc_select.proofs.Blocks.{lasting, lasting_same, newest_lasts, count_lasts, Puts, safe_append}
 use Rattle.cyc_select.proofs.Calls.{length_ordinary}
 use Rattle.cyc_select.proofs.Cells.{IsCell}
-use Rattle.cyc_select.proofs.Computing.{IsHeld, load_puts}
+use Rattle.cyc_select.proofs.Computing.{load_puts}
 use Rattle.cyc_select.proofs.Counts.{length_load}
+use Rattle.cyc_select.proofs.Held.{operand_held}
 use Rattle.cyc_select.proofs.Lines.{line_next}
 use Rattle.cyc_select.proofs.Matches.{At, Landed, Reached, reached, within}
 use Rattle.cyc_select.proofs.Operations.{add_small, address_at}
 use Rattle.cyc_select.proofs.Requests.{are_stored}
 use Rattle.cyc_select.proofs.Standing.{Chain, Lies, IsRecord, IsNewest, IsKept, kept_here, Standing, lies, word_cell, slot_address, slot_cell, slot_word_is, return_address, return_cell, standing_registers, standing_handlers, standing_at, standing_slot, standing_return}
+use Rattle.cyc_select.proofs.Values.{Caches, caches_past, barred_kept, unbarred, among, not_among, next_led, length_reloads, reloaded}
 use Rattle.cyc_select.proofs.Views.{Contents, written}
-use Rattle.cyc_select.proofs.Walks.{Stands, stands_front, stands_back, stands_first, stands_behind, after_r, after_w, Walk, now_at, now_is, walk_end, walk_few, walk_block, walk_branch, walk_jump, walk_call, walk_return, walk_uncaught}
+use Rattle.cyc_select.proofs.Walks.{Stands, stands_front, stands_back, stands_first, stands_behind, after_r, after_w, after_r-append, after_w-append, AreSafe, Walk, now_at, now_is, walk_end, walk_few, walk_block, walk_branch, walk_jump, walk_call, walk_return, walk_uncaught}
 
 -- ---- records
 
@@ -129,7 +133,7 @@ holds_four slots first contents intact =
 module _ (program : Program) (well : IsWellFormed program) (frames : List Frame) (fit : AreFrames program frames) (code : Labelled) (formed : IsFormed code) (addresses : ℕ → ℕ) (pages calls : ℕ) (few : calls ≤ 4096)
     (lie : AreAddresses code addresses) (c : Configuration)
     (range_of : (function index first handler : ℕ) → instruction_at program (record { function = function; index = index }) ≡ Some (plain.Try first handler) → IsTryInRange (routine_at program function) first handler)
-    (lands_at : (function index first handler : ℕ) → instruction_at program (record { function = function; index = index }) ≡ Some (plain.Try first handler) → IsReturnPoint code (instruction_line program function index + 5)) where
+    (lands_at : (function index first handler : ℕ) → instruction_at program (record { function = function; index = index }) ≡ Some (plain.Try first handler) → IsReturnPoint code (instruction_line program frames function index + 5)) where
   abbrev frame : Frame
   frame = frame_at frames c.active.function
 
@@ -137,7 +141,7 @@ module _ (program : Program) (well : IsWellFormed program) (frames : List Frame)
   slots = (routine_at program c.active.function).slots
 
   abbrev here : ℕ
-  here = instruction_line program c.active.function c.active.next
+  here = instruction_line program frames c.active.function c.active.next
 
   abbrev Goes : (least lo hi : ℕ) → State → Type 0
   Goes least lo hi t = Walk code formed addresses globals_length (words_per_call * calls) least lo hi c.output (Reached program well frames fit code formed addresses pages calls few c) t
@@ -147,7 +151,7 @@ module _ (program : Program) (well : IsWellFormed program) (frames : List Frame)
 
   -- ---- an exception comes to a handler
 
-  module _ (t : State) (l : Landed program well frames fit code formed addresses pages calls few c t) (stands : Stands code (here + 5) (ordinary (caught_code frame l.first) ++ lines.Jump (instruction_line program c.active.function l.handler) ∷ [])) where
+  module _ (t : State) (l : Landed program well frames fit code formed addresses pages calls few c t) (stands : Stands code (here + 5) (ordinary (caught_code frame l.first) ++ lines.Jump (instruction_line program frames c.active.function l.handler) ∷ [])) where
     abbrev c0 : Configuration
     c0 = record c { active = record c.active { handlers = l.handlers } }
 
@@ -172,51 +176,78 @@ module _ (program : Program) (well : IsWellFormed program) (frames : List Frame)
     abbrev m : Contents
     m = after_w stores restored l.w
 
-    pub catch_goes : Goes 1 (here + 5) (here + 12) (Running l.run)
+    abbrev read_again : List Instr
+    read_again = reloads frame
+
+    pub catch_goes : Goes 1 (here + 5) (here + (12 + reload_count frame)) (Running l.run)
     catch_goes =
         let all = are_stored program well frames fit addresses pages calls few c0 restored l.base back (suc (length c.frames)) l.first (ARGUMENT ∷ SECOND_ARGUMENT ∷ []) l.w l.waiting (omega (arith, inside)) in_restored in
         let next : Configuration = record c { active = record c.active { next = l.handler; handlers = l.handlers } } in
         let in_slots : Standing program frames addresses pages calls c0 restored m l.base back (suc (length c.frames)) c.active.slots =
         subst (λ (x : Words). Standing program frames addresses pages calls c0 restored m l.base back (suc (length c.frames)) x) (sym l.slots) all.standing in
-        let at_next = standing_at program well frames fit addresses pages calls few c0 restored m l.base back (suc (length c.frames)) c.active.slots in_slots next refl refl refl refl refl refl l.standing.input in
-        let with_back = subst (λ (b : ℕ). Standing program frames addresses pages calls next restored m l.base b (suc (length c.frames)) c.active.slots) (sym back_is) at_next in
+        let right = fit.homes c.active.function l.standing.known in
+        let again = reloaded globals_length (words_per_call * calls) program frames c.active.function right l.handler restored m c.active.slots
+        (λ slot below. slot_cell program well frames fit addresses pages calls few c0 restored m l.base back (suc (length c.frames)) c.active.slots in_slots slot below)
+        (λ slot below slot_kept. slot_word_is program well frames fit addresses pages calls few c0 restored m l.base back (suc (length c.frames)) c.active.slots in_slots slot below slot_kept)
+        (λ slot wanted. right.clause c.active.next l.first l.handler slot l.opened wanted) in
+        let final : Words = after_r read_again restored m in
+        let registers : after_r (stores ++ read_again) restored l.w ≡ after_r read_again restored m =
+        after_r-append stores read_again restored l.w ∙ ap (λ (q : Words). after_r read_again q m) all.same in
+        let memory : after_w (stores ++ read_again) restored l.w ≡ m =
+        after_w-append stores read_again restored l.w ∙ (ap (λ (q : Words). after_w read_again q m) all.same ∙ again.memory) in
+        let safe_again = subst (λ (q : Words). AreSafe globals_length (words_per_call * calls) read_again q m) (sym all.same) again.safe in
+        let in_final = standing_registers program well frames fit addresses pages calls few c0 restored m l.base back (suc (length c.frames)) c.active.slots in_slots final
+        (again.others 0 (inl (omega arith))) (again.others FRAME (inr (omega arith))) (again.others CALLS (inr (omega arith)))
+        (lasting_same final restored (again.others HANDLERS (inr (omega arith))) (again.others REGIONS (inr (omega arith)))) in
+        let at_next = standing_at program well frames fit addresses pages calls few c0 final m l.base back (suc (length c.frames)) c.active.slots in_final next refl refl refl refl refl refl l.standing.input in
+        let with_back = subst (λ (b : ℕ). Standing program frames addresses pages calls next final m l.base b (suc (length c.frames)) c.active.slots) (sym (again.others RETURN_ADDRESS (inr (omega arith)) ∙ back_is)) at_next in
         let does : performed program zeros c (plain.Try l.first l.handler) ≡ states.Running next = ap (tries zeros c l.first l.handler) l.caught in
-        walk_few code formed addresses globals_length (words_per_call * calls) 1 (3 + 1) (here + 5) (here + 12) c.output _ (Running l.run) (omega arith)
-        (walk_block code formed addresses globals_length (words_per_call * calls) (caught_code frame l.first) 1 (here + 5) (here + 5) (here + 12) c.output c.input _ l.r l.w l.run l.now
-        (stands_front code (here + 5) (ordinary (caught_code frame l.first)) (lines.Jump (instruction_line program c.active.function l.handler) ∷ []) stands)
-        ((refl, return_cell program well frames fit addresses pages calls few c0 l.r l.w l.base back (suc (length c.frames)) l.waiting l.standing), all.safe) (omega arith)
+        let long : length (caught_code frame l.first) ≡ 3 + reload_count frame = (let e : suc (suc (suc (length (reloads frame)))) ≡ 3 + reload_count frame = omega (arith, length_reloads frame) in e) in
+        let hi : ℕ = here + (12 + reload_count frame) in
+        walk_few code formed addresses globals_length (words_per_call * calls) 1 (length (caught_code frame l.first) + 1) (here + 5) hi c.output _ (Running l.run) (omega arith)
+        (walk_block code formed addresses globals_length (words_per_call * calls) (caught_code frame l.first) 1 (here + 5) (here + 5) hi c.output c.input _ l.r l.w l.run l.now
+        (stands_front code (here + 5) (ordinary (caught_code frame l.first)) (lines.Jump (instruction_line program frames c.active.function l.handler) ∷ []) stands) (
+          (refl, return_cell program well frames fit addresses pages calls few c0 l.r l.w l.base back (suc (length c.frames)) l.waiting l.standing),
+          safe_append globals_length (words_per_call * calls) stores read_again restored l.w all.safe safe_again,
+        ) (omega arith)
         (λ d later.
-        walk_jump code formed addresses globals_length (words_per_call * calls) 0 (here + 5 + 3) (here + 5 + 3) (here + 12) c.output c.input _ restored m d (instruction_line program c.active.function l.handler) later
-        (stands_back code (here + 5) (ordinary (caught_code frame l.first)) (lines.Jump (instruction_line program c.active.function l.handler) ∷ []) stands).0 (omega arith)
+        walk_jump code formed addresses globals_length (words_per_call * calls) 0 (here + 5 + length (caught_code frame l.first)) (here + 5 + length (caught_code frame l.first)) hi c.output c.input _ final m d (instruction_line program frames c.active.function l.handler)
+        (now_is code formed addresses globals_length (words_per_call * calls) (here + 5 + length (caught_code frame l.first)) c.output c.input (after_r (stores ++ read_again) restored l.w) (after_w (stores ++ read_again) restored l.w) final m d registers memory later)
+        (subst (λ (n : ℕ). slice_get code.lines (here + 5 + n) ≡ Some (lines.Jump (instruction_line program frames c.active.function l.handler))) (length_ordinary (caught_code frame l.first))
+        (stands_back code (here + 5) (ordinary (caught_code frame l.first)) (lines.Jump (instruction_line program frames c.active.function l.handler) ∷ []) stands).0) (omega arith)
         (λ e jumped.
-        walk_end code formed addresses globals_length (words_per_call * calls) (suc (here + 5 + 3)) (here + 12) c.output _ (Running e) (omega arith)
+        walk_end code formed addresses globals_length (words_per_call * calls) (suc (here + 5 + length (caught_code frame l.first))) hi c.output _ (Running e) (omega (arith, long))
         (reached program well frames fit code formed addresses pages calls few c zeros (plain.Try l.first l.handler) (states.Running next) (Running e) (zeros_at program c (plain.Try l.first l.handler) l.opened refl) l.opened does
         (within program well frames fit code formed addresses pages calls few next l.standing.laid.paged l.standing.deep)
         (inl (record {
           run = e;
-          r = restored;
+          r = final;
           w = m;
           base = l.base;
           is = refl;
           now = jumped;
           standing = with_back;
+          caches = again.caches;
         }))))))
 
   module _ (run : labelled.Configuration) (r : Words) (w : Contents) (base : ℕ)
       (now : At program well frames fit code formed addresses pages calls few here c.output c.input r w run)
-      (s : Standing program frames addresses pages calls c r w base (r RETURN_ADDRESS) (suc (length c.frames)) c.active.slots) where
+      (s : Standing program frames addresses pages calls c r w base (r RETURN_ADDRESS) (suc (length c.frames)) c.active.slots)
+      (caches : Caches program frames c.active.function c.active.next r c.active.slots) where
     abbrev IsThere : Operand → Type 0
     IsThere o = IsOperand (routine_at program c.active.function) o × IsOfWord o
 
     abbrev word_in : Operand → ℕ
     word_in o = operand_word c.active.slots o
 
-    held : (o : Operand) → IsThere o → IsHeld globals_length (words_per_call * calls) frame (r FRAME) w c.active.slots o
-    held (operands.Slot number) (below, fits) = (
-      slot_cell program well frames fit addresses pages calls few c r w base (r RETURN_ADDRESS) (suc (length c.frames)) c.active.slots s number below,
-      slot_word_is program well frames fit addresses pages calls few c r w base (r RETURN_ADDRESS) (suc (length c.frames)) c.active.slots s number below,
-    )
-    held (operands.Word word) (below, fits) = fits
+    homes_right : AreHomes program (routine_at program c.active.function) (frame_at frames c.active.function).homes
+    homes_right = fit.homes c.active.function s.known
+
+    -- the words of a record live in memory
+    record_kept : (function : ℕ) → function < length program.functions → (index first handler : ℕ) → instruction_at program (record { function = function; index = index }) ≡ Some (plain.Try first handler)
+        → (k : ℕ) → k < 4 → is_kept (frame_at frames function) (first + k) ≡ true
+    record_kept function known index first handler at k below =
+        barred_kept program frames function (fit.homes function known) index (first + k) (plain.Try first handler) at (among first 4 (first + k) (omega arith) (omega (arith, below)))
 
     -- ---- a handler is closed
 
@@ -266,14 +297,15 @@ module _ (program : Program) (well : IsWellFormed program) (frames : List Frame)
         let closing : List Instr = load HANDLERS (slot_offset frame first) ∷ [] in
         let q : Words = after_r (load HANDLERS (slot_offset frame first) ∷ []) r w in
         let is : q HANDLERS ≡ found.contents 0 =
-        slot_word_is program well frames fit addresses pages calls few c r w base (r RETURN_ADDRESS) (suc (length c.frames)) c.active.slots s first below ∙ (holds_four c.active.slots first found.contents found.intact).zeroth in
+        slot_word_is program well frames fit addresses pages calls few c r w base (r RETURN_ADDRESS) (suc (length c.frames)) c.active.slots s first below
+        (barred_kept program frames c.active.function homes_right c.active.next first (plain.Leave first) at_i (among first 4 first (omega arith) (omega arith))) ∙ (holds_four c.active.slots first found.contents found.intact).zeroth in
         let next : Configuration = advanced (record c { active = record c.active { handlers = found.rest } }) in
         let c0 : Configuration = record c { active = record c.active { handlers = found.rest } } in
         let in_rest = standing_handlers program well frames fit addresses pages calls few c r w base (r RETURN_ADDRESS) (suc (length c.frames)) c.active.slots s found.rest q refl refl refl refl
         (subst (λ (n : ℕ). IsNewest program frames addresses calls n base c.active.function found.rest c.frames) (sym is) found.newest)
         (kept_here frame w base (r RETURN_ADDRESS) found.rest found.kept) in
         let at_next = standing_at program well frames fit addresses pages calls few c0 q w base (r RETURN_ADDRESS) (suc (length c.frames)) c.active.slots in_rest next refl refl refl refl refl refl s.input in
-        let line : here + 1 ≡ instruction_line program c.active.function (c.active.next + 1) = omega (arith, line_next program c.active.function c.active.next (plain.Leave first) at_i) in
+        let line : here + 1 ≡ instruction_line program frames c.active.function (c.active.next + 1) = omega (arith, line_next program frames c.active.function c.active.next (plain.Leave first) at_i) in
         walk_few code formed addresses globals_length (words_per_call * calls) 1 (1 + 0) here (here + 1) c.output _ (Running run) (omega arith)
         (walk_block code formed addresses globals_length (words_per_call * calls) closing 0 here here (here + 1) c.output c.input _ r w run now stands
         ((refl, slot_cell program well frames fit addresses pages calls few c r w base (r RETURN_ADDRESS) (suc (length c.frames)) c.active.slots s first below), tt) (omega arith)
@@ -287,8 +319,11 @@ module _ (program : Program) (well : IsWellFormed program) (frames : List Frame)
           w = w;
           base = base;
           is = refl;
-          now = now_at code formed addresses globals_length (words_per_call * calls) (here + 1) (instruction_line program c.active.function (c.active.next + 1)) c.output c.input q w d line later;
+          now = now_at code formed addresses globals_length (words_per_call * calls) (here + 1) (instruction_line program frames c.active.function (c.active.next + 1)) c.output c.input q w d line later;
           standing = at_next;
+          caches =
+              caches_past program frames c.active.function homes_right c.active.next (c.active.next + 1) r q c.active.slots c.active.slots (plain.Leave first) at_i (next_led c.active.next)
+              (λ slot k has. refl) (λ slot k has. refl) (λ n low high. put-other r HANDLERS n _ (λ e. absurd (omega (arith, e, high)))) caches;
         })))))
 
     -- ---- an exception is thrown
@@ -424,7 +459,9 @@ module _ (program : Program) (well : IsWellFormed program) (frames : List Frame)
             (word_cell program well frames fit addresses pages calls few there it.q w it.low it.back (suc (length it.waiting)) it.call.slots it.stands (slot_word its (it.first + k)) (own.inside (it.first + k) (omega (arith, its_range.record_in_range, below))))
 
         record_word : (k : ℕ) → k < 4 → w.words (memory_address (r HANDLERS) (4 * k)) ≡ it.call.slots (it.first + k)
-        record_word k below = ap w.words (address_is k below) ∙ it.stands.holds (it.first + k) (omega (arith, its_range.record_in_range, below))
+        record_word k below =
+            ap w.words (address_is k below)
+            ∙ it.stands.holds (it.first + k) (omega (arith, its_range.record_in_range, below)) (record_kept it.call.function it.stands.known it.index it.first it.one.handler it.one.opened k below)
 
         whole : Holds4 it.call.slots it.first it.contents
         whole = holds_four it.call.slots it.first it.contents it.intact
@@ -435,7 +472,7 @@ module _ (program : Program) (well : IsWellFormed program) (frames : List Frame)
         -- where it goes on, with registers that have the record's words
         module _ (final : Words) (zero_is : final 0 ≡ 0) (previous_is : final HANDLERS ≡ it.contents 0) (base_is : final FRAME ≡ it.contents 1) (left_is : final CALLS ≡ it.contents 3) (count_is : final REGIONS ≡ r REGIONS)
             (tag_is : final 4 ≡ tag) (value_is : final 5 ≡ value) (g : labelled.Configuration)
-            (at_line : At program well frames fit code formed addresses pages calls few (instruction_line program it.call.function it.index + 5) c.output c.input final w g) where
+            (at_line : At program well frames fit code formed addresses pages calls few (instruction_line program frames it.call.function it.index + 5) c.output c.input final w g) where
           abbrev next : Configuration
           next = record c {
             active = record it.call { next = it.index; slots = put (put it.call.slots it.first tag) (suc it.first) value; handlers = Caught ∷ it.rest };
@@ -531,12 +568,16 @@ module _ (program : Program) (well : IsWellFormed program) (frames : List Frame)
       v = after_w is r w
 
       first : Puts globals_length (words_per_call * calls) is r w ARGUMENT ARGUMENT (word_in tag)
-      first = load_puts globals_length (words_per_call * calls) frame (r FRAME) w c.active.slots r w s.zero_is refl refl ARGUMENT refl tag (held tag tag_there)
+      first =
+          load_puts globals_length (words_per_call * calls) frame (r FRAME) w r c.active.slots r w s.zero_is refl refl (λ n low high. refl) ARGUMENT refl tag
+          (operand_held program well frames fit code formed addresses pages calls few c run r w base now s caches (plain.Throw tag value) at_i tag (λ slot is_it. or_left (is_slot tag slot) (is_slot value slot) is_it) tag_there)
 
       second : Puts globals_length (words_per_call * calls) js q v SECOND_ARGUMENT SECOND_ARGUMENT (word_in value)
       second =
-          load_puts globals_length (words_per_call * calls) frame (r FRAME) w c.active.slots q v
-          (first.others 0 (omega arith) (λ e. absurd (omega (arith, e))) ∙ s.zero_is) (first.others FRAME (omega arith) (λ e. absurd (omega (arith, e)))) first.memory SECOND_ARGUMENT refl value (held value value_there)
+          load_puts globals_length (words_per_call * calls) frame (r FRAME) w r c.active.slots q v
+          (first.others 0 (omega arith) (λ e. absurd (omega (arith, e))) ∙ s.zero_is) (first.others FRAME (omega arith) (λ e. absurd (omega (arith, e)))) first.memory
+          (λ n low high. first.others n (omega (arith, high)) (λ e. absurd (omega (arith, e, low)))) SECOND_ARGUMENT refl value
+          (operand_held program well frames fit code formed addresses pages calls few c run r w base now s caches (plain.Throw tag value) at_i value (λ slot is_it. or_right (is_slot tag slot) (is_slot value slot) is_it) value_there)
 
       abbrev p : Words
       p = after_r js q v
@@ -624,7 +665,7 @@ module _ (program : Program) (well : IsWellFormed program) (frames : List Frame)
         found_goes =
             let other : p HANDLERS ≢ p 0 = λ e. some (word_in tag) (word_in value) (performed program zeros c (plain.Throw tag value)) it (sym p_newest ∙ (e ∙ p_zero)) in
             let leaps : (if not (p HANDLERS == p ZERO) then label else k + 1) ≡ label = ap (λ (b : Bool). if not b then label else k + 1) (ne_eqb (p HANDLERS) (p 0) other) in
-            let line : ℕ = instruction_line program it.call.function it.index + 5 in
+            let line : ℕ = instruction_line program frames it.call.function it.index + 5 in
             loads_go 0
             (λ d later.
             walk_branch code formed addresses globals_length (words_per_call * calls) 0 k k hi c.output c.input _ p w d (conditions.Registers branch.NotEqual (register_of HANDLERS) (register_of ZERO)) label label later rest_stands.0 (omega arith) leaps
@@ -634,7 +675,7 @@ module _ (program : Program) (well : IsWellFormed program) (frames : List Frame)
             (stands_front code label (ordinary unwound_code) (lines.Return ∷ []) unwound_stands)
             ((refl, cell_of 2 (omega arith)), ((refl, cell_of 3 (omega arith)), ((refl, cell_of 1 (omega arith)), ((refl, cell_of 0 (omega arith)), tt)))) (omega (arith, long, more))
             (λ f unwound.
-            walk_return code formed addresses globals_length (words_per_call * calls) 0 (label + 4) (label + 4) hi c.output c.input _ final w f (instruction_line program it.call.function it.index + 5) lie unwound
+            walk_return code formed addresses globals_length (words_per_call * calls) 0 (label + 4) (label + 4) hi c.output c.input _ final w f (instruction_line program frames it.call.function it.index + 5) lie unwound
             (stands_back code label (ordinary unwound_code) (lines.Return ∷ []) unwound_stands).0 (omega arith)
             (lands_at it.call.function it.index it.first it.one.handler it.one.opened) (back_word ∙ it.one.line)
             (λ g thrown.
@@ -682,9 +723,6 @@ module _ (program : Program) (well : IsWellFormed program) (frames : List Frame)
 
       abbrev after : List Instr
       after = opened_code frame first
-
-      abbrev between : List Line
-      between = ordinary (caught_code frame first) ++ lines.Jump (instruction_line program c.active.function handler) ∷ []
 
       abbrev w1 : Contents
       w1 = written w (memory_address (r FRAME) (slot_offset frame first)) (r HANDLERS)
@@ -798,7 +836,7 @@ module _ (program : Program) (well : IsWellFormed program) (frames : List Frame)
         zero_is = s.zero_is;
         left = s.left;
         deep = s.deep;
-        holds = λ slot below. s5.holds slot below ∙ recorded_is c.active.slots first (r HANDLERS) (r FRAME) (addresses (here + 4 + 1)) (r CALLS) slot;
+        holds = λ slot below slot_kept. s5.holds slot below slot_kept ∙ recorded_is c.active.slots first (r HANDLERS) (r FRAME) (addresses (here + 4 + 1)) (r CALLS) slot;
         chain = subst (λ (b : ℕ). Chain program frames addresses w5 base b c.active.function c.frames) (sym kept_is) s5.chain;
         globals = s5.globals;
         input = s.input;
@@ -810,31 +848,44 @@ module _ (program : Program) (well : IsWellFormed program) (frames : List Frame)
         counted = s.counted;
       }
 
-      call_stands : Stands code (here + 4) (lines.Call (here + 9) ∷ between ++ ordinary after)
-      call_stands = stands_back code here (ordinary before) (lines.Call (here + 9) ∷ between ++ ordinary after) stands
+      abbrev behind : List Line
+      behind = lines.Call (here + 9 + reload_count frame) ∷ (ordinary (caught_code frame first) ++ lines.Jump (instruction_line program frames c.active.function handler) ∷ ordinary after)
 
-      after_stands : Stands code (here + 9) (ordinary after)
+      call_stands : Stands code (here + 4) behind
+      call_stands = stands_back code here (ordinary before) behind stands
+
+      length_caught : length (ordinary (caught_code frame first)) ≡ 3 + reload_count frame
+      length_caught = length_ordinary (caught_code frame first) ∙ (let e : suc (suc (suc (length (reloads frame)))) ≡ 3 + reload_count frame = omega (arith, length_reloads frame) in e)
+
+      after_stands : Stands code (here + 9 + reload_count frame) (ordinary after)
       after_stands =
-          subst (λ (n : ℕ). Stands code n (ordinary after)) (let e : here + 4 + 1 + 4 ≡ here + 9 = omega arith in e)
-          (stands_back code (here + 4 + 1) between (ordinary after) call_stands.1)
+          subst (λ (n : ℕ). Stands code n (ordinary after)) (let e : here + 4 + 1 + length (ordinary (caught_code frame first)) + 1 ≡ here + 9 + reload_count frame = omega (arith, length_caught) in e)
+          (stands_back code (here + 4 + 1) (ordinary (caught_code frame first)) (lines.Jump (instruction_line program frames c.active.function handler) ∷ ordinary after) call_stands.1).1
 
-      pub try_goes : Goes 1 here (here + 12) (Running run)
+      -- no slot with a register is one of the record
+      record_apart : (slot : ℕ) → is_among first 4 slot ≡ false → copied contents 0 4 c.active.slots first slot ≡ c.active.slots slot
+      record_apart slot apart = elim (not_among first 4 slot apart) [
+        | inl below ↦ copied-below contents c.active.slots 0 4 first slot below
+        | inr above ↦ copied-above contents c.active.slots 0 4 first slot above
+      ]
+
+      pub try_goes : Goes 1 here (here + (12 + reload_count frame)) (Running run)
       try_goes =
           let frame_cell : (slot : ℕ) → slot < slots → IsCell globals_length (words_per_call * calls) (memory_address (r FRAME) (slot_offset frame slot)) =
           λ slot below. slot_cell program well frames fit addresses pages calls few c r w base own_back depth c.active.slots s slot below in
           let back_cell = return_cell program well frames fit addresses pages calls few c r w base own_back depth c.active.slots s in
-          walk_few code formed addresses globals_length (words_per_call * calls) 1 (4 + 1) here (here + 12) c.output _ (Running run) (omega arith)
-          (walk_block code formed addresses globals_length (words_per_call * calls) before 1 here here (here + 12) c.output c.input _ r w run now
-          (stands_front code here (ordinary before) (lines.Call (here + 9) ∷ between ++ ordinary after) stands)
+          walk_few code formed addresses globals_length (words_per_call * calls) 1 (4 + 1) here (here + (12 + reload_count frame)) c.output _ (Running run) (omega arith)
+          (walk_block code formed addresses globals_length (words_per_call * calls) before 1 here here (here + (12 + reload_count frame)) c.output c.input _ r w run now
+          (stands_front code here (ordinary before) behind stands)
           (frame_cell first (omega (arith, in_record)), (frame_cell (first + 1) (omega (arith, in_record)), (frame_cell (first + 3) (omega (arith, in_record)), (back_cell, tt)))) (omega arith)
           (λ d recorded_now.
-          walk_call code formed addresses globals_length (words_per_call * calls) 0 (here + 4) (here + 4) (here + 12) c.output c.input _ r w4 d (here + 9) recorded_now call_stands.0 (omega arith) landing_word
+          walk_call code formed addresses globals_length (words_per_call * calls) 0 (here + 4) (here + 4) (here + (12 + reload_count frame)) c.output c.input _ r w4 d (here + 9 + reload_count frame) recorded_now call_stands.0 (omega arith) landing_word
           (λ e called.
-          walk_few code formed addresses globals_length (words_per_call * calls) 0 (3 + 0) (suc (here + 4)) (here + 12) c.output _ (Running e) (omega arith)
-          (walk_block code formed addresses globals_length (words_per_call * calls) after 0 (here + 9) (suc (here + 4)) (here + 12) c.output c.input _ r1 w4 e called after_stands
+          walk_few code formed addresses globals_length (words_per_call * calls) 0 (3 + 0) (suc (here + 4)) (here + (12 + reload_count frame)) c.output _ (Running e) (omega arith)
+          (walk_block code formed addresses globals_length (words_per_call * calls) after 0 (here + 9 + reload_count frame) (suc (here + 4)) (here + (12 + reload_count frame)) c.output c.input _ r1 w4 e called after_stands
           (frame_cell (first + 2) (omega (arith, in_record)), ((refl, back_cell), (refl, tt))) (omega arith)
           (λ f opened_now.
-          walk_end code formed addresses globals_length (words_per_call * calls) (here + 9 + 3) (here + 12) c.output _ (Running f) (omega arith)
+          walk_end code formed addresses globals_length (words_per_call * calls) (here + 9 + reload_count frame + 3) (here + (12 + reload_count frame)) c.output _ (Running f) (omega arith)
           (reached program well frames fit code formed addresses pages calls few c choice (plain.Try first handler) (states.Running opened_at) (Running f)
           (record { contents = contents_words; lies = lies_at program c (plain.Try first handler) 0 at_i refl; serves = (zeros_at program c (plain.Try first handler) at_i refl).serves }) at_i does
           (within program well frames fit code formed addresses pages calls few opened_at s.laid.paged s.deep)
@@ -844,7 +895,16 @@ module _ (program : Program) (well : IsWellFormed program) (frames : List Frame)
             w = w5;
             base = base;
             is = refl;
-            now = now_at code formed addresses globals_length (words_per_call * calls) (here + 9 + 3) (instruction_line program c.active.function (c.active.next + 1)) c.output c.input r3 w5 f
-                (let e : here + 9 + 3 ≡ instruction_line program c.active.function (c.active.next + 1) = omega (arith, line_next program c.active.function c.active.next (plain.Try first handler) at_i) in e) opened_now;
+            now = now_at code formed addresses globals_length (words_per_call * calls) (here + 9 + reload_count frame + 3) (instruction_line program frames c.active.function (c.active.next + 1)) c.output c.input r3 w5 f
+                (let e : here + 9 + reload_count frame + 3 ≡ instruction_line program frames c.active.function (c.active.next + 1) = omega (arith, line_next program frames c.active.function c.active.next (plain.Try first handler) at_i) in e) opened_now;
             standing = ends_at;
+            caches =
+                caches_past program frames c.active.function homes_right c.active.next (c.active.next + 1) r r3 c.active.slots (copied contents 0 4 c.active.slots first) (plain.Try first handler) at_i
+                (or_left (suc c.active.next == c.active.next + 1) (handler == c.active.next + 1) (next_led c.active.next))
+                (λ slot k has. unbarred program frames c.active.function homes_right c.active.next slot k (plain.Try first handler) at_i has)
+                (λ slot k has. record_apart slot (unbarred program frames c.active.function homes_right c.active.next slot k (plain.Try first handler) at_i has))
+                (λ n low high.
+                put-other (put r1 RETURN_ADDRESS _) HANDLERS n _ (λ e. absurd (omega (arith, e, high)))
+                ∙ (put-other r1 RETURN_ADDRESS n _ (λ e. absurd (omega (arith, e, high))) ∙ put-other r RETURN_ADDRESS n _ (λ e. absurd (omega (arith, e, high)))))
+                caches;
           }))))))))

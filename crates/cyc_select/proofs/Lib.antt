@@ -17,6 +17,8 @@ pub mod Calls
 pub mod Returns
 pub mod Matches
 pub mod Standing
+pub mod Values
+pub mod Held
 pub mod Stores
 pub mod Places
 -- what a few lines do

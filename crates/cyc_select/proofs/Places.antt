@@ -1,8 +1,8 @@
 -- The words that loads and stores find by an address, as they stand in the machine's memory: those of live blocks in its store,
 -- those of globals in its data range, and those of slots in the frames of the calls under way.
-use Rattle.std.proofs.Common.{◌≡◌, ◌≢◌, ℕ, suc, ◌+◌, ◌*◌, ◌%◌, ◌<◌, ◌≤◌, List, [], ◌∷◌, length, Option, Some, None, slice_get, refl, sym, ap, subst, ◌∙◌, arith, inl, inr}
+use Rattle.std.proofs.Common.{◌≡◌, ◌≢◌, ℕ, suc, ◌+◌, ◌*◌, ◌%◌, ◌<◌, ◌≤◌, true, false, List, [], ◌∷◌, length, Option, Some, None, slice_get, refl, sym, ap, subst, ◌∙◌, arith, inl, inr}
 use Rattle.std.specs.Prelude.{nat_lt}
-use Rattle.std.proofs.lemmas.Bool.{cases_eq, ltb-true}
+use Rattle.std.proofs.lemmas.Bool.{cases_eq, ltb-true, or_cases}
 use Rattle.cyc_words.specs.Word.{IsWord}
 use Rattle.cyc_isa.specs.Effect.{memory_address}
 use Rattle.cyc_isa.specs.declared.instr.Instr.TheVariants.{Memory}
@@ -11,24 +11,29 @@ use Rattle.cyc_isa.specs.declared.operand.Register.{Register}
 use Rattle.cyc_machine.specs.State.{data_base, stack_end, globals_length, words_per_call}
 use Rattle.cyc_store.specs.State.{StoreState}
 use Rattle.cyc_plain.specs.declared.limits.TheConstants.{GLOBALS_BASE}
-use Rattle.cyc_plain.specs.Memory.{is_pinned, global_at, slot_at, word_or, word_waiting, put_or, with_waiting, Range, OfGlobals, OfStore, OfSlots, range_of, word_in, memory_at, with_global, with_slot, with_word, with_memory}
+use Rattle.cyc_plain.specs.declared.instruction.Instruction.{Instruction}
+use Rattle.cyc_plain.specs.declared.instruction.Instruction.TheVariants as instructions
+use Rattle.cyc_plain.specs.Memory.{pins, is_pinned, global_at, slot_at, word_or, word_waiting, put_or, with_waiting, Range, OfGlobals, OfStore, OfSlots, range_of, word_in, memory_at, with_global, with_slot, with_word, with_memory}
 use Rattle.cyc_plain.specs.Program.{Program, routine_at}
 use Rattle.cyc_plain.specs.State as states
 use Rattle.cyc_plain.specs.State.{Words, put, Configuration}
 use Rattle.cyc_plain.specs.WellFormed.{IsWellFormed}
 use Rattle.cyc_plain.proofs.MemoryLaws.{numbered-from, pinned-inside, length-waiting}
 use Rattle.cyc_plain.proofs.SlotLaws.{put-same, put-other}
+use Rattle.cyc_frame.specs.Homes.{AreHomes}
+use Rattle.cyc_frame.specs.Uses.{bars}
 use Rattle.cyc_frame.specs.Layout.{AreFrames, IsFrame, slot_word, frame_at}
-use Rattle.cyc_frame.specs.declared.frame.Frame.{Frame}
+use Rattle.cyc_frame.specs.Frame.{Frame}
 use Rattle.cyc_select.specs.declared.constants.TheConstants.{HANDLERS}
 use Rattle.cyc_select.specs.declared.code.Line.TheVariants as lines
 use Rattle.cyc_select.specs.Labelled.{Labelled, IsFormed}
 use Rattle.cyc_select.specs.Machine as labelled
 use Rattle.cyc_select.specs.Machine.{State, Running}
-use Rattle.cyc_select.specs.Selection.{slot_offset}
+use Rattle.cyc_select.specs.Selection.{slot_offset, value_register, is_kept}
 use Rattle.cyc_select.proofs.Cells.{IsCell, IsLive}
 use Rattle.cyc_select.proofs.Standing.{Chain, Lies, chain_kept, chain_lies, AreRecords, IsBeyond, IsNewest, AreBased, based_here, kept_in, Standing, lies, word_cell, global_cell, standing_at, standing_slot, standing_global, standing_saved}
 use Rattle.cyc_select.proofs.Stores.{laid_live}
+use Rattle.cyc_select.proofs.Values.{barred_kept, unbarred}
 use Rattle.cyc_select.proofs.Views.{Contents, written, saved_in, IsWritable}
 use Rattle.cyc_select.proofs.Walks.{Walk, Now, now_is, walk_few, walk_from, walk_block, walk_load, walk_save}
 
@@ -76,6 +81,31 @@ module _ (code : Labelled) (formed : IsFormed code) (addresses : ℕ → ℕ) (g
       walk_few code formed addresses globals stack (suc n) (1 + n) lo hi out Goal (Running c) (omega arith)
       (walk_block code formed addresses globals stack (Memory StoreWord source base offset ∷ []) n k lo hi out input Goal r w c now (stands, tt) (cell, tt) from
       (λ d later. walk_from code formed addresses globals stack n (k + 1) (suc k) hi out Goal (Running d) (omega arith) (rest d later)))
+
+-- ---- slots that have an address live in memory
+
+pinned_by : (code : List Instruction) (slot : ℕ) → is_pinned code slot ≡ true → (index : ℕ) × (i : Instruction) × (slice_get code index ≡ Some i) × (pins i slot ≡ true)
+pinned_by [] slot pinned = absurd (let e : false ≡ true = pinned in cc)
+pinned_by (i ∷ code) slot pinned = elim (or_cases (pins i slot) (is_pinned code slot) pinned) [
+  | inl here ↦ (0, i, refl, here)
+  | inr later ↦ let (index, j, at, there) = pinned_by code slot later in (suc index, j, at, there)
+]
+
+pins_bar : (i : Instruction) (slot : ℕ) → pins i slot ≡ true → bars i slot ≡ true
+pins_bar (instructions.AddressOf destination first count) slot is = is
+pins_bar i slot is = absurd (let e : false ≡ true = is in cc)
+
+module _ (program : Program) (frames : List Frame) (function : ℕ) (right : AreHomes program (routine_at program function) (frame_at frames function).homes) where
+  pub pinned_kept : (slot : ℕ) → is_pinned (routine_at program function).code slot ≡ true → is_kept (frame_at frames function) slot ≡ true
+  pinned_kept slot pinned =
+      let (index, i, at, is) = pinned_by (routine_at program function).code slot pinned in
+      barred_kept program frames function right index slot i at (pins_bar i slot is)
+
+  pub unpinned : (slot k : ℕ) → is_pinned (routine_at program function).code slot ≡ true → value_register (frame_at frames function) slot ≡ Some k → ⊥
+  unpinned slot k pinned has =
+      let (index, i, at, is) = pinned_by (routine_at program function).code slot pinned in
+      let e : true ≡ false = sym (pins_bar i slot is) ∙ unbarred program frames function right index slot k i at has in
+      cc
 
 -- ---- a store to a slot of a call that waits
 
@@ -172,7 +202,7 @@ module _ (program : Program) (well : IsWellFormed program) (frames : List Frame)
             low = omega (arith, a_is);
             high = omega (arith, a_is, inside, lies_there.below_end);
             aligned = omega (arith, a_is, lies_there.aligned);
-            is = ap w.words a_is ∙ (holds slot below ∙ value);
+            is = ap w.words a_is ∙ (holds slot below (pinned_kept program frames f.caller.function (fit.homes f.caller.function known) slot pinned) ∙ value);
             chain = λ new.
                 subst (λ (o : Option ℕ). Chain program frames addresses (written w a new) base back function (put_or o new f waiting (with_waiting program waiting a new))) (sym is) (
                   arguments,
@@ -182,13 +212,13 @@ module _ (program : Program) (well : IsWellFormed program) (frames : List Frame)
                   at,
                   next,
                   is_back,
-                  (λ other other_below. elim (cases_eq other slot) [
+                  (λ other other_below other_kept. elim (cases_eq other slot) [
                     | inl same ↦
                         ap (put w.words a new) (ap (λ (x : ℕ). above + slot_offset its x) same ∙ sym a_is)
                         ∙ (put-same w.words a new ∙ sym (ap (put f.caller.slots slot new) same ∙ put-same f.caller.slots slot new))
                     | inr apart ↦
                         put-other w.words a (above + slot_offset its other) new (λ e. apart (frame.apart other slot other_below below (omega (arith, e, a_is))))
-                        ∙ (holds other other_below ∙ sym (put-other f.caller.slots slot other new apart))
+                        ∙ (holds other other_below other_kept ∙ sym (put-other f.caller.slots slot other new apart))
                   ]),
                   subst (λ (b : ℕ). Chain program frames addresses (written w a new) above b f.caller.function waiting)
                       (sym (put-other w.words a (above + 4 * its.return_address) new (λ e. frame.beside slot below (omega (arith, e, a_is)))))
@@ -216,7 +246,7 @@ module _ (program : Program) (well : IsWellFormed program) (frames : List Frame)
                   at,
                   next,
                   is_back,
-                  (λ slot below. put-other w.words a (above + slot_offset its slot) new (λ e. absurd (omega (arith, e, rest.low, frame.inside slot below))) ∙ holds slot below),
+                  (λ slot below slot_kept. put-other w.words a (above + slot_offset its slot) new (λ e. absurd (omega (arith, e, rest.low, frame.inside slot below))) ∙ holds slot below slot_kept),
                   subst (λ (b : ℕ). Chain program frames addresses (written w a new) above b f.caller.function (with_waiting program waiting a new))
                       (sym (put-other w.words a (above + 4 * its.return_address) new (λ e. absurd (omega (arith, e, rest.low, frame.return_inside)))))
                       (rest.chain new),
@@ -233,6 +263,8 @@ module _ (program : Program) (well : IsWellFormed program) (frames : List Frame)
     pub at : IsWordAt sort globals_length (words_per_call * calls) w a word
     pub standing : (new : ℕ) → IsWord new
         → Standing program frames addresses pages calls (with_memory program c a new) r (placed sort w a new) base back depth (with_memory program c a new).active.slots
+    -- it is that of no slot which has a register
+    pub values : (new slot k : ℕ) → value_register (frame_at frames c.active.function) slot ≡ Some k → (with_memory program c a new).active.slots slot ≡ c.active.slots slot
 
   abbrev Stands : Configuration → Contents → Type 0
   Stands d v = Standing program frames addresses pages calls d r v base back depth d.active.slots
@@ -263,6 +295,7 @@ module _ (program : Program) (well : IsWellFormed program) (frames : List Frame)
             subst (λ (d : Configuration). Stands d (written w a new)) (sym (writes new))
             (subst (λ (x : ℕ). Stands (record c { globals = put c.globals number new }) (written w x new)) (sym address)
             (standing_global program well frames fit addresses pages calls few c r w base back depth c.active.slots s number new below));
+        values = λ new slot k has. ap (λ (d : Configuration). d.active.slots slot) (writes new);
       }
 
   -- of a slot of the call that is executed
@@ -280,13 +313,17 @@ module _ (program : Program) (well : IsWellFormed program) (frames : List Frame)
         at = (
           subst (IsCell globals_length (words_per_call * calls)) (sym a_is)
               (word_cell program well frames fit addresses pages calls few c r w base back depth c.active.slots s (slot_word its slot) (own.inside slot below)),
-          ap w.words a_is ∙ (s.holds slot below ∙ value),
+          ap w.words a_is ∙ (s.holds slot below (pinned_kept program frames c.active.function (fit.homes c.active.function s.known) slot pinned) ∙ value),
         );
         standing = λ new is_word.
             subst (λ (e : Configuration). Stands e (written w a new)) (sym (writes new))
             (subst (λ (x : ℕ). Stands (d new) (written w x new)) (sym a_is)
             (standing_at program well frames fit addresses pages calls few c r (written w (base + slot_offset its slot) new) base back depth (put c.active.slots slot new)
             (standing_slot program well frames fit addresses pages calls few c r w base back depth c.active.slots s slot new below) (d new) refl refl refl refl refl refl s.input));
+        values = λ new other k has.
+            ap (λ (e : Configuration). e.active.slots other) (writes new)
+            ∙ put-other c.active.slots slot other new
+            (λ same. unpinned program frames c.active.function (fit.homes c.active.function s.known) slot k pinned (ap (value_register (frame_at frames c.active.function)) (sym same) ∙ has));
       }
 
   -- of a slot of a call that waits
@@ -307,9 +344,9 @@ module _ (program : Program) (well : IsWellFormed program) (frames : List Frame)
               zero_is = s.zero_is;
               left = s.left;
               deep = subst (λ (n : ℕ). suc n ≤ calls) (sym (length-waiting program c.frames a new)) s.deep;
-              holds = λ slot below.
+              holds = λ slot below slot_kept.
                   put-other w.words a (base + slot_offset its slot) new (λ e. absurd (omega (arith, e, above.low, own.inside slot below)))
-                  ∙ s.holds slot below;
+                  ∙ s.holds slot below slot_kept;
               chain = above.chain new;
               globals = λ global below.
                   put-other w.words a (data_base + 4 * global) new (λ e. absurd (omega (arith, e, above.low, below, well.globals, lie.above_low, s.deep)))
@@ -323,6 +360,7 @@ module _ (program : Program) (well : IsWellFormed program) (frames : List Frame)
               laid = s.laid;
               counted = s.counted;
             });
+        values = λ new slot k has. ap (λ (e : Configuration). e.active.slots slot) (writes new);
       }
 
   pub is_found : memory_at program c a ≡ Some word → IsFound
@@ -349,5 +387,6 @@ module _ (program : Program) (well : IsWellFormed program) (frames : List Frame)
             standing = λ new is_word.
                 subst (λ (d : Configuration). Stands d (saved_in w a new)) (sym (ap (with_word program c a new) is))
                 (standing_saved program well frames fit addresses pages calls few c r w base back depth c.active.slots s a new is_word);
+            values = λ new slot k has. ap (λ (d : Configuration). d.active.slots slot) (ap (with_word program c a new) is);
           }
       by_range OfSlots is there = of_slot (slot_at program c.active a) refl is there

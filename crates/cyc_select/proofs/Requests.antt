@@ -1,5 +1,7 @@
 -- The instruction that calls the store.
-use Rattle.std.proofs.Common.{◌≡◌, ◌≢◌, ℕ, suc, ◌+◌, ◌*◌, ◌%◌, ◌^◌, ◌<◌, ◌≤◌, List, [], ◌∷◌, ◌++◌, length, length-append, Option, None, Some, refl, sym, ap, subst, ◌∙◌, arith, inl}
+use Rattle.std.proofs.Common.{◌≡◌, ◌≢◌, ℕ, suc, ◌+◌, ◌*◌, ◌%◌, ◌^◌, ◌<◌, ◌≤◌, true, false, List, [], ◌∷◌, ◌++◌, length, length-append, Option, None, Some, refl, sym, ap, subst, ◌∙◌, arith, inl, inr}
+use Rattle.std.specs.Prelude.{◌⊎◌, ◌==◌}
+use Rattle.std.proofs.lemmas.Bool.{eq-eqb, or_left, or_right}
 use Rattle.cyc_words.specs.Ending.{Full}
 use Rattle.cyc_words.specs.Word.{add_of, sign_extended}
 use Rattle.cyc_isa.specs.Effect.{memory_address}
@@ -25,22 +27,26 @@ use Rattle.cyc_plain.specs.Step.{Choice, IsAllowed, MayServe, call_in, call_of, 
 use Rattle.cyc_plain.specs.WellFormed.{IsOperand, IsOfWord, IsArgument, IsArgumentOfWord, IsRequestInRange, IsWellFormed}
 use Rattle.cyc_plain.proofs.SlotLaws.{put-other}
 use Rattle.cyc_plain.proofs.RunLaws.{zeros, zeros_refused, over_within, lies_at}
+use Rattle.cyc_frame.specs.Homes.{AreHomes}
 use Rattle.cyc_frame.specs.Layout.{AreFrames, frame_at}
-use Rattle.cyc_frame.specs.declared.frame.Frame.{Frame}
+use Rattle.cyc_frame.specs.Uses.{is_slot, request_reads, request_writes}
+use Rattle.cyc_frame.specs.Frame.{Frame}
 use Rattle.cyc_select.specs.declared.constants.TheConstants.{CALLS, FRAME, HANDLERS, REGIONS}
 use Rattle.cyc_select.specs.Labelled.{Labelled, IsFormed}
 use Rattle.cyc_select.specs.Machine as labelled
 use Rattle.cyc_select.specs.Machine.{State, Running, Ended}
 use Rattle.cyc_select.specs.Selection.{ordinary, small, syscall, slot_offset, store_all, result_registers, argument_code, argument_count, service_number, answer_code, regions_code, regions_count, ask_count, body, instruction_line}
-use Rattle.cyc_select.proofs.Blocks.{safe_append}
+use Rattle.cyc_select.proofs.Blocks.{ValuesSame, safe_append}
 use Rattle.cyc_select.proofs.Computing.{IsHeld, load_puts}
 use Rattle.cyc_select.proofs.Counts.{service_small, length_argument, length_answer, length_regions, length_registers, answer_few}
 use Rattle.cyc_select.proofs.Effects.{call_by}
+use Rattle.cyc_select.proofs.Held.{operand_held}
 use Rattle.cyc_select.proofs.Lines.{line_next}
 use Rattle.cyc_select.proofs.Matches.{At, Reached, reached, within}
 use Rattle.cyc_select.proofs.Operations.{add_small}
-use Rattle.cyc_select.proofs.Standing.{Standing, slot_address, slot_cell, slot_word_is, standing_at, standing_slot, standing_store}
+use Rattle.cyc_select.proofs.Standing.{Standing, slot_address, slot_cell, standing_at, standing_slot, standing_store}
 use Rattle.cyc_select.proofs.Stores.{lexical_opened, lexical_besides, lexical_left, lexical_made, lexical_closed, marks_few, IsLaid, served_laid, served_words}
+use Rattle.cyc_select.proofs.Values.{Caches, caches_past, unbarred, not_among, next_led}
 use Rattle.cyc_select.proofs.Views.{Contents, IsWritable, written, answered_r}
 use Rattle.cyc_select.proofs.Walks.{Stands, stands_first, stands_behind, after_r, after_w, AreSafe, after_r-append, after_w-append, Walk, now_at, now_is, walk_few, walk_block, walk_served, walk_no_room, comes_block, lines_from, lines_rise}
 
@@ -72,6 +78,27 @@ told_is (requests.OpenDynamic destination) store slots q m choice = refl
 told_is (requests.CloseDynamic handle) store slots q m choice = refl
 told_is (requests.Allocate destination handle words) store slots q m choice = refl
 told_is (requests.Free address) store slots q m choice = refl
+
+other_slot : (destination slot : ℕ) → (destination == slot) ≡ false → slot ≢ destination
+other_slot destination slot apart same = let e : true ≡ false = sym (eq-eqb destination slot (sym same)) ∙ apart in cc
+
+-- any other slot is as before
+told_apart : (request : Request) (store : StoreState) (slots : Words) (choice : services.Choice) (slot : ℕ) → request_writes request slot ≡ false
+    → told (answer store (call_in slots request) choice) (destination_of request) slots slot ≡ slots slot
+told_apart (requests.OpenLexical destination) store slots choice slot apart = go (not_among destination 2 slot apart)
+  where
+    go : slot < destination ⊎ destination + 2 ≤ slot → told (answer store (call_in slots (requests.OpenLexical destination)) choice) destination slots slot ≡ slots slot
+    go (inl below) =
+        put-other (put slots destination choice.handle) (suc destination) slot _ (λ e. absurd (omega (arith, e, below)))
+        ∙ put-other slots destination slot _ (λ e. absurd (omega (arith, e, below)))
+    go (inr above) =
+        put-other (put slots destination choice.handle) (suc destination) slot _ (λ e. absurd (omega (arith, e, above)))
+        ∙ put-other slots destination slot _ (λ e. absurd (omega (arith, e, above)))
+told_apart (requests.CloseTo mark) store slots choice slot apart = refl
+told_apart (requests.OpenDynamic destination) store slots choice slot apart = put-other slots destination slot _ (other_slot destination slot apart)
+told_apart (requests.CloseDynamic handle) store slots choice slot apart = refl
+told_apart (requests.Allocate destination handle words) store slots choice slot apart = put-other slots destination slot _ (other_slot destination slot apart)
+told_apart (requests.Free address) store slots choice slot apart = refl
 
 -- ---- how many lexical regions are open
 
@@ -153,10 +180,11 @@ module _ (program : Program) (well : IsWellFormed program) (frames : List Frame)
 module _ (program : Program) (well : IsWellFormed program) (frames : List Frame) (fit : AreFrames program frames) (code : Labelled) (formed : IsFormed code) (addresses : ℕ → ℕ) (pages calls : ℕ) (few : calls ≤ 4096)
     (c : Configuration)
     (run : labelled.Configuration) (r : Words) (w : Contents) (base : ℕ)
-    (now : At program well frames fit code formed addresses pages calls few (instruction_line program c.active.function c.active.next) c.output c.input r w run)
-    (s : Standing program frames addresses pages calls c r w base (r RETURN_ADDRESS) (suc (length c.frames)) c.active.slots) where
+    (now : At program well frames fit code formed addresses pages calls few (instruction_line program frames c.active.function c.active.next) c.output c.input r w run)
+    (s : Standing program frames addresses pages calls c r w base (r RETURN_ADDRESS) (suc (length c.frames)) c.active.slots)
+    (caches : Caches program frames c.active.function c.active.next r c.active.slots) where
   abbrev here : ℕ
-  here = instruction_line program c.active.function c.active.next
+  here = instruction_line program frames c.active.function c.active.next
 
   abbrev frame : Frame
   frame = frame_at frames c.active.function
@@ -176,12 +204,11 @@ module _ (program : Program) (well : IsWellFormed program) (frames : List Frame)
   abbrev word_in : Operand → ℕ
   word_in o = operand_word c.active.slots o
 
-  held : (o : Operand) → IsThere o → IsHeld globals_length (words_per_call * calls) frame (r FRAME) w c.active.slots o
-  held (operands.Slot number) (below, fits) = (
-    slot_cell program well frames fit addresses pages calls few c r w base (r RETURN_ADDRESS) (suc (length c.frames)) c.active.slots s number below,
-    slot_word_is program well frames fit addresses pages calls few c r w base (r RETURN_ADDRESS) (suc (length c.frames)) c.active.slots s number below,
-  )
-  held (operands.Word word) (below, fits) = fits
+  abbrev Held : Operand → Type 0
+  Held o = IsHeld globals_length (words_per_call * calls) frame (r FRAME) w r c.active.slots o
+
+  homes_right : AreHomes program (routine_at program c.active.function) (frame_at frames c.active.function).homes
+  homes_right = fit.homes c.active.function s.known
 
   -- ---- what a request takes
 
@@ -193,11 +220,12 @@ module _ (program : Program) (well : IsWellFormed program) (frames : List Frame)
     pub result : (operand : Operand) → o ≡ Some operand → after_r is q m register ≡ word_in operand
 
   has_argument : (register : ℕ) → IsWritable (register % 32) → register % 32 ≡ register → (o : Option Operand) → IsArgument (routine_at program c.active.function) o → IsArgumentOfWord o
-      → (q : Words) (m : Contents) → q 0 ≡ 0 → q FRAME ≡ r FRAME → m ≡ w → HasArgument (argument_code frame register o) register o q m
-  has_argument register writable is None there fits q m zero same memory =
+      → ((operand : Operand) → o ≡ Some operand → IsThere operand → Held operand)
+      → (q : Words) (m : Contents) → q 0 ≡ 0 → q FRAME ≡ r FRAME → m ≡ w → ValuesSame q r → HasArgument (argument_code frame register o) register o q m
+  has_argument register writable is None there fits holds q m zero same memory values =
       record { safe = tt; memory = refl; others = λ n below other. refl; result = λ operand e. absurd (let none : None ≡ Some operand = e in cc) }
-  has_argument register writable is (Some operand) there fits q m zero same memory =
-      let puts = load_puts globals_length (words_per_call * calls) frame (r FRAME) w c.active.slots q m zero same memory register writable operand (held operand (there, fits)) in
+  has_argument register writable is (Some operand) there fits holds q m zero same memory values =
+      let puts = load_puts globals_length (words_per_call * calls) frame (r FRAME) w r c.active.slots q m zero same memory values register writable operand (holds operand refl (there, fits)) in
       record {
         safe = puts.safe;
         memory = puts.memory;
@@ -246,8 +274,27 @@ module _ (program : Program) (well : IsWellFormed program) (frames : List Frame)
     stored_few : length (counts ++ answers) ≡ regions_count request + answer_count request
     stored_few = omega (arith, length-append counts answers, length_regions request, length_answer frame request)
 
+    -- its operands are what it needs
+    first_used : (one : Request) (operand : Operand) (slot : ℕ) → first_operand one ≡ Some operand → is_slot operand slot ≡ true → request_reads one slot ≡ true
+    first_used (requests.OpenLexical destination) operand slot some is_it = absurd (let e : None ≡ Some operand = some in cc)
+    first_used (requests.CloseTo mark) operand slot some is_it = ap (λ (o : Operand). is_slot o slot) (same_some some) ∙ is_it
+    first_used (requests.OpenDynamic destination) operand slot some is_it = absurd (let e : None ≡ Some operand = some in cc)
+    first_used (requests.CloseDynamic handle) operand slot some is_it = ap (λ (o : Operand). is_slot o slot) (same_some some) ∙ is_it
+    first_used (requests.Allocate destination handle words) operand slot some is_it = or_left (is_slot handle slot) (is_slot words slot) (ap (λ (o : Operand). is_slot o slot) (same_some some) ∙ is_it)
+    first_used (requests.Free address) operand slot some is_it = ap (λ (o : Operand). is_slot o slot) (same_some some) ∙ is_it
+
+    second_used : (one : Request) (operand : Operand) (slot : ℕ) → second_operand one ≡ Some operand → is_slot operand slot ≡ true → request_reads one slot ≡ true
+    second_used (requests.OpenLexical destination) operand slot some is_it = absurd (let e : None ≡ Some operand = some in cc)
+    second_used (requests.CloseTo mark) operand slot some is_it = absurd (let e : None ≡ Some operand = some in cc)
+    second_used (requests.OpenDynamic destination) operand slot some is_it = absurd (let e : None ≡ Some operand = some in cc)
+    second_used (requests.CloseDynamic handle) operand slot some is_it = absurd (let e : None ≡ Some operand = some in cc)
+    second_used (requests.Allocate destination handle words) operand slot some is_it = or_right (is_slot handle slot) (is_slot words slot) (ap (λ (o : Operand). is_slot o slot) (same_some some) ∙ is_it)
+    second_used (requests.Free address) operand slot some is_it = absurd (let e : None ≡ Some operand = some in cc)
+
     first : HasArgument is ARGUMENT (first_operand request) r w
-    first = has_argument ARGUMENT refl refl (first_operand request) in_range.first_in_range fits.0 r w s.zero_is refl refl
+    first = has_argument ARGUMENT refl refl (first_operand request) in_range.first_in_range fits.0
+        (λ operand some there. operand_held program well frames fit code formed addresses pages calls few c run r w base now s caches (plain.Ask request) at_i operand (λ slot is_it. first_used request operand slot some is_it) there)
+        r w s.zero_is refl refl (λ n low high. refl)
 
     abbrev q : Words
     q = after_r is r w
@@ -257,8 +304,11 @@ module _ (program : Program) (well : IsWellFormed program) (frames : List Frame)
 
     second : HasArgument js SECOND_ARGUMENT (second_operand request) q v
     second =
-        has_argument SECOND_ARGUMENT refl refl (second_operand request) in_range.second_in_range fits.1 q v
+        has_argument SECOND_ARGUMENT refl refl (second_operand request) in_range.second_in_range fits.1
+        (λ operand some there. operand_held program well frames fit code formed addresses pages calls few c run r w base now s caches (plain.Ask request) at_i operand (λ slot is_it. second_used request operand slot some is_it) there)
+        q v
         (first.others 0 (omega arith) (λ e. absurd (omega (arith, e))) ∙ s.zero_is) (first.others FRAME (omega arith) (λ e. absurd (omega (arith, e)))) first.memory
+        (λ n low high. first.others n (omega (arith, high)) (λ e. absurd (omega (arith, e, low))))
 
     abbrev p : Words
     p = after_r js q v
@@ -372,6 +422,10 @@ module _ (program : Program) (well : IsWellFormed program) (frames : List Frame)
       back_kept : final RETURN_ADDRESS ≡ r RETURN_ADDRESS
       back_kept = final_keeps RETURN_ADDRESS (omega arith) (λ e. absurd (omega (arith, e))) (λ e. absurd (omega (arith, e))) (λ e. absurd (omega (arith, e))) (λ e. absurd (omega (arith, e))) (λ e. absurd (omega (arith, e)))
 
+      values_kept : ValuesSame final r
+      values_kept n low high =
+          final_keeps n (omega (arith, high)) (λ e. absurd (omega (arith, e, low))) (λ e. absurd (omega (arith, e, low))) (λ e. absurd (omega (arith, e, low))) (λ e. absurd (omega (arith, e, low))) (λ e. absurd (omega (arith, e, high)))
+
       laid : IsLaid pages (served c.store call chosen)
       laid = served_laid pages c.store call chosen free allowed s.laid
 
@@ -417,8 +471,8 @@ module _ (program : Program) (well : IsWellFormed program) (frames : List Frame)
       block_memory : after_w (counts ++ answers) answered w1 ≡ m
       block_memory = after_w-append counts answers answered w1 ∙ ap (after_w answers final) (regions_memory request answered w1)
 
-      line_is : called + 1 + length (counts ++ answers) ≡ instruction_line program c.active.function (c.active.next + 1)
-      line_is = omega (arith, line_next program c.active.function c.active.next (plain.Ask request) at_i, long, more, stored_few)
+      line_is : called + 1 + length (counts ++ answers) ≡ instruction_line program frames c.active.function (c.active.next + 1)
+      line_is = omega (arith, line_next program frames c.active.function c.active.next (plain.Ask request) at_i, long, more, stored_few)
 
       reaches : (d : labelled.Configuration) → At program well frames fit code formed addresses pages calls few (called + 1 + length (counts ++ answers)) c.output c.input (after_r (counts ++ answers) answered w1) (after_w (counts ++ answers) answered w1) d
           → Reached program well frames fit code formed addresses pages calls few c (Running d)
@@ -431,9 +485,14 @@ module _ (program : Program) (well : IsWellFormed program) (frames : List Frame)
             w = m;
             base = base;
             is = refl;
-            now = now_at code formed addresses globals_length (words_per_call * calls) (called + 1 + length (counts ++ answers)) (instruction_line program c.active.function (c.active.next + 1)) c.output c.input final m d line_is
+            now = now_at code formed addresses globals_length (words_per_call * calls) (called + 1 + length (counts ++ answers)) (instruction_line program frames c.active.function (c.active.next + 1)) c.output c.input final m d line_is
                 (now_is code formed addresses globals_length (words_per_call * calls) (called + 1 + length (counts ++ answers)) c.output c.input (after_r (counts ++ answers) answered w1) (after_w (counts ++ answers) answered w1) final m d block_registers block_memory later);
             standing = ends_at;
+            caches =
+                caches_past program frames c.active.function homes_right c.active.next (c.active.next + 1) r final c.active.slots next.active.slots (plain.Ask request) at_i (next_led c.active.next)
+                (λ slot k has. unbarred program frames c.active.function homes_right c.active.next slot k (plain.Ask request) at_i has)
+                (λ slot k has. told_apart request c.store c.active.slots chosen slot (unbarred program frames c.active.function homes_right c.active.next slot k (plain.Ask request) at_i has))
+                values_kept caches;
           }))
 
     served_goes : refusal c.store call ≡ None → Goes 1 here hi (Running run)

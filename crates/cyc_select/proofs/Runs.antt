@@ -30,22 +30,23 @@ use Rattle.cyc_plain.proofs.Placed.{holds_at, routine_in, below_of_get}
 use Rattle.cyc_plain.proofs.RunLaws.{limited-within, zeros, zeros_allowed, zeros_at, stuck_within}
 use Rattle.cyc_plain.proofs.Steps.{function_known}
 use Rattle.cyc_frame.specs.Layout.{AreFrames, frame_at}
-use Rattle.cyc_frame.specs.declared.frame.Frame.{Frame}
+use Rattle.cyc_frame.specs.Frame.{Frame}
 use Rattle.cyc_select.specs.Labelled.{Labelled, IsFormed, AreAddresses}
 use Rattle.cyc_select.specs.Machine as labelled
 use Rattle.cyc_select.specs.Machine.{State, Running, Ended, IsReturnPoint, machine}
 use Rattle.cyc_select.specs.declared.constants.TheConstants.{HANDLERS}
 use Rattle.cyc_select.specs.declared.code.Line.{Line}
 use Rattle.cyc_select.specs.declared.code.Line.TheVariants as lines
-use Rattle.cyc_select.specs.Selection.{recorded_code, caught_code, opened_code, body, behind, body_count, behind_count, load_count, ordinary, calling_code, divide_code, plan_code, plan_count, is_tested, part_of, count_of, operator_count, function_line, instruction_line}
+use Rattle.cyc_select.specs.Selection.{reload_count, recorded_code, caught_code, opened_code, body, behind, body_count, behind_count, ordinary, calling_code, function_line, divide_code, divide_count, plan_code, plan_count, is_tested, part_of, count_of, operator_count, instruction_line}
 use Rattle.cyc_select.proofs.Lines.{line_next}
 use Rattle.cyc_select.specs.Numbers.{is_plain_divisor}
 use Rattle.cyc_select.specs.Plans.{binary_plan}
 use Rattle.cyc_select.proofs.Halves.{divisor_is}
 use Rattle.cyc_select.proofs.Operations.{negated_quotient, negated_remainder}
 use Rattle.cyc_select.proofs.Plans.{multiply_divide_result}
+use Rattle.cyc_select.proofs.Values.{Caches}
 use Rattle.cyc_select.proofs.Views.{Contents}
-use Rattle.cyc_select.proofs.Walks.{Stands, stands_front, stands_back, Rises, rising_distinct, rising_inside, comes_map, Quiet, Walk}
+use Rattle.cyc_select.proofs.Walks.{Stands, stands_front, stands_back, stands_until, Rises, rising_distinct, rising_inside, comes_map, Quiet, Walk}
 use Rattle.cyc_select.proofs.Standing.{IsNewest, Standing, behind_line}
 use Rattle.cyc_select.proofs.Matches.{At, Ready, Matches, Reached}
 use Rattle.cyc_select.proofs.Simple.{address_goes, move_goes, unary_goes, binary_goes, divide_goes, jump_goes, branch_goes, read_goes, write_goes, load_global_goes, count_lexical_goes, store_global_goes, uncaught_goes}
@@ -58,62 +59,62 @@ use Rattle.cyc_select.proofs.Returns.{return_goes, behind_goes}
 -- ---- the lines of each place
 
 -- the lines behind a call belong to the next place
-abbrev pub behind_of : Program → Option Instruction → ℕ
-behind_of program (Some i) = behind_count program i
-behind_of program None = 0
+abbrev pub behind_of : Program → List Frame → (function : ℕ) → Option Instruction → ℕ
+behind_of program frames function (Some i) = behind_count program frames function i
+behind_of program frames function None = 0
 
-abbrev pub previous_count : Program → List Instruction → (index : ℕ) → ℕ
-previous_count program code zero = 0
-previous_count program code (suc index) = behind_of program (slice_get code index)
+abbrev pub previous_count : Program → List Frame → (function : ℕ) → List Instruction → (index : ℕ) → ℕ
+previous_count program frames function code zero = 0
+previous_count program frames function code (suc index) = behind_of program frames function (slice_get code index)
 
-abbrev pub body_of : Program → (function : ℕ) → Option Instruction → ℕ
-body_of program function (Some i) = body_count program function i
-body_of program function None = 0
+abbrev pub body_of : Program → List Frame → (function : ℕ) → Option Instruction → ℕ
+body_of program frames function (Some i) = body_count program frames function i
+body_of program frames function None = 0
 
-abbrev pub own_of : Program → CodePlace → List ℕ
-own_of program place =
+abbrev pub own_of : Program → List Frame → CodePlace → List ℕ
+own_of program frames place =
     let code = (routine_at program place.function).code in
     range_with_len
-    (instruction_line program place.function place.index - previous_count program code place.index)
-    (previous_count program code place.index + body_of program place.function (slice_get code place.index))
+    (instruction_line program frames place.function place.index - previous_count program frames place.function code place.index)
+    (previous_count program frames place.function code place.index + body_of program frames place.function (slice_get code place.index))
 
 -- the lines before a place are there
-pub previous_fits : (program : Program) (function index : ℕ) → previous_count program (routine_at program function).code index ≤ instruction_line program function index
-previous_fits program function zero = omega arith
-previous_fits program function (suc index) = go (slice_get (routine_at program function).code index) refl
+pub previous_fits : (program : Program) (frames : List Frame) (function index : ℕ) → previous_count program frames function (routine_at program function).code index ≤ instruction_line program frames function index
+previous_fits program frames function zero = omega arith
+previous_fits program frames function (suc index) = go (slice_get (routine_at program function).code index) refl
   where
-    go : (o : Option Instruction) → slice_get (routine_at program function).code index ≡ o → behind_of program o ≤ instruction_line program function (suc index)
+    go : (o : Option Instruction) → slice_get (routine_at program function).code index ≡ o → behind_of program frames function o ≤ instruction_line program frames function (suc index)
     go (Some i) at =
-        let e = line_next program function index i at in
+        let e = line_next program frames function index i at in
         let one : index + 1 ≡ suc index = omega arith in
-        omega (arith, e, ap (instruction_line program function) one)
+        omega (arith, e, ap (instruction_line program frames function) one)
     go None at = omega arith
 
 module _ (program : Program) (well : IsWellFormed program) (words : HasWords program) (frames : List Frame) (fit : AreFrames program frames) (code : Labelled) (formed : IsFormed code) (addresses : ℕ → ℕ) (lie : AreAddresses code addresses)
     (pages calls : ℕ) (few : calls ≤ 4096)
     (stand : (function index : ℕ) (i : Instruction) → instruction_at program (record { function = function; index = index }) ≡ Some i
-    → Stands code (instruction_line program function index) (body program frames function (instruction_line program function index) i ++ behind program frames function i))
-    (long : (function line : ℕ) (i : Instruction) → length (body program frames function line i) ≡ body_count program function i) where
+    → Stands code (instruction_line program frames function index) (body program frames function (instruction_line program frames function index) i ++ behind program frames function i))
+    (long : (function line : ℕ) (i : Instruction) → length (body program frames function line i) ≡ body_count program frames function i) where
   -- the lines behind a call stand where it returns to
   behind_stands : (function index callee arguments count result : ℕ) → instruction_at program (record { function = function; index = index }) ≡ Some (plain.Call callee arguments count result)
-      → Stands code (behind_line program function index callee arguments count result) (behind program frames function (plain.Call callee arguments count result))
+      → Stands code (behind_line program frames function index callee arguments count result) (behind program frames function (plain.Call callee arguments count result))
   behind_stands function index callee arguments count result at =
-      let line : ℕ = instruction_line program function index in
+      let line : ℕ = instruction_line program frames function index in
       let i : Instruction = plain.Call callee arguments count result in
-      subst (λ (n : ℕ). Stands code (instruction_line program function index + n) (behind program frames function (plain.Call callee arguments count result))) (long function line i)
+      subst (λ (n : ℕ). Stands code (instruction_line program frames function index + n) (behind program frames function (plain.Call callee arguments count result))) (long function line i)
       (stands_back code line (body program frames function line i) (behind program frames function i) (stand function index i at))
 
   returns_to : (function index callee arguments count result : ℕ) → instruction_at program (record { function = function; index = index }) ≡ Some (plain.Call callee arguments count result)
-      → IsReturnPoint code (behind_line program function index callee arguments count result)
+      → IsReturnPoint code (behind_line program frames function index callee arguments count result)
   returns_to function index callee arguments count result at =
-      let line : ℕ = instruction_line program function index in
-      let calling : List Line = calling_code (frame_at frames function) (frame_at frames callee) line (function_line program callee) arguments count in
+      let line : ℕ = instruction_line program frames function index in
+      let calling : List Line = calling_code (frame_at frames function) (frame_at frames callee) line (function_line program frames callee) arguments count in
       record {
         inside = below_of_get code.lines _ _ (behind_stands function index callee arguments count result at).0;
         call = line + 6 + 2 * count;
-        label = function_line program callee;
+        label = function_line program frames callee;
         behind = omega arith;
-        calls = call_last code (frame_at frames function) (frame_at frames callee) line (function_line program callee) arguments count
+        calls = call_last code (frame_at frames function) (frame_at frames callee) line (function_line program frames callee) arguments count
             (stands_front code line calling (behind program frames function (plain.Call callee arguments count result)) (stand function index (plain.Call callee arguments count result) at));
       }
 
@@ -132,27 +133,30 @@ module _ (program : Program) (well : IsWellFormed program) (words : HasWords pro
 
   -- where an exception comes to a handler
   caught_stands : (function index first handler : ℕ) → instruction_at program (record { function = function; index = index }) ≡ Some (plain.Try first handler)
-      → Stands code (instruction_line program function index + 5) (ordinary (caught_code (frame_at frames function) first) ++ lines.Jump (instruction_line program function handler) ∷ [])
+      → Stands code (instruction_line program frames function index + 5) (ordinary (caught_code (frame_at frames function) first) ++ lines.Jump (instruction_line program frames function handler) ∷ [])
   caught_stands function index first handler at =
-      let line : ℕ = instruction_line program function index in
-      let between : List Line = ordinary (caught_code (frame_at frames function) first) ++ lines.Jump (instruction_line program function handler) ∷ [] in
-      let rest : List Line = lines.Call (line + 9) ∷ between ++ ordinary (opened_code (frame_at frames function) first) in
+      let line : ℕ = instruction_line program frames function index in
+      let jump : Line = lines.Jump (instruction_line program frames function handler) in
+      let caught : List Line = ordinary (caught_code (frame_at frames function) first) in
+      let opened : List Line = ordinary (opened_code (frame_at frames function) first) in
+      let rest : List Line = lines.Call (line + 9 + reload_count (frame_at frames function)) ∷ (caught ++ jump ∷ opened) in
       let whole = stands_front code line (body program frames function line (plain.Try first handler)) [] (stand function index (plain.Try first handler) at) in
-      subst (λ (n : ℕ). Stands code n (ordinary (caught_code (frame_at frames function) first) ++ lines.Jump (instruction_line program function handler) ∷ []))
+      subst (λ (n : ℕ). Stands code n (ordinary (caught_code (frame_at frames function) first) ++ lines.Jump (instruction_line program frames function handler) ∷ []))
       (let e : line + 4 + 1 ≡ line + 5 = omega arith in e)
-      (stands_front code (line + 4 + 1) between (ordinary (opened_code (frame_at frames function) first)) (stands_back code line (ordinary (recorded_code (frame_at frames function) first)) rest whole).1)
+      (stands_until code (line + 4 + 1) caught jump opened (stands_back code line (ordinary (recorded_code (frame_at frames function) first)) rest whole).1)
 
   lands_at : (function index first handler : ℕ) → instruction_at program (record { function = function; index = index }) ≡ Some (plain.Try first handler)
-      → IsReturnPoint code (instruction_line program function index + 5)
+      → IsReturnPoint code (instruction_line program frames function index + 5)
   lands_at function index first handler at =
-      let line : ℕ = instruction_line program function index in
-      let between : List Line = ordinary (caught_code (frame_at frames function) first) ++ lines.Jump (instruction_line program function handler) ∷ [] in
-      let rest : List Line = lines.Call (line + 9) ∷ between ++ ordinary (opened_code (frame_at frames function) first) in
+      let line : ℕ = instruction_line program frames function index in
+      let caught : List Line = ordinary (caught_code (frame_at frames function) first) in
+      let opened : List Line = ordinary (opened_code (frame_at frames function) first) in
+      let rest : List Line = lines.Call (line + 9 + reload_count (frame_at frames function)) ∷ (caught ++ lines.Jump (instruction_line program frames function handler) ∷ opened) in
       let whole = stands_front code line (body program frames function line (plain.Try first handler)) [] (stand function index (plain.Try first handler) at) in
       record {
         inside = below_of_get code.lines _ _ (caught_stands function index first handler at).0;
         call = line + 4;
-        label = line + 9;
+        label = line + 9 + reload_count (frame_at frames function);
         behind = omega arith;
         calls = (stands_back code line (ordinary (recorded_code (frame_at frames function) first)) rest whole).0;
       }
@@ -182,10 +186,11 @@ module _ (program : Program) (well : IsWellFormed program) (words : HasWords pro
       ∙ ap (λ (b : Bool). if b then states.Stuck c.output c.input else gives c destination (binary_result operator (operand_word c.active.slots left) (operand_word c.active.slots right))) (none (operand_word c.active.slots right) is_zero))
 
   module _ (c : Configuration) (never : Never c) (run : labelled.Configuration) (r : Words) (w : Contents) (base : ℕ)
-      (now : At program well frames fit code formed addresses pages calls few (instruction_line program c.active.function c.active.next) c.output c.input r w run)
-      (s : Standing program frames addresses pages calls c r w base (r RETURN_ADDRESS) (suc (length c.frames)) c.active.slots) where
+      (now : At program well frames fit code formed addresses pages calls few (instruction_line program frames c.active.function c.active.next) c.output c.input r w run)
+      (s : Standing program frames addresses pages calls c r w base (r RETURN_ADDRESS) (suc (length c.frames)) c.active.slots)
+      (caches : Caches program frames c.active.function c.active.next r c.active.slots) where
     abbrev here : ℕ
-    here = instruction_line program c.active.function c.active.next
+    here = instruction_line program frames c.active.function c.active.next
 
     abbrev Goes : ℕ → Type 0
     Goes count = Walk code formed addresses globals_length (words_per_call * calls) 1 here (here + count) c.output (Reached program well frames fit code formed addresses pages calls few c) (Running run)
@@ -206,18 +211,18 @@ module _ (program : Program) (well : IsWellFormed program) (words : HasWords pro
     quotient_goes : (operator : BinaryOperator) (which : MoveFromOp) (destination : ℕ) (left right : Operand) → IsAt (plain.Binary operator destination left right) → destination < slots → IsThere left → IsThere right
         → ((b : ℕ) → b ≡ 0 → has_no_result operator b ≡ true) → ((b : ℕ) → b ≢ 0 → has_no_result operator b ≡ false)
         → ((a b : ℕ) → binary_result operator a b ≡ multiply_divide_result Divide which a b) → ((a : ℕ) → IsWord a → multiply_divide_result Divide which (sub_of 0 a) 1 ≡ multiply_divide_result Divide which a (2 ^ 32 - 1))
-        → count_of program c.active.function (plain.Binary operator destination left right) ≡ load_count left + load_count right + 7
-        → Stands code here (divide_code (frame_at frames c.active.function) here which destination left right) → Goes (load_count left + load_count right + 7)
+        → count_of program frames c.active.function (plain.Binary operator destination left right) ≡ divide_count (frame_at frames c.active.function) destination left right
+        → Stands code here (divide_code (frame_at frames c.active.function) here which destination left right) → Goes (divide_count (frame_at frames c.active.function) destination left right)
     quotient_goes operator which destination left right at below l t none some result negated counted stands =
         let nonzero = divides c never operator destination left right at none in
-        divide_goes program well frames fit code formed addresses pages calls few c run r w base now s operator which destination left right at below l t
+        divide_goes program well frames fit code formed addresses pages calls few c run r w base now s caches operator which destination left right at below l t
         (ap (λ (x : Bool). if x then states.Stuck c.output c.input else gives c destination (binary_result operator (operand_word c.active.slots left) (operand_word c.active.slots right))) (some (operand_word c.active.slots right) nonzero)
         ∙ ap (λ (x : ℕ). gives c destination x) (result (operand_word c.active.slots left) (operand_word c.active.slots right)))
         nonzero counted negated stands
 
     tested_goes : (operator : BinaryOperator) (destination : ℕ) (left right : Operand) → IsAt (plain.Binary operator destination left right) → destination < slots → IsThere left → IsThere right → is_tested operator right ≡ true
-        → count_of program c.active.function (plain.Binary operator destination left right) ≡ load_count left + load_count right + 7
-        → Stands code here (divide_code (frame_at frames c.active.function) here (part_of operator) destination left right) → Goes (load_count left + load_count right + 7)
+        → count_of program frames c.active.function (plain.Binary operator destination left right) ≡ divide_count (frame_at frames c.active.function) destination left right
+        → Stands code here (divide_code (frame_at frames c.active.function) here (part_of operator) destination left right) → Goes (divide_count (frame_at frames c.active.function) destination left right)
     tested_goes binary.Divide d l t at a b e tested counted stands =
         quotient_goes binary.Divide Low d l t at a b e (λ n is_zero. eq-eqb n 0 is_zero) (λ n other. ne_eqb n 0 other) (λ x y. refl) negated_quotient counted stands
     tested_goes binary.Remainder d l t at a b e tested counted stands =
@@ -235,19 +240,19 @@ module _ (program : Program) (well : IsWellFormed program) (words : HasWords pro
     has_result operator right fine = refl
 
     operator_goes : (operator : BinaryOperator) (destination : ℕ) (left right : Operand) → IsAt (plain.Binary operator destination left right) → destination < slots → IsThere left → IsThere right
-        → StandsHere (plain.Binary operator destination left right) → Goes (operator_count operator left right)
+        → StandsHere (plain.Binary operator destination left right) → Goes (operator_count (frame_at frames c.active.function) operator destination left right)
     operator_goes operator d l t at a b e stands = go (is_tested operator t) refl stands (omega arith)
       where
         go : (tested : Bool) → is_tested operator t ≡ tested
             → Stands code here (if tested then divide_code (frame_at frames c.active.function) here (part_of operator) d l t else ordinary (plan_code (frame_at frames c.active.function) (binary_plan operator l t) d))
-            → count_of program c.active.function (plain.Binary operator d l t) ≡ (if is_tested operator t then load_count l + load_count t + 7 else plan_count (binary_plan operator l t))
-            → Goes (if tested then load_count l + load_count t + 7 else plan_count (binary_plan operator l t))
+            → count_of program frames c.active.function (plain.Binary operator d l t) ≡ (if is_tested operator t then divide_count (frame_at frames c.active.function) d l t else plan_count (frame_at frames c.active.function) (binary_plan operator l t) d)
+            → Goes (if tested then divide_count (frame_at frames c.active.function) d l t else plan_count (frame_at frames c.active.function) (binary_plan operator l t) d)
         go true tested stands counted =
-            tested_goes operator d l t at a b e tested (counted ∙ ap (λ (x : Bool). if x then load_count l + load_count t + 7 else plan_count (binary_plan operator l t)) tested) stands
+            tested_goes operator d l t at a b e tested (counted ∙ ap (λ (x : Bool). if x then divide_count (frame_at frames c.active.function) d l t else plan_count (frame_at frames c.active.function) (binary_plan operator l t) d) tested) stands
         go false tested stands counted =
-            binary_goes program well frames fit code formed addresses pages calls few c run r w base now s operator d l t at a b e tested
+            binary_goes program well frames fit code formed addresses pages calls few c run r w base now s caches operator d l t at a b e tested
             (ap (λ (x : Bool). if x then states.Stuck c.output c.input else gives c d (binary_result operator (operand_word c.active.slots l) (operand_word c.active.slots t))) (has_result operator t tested))
-            (counted ∙ ap (λ (x : Bool). if x then load_count l + load_count t + 7 else plan_count (binary_plan operator l t)) tested) stands
+            (counted ∙ ap (λ (x : Bool). if x then divide_count (frame_at frames c.active.function) d l t else plan_count (frame_at frames c.active.function) (binary_plan operator l t) d) tested) stands
 
     stops_not : (i : Instruction) → IsAt i → IsAllowed program (states.Running c) zeros → performed program zeros c i ≡ states.Stuck c.output c.input → ⊥
     stops_not i at allowed stops = stuck_not c never allowed (ap (executed program zeros c) at ∙ stops)
@@ -264,45 +269,45 @@ module _ (program : Program) (well : IsWellFormed program) (words : HasWords pro
             absurd (let e : true ≡ false = holds_at (λ (i : Instruction). is_return i ≡ false) (routine_at program c.active.function).code c.active.next (plain.Return value) none at in cc)
 
     finish_goes : (value : ℕ) → IsAt (plain.Finish value) → IsInRange program (routine_at program c.active.function) (plain.Finish value) → StandsHere (plain.Finish value) → (handlers : List states.Handler) → c.active.handlers ≡ handlers
-        → Goes (body_count program c.active.function (plain.Finish value))
+        → Goes (body_count program frames c.active.function (plain.Finish value))
     finish_goes value at in_range stands [] none =
-        return_goes program well frames fit code formed addresses pages calls few lie c run r w base now s (plain.Finish value) value at refl
+        return_goes program well frames fit code formed addresses pages calls few lie c run r w base now s caches (plain.Finish value) value at refl (λ slot is. is)
         (ap (finishes c value (routine_at program c.active.function).results) none) none in_range returns_to stands
     finish_goes value at in_range stands (h ∷ handlers) some =
         absurd (stops_not (plain.Finish value) at (zeros_at program c (plain.Finish value) at refl) (ap (finishes c value (routine_at program c.active.function).results) some))
 
-    instruction_goes : (i : Instruction) → IsAt i → IsInRange program (routine_at program c.active.function) i → HasWord i → StandsHere i → Goes (body_count program c.active.function i)
-    instruction_goes (plain.Move destination source) at (a, b) fits stands = move_goes program well frames fit code formed addresses pages calls few c run r w base now s destination source at a (b, fits) stands
-    instruction_goes (plain.Unary operator destination operand) at (a, b) fits stands = unary_goes program well frames fit code formed addresses pages calls few c run r w base now s operator destination operand at a (b, fits) stands
+    instruction_goes : (i : Instruction) → IsAt i → IsInRange program (routine_at program c.active.function) i → HasWord i → StandsHere i → Goes (body_count program frames c.active.function i)
+    instruction_goes (plain.Move destination source) at (a, b) fits stands = move_goes program well frames fit code formed addresses pages calls few c run r w base now s caches destination source at a (b, fits) stands
+    instruction_goes (plain.Unary operator destination operand) at (a, b) fits stands = unary_goes program well frames fit code formed addresses pages calls few c run r w base now s caches operator destination operand at a (b, fits) stands
     instruction_goes (plain.Binary operator destination left right) at (a, b, e) (fits, also) stands = operator_goes operator destination left right at a (b, fits) (e, also) stands
-    instruction_goes (plain.Jump target) at below fits stands = jump_goes program well frames fit code formed addresses pages calls few c run r w base now s target at stands
-    instruction_goes (plain.Branch comparison left right target) at (a, b, below) (fits, also) stands = branch_goes program well frames fit code formed addresses pages calls few c run r w base now s comparison left right target at (a, fits) (b, also) stands
+    instruction_goes (plain.Jump target) at below fits stands = jump_goes program well frames fit code formed addresses pages calls few c run r w base now s caches target at stands
+    instruction_goes (plain.Branch comparison left right target) at (a, b, below) (fits, also) stands = branch_goes program well frames fit code formed addresses pages calls few c run r w base now s caches comparison left right target at (a, fits) (b, also) stands
     instruction_goes (plain.Call callee arguments count result) at in_range fits stands =
         call_goes program well frames fit code formed addresses pages calls few lie c run r w base now s callee arguments count result at in_range (returns_to c.active.function c.active.next callee arguments count result at).inside stands
     instruction_goes (plain.Return value) at in_range fits stands =
-        return_goes program well frames fit code formed addresses pages calls few lie c run r w base now s (plain.Return value) value at refl refl (none_open at) in_range returns_to stands
-    instruction_goes (plain.ReadByte destination) at below fits stands = read_goes program well frames fit code formed addresses pages calls few c run r w base now s destination at below stands
-    instruction_goes (plain.WriteByte source) at below fits stands = write_goes program well frames fit code formed addresses pages calls few c run r w base now s source at (below, fits) stands
+        return_goes program well frames fit code formed addresses pages calls few lie c run r w base now s caches (plain.Return value) value at refl (λ slot is. is) refl (none_open at) in_range returns_to stands
+    instruction_goes (plain.ReadByte destination) at below fits stands = read_goes program well frames fit code formed addresses pages calls few c run r w base now s caches destination at below stands
+    instruction_goes (plain.WriteByte source) at below fits stands = write_goes program well frames fit code formed addresses pages calls few c run r w base now s caches source at (below, fits) stands
     instruction_goes (plain.AddressOf destination slot count) at (a, some, named) fits stands =
-        address_goes program well frames fit code formed addresses pages calls few c run r w base now s destination slot count at a (omega (arith, some, named)) stands
-    instruction_goes (plain.LoadGlobal destination global) at (a, b) fits stands = load_global_goes program well frames fit code formed addresses pages calls few c run r w base now s destination global at a b stands
-    instruction_goes (plain.StoreGlobal global source) at (a, b) fits stands = store_global_goes program well frames fit code formed addresses pages calls few c run r w base now s global source at a (b, fits) stands
-    instruction_goes (plain.MoveWords destination source count) at in_range fits stands = move_words_goes program well frames fit code formed addresses pages calls few c run r w base now s destination source count at in_range stands
+        address_goes program well frames fit code formed addresses pages calls few c run r w base now s caches destination slot count at a (omega (arith, some, named)) stands
+    instruction_goes (plain.LoadGlobal destination global) at (a, b) fits stands = load_global_goes program well frames fit code formed addresses pages calls few c run r w base now s caches destination global at a b stands
+    instruction_goes (plain.StoreGlobal global source) at (a, b) fits stands = store_global_goes program well frames fit code formed addresses pages calls few c run r w base now s caches global source at a (b, fits) stands
+    instruction_goes (plain.MoveWords destination source count) at in_range fits stands = move_words_goes program well frames fit code formed addresses pages calls few c run r w base now s caches destination source count at in_range stands
     instruction_goes (plain.Load destination address offset) at (a, b) (fits, near) stands =
-        load_goes program well frames fit code formed addresses pages calls few c run r w base now s destination address offset at a (b, fits) near (stops_not (plain.Load destination address offset) at (zeros_at program c (plain.Load destination address offset) at refl)) stands
+        load_goes program well frames fit code formed addresses pages calls few c run r w base now s caches destination address offset at a (b, fits) near (stops_not (plain.Load destination address offset) at (zeros_at program c (plain.Load destination address offset) at refl)) stands
     instruction_goes (plain.Store address offset source) at (a, b) (fits, near, also) stands =
-        store_goes program well frames fit code formed addresses pages calls few c run r w base now s address offset source at (a, fits) near (b, also) (stops_not (plain.Store address offset source) at (zeros_at program c (plain.Store address offset source) at refl)) stands
+        store_goes program well frames fit code formed addresses pages calls few c run r w base now s caches address offset source at (a, fits) near (b, also) (stops_not (plain.Store address offset source) at (zeros_at program c (plain.Store address offset source) at refl)) stands
     instruction_goes (plain.Ask request) at in_range fits stands =
-        ask_goes program well frames fit code formed addresses pages calls few c run r w base now s request at in_range fits stands
+        ask_goes program well frames fit code formed addresses pages calls few c run r w base now s caches request at in_range fits stands
         (λ stops allowed. stops_not (plain.Ask request) at allowed stops)
-    instruction_goes (plain.CountLexical destination) at below fits stands = count_lexical_goes program well frames fit code formed addresses pages calls few c run r w base now s destination at below stands
-    instruction_goes (plain.Try first handler) at in_range fits stands = try_goes program well frames fit code formed addresses pages calls few lie c range_of lands_at run r w base now s first handler at in_range stands
+    instruction_goes (plain.CountLexical destination) at below fits stands = count_lexical_goes program well frames fit code formed addresses pages calls few c run r w base now s caches destination at below stands
+    instruction_goes (plain.Try first handler) at in_range fits stands = try_goes program well frames fit code formed addresses pages calls few lie c range_of lands_at run r w base now s caches first handler at in_range stands
     instruction_goes (plain.Leave first) at in_range fits stands =
-        leave_goes program well frames fit code formed addresses pages calls few lie c range_of lands_at run r w base now s first at in_range (stops_not (plain.Leave first) at (zeros_at program c (plain.Leave first) at refl)) stands
+        leave_goes program well frames fit code formed addresses pages calls few lie c range_of lands_at run r w base now s caches first at in_range (stops_not (plain.Leave first) at (zeros_at program c (plain.Leave first) at refl)) stands
     instruction_goes (plain.Throw tag value) at (a, b) (fits, also) stands =
-        throw_goes program well frames fit code formed addresses pages calls few lie c range_of lands_at run r w base now s tag value at (a, fits) (b, also) (stops_not (plain.Throw tag value) at (zeros_at program c (plain.Throw tag value) at refl)) stands
+        throw_goes program well frames fit code formed addresses pages calls few lie c range_of lands_at run r w base now s caches tag value at (a, fits) (b, also) (stops_not (plain.Throw tag value) at (zeros_at program c (plain.Throw tag value) at refl)) stands
     instruction_goes (plain.Finish value) at in_range fits stands = finish_goes value at in_range stands c.active.handlers refl
-    instruction_goes (plain.Uncaught tag value) at below (tag_fits, value_fits) stands = uncaught_goes program well frames fit code formed addresses pages calls few c run r w base now s tag value at (below, value_fits) tag_fits stands
+    instruction_goes (plain.Uncaught tag value) at below (tag_fits, value_fits) stands = uncaught_goes program well frames fit code formed addresses pages calls few c run r w base now s caches tag value at (below, value_fits) tag_fits stands
 
   -- ---- a step from a state that matches
 
@@ -328,29 +333,29 @@ module _ (program : Program) (well : IsWellFormed program) (words : HasWords pro
   matching = record {
     Matches = Matches program well frames fit code formed addresses pages calls few;
     weight = λ (s : states.State). 0;
-    own = own_of program;
+    own = own_of program frames;
     outputs = outputs_same;
     endings = endings_same;
   }
 
   -- a walk through own lines is a matched step
-  stepped : (c : Configuration) (t : State) (run : labelled.Configuration) (lo count : ℕ) (i : Instruction) → instruction_at program (states.place_of (states.Running c)) ≡ Some i → count ≡ body_count program c.active.function i
-      → instruction_line program c.active.function c.active.next - previous_count program (routine_at program c.active.function).code c.active.next ≤ lo → t ≡ Running run
-      → Walk code formed addresses globals_length (words_per_call * calls) 1 lo (instruction_line program c.active.function c.active.next + count) c.output (Reached program well frames fit code formed addresses pages calls few c) (Running run)
+  stepped : (c : Configuration) (t : State) (run : labelled.Configuration) (lo count : ℕ) (i : Instruction) → instruction_at program (states.place_of (states.Running c)) ≡ Some i → count ≡ body_count program frames c.active.function i
+      → instruction_line program frames c.active.function c.active.next - previous_count program frames c.active.function (routine_at program c.active.function).code c.active.next ≤ lo → t ≡ Running run
+      → Walk code formed addresses globals_length (words_per_call * calls) 1 lo (instruction_line program frames c.active.function c.active.next + count) c.output (Reached program well frames fit code formed addresses pages calls few c) (Running run)
       → IsStepped above below_machine matching (states.Running c) t
   stepped c t run lo count i at count_is from is walk =
       let function : ℕ = c.active.function in
       let index : ℕ = c.active.next in
-      let previous : ℕ = previous_count program (routine_at program c.active.function).code c.active.next in
-      let here : ℕ = instruction_line program c.active.function c.active.next in
-      let fits = previous_fits program c.active.function c.active.next in
-      let body_is : body_of program c.active.function (slice_get (routine_at program c.active.function).code c.active.next) ≡ count = ap (body_of program c.active.function) at ∙ sym count_is in
-      let top : instruction_line program c.active.function c.active.next + count
-      ≡ instruction_line program c.active.function c.active.next - previous_count program (routine_at program c.active.function).code c.active.next + (previous_count program (routine_at program c.active.function).code c.active.next + body_of program c.active.function (slice_get (routine_at program c.active.function).code c.active.next)) = omega (arith, fits, body_is) in
+      let previous : ℕ = previous_count program frames c.active.function (routine_at program c.active.function).code c.active.next in
+      let here : ℕ = instruction_line program frames c.active.function c.active.next in
+      let fits = previous_fits program frames c.active.function c.active.next in
+      let body_is : body_of program frames c.active.function (slice_get (routine_at program c.active.function).code c.active.next) ≡ count = ap (body_of program frames c.active.function) at ∙ sym count_is in
+      let top : instruction_line program frames c.active.function c.active.next + count
+      ≡ instruction_line program frames c.active.function c.active.next - previous_count program frames c.active.function (routine_at program c.active.function).code c.active.next + (previous_count program frames c.active.function (routine_at program c.active.function).code c.active.next + body_of program frames c.active.function (slice_get (routine_at program c.active.function).code c.active.next)) = omega (arith, fits, body_is) in
       subst (IsStepped above below_machine matching (states.Running c)) (sym is)
       (record {
         places = walk.places;
-        distinct = rising_distinct lo (instruction_line program c.active.function c.active.next + count) walk.places walk.rises;
+        distinct = rising_distinct lo (instruction_line program frames c.active.function c.active.next + count) walk.places walk.rises;
         inside = rising_inside _ _ lo walk.places from (subst (λ (n : ℕ). Rises lo n walk.places) top walk.rises);
         comes = comes_map below_machine (Quiet code formed addresses globals_length (words_per_call * calls) c.output) (Reached program well frames fit code formed addresses pages calls few c)
             (IsOnTheWay above below_machine (states.Running c)) (IsMatchedStep above below_machine matching (states.Running c) walk.places) walk.places (Running run)
@@ -360,36 +365,36 @@ module _ (program : Program) (well : IsWellFormed program) (words : HasWords pro
       })
 
   ready_goes : (c : Configuration) (t : State) → Never c → (ready : Ready program well frames fit code formed addresses pages calls few c t) (i : Instruction) → instruction_at program (states.place_of (states.Running c)) ≡ Some i
-      → Walk code formed addresses globals_length (words_per_call * calls) 1 (instruction_line program c.active.function c.active.next) (instruction_line program c.active.function c.active.next + body_count program c.active.function i) c.output (Reached program well frames fit code formed addresses pages calls few c) (Running ready.run)
+      → Walk code formed addresses globals_length (words_per_call * calls) 1 (instruction_line program frames c.active.function c.active.next) (instruction_line program frames c.active.function c.active.next + body_count program frames c.active.function i) c.output (Reached program well frames fit code formed addresses pages calls few c) (Running ready.run)
   ready_goes c t never ready i at =
-      instruction_goes c never ready.run ready.r ready.w ready.base ready.now ready.standing i at
+      instruction_goes c never ready.run ready.r ready.w ready.base ready.now ready.standing ready.caches i at
       (in_range_of c.active.function c.active.next i at) (word_of_it c.active.function c.active.next i at)
-      (stands_front code (instruction_line program c.active.function c.active.next) (body program frames c.active.function (instruction_line program c.active.function c.active.next) i) (behind program frames c.active.function i) (stand c.active.function c.active.next i at))
+      (stands_front code (instruction_line program frames c.active.function c.active.next) (body program frames c.active.function (instruction_line program frames c.active.function c.active.next) i) (behind program frames c.active.function i) (stand c.active.function c.active.next i at))
 
   -- where the lines behind the call before it begin
   before_it : (function index callee arguments count result next : ℕ) → next ≡ index + 1 → instruction_at program (record { function = function; index = index }) ≡ Some (plain.Call callee arguments count result)
-      → instruction_line program function next - previous_count program (routine_at program function).code next ≤ behind_line program function index callee arguments count result
+      → instruction_line program frames function next - previous_count program frames function (routine_at program function).code next ≤ behind_line program frames function index callee arguments count result
   before_it function index callee arguments count result next is at =
       let one : next ≡ suc index = omega (arith, is) in
-      let e = line_next program function index (plain.Call callee arguments count result) at in
-      let previous : previous_count program (routine_at program function).code next ≡ 2 + (routine_at program callee).results = ap (previous_count program (routine_at program function).code) one ∙ ap (behind_of program) at in
-      omega (arith, previous, e, ap (instruction_line program function) is)
+      let e = line_next program frames function index (plain.Call callee arguments count result) at in
+      let previous : previous_count program frames function (routine_at program function).code next ≡ 2 + (routine_at program callee).results + reload_count (frame_at frames function) = ap (previous_count program frames function (routine_at program function).code) one ∙ ap (behind_of program frames function) at in
+      omega (arith, previous, e, ap (instruction_line program frames function) is)
 
   known_goes : (c : Configuration) (t : State) → Matches program well frames fit code formed addresses pages calls few (states.Running c) t → Never c → (i : Instruction) → instruction_at program (states.place_of (states.Running c)) ≡ Some i
       → IsStepped above below_machine matching (states.Running c) t
   known_goes c t (inl ready) never i at =
-      stepped c t ready.run (instruction_line program c.active.function c.active.next) (body_count program c.active.function i) i at refl (omega arith) ready.is (ready_goes c t never ready i at)
+      stepped c t ready.run (instruction_line program frames c.active.function c.active.next) (body_count program frames c.active.function i) i at refl (omega arith) ready.is (ready_goes c t never ready i at)
   known_goes c t (inr (inr landed)) never i at =
       let place : instruction_at program (states.place_of (states.Running c)) ≡ Some (plain.Try landed.first landed.handler) = landed.opened in
-      stepped c t landed.run (instruction_line program c.active.function c.active.next + 5) 12 (plain.Try landed.first landed.handler) place refl (omega arith) landed.is
+      stepped c t landed.run (instruction_line program frames c.active.function c.active.next + 5) (12 + reload_count (frame_at frames c.active.function)) (plain.Try landed.first landed.handler) place refl (omega arith) landed.is
       (catch_goes program well frames fit code formed addresses pages calls few lie c range_of lands_at t landed (caught_stands c.active.function c.active.next landed.first landed.handler landed.opened))
   known_goes c t (inr (inl back)) never i at =
       let in_range = in_range_of c.active.function back.index (plain.Call back.callee back.arguments back.count back.result) back.call in
-      stepped c t back.run (behind_line program c.active.function back.index back.callee back.arguments back.count back.result) (body_count program c.active.function i) i at refl
+      stepped c t back.run (behind_line program frames c.active.function back.index back.callee back.arguments back.count back.result) (body_count program frames c.active.function i) i at refl
       (before_it c.active.function back.index back.callee back.arguments back.count back.result c.active.next back.next back.call) back.is
       (behind_goes program well frames fit code formed addresses pages calls few c t back (behind_stands c.active.function back.index back.callee back.arguments back.count back.result back.call) in_range.result_in_range (few_results back.callee)
-      1 (instruction_line program c.active.function c.active.next + body_count program c.active.function i) (Reached program well frames fit code formed addresses pages calls few c)
-      (λ u ready. subst (Walk code formed addresses globals_length (words_per_call * calls) 1 (instruction_line program c.active.function c.active.next) (instruction_line program c.active.function c.active.next + body_count program c.active.function i) c.output (Reached program well frames fit code formed addresses pages calls few c)) (sym ready.is)
+      1 (instruction_line program frames c.active.function c.active.next + body_count program frames c.active.function i) (Reached program well frames fit code formed addresses pages calls few c)
+      (λ u ready. subst (Walk code formed addresses globals_length (words_per_call * calls) 1 (instruction_line program frames c.active.function c.active.next) (instruction_line program frames c.active.function c.active.next + body_count program frames c.active.function i) c.output (Reached program well frames fit code formed addresses pages calls few c)) (sym ready.is)
       (ready_goes c u never ready i at)))
 
   pub all_steps : Steps above below_machine matching

@@ -1,6 +1,6 @@
 -- How a plain program's calls stand in the memory of the labelled machine: their frames lie one below another from the
 -- end of the stack on, each with its slots and, where it waits, its return address.
-use Rattle.std.proofs.Common.{◌≡◌, ◌≢◌, ℕ, zero, suc, ◌+◌, ◌*◌, ◌%◌, ◌^◌, ◌<◌, ◌≤◌, List, [], ◌∷◌, length, Some, refl, sym, ap, subst, ◌∙◌, arith, inl, inr}
+use Rattle.std.proofs.Common.{◌≡◌, ◌≢◌, ℕ, zero, suc, ◌+◌, ◌*◌, ◌%◌, ◌^◌, ◌<◌, ◌≤◌, true, false, List, [], ◌∷◌, length, Some, refl, sym, ap, subst, ◌∙◌, arith, inl, inr}
 use Rattle.std.specs.List.{AllByRecursion}
 use Rattle.cyc_select.specs.declared.constants.TheConstants.{CALLS, FRAME, HANDLERS, REGIONS}
 use Rattle.cyc_words.specs.Word.{IsWord}
@@ -16,23 +16,24 @@ use Rattle.cyc_plain.specs.WellFormed.{IsWellFormed}
 use Rattle.cyc_plain.proofs.SlotLaws.{put-same, put-other}
 use Rattle.std.proofs.lemmas.Bool.{cases_eq}
 use Rattle.cyc_frame.specs.Layout.{IsFrame, AreFrames, slot_word, frame_at}
-use Rattle.cyc_frame.specs.declared.frame.Frame.{Frame}
-use Rattle.cyc_select.specs.Selection.{slot_offset, instruction_line, body_count}
+use Rattle.cyc_frame.specs.Frame.{Frame}
+use Rattle.cyc_select.specs.Selection.{slot_offset, is_kept, instruction_line, body_count}
 use Rattle.cyc_select.proofs.Blocks.{lasting, newest_lasts, count_lasts}
 use Rattle.cyc_select.proofs.Cells.{IsCell}
 use Rattle.cyc_select.proofs.Operations.{address_at}
 use Rattle.cyc_select.proofs.Stores.{IsLaid, saved_laid, saved_regions}
 use Rattle.cyc_select.proofs.Views.{Contents, written, saved_in}
 
--- the slots of a function's call whose frame lies at this address
+-- the slots of a function's call whose frame lies at this address, as far as they live in memory
 abbrev pub Holds : Program → List Frame → (function base : ℕ) → (w : Contents) (slots : Words) → Type 0
 Holds program frames function base w slots =
-    (slot : ℕ) → slot < (routine_at program function).slots → w.words (base + slot_offset (frame_at frames function) slot) ≡ slots slot
+    (slot : ℕ) → slot < (routine_at program function).slots → is_kept (frame_at frames function) slot ≡ true
+    → w.words (base + slot_offset (frame_at frames function) slot) ≡ slots slot
 
 -- behind a call
-abbrev pub behind_line : Program → (function index callee arguments count result : ℕ) → ℕ
-behind_line program function index callee arguments count result =
-    instruction_line program function index + body_count program function (plain.Call callee arguments count result)
+abbrev pub behind_line : Program → List Frame → (function index callee arguments count result : ℕ) → ℕ
+behind_line program frames function index callee arguments count result =
+    instruction_line program frames function index + body_count program frames function (plain.Call callee arguments count result)
 
 -- the calls that wait, above the call of a function whose frame lies at this address, and which returns to this address
 abbrev pub Chain : Program → List Frame → (addresses : ℕ → ℕ) → (w : Contents) → (base back function : ℕ) → List states.Frame → Type 0
@@ -42,7 +43,7 @@ Chain program frames addresses w base back function (f ∷ waiting) =
     (arguments count index : ℕ) × (f.caller.function < length program.functions)
     × (instruction_at program (record { function = f.caller.function; index = index }) ≡ Some (plain.Call function arguments count f.result))
     × (f.caller.next ≡ index + 1)
-    × (back ≡ addresses (behind_line program f.caller.function index function arguments count f.result))
+    × (back ≡ addresses (behind_line program frames f.caller.function index function arguments count f.result))
     × Holds program frames f.caller.function (base + 4 * (frame_at frames function).words) w f.caller.slots
     × Chain program frames addresses w (base + 4 * (frame_at frames function).words)
     (w.words (base + 4 * (frame_at frames function).words + 4 * (frame_at frames f.caller.function).return_address)) f.caller.function waiting
@@ -72,7 +73,7 @@ module _ (program : Program) (frames : List Frame) (fit : AreFrames program fram
         at,
         next,
         is_back,
-        λ slot below. same (above + slot_offset (frame_at frames f.caller.function) slot) (omega arith) ∙ holds slot below,
+        λ slot below slot_kept. same (above + slot_offset (frame_at frames f.caller.function) slot) (omega arith) ∙ holds slot below slot_kept,
         subst (λ (b : ℕ). Chain program frames addresses w' above b f.caller.function waiting) (sym (same (above + 4 * (frame_at frames f.caller.function).return_address) (omega arith)))
             (chain_kept w w' above (w.words (above + 4 * (frame_at frames f.caller.function).return_address)) f.caller.function waiting (λ a from. same a (omega arith)) chain),
       )
@@ -103,7 +104,7 @@ pub record IsRecord (program : Program) (frames : List Frame) (addresses : ℕ �
   pub handler : ℕ
   pub opened : instruction_at program (record { function = function; index = index }) ≡ Some (plain.Try first handler)
   pub frame : contents 1 ≡ base
-  pub line : contents 2 ≡ addresses (instruction_line program function index + 5)
+  pub line : contents 2 ≡ addresses (instruction_line program frames function index + 5)
   pub left : contents 3 + depth ≡ calls
 
 -- The newest handler of a call has this address, and each leads to the one before it, the last one to that of the caller.
@@ -200,8 +201,8 @@ module _ (program : Program) (well : IsWellFormed program) (frames : List Frame)
     slot_cell slot below =
         subst (IsCell data_words stack_words) (sym (slot_address slot below)) (word_cell (slot_word (frame_at frames c.active.function) slot) ((fit.each c.active.function s.known).inside slot below))
 
-    pub slot_word_is : (slot : ℕ) → slot < (routine_at program c.active.function).slots → w.words (memory_address (r FRAME) (slot_offset (frame_at frames c.active.function) slot)) ≡ slots slot
-    slot_word_is slot below = ap w.words (slot_address slot below) ∙ s.holds slot below
+    pub slot_word_is : (slot : ℕ) → slot < (routine_at program c.active.function).slots → is_kept (frame_at frames c.active.function) slot ≡ true → w.words (memory_address (r FRAME) (slot_offset (frame_at frames c.active.function) slot)) ≡ slots slot
+    slot_word_is slot below slot_kept = ap w.words (slot_address slot below) ∙ s.holds slot below slot_kept
 
     pub return_address : memory_address (r FRAME) (4 * (frame_at frames c.active.function).return_address) ≡ base + 4 * (frame_at frames c.active.function).return_address
     return_address = word_address (frame_at frames c.active.function).return_address (fit.each c.active.function s.known).return_inside
@@ -315,13 +316,13 @@ module _ (program : Program) (well : IsWellFormed program) (frames : List Frame)
       zero_is = s.zero_is;
       left = s.left;
       deep = s.deep;
-      holds = λ other other_below. elim (cases_eq other slot) [
+      holds = λ other other_below other_kept. elim (cases_eq other slot) [
         | inl same ↦
             ap (λ (x : ℕ). put w.words (slot_at slot) word (base + slot_offset (frame_at frames c.active.function) x)) same
             ∙ (put-same w.words (slot_at slot) word ∙ sym (ap (put slots slot word) same ∙ put-same slots slot word))
         | inr apart ↦
             put-other w.words (slot_at slot) (base + slot_offset (frame_at frames c.active.function) other) word (other_slot slot other below other_below apart)
-            ∙ (s.holds other other_below ∙ sym (put-other slots slot other word apart))
+            ∙ (s.holds other other_below other_kept ∙ sym (put-other slots slot other word apart))
       ];
       chain = chain_kept program frames fit addresses w (written w (slot_at slot) word) base back c.active.function c.frames
           (λ a from. put-other w.words (slot_at slot) a word (λ e. absurd (omega (arith, e, from, (fit.each c.active.function s.known).inside slot below)))) s.chain;
@@ -338,6 +339,30 @@ module _ (program : Program) (well : IsWellFormed program) (frames : List Frame)
       counted = s.counted;
     }
 
+    -- a slot that lives in a register alone gets another word
+    pub standing_unkept : (slot word : ℕ) → is_kept (frame_at frames c.active.function) slot ≡ false
+        → Standing program frames addresses pages calls c r w base back depth (put slots slot word)
+    standing_unkept slot word unkept = record {
+      known = s.known;
+      base_is = s.base_is;
+      zero_is = s.zero_is;
+      left = s.left;
+      deep = s.deep;
+      holds = λ other other_below other_kept. elim (cases_eq other slot) [
+        | inl same ↦ absurd (let e : true ≡ false = sym other_kept ∙ (ap (is_kept (frame_at frames c.active.function)) same ∙ unkept) in cc)
+        | inr apart ↦ s.holds other other_below other_kept ∙ sym (put-other slots slot other word apart)
+      ];
+      chain = s.chain;
+      globals = s.globals;
+      input = s.input;
+      newest = s.newest;
+      kept = s.kept;
+      based = s.based;
+      store = s.store;
+      laid = s.laid;
+      counted = s.counted;
+    }
+
     -- the word for the return address written
     pub standing_return : (word : ℕ) → word ≡ back → Standing program frames addresses pages calls c r (written w (base + 4 * (frame_at frames c.active.function).return_address) word) base back depth slots
     standing_return word same = record {
@@ -346,10 +371,10 @@ module _ (program : Program) (well : IsWellFormed program) (frames : List Frame)
       zero_is = s.zero_is;
       left = s.left;
       deep = s.deep;
-      holds = λ slot below.
+      holds = λ slot below slot_kept.
           put-other w.words return_at (base + slot_offset (frame_at frames c.active.function) slot) word
           (λ e. (fit.each c.active.function s.known).beside slot below (omega (arith, e)))
-          ∙ s.holds slot below;
+          ∙ s.holds slot below slot_kept;
       chain = chain_kept program frames fit addresses w (written w return_at word) base back c.active.function c.frames
           (λ a from. put-other w.words return_at a word (λ e. absurd (omega (arith, e, from, (fit.each c.active.function s.known).return_inside)))) s.chain;
       globals = λ global below.
@@ -416,10 +441,10 @@ module _ (program : Program) (well : IsWellFormed program) (frames : List Frame)
       zero_is = s.zero_is;
       left = s.left;
       deep = s.deep;
-      holds = λ slot slot_below.
+      holds = λ slot slot_below slot_kept.
           put-other w.words (global_at global) (base + slot_offset (frame_at frames c.active.function) slot) word
           (λ e. above_data (slot_word (frame_at frames c.active.function) slot) global ((fit.each c.active.function s.known).inside slot slot_below) below (sym e))
-          ∙ s.holds slot slot_below;
+          ∙ s.holds slot slot_below slot_kept;
       chain = chain_kept program frames fit addresses w (written w (global_at global) word) base back c.active.function c.frames
           (λ a from. put-other w.words (global_at global) a word (λ e. absurd (omega (arith, e, from, below, well.globals, lies.above_low, s.deep)))) s.chain;
       globals = λ other other_below. elim (cases_eq other global) [

@@ -25,7 +25,7 @@ use Rattle.cyc_plain.specs.WellFormed.{IsWellFormed, HasWords}
 use Rattle.cyc_words.proofs.Matching.{way_before}
 use Rattle.cyc_words.proofs.Simulation.{simulates}
 use Rattle.cyc_frame.specs.Layout.{AreFrames, frame_at}
-use Rattle.cyc_frame.specs.declared.frame.Frame.{Frame}
+use Rattle.cyc_frame.specs.Frame.{Frame}
 use Rattle.cyc_select.specs.declared.code.Line.TheVariants as lines
 use Rattle.cyc_select.specs.Labelled.{Labelled, IsFormed, AreAddresses}
 use Rattle.cyc_select.specs.Machine as labelled
@@ -128,8 +128,8 @@ main_below program well frames fit =
 module _ (program : Program) (well : IsWellFormed program) (words : HasWords program) (frames : List Frame) (fit : AreFrames program frames) (code : Labelled) (formed : IsFormed code) (addresses : ℕ → ℕ) (lie : AreAddresses code addresses)
     (pages calls : ℕ) (allowed : AreAllowed pages calls)
     (stand : (function index : ℕ) (i : Instruction) → instruction_at program (record { function = function; index = index }) ≡ Some i
-    → Stands code (instruction_line program function index) (body program frames function (instruction_line program function index) i ++ behind program frames function i))
-    (long : (function line : ℕ) (i : Instruction) → length (body program frames function line i) ≡ body_count program function i)
+    → Stands code (instruction_line program frames function index) (body program frames function (instruction_line program frames function index) i ++ behind program frames function i))
+    (long : (function line : ℕ) (i : Instruction) → length (body program frames function line i) ≡ body_count program frames function i)
     (starts : Stands code 0 (start_lines program frames)) (same_globals : code.globals ≡ program.globals)
     (store : StoreState) (new : IsNew pages store) (input : List ℕ) (bytes : AllByRecursion (λ b. b < 256) input) where
   abbrev few : calls ≤ 4096
@@ -265,7 +265,7 @@ module _ (program : Program) (well : IsWellFormed program) (words : HasWords pro
     zero_is = refl;
     left = left_one (q CALLS) left_is;
     deep = allowed.enough_calls;
-    holds = λ slot below.
+    holds = λ slot below slot_kept.
         let own = fit.each program.main well.main in
         stack_zero (base + slot_offset frame slot) (omega (arith, own.within, own.small)) (omega (arith, own.within, own.small, allowed.enough_calls)) (omega (arith, own.inside slot below, own.within, own.small));
     chain = ((let own = fit.each program.main well.main in omega (arith, own.within, own.small)), refl, refl);
@@ -286,10 +286,10 @@ module _ (program : Program) (well : IsWellFormed program) (words : HasWords pro
   first_walk =
       walk_few code formed addresses globals_length (words_per_call * calls) 3 (2 + 1) 0 3 [] _ (Running run) (omega arith)
       (walk_block code formed addresses globals_length (words_per_call * calls) first 1 0 0 3 [] input _ r w run now
-      (stands_front code 0 (ordinary first) (lines.Jump (function_line program program.main) ∷ []) starts) (refl, (refl, tt)) (omega arith)
+      (stands_front code 0 (ordinary first) (lines.Jump (function_line program frames program.main) ∷ []) starts) (refl, (refl, tt)) (omega arith)
       (λ d later.
-      walk_jump code formed addresses globals_length (words_per_call * calls) 0 (0 + 2) (0 + 2) 3 [] input _ q w d (function_line program program.main) later
-      (stands_back code 0 (ordinary first) (lines.Jump (function_line program program.main) ∷ []) starts).0 (omega arith)
+      walk_jump code formed addresses globals_length (words_per_call * calls) 0 (0 + 2) (0 + 2) 3 [] input _ q w d (function_line program frames program.main) later
+      (stands_back code 0 (ordinary first) (lines.Jump (function_line program frames program.main) ∷ []) starts).0 (omega arith)
       (λ e jumped.
       walk_end code formed addresses globals_length (words_per_call * calls) (suc (0 + 2)) 3 [] _ (Running e) (omega arith)
       (inl (record {
@@ -298,12 +298,13 @@ module _ (program : Program) (well : IsWellFormed program) (words : HasWords pro
         w = w;
         base = base;
         is = refl;
-        now = now_at code formed addresses globals_length (words_per_call * calls) (function_line program program.main) (instruction_line program program.main 0) [] input q w e (sym (line_first program program.main)) jumped;
+        now = now_at code formed addresses globals_length (words_per_call * calls) (function_line program frames program.main) (instruction_line program frames program.main 0) [] input q w e (sym (line_first program frames program.main)) jumped;
         standing = standing;
+        caches = λ slot k has wanted. absurd (let parameters = well.main_parameters in omega (arith, parameters, (fit.homes program.main well.main).entry slot k has wanted));
       })))))
 
   pub follows : NeverFails (steps.machine program pages calls) (steps.start program (main_place program frames) store input)
-      → Follows (steps.machine program pages calls) (machine code addresses) (range_with_len 0 3) (own_of program) (steps.start program (main_place program frames) store input) (start code store calls input)
+      → Follows (steps.machine program pages calls) (machine code addresses) (range_with_len 0 3) (own_of program frames) (steps.start program (main_place program frames) store input) (start code store calls input)
   follows never =
       let above = steps.machine program pages calls in
       let below_machine = machine code addresses in

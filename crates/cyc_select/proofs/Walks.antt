@@ -87,6 +87,11 @@ pub stands_back : (code : Labelled) (k : ℕ) (xs ys : List Line) → Stands cod
 stands_back code k [] ys stands = stands_to code k (k + 0) ys (omega arith) stands
 stands_back code k (x ∷ xs) ys (first, rest) = stands_to code (k + 1 + length xs) (k + suc (length xs)) ys (omega arith) (stands_back code (k + 1) xs ys rest)
 
+-- up to a line, and with it
+pub stands_until : (code : Labelled) (k : ℕ) (xs : List Line) (y : Line) (ys : List Line) → Stands code k (xs ++ y ∷ ys) → Stands code k (xs ++ y ∷ [])
+stands_until code k [] y ys (first, rest) = (first, tt)
+stands_until code k (x ∷ xs) y ys (first, rest) = (first, stands_until code (k + 1) xs y ys rest)
+
 -- the same of ordinary lines
 pub stands_first : (code : Labelled) (k : ℕ) (xs ys : List Instr) → Stands code k (ordinary (xs ++ ys)) → Stands code k (ordinary xs)
 stands_first code k [] ys stands = tt

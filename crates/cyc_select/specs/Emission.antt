@@ -13,7 +13,7 @@ use Rattle.cyc_plain.specs.WellFormed.{IsWellFormed}
 use Rattle.cyc_plain.specs.declared.limits.TheConstants.{GREATEST_VALUE, MOST_SIZE}
 use Rattle.cyc_frame.specs.declared.frame.TheConstants.{MOST_FRAME_WORDS}
 use Rattle.cyc_frame.specs.Layout.{AreFrames, slot_word}
-use Rattle.cyc_frame.specs.declared.frame.Frame.{Frame}
+use Rattle.cyc_frame.specs.Frame.{Frame}
 use Rattle.cyc_select.specs.declared.constants.TheConstants.{CALLS, START_LINES}
 use Rattle.cyc_select.specs.declared.code.Line.{Line}
 use Rattle.cyc_select.specs.Selection.{store, add_immediate, minus, push_frame, small, syscall, ordinary, count_of, function_count, function_line}
@@ -79,16 +79,16 @@ abbrev pub AreFew : Program → Type 0
 AreFew program = (k : ℕ) → (routine_at program k).results ≤ GREATEST_VALUE
 
 -- the line numbers of the instructions of a function's code, of which the first has this one
-abbrev pub instruction_lines : Program → (function here : ℕ) → List Instruction → List ℕ
-instruction_lines program function here [] = []
-instruction_lines program function here (i ∷ code) =
-    here ∷ instruction_lines program function (here + count_of program function i) code
+abbrev pub instruction_lines : Program → List Frame → (function here : ℕ) → List Instruction → List ℕ
+instruction_lines program frames function here [] = []
+instruction_lines program frames function here (i ∷ code) =
+    here ∷ instruction_lines program frames function (here + count_of program frames function i) code
 
 -- the line numbers of functions, of which the first has this one
-abbrev pub function_starts : Program → (function here : ℕ) → List Routine → List ℕ
-function_starts program function here [] = []
-function_starts program function here (r ∷ routines) =
-    here ∷ function_starts program (suc function) (here + function_count program function r) routines
+abbrev pub function_starts : Program → List Frame → (function here : ℕ) → List Routine → List ℕ
+function_starts program frames function here [] = []
+function_starts program frames function here (r ∷ routines) =
+    here ∷ function_starts program frames (suc function) (here + function_count program frames function r) routines
 
 -- What the lines of a program are made from: its functions are not too large together, these are their frames, and these the
 -- numbers of their first lines.
@@ -96,7 +96,7 @@ pub record AreReady (program : Program) (frames : List Frame) (starts : List ℕ
   pub well_formed : IsWellFormed program
   pub few : sum_by size program.functions ≤ MOST_SIZE
   pub fit : AreFrames program frames
-  pub starts_are : starts ≡ function_starts program 0 START_LINES program.functions
+  pub starts_are : starts ≡ function_starts program frames 0 START_LINES program.functions
 
 abbrev pub IsReady : Ready → Type 0
 IsReady ready = AreReady ready.plain.now ready.frames.now ready.starts.now
@@ -105,7 +105,7 @@ IsReady ready = AreReady ready.plain.now ready.frames.now ready.starts.now
 pub record AreTables (program : Program) (frames : List Frame) (starts lines : List ℕ) (function : ℕ) : Type 0 where
   pub ready : AreReady program frames starts
   pub function_in_range : function < length program.functions
-  pub lines_are : lines ≡ instruction_lines program function (function_line program function) (routine_at program function).code
+  pub lines_are : lines ≡ instruction_lines program frames function (function_line program frames function) (routine_at program function).code
 
 abbrev pub IsKnown : Tables → Type 0
 IsKnown tables =

@@ -34,7 +34,10 @@ use Rattle.cyc_plain.specs.declared.instruction.Request.TheVariants as requests
 use Rattle.cyc_plain.specs.Requests.{first_operand, second_operand, answer_count, destination_of}
 use Rattle.cyc_plain.specs.Program.{Routine, Program, routine_at}
 use Rattle.cyc_frame.specs.Layout.{slot_word, frame_at}
-use Rattle.cyc_frame.specs.declared.frame.Frame.{Frame}
+use Rattle.cyc_frame.specs.declared.home.Home.{Home}
+use Rattle.cyc_frame.specs.declared.home.Home.TheVariants as homes
+use Rattle.cyc_frame.specs.Homes as homing
+use Rattle.cyc_frame.specs.Frame.{Frame}
 use Rattle.cyc_select.specs.declared.constants.TheConstants.{ZERO, FIRST_RESULT, SECOND_RESULT, THIRD_RESULT, FIRST, SECOND, THIRD, FRAME, CALLS, HANDLERS, REGIONS, START_LINES}
 use Rattle.cyc_select.specs.declared.code.Line.{Line}
 use Rattle.cyc_select.specs.declared.code.Condition.TheVariants as conditions
@@ -62,9 +65,6 @@ store source offset = machine.Memory StoreWord (register_of source) (register_of
 -- a slot of the current frame
 abbrev pub slot_offset : Frame → ℕ → ℕ
 slot_offset frame slot = 4 * slot_word frame slot
-
-abbrev pub load_slot : Frame → (target slot : ℕ) → Instr
-load_slot frame target slot = load target (slot_offset frame slot)
 
 abbrev pub store_slot : Frame → (source slot : ℕ) → Instr
 store_slot frame source slot = store source (slot_offset frame slot)
@@ -99,24 +99,78 @@ or_lower target word =
 abbrev pub constant : (target word : ℕ) → List Instr
 constant target word = load_upper target word ∷ or_lower target word ∷ []
 
--- operations on two registers, into that of an instruction's first operand
-abbrev pub arithmetic_of : ArithmeticOp → (left right : ℕ) → Instr
-arithmetic_of op left right = machine.Arithmetic op (register_of FIRST) (register_of left) (register_of right)
+-- operations on two registers, into another one
+abbrev pub arithmetic_of : ArithmeticOp → (target left right : ℕ) → Instr
+arithmetic_of op target left right = machine.Arithmetic op (register_of target) (register_of left) (register_of right)
 
-abbrev pub shift_of : ShiftOp → (source by : ℕ) → Instr
-shift_of op source by = machine.ShiftVariable op (register_of FIRST) (register_of source) (register_of by)
+abbrev pub shift_of : ShiftOp → (target source by : ℕ) → Instr
+shift_of op target source by = machine.ShiftVariable op (register_of target) (register_of source) (register_of by)
 
-abbrev pub immediate_of : ImmediateOp → (left half : ℕ) → Instr
-immediate_of op left half = machine.Immediate op (register_of FIRST) (register_of left) half
+abbrev pub immediate_of : ImmediateOp → (target left half : ℕ) → Instr
+immediate_of op target left half = machine.Immediate op (register_of target) (register_of left) half
 
-abbrev pub shift_by_of : ShiftOp → (source amount : ℕ) → Instr
-shift_by_of op source amount = machine.Shift op (register_of FIRST) (register_of source) (shift_amount_of amount)
+abbrev pub shift_by_of : ShiftOp → (target source amount : ℕ) → Instr
+shift_by_of op target source amount = machine.Shift op (register_of target) (register_of source) (shift_amount_of amount)
 
 abbrev pub multiply_divide_of : MultiplyDivideOp → (left right : ℕ) → Instr
 multiply_divide_of op left right = machine.MultiplyDivide op (register_of left) (register_of right)
 
-abbrev pub move_from_of : MoveFromOp → Instr
-move_from_of op = machine.MoveFrom op (register_of FIRST)
+abbrev pub move_from_of : MoveFromOp → (target : ℕ) → Instr
+move_from_of op target = machine.MoveFrom op (register_of target)
+
+-- a register's word into another one
+abbrev pub copy : (target source : ℕ) → Instr
+copy target source = arithmetic_of arithmetic.AddUnsigned target source ZERO
+
+-- ---- slots and their registers
+
+-- the register that a slot has, and a register where it has none
+abbrev pub value_register : Frame → (slot : ℕ) → Option ℕ
+value_register frame slot = homing.register_of (homing.home_of frame.homes slot)
+
+abbrev pub or_else : Option ℕ → ℕ → ℕ
+or_else None other = other
+or_else (Some register) other = register
+
+-- whether the slot's word in the frame holds its value
+abbrev pub is_kept : Frame → (slot : ℕ) → Bool
+is_kept frame slot = homing.is_kept (homing.home_of frame.homes slot)
+
+-- a slot's word into a register
+abbrev pub load_from : Option ℕ → Frame → (target slot : ℕ) → Instr
+load_from None frame target slot = load target (slot_offset frame slot)
+load_from (Some register) frame target slot = copy target register
+
+abbrev pub load_slot : Frame → (target slot : ℕ) → Instr
+load_slot frame target slot = load_from (value_register frame slot) frame target slot
+
+-- the register where a slot's word is made, and what brings it from there into the frame
+abbrev pub made_in : Frame → (slot : ℕ) → ℕ
+made_in frame slot = or_else (value_register frame slot) FIRST
+
+abbrev pub keep_code : Frame → (slot : ℕ) → List Instr
+keep_code frame slot = if is_kept frame slot then store_slot frame (made_in frame slot) slot ∷ [] else []
+
+-- a register's word into a slot
+abbrev pub give_to : Option ℕ → Frame → (source slot : ℕ) → List Instr
+give_to None frame source slot = store_slot frame source slot ∷ []
+give_to (Some register) frame source slot = copy register source ∷ keep_code frame slot
+
+abbrev pub give_code : Frame → (source slot : ℕ) → List Instr
+give_code frame source slot = give_to (value_register frame slot) frame source slot
+
+-- Registers that stand beside memory are read again.
+abbrev pub reload : Frame → Home → (slot : ℕ) → List Instr
+reload frame homes.Memory slot = []
+reload frame (homes.Both register) slot = load register (slot_offset frame slot) ∷ []
+reload frame (homes.Register register) slot = []
+
+abbrev pub reloads_from : Frame → (slot : ℕ) → List Home → List Instr
+reloads_from frame slot [] = []
+reloads_from frame slot (h ∷ hs) = reload frame h slot ++ reloads_from frame (suc slot) hs
+
+abbrev pub reloads : Frame → List Instr
+reloads frame = reloads_from frame 0 frame.homes
 
 -- A global's word lies at an offset, which is extended by its sign, from this half's multiple of 2 ^ 16.
 abbrev pub global_address : ℕ → ℕ
@@ -155,51 +209,59 @@ abbrev pub load_code : Frame → (target : ℕ) → Operand → List Instr
 load_code frame target (operands.Slot number) = load_slot frame target number ∷ []
 load_code frame target (operands.Word word) = word_code target word
 
--- An operand in a register: the word 0 is in one, and any other comes into this one.
-abbrev pub operand_code : Frame → (register : ℕ) → Operand → List Instr
-operand_code frame register operand = if is_zero_word operand then [] else load_code frame register operand
+-- An operand in a register: the word 0 is in one, and so is a slot that has one. Any other comes into this one.
+abbrev pub fetch_from : Option ℕ → Frame → (register slot : ℕ) → List Instr
+fetch_from None frame register slot = load register (slot_offset frame slot) ∷ []
+fetch_from (Some own) frame register slot = []
 
-abbrev pub operand_register : (register : ℕ) → Operand → ℕ
-operand_register register operand = if is_zero_word operand then ZERO else register
+abbrev pub operand_code : Frame → (register : ℕ) → Operand → List Instr
+operand_code frame register (operands.Slot number) = fetch_from (value_register frame number) frame register number
+operand_code frame register (operands.Word word) =
+    if is_zero_word (operands.Word word) then [] else word_code register word
+
+abbrev pub operand_register : Frame → (register : ℕ) → Operand → ℕ
+operand_register frame register (operands.Slot number) = or_else (value_register frame number) register
+operand_register frame register (operands.Word word) = if is_zero_word (operands.Word word) then ZERO else register
 
 -- ---- what is computed
 
--- of the words in two registers, into the first operand's
-abbrev pub operation_code : Operation → (left right : ℕ) → List Instr
-operation_code (operations.Arithmetic op) left right = arithmetic_of op left right ∷ []
-operation_code (operations.Immediate op half) left right = immediate_of op left half ∷ []
-operation_code (operations.Shift op) left right = shift_of op left right ∷ []
-operation_code (operations.ShiftBy op amount) left right = shift_by_of op left amount ∷ []
-operation_code (operations.MultiplyDivide op from) left right = multiply_divide_of op left right ∷ move_from_of from ∷ []
+-- of the words in two registers, into another one
+abbrev pub operation_code : Operation → (target left right : ℕ) → List Instr
+operation_code (operations.Arithmetic op) target left right = arithmetic_of op target left right ∷ []
+operation_code (operations.Immediate op half) target left right = immediate_of op target left half ∷ []
+operation_code (operations.Shift op) target left right = shift_of op target left right ∷ []
+operation_code (operations.ShiftBy op amount) target left right = shift_by_of op target left amount ∷ []
+operation_code (operations.MultiplyDivide op from) target left right = multiply_divide_of op left right ∷ move_from_of from target ∷ []
 
 -- of the word in that register
-abbrev pub outcome_code : Outcome → List Instr
-outcome_code outcomes.AsItIs = []
-outcome_code outcomes.WhetherZero = is_zero FIRST ∷ []
-outcome_code outcomes.WhetherNotZero = arithmetic_of arithmetic.SetLessUnsigned ZERO FIRST ∷ []
+abbrev pub outcome_code : Outcome → (target : ℕ) → List Instr
+outcome_code outcomes.AsItIs target = []
+outcome_code outcomes.WhetherZero target = is_zero target ∷ []
+outcome_code outcomes.WhetherNotZero target = arithmetic_of arithmetic.SetLessUnsigned target ZERO target ∷ []
 
 -- two operands, each in a register
 abbrev pub operands_code : Frame → (left right : Operand) → List Instr
 operands_code frame left right = operand_code frame FIRST left ++ operand_code frame SECOND right
 
--- a plan up to its outcome
-abbrev pub operation_of : Frame → Plan → List Instr
-operation_of frame plan =
+-- a plan up to its outcome, into a register
+abbrev pub operation_of : Frame → (target : ℕ) → Plan → List Instr
+operation_of frame target plan =
     operands_code frame plan.left plan.right
-    ++ operation_code plan.operation (operand_register FIRST plan.left) (operand_register SECOND plan.right)
+    ++ operation_code plan.operation target (operand_register frame FIRST plan.left) (operand_register frame SECOND plan.right)
 
 -- and with it
-abbrev pub computed_code : Frame → Plan → List Instr
-computed_code frame plan = operation_of frame plan ++ outcome_code plan.outcome
+abbrev pub computed_code : Frame → (target : ℕ) → Plan → List Instr
+computed_code frame target plan = operation_of frame target plan ++ outcome_code plan.outcome target
 
 abbrev pub plan_code : Frame → Plan → (destination : ℕ) → List Instr
-plan_code frame plan destination = computed_code frame plan ++ store_slot frame FIRST destination ∷ []
+plan_code frame plan destination =
+    computed_code frame (made_in frame destination) plan ++ keep_code frame destination
 
 -- before a branch, what it tests
 abbrev pub test_code : Frame → Test → List Instr
 test_code frame (tests.Operands op left right) = operands_code frame left right
 test_code frame (tests.Sign op operand) = operand_code frame FIRST operand
-test_code frame (tests.Computed plan) = operation_of frame plan
+test_code frame (tests.Computed plan) = operation_of frame FIRST plan
 
 -- where the outcome would be 1
 abbrev pub branch_on : Outcome → BranchOp
@@ -207,11 +269,11 @@ branch_on outcomes.AsItIs = branch.NotEqual
 branch_on outcomes.WhetherZero = branch.Equal
 branch_on outcomes.WhetherNotZero = branch.NotEqual
 
-abbrev pub branch_line : Test → (label : ℕ) → Line
-branch_line (tests.Operands op left right) label =
-    lines.Branch (conditions.Registers op (register_of (operand_register FIRST left)) (register_of (operand_register SECOND right))) label
-branch_line (tests.Sign op operand) label = lines.Branch (conditions.Sign op (register_of (operand_register FIRST operand))) label
-branch_line (tests.Computed plan) label =
+abbrev pub branch_line : Frame → Test → (label : ℕ) → Line
+branch_line frame (tests.Operands op left right) label =
+    lines.Branch (conditions.Registers op (register_of (operand_register frame FIRST left)) (register_of (operand_register frame SECOND right))) label
+branch_line frame (tests.Sign op operand) label = lines.Branch (conditions.Sign op (register_of (operand_register frame FIRST operand))) label
+branch_line frame (tests.Computed plan) label =
     lines.Branch (conditions.Registers (branch_on plan.outcome) (register_of FIRST) (register_of ZERO)) label
 
 -- ---- addresses
@@ -223,18 +285,18 @@ far_plan address offset = arithmetic_plan arithmetic.AddUnsigned address (operan
 
 abbrev pub address_code : Frame → (address : Operand) → (offset : ℕ) → List Instr
 address_code frame address offset =
-    if fits_signed offset then operand_code frame FIRST address else operation_of frame (far_plan address offset)
+    if fits_signed offset then operand_code frame FIRST address else operation_of frame FIRST (far_plan address offset)
 
-abbrev pub address_register : (address : Operand) → (offset : ℕ) → ℕ
-address_register address offset = if fits_signed offset then operand_register FIRST address else FIRST
+abbrev pub address_register : Frame → (address : Operand) → (offset : ℕ) → ℕ
+address_register frame address offset = if fits_signed offset then operand_register frame FIRST address else FIRST
 
 abbrev pub near_half : (offset : ℕ) → ℕ
 near_half offset = if fits_signed offset then offset % 2 ^ 16 else 0
 
 -- the word of memory there is loaded into a register, or stored from one
-abbrev pub at_address : MemoryOp → (register : ℕ) → (address : Operand) → (offset : ℕ) → Instr
-at_address op register address offset =
-    machine.Memory op (register_of register) (register_of (address_register address offset)) (near_half offset)
+abbrev pub at_address : Frame → MemoryOp → (register : ℕ) → (address : Operand) → (offset : ℕ) → Instr
+at_address frame op register address offset =
+    machine.Memory op (register_of register) (register_of (address_register frame address offset)) (near_half offset)
 
 -- ---- how many lines
 
@@ -248,8 +310,37 @@ abbrev pub load_count : Operand → ℕ
 load_count (operands.Slot number) = 1
 load_count (operands.Word word) = word_count word
 
-abbrev pub operand_count : Operand → ℕ
-operand_count operand = if is_zero_word operand then 0 else load_count operand
+-- what brings an operand into a register, where it is in none
+abbrev pub fetch_count : Option ℕ → ℕ
+fetch_count None = 1
+fetch_count (Some own) = 0
+
+abbrev pub operand_count : Frame → Operand → ℕ
+operand_count frame (operands.Slot number) = fetch_count (value_register frame number)
+operand_count frame (operands.Word word) = if is_zero_word (operands.Word word) then 0 else word_count word
+
+-- what brings a slot's word into the frame, and what brings it into the slot
+abbrev pub keep_count : Frame → (slot : ℕ) → ℕ
+keep_count frame slot = if is_kept frame slot then 1 else 0
+
+abbrev pub give_count_to : Option ℕ → Frame → (slot : ℕ) → ℕ
+give_count_to None frame slot = 1
+give_count_to (Some register) frame slot = keep_count frame slot + 1
+
+abbrev pub give_count : Frame → (slot : ℕ) → ℕ
+give_count frame slot = give_count_to (value_register frame slot) frame slot
+
+-- what reads registers again
+abbrev pub reload_count : Frame → ℕ
+reload_count frame = sum_by homing.both_count frame.homes
+
+-- what copies an operand into a slot
+abbrev pub move_count_to : Option ℕ → Frame → (destination : ℕ) → Operand → ℕ
+move_count_to None frame destination source = operand_count frame source + 1
+move_count_to (Some register) frame destination source = load_count source + keep_count frame destination
+
+abbrev pub move_count : Frame → (destination : ℕ) → Operand → ℕ
+move_count frame destination source = move_count_to (value_register frame destination) frame destination source
 
 abbrev pub operation_count : Operation → ℕ
 operation_count (operations.Arithmetic op) = 1
@@ -264,16 +355,18 @@ outcome_count outcomes.WhetherZero = 1
 outcome_count outcomes.WhetherNotZero = 1
 
 -- a plan up to its outcome, and whole
-abbrev pub count_of_operation : Plan → ℕ
-count_of_operation plan = operand_count plan.left + operand_count plan.right + operation_count plan.operation
+abbrev pub count_of_operation : Frame → Plan → ℕ
+count_of_operation frame plan =
+    operand_count frame plan.left + operand_count frame plan.right + operation_count plan.operation
 
-abbrev pub plan_count : Plan → ℕ
-plan_count plan = count_of_operation plan + outcome_count plan.outcome + 1
+abbrev pub plan_count : Frame → Plan → (destination : ℕ) → ℕ
+plan_count frame plan destination =
+    count_of_operation frame plan + outcome_count plan.outcome + keep_count frame destination
 
-abbrev pub test_count : Test → ℕ
-test_count (tests.Operands op left right) = operand_count left + operand_count right
-test_count (tests.Sign op operand) = operand_count operand
-test_count (tests.Computed plan) = count_of_operation plan
+abbrev pub test_count : Frame → Test → ℕ
+test_count frame (tests.Operands op left right) = operand_count frame left + operand_count frame right
+test_count frame (tests.Sign op operand) = operand_count frame operand
+test_count frame (tests.Computed plan) = count_of_operation frame plan
 
 -- a division that has lines of its own, by a divisor that may be -1
 abbrev pub is_tested : BinaryOperator → (divisor : Operand) → Bool
@@ -281,15 +374,18 @@ is_tested binary.Divide divisor = not (is_plain_divisor divisor)
 is_tested binary.Remainder divisor = not (is_plain_divisor divisor)
 is_tested operator right = false
 
-abbrev pub address_count : (address : Operand) → (offset : ℕ) → ℕ
-address_count address offset =
-    if fits_signed offset then operand_count address else count_of_operation (far_plan address offset)
+abbrev pub address_count : Frame → (address : Operand) → (offset : ℕ) → ℕ
+address_count frame address offset =
+    if fits_signed offset then operand_count frame address else count_of_operation frame (far_plan address offset)
 
-abbrev pub operator_count : BinaryOperator → (left right : Operand) → ℕ
-operator_count operator left right =
+abbrev pub divide_count : Frame → (destination : ℕ) → (left right : Operand) → ℕ
+divide_count frame destination left right = load_count left + load_count right + 6 + keep_count frame destination
+
+abbrev pub operator_count : Frame → BinaryOperator → (destination : ℕ) → (left right : Operand) → ℕ
+operator_count frame operator destination left right =
     if is_tested operator right
-    then load_count left + load_count right + 7
-    else plan_count (binary_plan operator left right)
+    then divide_count frame destination left right
+    else plan_count frame (binary_plan operator left right) destination
 
 -- ---- blocks
 
@@ -300,12 +396,11 @@ ordinary instructions = map lines.Ordinary instructions
 abbrev pub quotient_code : Frame → MoveFromOp → (destination : ℕ) → List Line
 quotient_code frame which destination =
     ordinary (
-    arithmetic_of arithmetic.SubtractUnsigned ZERO FIRST
+    arithmetic_of arithmetic.SubtractUnsigned FIRST ZERO FIRST
     ∷ small SECOND 1
     ∷ multiply_divide_of Divide FIRST SECOND
-    ∷ move_from_of which
-    ∷ store_slot frame FIRST destination
-    ∷ [])
+    ∷ move_from_of which (made_in frame destination)
+    ∷ keep_code frame destination)
 
 -- dividend and divisor in their registers, and -1 in a third
 abbrev pub loads_code : Frame → (left right : Operand) → List Instr
@@ -333,12 +428,13 @@ operator_code frame here operator destination left right =
     then divide_code frame here (part_of operator) destination left right
     else ordinary (plan_code frame (binary_plan operator left right) destination)
 
--- arguments from the caller's slots to the first slots of the callee, whose frame is the current one already
+-- Arguments from the caller's slots to the first slots of the callee, whose frame is the current one already. Each comes
+-- by the register that the callee has it in.
 abbrev pub copies : (caller callee : Frame) → (source slot count : ℕ) → List Instr
 copies caller callee source slot zero = []
 copies caller callee source slot (suc count) =
-    load FIRST (4 * callee.words + slot_offset caller source)
-    ∷ store_slot callee FIRST slot
+    load (made_in callee slot) (4 * callee.words + slot_offset caller source)
+    ∷ store_slot callee (made_in callee slot) slot
     ∷ copies caller callee (suc source) (suc slot) count
 
 -- the registers of what a function returns
@@ -348,6 +444,11 @@ result_registers count = take count (FIRST_RESULT ∷ SECOND_RESULT ∷ THIRD_RE
 abbrev pub load_all : Frame → (slot : ℕ) → List ℕ → List Instr
 load_all frame slot [] = []
 load_all frame slot (target ∷ targets) = load_slot frame target slot ∷ load_all frame (suc slot) targets
+
+-- the same of slots that live in memory alone
+abbrev pub load_words : Frame → (slot : ℕ) → List ℕ → List Instr
+load_words frame slot [] = []
+load_words frame slot (target ∷ targets) = load target (slot_offset frame slot) ∷ load_words frame (suc slot) targets
 
 abbrev pub store_all : Frame → (slot : ℕ) → List ℕ → List Instr
 store_all frame slot [] = []
@@ -376,67 +477,82 @@ ask_count request =
     argument_count (first_operand request) + argument_count (second_operand request) + 2 + regions_count request + answer_count request
 
 -- the lines of an instruction up to what it does
-abbrev pub body_count : Program → (function : ℕ) → Instruction → ℕ
-body_count program function (plain.Move destination source) = operand_count source + 1
-body_count program function (plain.MoveWords destination source count) = 2 * length (result_registers count)
-body_count program function (plain.Unary operator destination operand) = plan_count (unary_plan operator operand)
-body_count program function (plain.Binary operator destination left right) = operator_count operator left right
-body_count program function (plain.Jump target) = 1
-body_count program function (plain.Branch comparison left right target) = test_count (test_of comparison left right) + 1
-body_count program function (plain.Call callee arguments count result) = 7 + 2 * count
-body_count program function (plain.Return value) =
+abbrev pub body_count : Program → List Frame → (function : ℕ) → Instruction → ℕ
+body_count program frames function (plain.Move destination source) =
+    move_count (frame_at frames function) destination source
+body_count program frames function (plain.MoveWords destination source count) = 2 * length (result_registers count)
+body_count program frames function (plain.Unary operator destination operand) =
+    plan_count (frame_at frames function) (unary_plan operator operand) destination
+body_count program frames function (plain.Binary operator destination left right) =
+    operator_count (frame_at frames function) operator destination left right
+body_count program frames function (plain.Jump target) = 1
+body_count program frames function (plain.Branch comparison left right target) =
+    test_count (frame_at frames function) (test_of comparison left right) + 1
+body_count program frames function (plain.Call callee arguments count result) = 7 + 2 * count
+body_count program frames function (plain.Return value) =
     ending_count program function + (routine_at program function).results + 2
-body_count program function (plain.ReadByte destination) = 3
-body_count program function (plain.AddressOf destination slot count) = 2
-body_count program function (plain.WriteByte source) = load_count source + 2
-body_count program function (plain.LoadGlobal destination global) = 3
-body_count program function (plain.StoreGlobal global source) = operand_count source + 2
-body_count program function (plain.Load destination address offset) = address_count address offset + 2
-body_count program function (plain.Store address offset source) =
-    address_count address offset + operand_count source + 1
-body_count program function (plain.Ask request) = ask_count request
-body_count program function (plain.CountLexical destination) = 1
-body_count program function (plain.Try first handler) = 12
-body_count program function (plain.Leave first) = 1
-body_count program function (plain.Throw tag value) = load_count tag + load_count value + 8
-body_count program function (plain.Finish value) =
+body_count program frames function (plain.ReadByte destination) = 2 + give_count (frame_at frames function) destination
+body_count program frames function (plain.AddressOf destination slot count) =
+    1 + keep_count (frame_at frames function) destination
+body_count program frames function (plain.WriteByte source) = load_count source + 2
+body_count program frames function (plain.LoadGlobal destination global) =
+    2 + keep_count (frame_at frames function) destination
+body_count program frames function (plain.StoreGlobal global source) =
+    operand_count (frame_at frames function) source + 2
+body_count program frames function (plain.Load destination address offset) =
+    address_count (frame_at frames function) address offset + 1 + keep_count (frame_at frames function) destination
+body_count program frames function (plain.Store address offset source) =
+    address_count (frame_at frames function) address offset + operand_count (frame_at frames function) source + 1
+body_count program frames function (plain.Ask request) = ask_count request
+body_count program frames function (plain.CountLexical destination) =
+    give_count (frame_at frames function) destination
+body_count program frames function (plain.Try first handler) = 12 + reload_count (frame_at frames function)
+body_count program frames function (plain.Leave first) = 1
+body_count program frames function (plain.Throw tag value) = load_count tag + load_count value + 8
+body_count program frames function (plain.Finish value) =
     ending_count program function + (routine_at program function).results + 2
-body_count program function (plain.Uncaught tag value) = word_count tag + load_count value + 2
+body_count program frames function (plain.Uncaught tag value) = word_count tag + load_count value + 2
 
 -- behind a call, the lines that are executed after it returned
-abbrev pub behind_count : Program → Instruction → ℕ
-behind_count program (plain.Call callee arguments count result) = 2 + (routine_at program callee).results
-behind_count program instruction = 0
+abbrev pub behind_count : Program → List Frame → (function : ℕ) → Instruction → ℕ
+behind_count program frames function (plain.Call callee arguments count result) =
+    2 + (routine_at program callee).results + reload_count (frame_at frames function)
+behind_count program frames function instruction = 0
 
-abbrev pub count_of : Program → (function : ℕ) → Instruction → ℕ
-count_of program function instruction = body_count program function instruction + behind_count program instruction
+abbrev pub count_of : Program → List Frame → (function : ℕ) → Instruction → ℕ
+count_of program frames function instruction = body_count program frames function instruction + behind_count program frames function instruction
 
-abbrev pub function_count : Program → (function : ℕ) → Routine → ℕ
-function_count program function r = sum_by (count_of program function) r.code
+abbrev pub function_count : Program → List Frame → (function : ℕ) → Routine → ℕ
+function_count program frames function r = sum_by (count_of program frames function) r.code
 
-abbrev pub functions_count : Program → (first : ℕ) → List Routine → ℕ
-functions_count program first [] = 0
-functions_count program first (r ∷ routines) = function_count program first r + functions_count program (suc first) routines
+abbrev pub functions_count : Program → List Frame → (first : ℕ) → List Routine → ℕ
+functions_count program frames first [] = 0
+functions_count program frames first (r ∷ routines) = function_count program frames first r + functions_count program frames (suc first) routines
 
 -- the number of a function's first line
-abbrev pub function_line : Program → (function : ℕ) → ℕ
-function_line program function = START_LINES + functions_count program 0 (take function program.functions)
+abbrev pub function_line : Program → List Frame → (function : ℕ) → ℕ
+function_line program frames function = START_LINES + functions_count program frames 0 (take function program.functions)
 
 -- the number of the first line of an instruction
-abbrev pub instruction_line : Program → (function index : ℕ) → ℕ
-instruction_line program function index =
-    function_line program function + sum_by (count_of program function) (take index (routine_at program function).code)
+abbrev pub instruction_line : Program → List Frame → (function index : ℕ) → ℕ
+instruction_line program frames function index =
+    function_line program frames function + sum_by (count_of program frames function) (take index (routine_at program function).code)
 
 -- ---- the lines
 
 -- an operand into a slot
+abbrev pub move_to : Option ℕ → Frame → (destination : ℕ) → Operand → List Instr
+move_to None frame destination source =
+    operand_code frame FIRST source ++ store_slot frame (operand_register frame FIRST source) destination ∷ []
+move_to (Some register) frame destination source = load_code frame register source ++ keep_code frame destination
+
 abbrev pub move_code : Frame → (destination : ℕ) → Operand → List Line
 move_code frame destination source =
-    ordinary (operand_code frame FIRST source ++ store_slot frame (operand_register FIRST source) destination ∷ [])
+    ordinary (move_to (value_register frame destination) frame destination source)
 
 -- a jump where a test holds
 abbrev pub branch_code : Frame → Test → (label : ℕ) → List Line
-branch_code frame test label = ordinary (test_code frame test) ++ branch_line test label ∷ []
+branch_code frame test label = ordinary (test_code frame test) ++ branch_line frame test label ∷ []
 
 -- an operand's low byte is printed
 abbrev pub write_code : Frame → Operand → List Line
@@ -445,38 +561,44 @@ write_code frame source = ordinary (load_code frame ARGUMENT source ++ small SER
 -- a global into a slot, and an operand into a global
 abbrev pub load_global : Frame → (destination global : ℕ) → List Line
 load_global frame destination global =
-    ordinary (upper_of_global global ∷ at_global LoadWord FIRST global ∷ store_slot frame FIRST destination ∷ [])
+    ordinary (
+    upper_of_global global
+    ∷ at_global LoadWord (made_in frame destination) global
+    ∷ keep_code frame destination)
 
 abbrev pub store_global : Frame → (global : ℕ) → Operand → List Line
 store_global frame global source =
     ordinary (
     operand_code frame FIRST source
-    ++ upper_of_global global ∷ at_global StoreWord (operand_register FIRST source) global ∷ [])
+    ++ upper_of_global global ∷ at_global StoreWord (operand_register frame FIRST source) global ∷ [])
 
 -- Words from slots to slots. All of them are in registers before the first goes to its slot, so they may overlap.
 abbrev pub move_words : Frame → (destination source count : ℕ) → List Line
 move_words frame destination source count =
     ordinary (
-    load_all frame source (result_registers count)
+    load_words frame source (result_registers count)
     ++ store_all frame destination (result_registers count))
 
 -- the address of a slot's word comes into a slot
 abbrev pub address_of : Frame → (destination slot : ℕ) → List Line
 address_of frame destination slot =
-    ordinary (add_immediate FIRST FRAME (slot_offset frame slot) ∷ store_slot frame FIRST destination ∷ [])
+    ordinary (
+    add_immediate (made_in frame destination) FRAME (slot_offset frame slot)
+    ∷ keep_code frame destination)
 
 -- a word of memory into a slot, and an operand into a word of memory
 abbrev pub load_word : Frame → (destination : ℕ) → (address : Operand) → (offset : ℕ) → List Line
 load_word frame destination address offset =
     ordinary (
     address_code frame address offset
-    ++ at_address LoadWord FIRST address offset ∷ store_slot frame FIRST destination ∷ [])
+    ++ at_address frame LoadWord (made_in frame destination) address offset
+    ∷ keep_code frame destination)
 
 abbrev pub store_word : Frame → (address : Operand) → (offset : ℕ) → (source : Operand) → List Line
 store_word frame address offset source =
     ordinary (
     address_code frame address offset
-    ++ (operand_code frame SECOND source ++ at_address StoreWord (operand_register SECOND source) address offset ∷ []))
+    ++ (operand_code frame SECOND source ++ at_address frame StoreWord (operand_register frame SECOND source) address offset ∷ []))
 
 -- an operand into a register, where there is one
 abbrev pub argument_code : Frame → (register : ℕ) → Option Operand → List Instr
@@ -540,7 +662,7 @@ returned_code frame result results =
     ordinary (
     load RETURN_ADDRESS (4 * frame.return_address)
     ∷ add_immediate CALLS CALLS 1
-    ∷ store_all frame result (result_registers results))
+    ∷ (store_all frame result (result_registers results) ++ reloads frame))
 
 -- where `main` was called first its result ends the run
 abbrev pub ending_code : Bool → Frame → (here value : ℕ) → List Line
@@ -573,7 +695,7 @@ caught_code frame first =
     load RETURN_ADDRESS (4 * frame.return_address)
     ∷ store_slot frame ARGUMENT first
     ∷ store_slot frame SECOND_ARGUMENT (suc first)
-    ∷ []
+    ∷ reloads frame
 
 abbrev pub opened_code : Frame → (first : ℕ) → List Instr
 opened_code frame first =
@@ -585,7 +707,7 @@ opened_code frame first =
 abbrev pub try_code : Frame → (here first label : ℕ) → List Line
 try_code frame here first label =
     ordinary (recorded_code frame first)
-    ++ (lines.Call (here + 9)
+    ++ (lines.Call (here + 9 + reload_count frame)
     ∷ ordinary (caught_code frame first)
     ++ (lines.Jump label ∷ ordinary (opened_code frame first)))
 
@@ -616,15 +738,15 @@ body program frames function here (plain.Unary operator destination operand) =
 body program frames function here (plain.Binary operator destination left right) =
     operator_code (frame_at frames function) here operator destination left right
 body program frames function here (plain.Jump target) =
-    lines.Jump (instruction_line program function target) ∷ []
+    lines.Jump (instruction_line program frames function target) ∷ []
 body program frames function here (plain.Branch comparison left right target) =
-    branch_code (frame_at frames function) (test_of comparison left right) (instruction_line program function target)
+    branch_code (frame_at frames function) (test_of comparison left right) (instruction_line program frames function target)
 body program frames function here (plain.Call callee arguments count result) =
-    calling_code (frame_at frames function) (frame_at frames callee) here (function_line program callee) arguments count
+    calling_code (frame_at frames function) (frame_at frames callee) here (function_line program frames callee) arguments count
 body program frames function here (plain.Return value) =
     returning_code (function == program.main) (frame_at frames function) here value (routine_at program function).results
 body program frames function here (plain.ReadByte destination) =
-    ordinary (small SERVICE GET_BYTE ∷ syscall ∷ store_slot (frame_at frames function) SERVICE destination ∷ [])
+    ordinary (small SERVICE GET_BYTE ∷ syscall ∷ give_code (frame_at frames function) SERVICE destination)
 body program frames function here (plain.WriteByte source) = write_code (frame_at frames function) source
 body program frames function here (plain.LoadGlobal destination global) =
     load_global (frame_at frames function) destination global
@@ -638,11 +760,11 @@ body program frames function here (plain.Store address offset source) =
     store_word (frame_at frames function) address offset source
 body program frames function here (plain.Ask request) = ask_code (frame_at frames function) request
 body program frames function here (plain.CountLexical destination) =
-    ordinary (store_slot (frame_at frames function) REGIONS destination ∷ [])
+    ordinary (give_code (frame_at frames function) REGIONS destination)
 body program frames function here (plain.Try first handler) =
-    try_code (frame_at frames function) here first (instruction_line program function handler)
+    try_code (frame_at frames function) here first (instruction_line program frames function handler)
 body program frames function here (plain.Leave first) =
-    ordinary (load_slot (frame_at frames function) HANDLERS first ∷ [])
+    ordinary (load HANDLERS (slot_offset (frame_at frames function) first) ∷ [])
 body program frames function here (plain.Throw tag value) = throw_code (frame_at frames function) here tag value
 body program frames function here (plain.Finish value) =
     returning_code (function == program.main) (frame_at frames function) here value (routine_at program function).results
@@ -658,13 +780,13 @@ abbrev pub code_lines : Program → List Frame → (function here : ℕ) → Lis
 code_lines program frames function here [] = []
 code_lines program frames function here (i ∷ code) =
     body program frames function here i ++ behind program frames function i
-    ++ code_lines program frames function (here + count_of program function i) code
+    ++ code_lines program frames function (here + count_of program frames function i) code
 
 abbrev pub function_lines : Program → List Frame → (function here : ℕ) → List Routine → List Line
 function_lines program frames function here [] = []
 function_lines program frames function here (r ∷ routines) =
     code_lines program frames function here r.code
-    ++ function_lines program frames (suc function) (here + function_count program function r) routines
+    ++ function_lines program frames (suc function) (here + function_count program frames function r) routines
 
 -- `main`, whose first line has this label, is called: one call more is under way, and its frame lies below the end of
 -- the stack
@@ -673,7 +795,7 @@ start_code frame label =
     ordinary (add_immediate CALLS ARGUMENT (minus 1) ∷ push_frame frame ∷ []) ++ lines.Jump label ∷ []
 
 abbrev pub start_lines : Program → List Frame → List Line
-start_lines program frames = start_code (frame_at frames program.main) (function_line program program.main)
+start_lines program frames = start_code (frame_at frames program.main) (function_line program frames program.main)
 
 abbrev pub select_of : Program → List Frame → Labelled
 select_of program frames =

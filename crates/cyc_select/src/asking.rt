@@ -1,13 +1,13 @@
 //! The lines that call the store.
 ghost use Rattle.std.specs.Prelude.{◌≡◌, ◌≤◌, [], ◌∷◌, OnOk};
 ghost use Rattle.cyc_plain.specs.Requests.{first_operand, second_operand, answer_count, destination_of};
-ghost use Rattle.cyc_select.specs.Selection.{ordinary, store_slot, argument_code, service_number, regions_code, answer_code, ask_code, ask_count};
+ghost use Rattle.cyc_select.specs.Selection.{ordinary, give_code, argument_code, service_number, regions_code, answer_code, ask_code, ask_count};
 ghost use Rattle.cyc_select.specs.Emission.{AddsLines, IsReached, IsArgumentFound, AreReached, IsRequestFound};
 
 use crate::calling::RESULTS;
 use crate::constants::REGIONS;
 use crate::emitter::Emitter;
-use crate::instructions::{add_immediate, small, store_slot, syscall};
+use crate::instructions::{add_immediate, small, syscall};
 use crate::operands::load_count;
 use cyc_frame::Frame;
 use cyc_machine::constants::{
@@ -48,9 +48,9 @@ pub(crate) fn ask_count(request: Request) -> usize
 
 impl Emitter {
     /// The first word that a request takes, where it takes one.
-    fn first_argument(&mut self, frame: Frame, request: Request) -> Result<(), AllocError>
-        requires { IsArgumentFound frame (first_operand request) }
-        ensures { AddsLines result self.old self.new (ordinary (argument_code frame ARGUMENT (first_operand request))) }
+    fn first_argument(&mut self, frame: &Frame, request: Request) -> Result<(), AllocError>
+        requires { IsArgumentFound frame.now (first_operand request) }
+        ensures { AddsLines result self.old self.new (ordinary (argument_code frame.now ARGUMENT (first_operand request))) }
     {
         match request {
             Request::OpenLexical { .. } => Ok(()),
@@ -63,9 +63,9 @@ impl Emitter {
     }
 
     /// The second word that a request takes, where it takes one.
-    fn second_argument(&mut self, frame: Frame, request: Request) -> Result<(), AllocError>
-        requires { IsArgumentFound frame (second_operand request) }
-        ensures { AddsLines result self.old self.new (ordinary (argument_code frame SECOND_ARGUMENT (second_operand request))) }
+    fn second_argument(&mut self, frame: &Frame, request: Request) -> Result<(), AllocError>
+        requires { IsArgumentFound frame.now (second_operand request) }
+        ensures { AddsLines result self.old self.new (ordinary (argument_code frame.now SECOND_ARGUMENT (second_operand request))) }
     {
         match request {
             Request::Allocate { words, .. } => self.load(frame, SECOND_ARGUMENT, words),
@@ -90,9 +90,9 @@ impl Emitter {
     }
 
     /// What the store answers comes into slots.
-    fn answer(&mut self, frame: Frame, request: Request) -> Result<(), AllocError>
-        requires { AreReached frame (destination_of request) (answer_count request) }
-        ensures { AddsLines result self.old self.new (ordinary (answer_code frame request)) }
+    fn answer(&mut self, frame: &Frame, request: Request) -> Result<(), AllocError>
+        requires { AreReached frame.now (destination_of request) (answer_count request) }
+        ensures { AddsLines result self.old self.new (ordinary (answer_code frame.now request)) }
     {
         match request {
             Request::OpenLexical { destination } => self.store_all(
@@ -119,19 +119,19 @@ impl Emitter {
     /// How many lexical regions are open comes into a slot.
     pub(crate) fn count_lexical(
         &mut self,
-        frame: Frame,
+        frame: &Frame,
         destination: usize,
     ) -> Result<(), AllocError>
-        requires { IsReached frame destination }
-        ensures { AddsLines result self.old self.new (ordinary (store_slot frame REGIONS destination ∷ [])) }
+        requires { IsReached frame.now destination }
+        ensures { AddsLines result self.old self.new (ordinary (give_code frame.now REGIONS destination)) }
     {
-        self.ordinary(&[store_slot(frame, REGIONS, destination)])
+        self.give(frame, REGIONS, destination)
     }
 
     /// The store is called.
-    pub(crate) fn ask(&mut self, frame: Frame, request: Request) -> Result<(), AllocError>
-        requires { IsRequestFound frame request }
-        ensures { AddsLines result self.old self.new (ask_code frame request) }
+    pub(crate) fn ask(&mut self, frame: &Frame, request: Request) -> Result<(), AllocError>
+        requires { IsRequestFound frame.now request }
+        ensures { AddsLines result self.old self.new (ask_code frame.now request) }
     {
         self.first_argument(frame, request)?;
         self.second_argument(frame, request)?;

@@ -67,8 +67,9 @@ impl Emitter {
                 count,
                 ..
             } => {
-                let frames = (frame, tables.frame(function));
-                self.call(frames, here, tables.start(function), arguments, count)
+                let callee = tables.frame(function);
+                let label = tables.start(function);
+                self.call(frame, callee, here, label, arguments, count)
             }
             Instruction::Return { value } => {
                 let results = tables.results(tables.function);

@@ -1,15 +1,16 @@
 //! The lines of calls and returns, and of moves of several words.
 ghost use Rattle.std.specs.Prelude.{◌≡◌, ◌+◌, ◌*◌, ◌<◌, ◌≤◌, [], ◌∷◌, ◌++◌, true, length, OnOk};
-ghost use Rattle.cyc_select.specs.Selection.{load, store_slot, slot_offset, copies, ordinary, load_all, store_all, move_words, calling_code, returned_code, ending_code, returning_code};
+ghost use Rattle.cyc_select.specs.Selection.{load, store_slot, made_in, slot_offset, copies, ordinary, load_all, load_words, store_all, move_words, calling_code, returned_code, ending_code, returning_code};
 ghost use Rattle.cyc_select.specs.Emission.{AddsLines, IsReached, AreReached, most_lines, enter_code};
 
 use crate::code::Line;
-use crate::constants::{CALLS, FIRST, FIRST_RESULT, SECOND_RESULT, THIRD_RESULT, ZERO};
+use crate::constants::{CALLS, FIRST_RESULT, SECOND_RESULT, THIRD_RESULT, ZERO};
 use crate::emitter::Emitter;
 use crate::instructions::{
-    add_immediate, load, load_slot, minus, offset_of, pop_frame, push_frame, small, store,
-    store_slot, syscall,
+    add_immediate, load, load_slot, load_word, minus, offset_of, pop_frame, push_frame, small,
+    store, store_slot, syscall,
 };
+use crate::operands::made_in;
 use cyc_frame::{Frame, MOST_FRAME_WORDS};
 use cyc_isa::BranchOp;
 use cyc_machine::constants::{ARGUMENT, END_FULL, END_RETURNED, RETURN_ADDRESS, SERVICE};
@@ -20,35 +21,37 @@ use std::alloc::AllocError;
 pub(crate) const RESULTS: [u8; 3] = [FIRST_RESULT, SECOND_RESULT, THIRD_RESULT];
 
 impl Emitter {
-    /// One argument, from the caller's slot to the callee's, whose frame is the current one already.
+    /// One argument, from the caller's slot to the callee's, whose frame is the current one already. It comes by the
+    /// register that the callee has it in.
     fn argument(
         &mut self,
-        caller: Frame,
-        callee: Frame,
+        caller: &Frame,
+        callee: &Frame,
         source: usize,
         slot: usize,
     ) -> Result<(), AllocError>
-        requires words { callee.words ≤ MOST_FRAME_WORDS }
-        requires source { IsReached caller source }
-        requires target { IsReached callee slot }
-        ensures { AddsLines result self.old self.new (ordinary (load FIRST (4 * callee.words + slot_offset caller source) ∷ store_slot callee FIRST slot ∷ [])) }
+        requires words { callee.now.words ≤ MOST_FRAME_WORDS }
+        requires source { IsReached caller.now source }
+        requires target { IsReached callee.now slot }
+        ensures { AddsLines result self.old self.new (ordinary (load (made_in callee.now slot) (4 * callee.now.words + slot_offset caller.now source) ∷ store_slot callee.now (made_in callee.now slot) slot ∷ [])) }
     {
         let offset = offset_of(callee.words) + offset_of(caller.first_slot + source);
-        self.ordinary(&[load(FIRST, offset), store_slot(callee, FIRST, slot)])
+        let target = made_in(callee, slot);
+        self.ordinary(&[load(target, offset), store_slot(callee, target, slot)])
     }
 
     /// The arguments, from the caller's slots to the first ones of the callee.
     fn arguments(
         &mut self,
-        caller: Frame,
-        callee: Frame,
+        caller: &Frame,
+        callee: &Frame,
         source: usize,
         count: usize,
     ) -> Result<(), AllocError>
-        requires words { callee.words ≤ MOST_FRAME_WORDS }
-        requires source { AreReached caller source count }
-        requires target { AreReached callee 0 count }
-        ensures { AddsLines result self.old self.new (ordinary (copies caller callee source 0 count)) }
+        requires words { callee.now.words ≤ MOST_FRAME_WORDS }
+        requires source { AreReached caller.now source count }
+        requires target { AreReached callee.now 0 count }
+        ensures { AddsLines result self.old self.new (ordinary (copies caller.now callee.now source 0 count)) }
     {
         for slot in 0..count {
             self.argument(caller, callee, source + slot, slot)?;
@@ -57,11 +60,11 @@ impl Emitter {
     }
 
     /// The end of a run where too many calls are under way, and the change to the callee's frame.
-    fn enter(&mut self, caller: Frame, callee: Frame) -> Result<(), AllocError>
-        requires return_address { caller.return_address ≤ MOST_FRAME_WORDS }
-        requires some { 0 < callee.words }
-        requires words { callee.words ≤ MOST_FRAME_WORDS }
-        ensures { AddsLines result self.old self.new (enter_code caller callee) }
+    fn enter(&mut self, caller: &Frame, callee: &Frame) -> Result<(), AllocError>
+        requires return_address { caller.now.return_address ≤ MOST_FRAME_WORDS }
+        requires some { 0 < callee.now.words }
+        requires words { callee.now.words ≤ MOST_FRAME_WORDS }
+        ensures { AddsLines result self.old self.new (enter_code caller.now callee.now) }
     {
         self.ordinary(&[
             small(SERVICE, END_FULL as u16),
@@ -75,21 +78,21 @@ impl Emitter {
     /// A call of the function whose first line is the label.
     pub(crate) fn call(
         &mut self,
-        frames: (Frame, Frame),
+        caller: &Frame,
+        callee: &Frame,
         here: usize,
         label: usize,
         arguments: usize,
         count: usize,
     ) -> Result<(), AllocError>
         requires fits { here ≤ most_lines }
-        requires return_address { frames.0.return_address ≤ MOST_FRAME_WORDS }
-        requires some { 0 < frames.1.words }
-        requires words { frames.1.words ≤ MOST_FRAME_WORDS }
-        requires source { AreReached frames.0 arguments count }
-        requires target { AreReached frames.1 0 count }
-        ensures { AddsLines result self.old self.new (calling_code frames.0 frames.1 here label arguments count) }
+        requires return_address { caller.now.return_address ≤ MOST_FRAME_WORDS }
+        requires some { 0 < callee.now.words }
+        requires words { callee.now.words ≤ MOST_FRAME_WORDS }
+        requires source { AreReached caller.now arguments count }
+        requires target { AreReached callee.now 0 count }
+        ensures { AddsLines result self.old self.new (calling_code caller.now callee.now here label arguments count) }
     {
-        let (caller, callee) = frames;
         self.branch(BranchOp::NotEqual, CALLS, ZERO, here + 3)?;
         self.enter(caller, callee)?;
         self.arguments(caller, callee, arguments, count)?;
@@ -99,12 +102,12 @@ impl Emitter {
     /// Registers into the slots from one on.
     pub(crate) fn store_all(
         &mut self,
-        frame: Frame,
+        frame: &Frame,
         slot: usize,
         sources: &[u8],
     ) -> Result<(), AllocError>
-        requires { AreReached frame slot (length sources.now) }
-        ensures { AddsLines result self.old self.new (ordinary (store_all frame slot sources.now)) }
+        requires { AreReached frame.now slot (length sources.now) }
+        ensures { AddsLines result self.old self.new (ordinary (store_all frame.now slot sources.now)) }
     {
         let mut next = slot;
         for source in sources {
@@ -115,9 +118,9 @@ impl Emitter {
     }
 
     /// The slots from one on into registers.
-    fn load_all(&mut self, frame: Frame, slot: usize, targets: &[u8]) -> Result<(), AllocError>
-        requires { AreReached frame slot (length targets.now) }
-        ensures { AddsLines result self.old self.new (ordinary (load_all frame slot targets.now)) }
+    fn load_all(&mut self, frame: &Frame, slot: usize, targets: &[u8]) -> Result<(), AllocError>
+        requires { AreReached frame.now slot (length targets.now) }
+        ensures { AddsLines result self.old self.new (ordinary (load_all frame.now slot targets.now)) }
     {
         let mut next = slot;
         for target in targets {
@@ -127,53 +130,68 @@ impl Emitter {
         Ok(())
     }
 
+    /// The same of slots that live in memory alone.
+    fn load_words(&mut self, frame: &Frame, slot: usize, targets: &[u8]) -> Result<(), AllocError>
+        requires { AreReached frame.now slot (length targets.now) }
+        ensures { AddsLines result self.old self.new (ordinary (load_words frame.now slot targets.now)) }
+    {
+        let mut next = slot;
+        for target in targets {
+            self.ordinary(&[load_word(frame, *target, next)])?;
+            next += 1;
+        }
+        Ok(())
+    }
+
     /// Words from slots to slots.
     pub(crate) fn move_words(
         &mut self,
-        frame: Frame,
+        frame: &Frame,
         destination: usize,
         source: usize,
         count: usize,
     ) -> Result<(), AllocError>
         requires few { count ≤ GREATEST_VALUE }
-        requires source { AreReached frame source count }
-        requires target { AreReached frame destination count }
-        ensures { AddsLines result self.old self.new (move_words frame destination source count) }
+        requires source { AreReached frame.now source count }
+        requires target { AreReached frame.now destination count }
+        ensures { AddsLines result self.old self.new (move_words frame.now destination source count) }
     {
-        self.load_all(frame, source, &RESULTS[..count])?;
+        self.load_words(frame, source, &RESULTS[..count])?;
         self.store_all(frame, destination, &RESULTS[..count])
     }
 
     /// Behind a call: the caller has its return address and the number of calls again, and gets what was returned.
     pub(crate) fn returned(
         &mut self,
-        frame: Frame,
+        frame: &Frame,
         slot: usize,
         results: usize,
     ) -> Result<(), AllocError>
-        requires return_address { frame.return_address ≤ MOST_FRAME_WORDS }
+        requires return_address { frame.now.return_address ≤ MOST_FRAME_WORDS }
         requires few { results ≤ GREATEST_VALUE }
-        requires target { AreReached frame slot results }
-        ensures { AddsLines result self.old self.new (returned_code frame slot results) }
+        requires target { AreReached frame.now slot results }
+        requires homes { AreReached frame.now 0 (length frame.now.homes) }
+        ensures { AddsLines result self.old self.new (returned_code frame.now slot results) }
     {
         self.ordinary(&[
             load(RETURN_ADDRESS, offset_of(frame.return_address)),
             add_immediate(CALLS, CALLS, 1),
         ])?;
-        self.store_all(frame, slot, &RESULTS[..results])
+        self.store_all(frame, slot, &RESULTS[..results])?;
+        self.reloads(frame)
     }
 
     /// The end of a run, where `main` was called first.
     fn ending(
         &mut self,
         is_main: bool,
-        frame: Frame,
+        frame: &Frame,
         here: usize,
         value: usize,
     ) -> Result<(), AllocError>
         requires fits { here ≤ most_lines }
-        requires source { is_main ≡ true → IsReached frame value }
-        ensures { AddsLines result self.old self.new (ending_code is_main frame here value) }
+        requires source { is_main ≡ true → IsReached frame.now value }
+        ensures { AddsLines result self.old self.new (ending_code is_main frame.now here value) }
     {
         if !is_main {
             return Ok(());
@@ -190,17 +208,17 @@ impl Emitter {
     pub(crate) fn returning(
         &mut self,
         is_main: bool,
-        frame: Frame,
+        frame: &Frame,
         here: usize,
         value: usize,
         results: usize,
     ) -> Result<(), AllocError>
         requires fits { here ≤ most_lines }
-        requires words { frame.words ≤ MOST_FRAME_WORDS }
+        requires words { frame.now.words ≤ MOST_FRAME_WORDS }
         requires few { results ≤ GREATEST_VALUE }
-        requires main { is_main ≡ true → IsReached frame value }
-        requires source { AreReached frame value results }
-        ensures { AddsLines result self.old self.new (returning_code is_main frame here value results) }
+        requires main { is_main ≡ true → IsReached frame.now value }
+        requires source { AreReached frame.now value results }
+        ensures { AddsLines result self.old self.new (returning_code is_main frame.now here value results) }
     {
         self.ending(is_main, frame, here, value)?;
         self.load_all(frame, value, &RESULTS[..results])?;

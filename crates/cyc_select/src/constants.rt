@@ -16,13 +16,13 @@ pub const SECOND_RESULT: u8 = 3;
 pub const THIRD_RESULT: u8 = 5;
 
 /// The register of an instruction's first operand, and of its result.
-pub const FIRST: u8 = 8;
+pub const FIRST: u8 = 24;
 
 /// The register of an instruction's second operand.
-pub const SECOND: u8 = 9;
+pub const SECOND: u8 = 25;
 
 /// The register of what else an instruction needs.
-pub const THIRD: u8 = 10;
+pub const THIRD: u8 = 1;
 
 /// The register with the address of the current frame.
 pub const FRAME: u8 = STACK_POINTER;

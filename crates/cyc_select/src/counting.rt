@@ -2,16 +2,21 @@
 ghost use Rattle.std.specs.Prelude.{◌≡◌, ◌+◌, ◌<◌, ◌≤◌, length, map, sum_by, All, IfOk};
 ghost use Rattle.cyc_plain.specs.Program.{routine_of, routine_at, instruction_size, size};
 ghost use Rattle.cyc_plain.specs.WellFormed.{IsPlain, IsInRange};
-ghost use Rattle.cyc_select.specs.Selection.{operator_count, ending_count, body_count, behind_count, count_of};
+ghost use Rattle.cyc_frame.specs.Layout.{AreFrames, frame_at};
+ghost use Rattle.cyc_frame.specs.declared.home.TheConstants.{MOST_BOTH};
+ghost use Rattle.cyc_select.specs.Selection.{reload_count, operator_count, ending_count, body_count, behind_count, count_of};
 ghost use Rattle.cyc_select.specs.Emission.{AreFew, most_lines, instruction_lines, function_starts};
 
 use crate::asking::ask_count;
 use crate::constants::START_LINES;
 use crate::memory::address_count;
-use crate::operands::{load_count, operand_count, word_count};
-use crate::operators::{is_tested, plan_count, test_count};
+use crate::operands::{
+    give_count, keep_count, load_count, move_count, operand_count, reload_count, word_count,
+};
+use crate::operators::{Parts, is_tested, plan_count, test_count};
 use crate::plan::{binary_plan, test_of, unary_plan};
-use cyc_plain::{BinaryOperator, GREATEST_VALUE, Instruction, MOST_SIZE, Operand, Plain};
+use cyc_frame::Frame;
+use cyc_plain::{BinaryOperator, GREATEST_VALUE, Instruction, MOST_SIZE, Plain};
 use std::alloc::{AllocError, Global};
 
 /// How many words a function returns.
@@ -22,13 +27,31 @@ pub(crate) fn results_of(plain: &Plain, function: usize) -> usize
     plain.function(function).results
 }
 
-fn operator_count(operator: BinaryOperator, left: Operand, right: Operand) -> usize
-    ensures { result ≡ operator_count operator left right }
+fn known_frame(frames: &[Frame], function: usize) -> &Frame
+    requires { function < length frames.now }
+    ensures { result.now ≡ frame_at frames.now function }
 {
-    if is_tested(operator, right) {
-        load_count(left) + load_count(right) + 7
+    &frames[function]
+}
+
+/// The frame of a function.
+pub(crate) fn frame_in<'a>(plain: &Plain, frames: &'a [Frame], function: usize) -> &'a Frame
+    requires fit { AreFrames plain.now frames.now }
+    requires function { function < length plain.now.functions }
+    ensures value { result.now ≡ frame_at frames.now function }
+    ensures few { reload_count result.now ≤ MOST_BOTH }
+{
+    known_frame(frames, function)
+}
+
+fn operator_count(frame: &Frame, operator: BinaryOperator, parts: Parts) -> usize
+    ensures { result ≡ operator_count frame.now operator parts.destination parts.left parts.right }
+{
+    if is_tested(operator, parts.right) {
+        load_count(parts.left) + load_count(parts.right) + 6 + keep_count(frame, parts.destination)
     } else {
-        plan_count(binary_plan(operator, left, right))
+        let plan = binary_plan(operator, parts.left, parts.right);
+        plan_count(frame, plan, parts.destination)
     }
 }
 
@@ -44,53 +67,67 @@ fn return_count(plain: &Plain, function: usize) -> usize
 
 /// The lines of an instruction up to what it does.
 #[tactic(auto, using(crate::proofs::Numbering::moved_count))]
-fn body_count(plain: &Plain, function: usize, instruction: Instruction) -> usize
+fn body_count(plain: &Plain, frames: &[Frame], function: usize, instruction: Instruction) -> usize
+    requires fit { AreFrames plain.now frames.now }
     requires function { function < length plain.now.functions }
     requires few { AreFew plain.now }
     requires in_range { IsInRange plain.now (routine_at plain.now function) instruction }
     requires small { instruction_size instruction ≤ MOST_SIZE }
-    ensures { result ≡ body_count plain.now function instruction }
+    ensures { result ≡ body_count plain.now frames.now function instruction }
 {
+    let frame = frame_in(plain, frames, function);
     match instruction {
-        Instruction::Move { source, .. } => operand_count(source) + 1,
+        Instruction::Move {
+            destination,
+            source,
+        } => move_count(frame, destination, source),
         Instruction::Unary {
             operator,
+            destination,
             operand,
-            ..
-        } => plan_count(unary_plan(operator, operand)),
+        } => plan_count(frame, unary_plan(operator, operand), destination),
         Instruction::Binary {
             operator,
+            destination,
             left,
             right,
-            ..
-        } => operator_count(operator, left, right),
+        } => operator_count(
+            frame,
+            operator,
+            Parts {
+                destination,
+                left,
+                right,
+            },
+        ),
         Instruction::Jump { .. } => 1,
         Instruction::MoveWords { count, .. } => 2 * count,
         Instruction::Load {
+            destination,
             address,
             offset,
-            ..
-        } => address_count(address, offset) + 2,
-        Instruction::AddressOf { .. } => 2,
+        } => address_count(frame, address, offset) + 1 + keep_count(frame, destination),
+        Instruction::AddressOf { destination, .. } => 1 + keep_count(frame, destination),
         Instruction::Store {
             address,
             offset,
             source,
-        } => address_count(address, offset) + operand_count(source) + 1,
+        } => address_count(frame, address, offset) + operand_count(frame, source) + 1,
         Instruction::Branch {
             comparison,
             left,
             right,
             ..
-        } => test_count(test_of(comparison, left, right)) + 1,
+        } => test_count(frame, test_of(comparison, left, right)) + 1,
         Instruction::Call { count, .. } => 7 + 2 * count,
         Instruction::Return { .. } => return_count(plain, function),
-        Instruction::ReadByte { .. } | Instruction::LoadGlobal { .. } => 3,
+        Instruction::ReadByte { destination } => 2 + give_count(frame, destination),
+        Instruction::LoadGlobal { destination, .. } => 2 + keep_count(frame, destination),
         Instruction::WriteByte { source } => load_count(source) + 2,
-        Instruction::StoreGlobal { source, .. } => operand_count(source) + 2,
+        Instruction::StoreGlobal { source, .. } => operand_count(frame, source) + 2,
         Instruction::Ask { request } => ask_count(request),
-        Instruction::CountLexical { .. } => 1,
-        Instruction::Try { .. } => 12,
+        Instruction::CountLexical { destination } => give_count(frame, destination),
+        Instruction::Try { .. } => 12 + reload_count(frame),
         Instruction::Leave { .. } => 1,
         Instruction::Throw { tag, value } => load_count(tag) + load_count(value) + 8,
         Instruction::Finish { .. } => return_count(plain, function),
@@ -99,42 +136,50 @@ fn body_count(plain: &Plain, function: usize, instruction: Instruction) -> usize
 }
 
 /// Behind a call, the lines that are executed after it returned.
-fn behind_count(plain: &Plain, function: usize, instruction: Instruction) -> usize
+fn behind_count(plain: &Plain, frames: &[Frame], function: usize, instruction: Instruction) -> usize
+    requires fit { AreFrames plain.now frames.now }
+    requires function { function < length plain.now.functions }
     requires few { AreFew plain.now }
     requires in_range { IsInRange plain.now (routine_at plain.now function) instruction }
-    ensures { result ≡ behind_count plain.now instruction }
+    ensures { result ≡ behind_count plain.now frames.now function instruction }
 {
+    let frame = frame_in(plain, frames, function);
     match instruction {
-        Instruction::Call { function, .. } => 2 + results_of(plain, function),
+        Instruction::Call { function, .. } => {
+            2 + results_of(plain, function) + reload_count(frame)
+        }
         _ => 0,
     }
 }
 
 /// The lines of an instruction.
-#[tactic(auto, using(crate::proofs::Numbering::count_small))]
-fn count_of(plain: &Plain, function: usize, instruction: Instruction) -> usize
+#[tactic(auto, using(crate::proofs::Numbering::count_fits))]
+fn count_of(plain: &Plain, frames: &[Frame], function: usize, instruction: Instruction) -> usize
+    requires fit { AreFrames plain.now frames.now }
     requires function { function < length plain.now.functions }
     requires few { AreFew plain.now }
     requires in_range { IsInRange plain.now (routine_at plain.now function) instruction }
     requires small { instruction_size instruction ≤ MOST_SIZE }
-    ensures value { result ≡ count_of plain.now function instruction }
+    ensures value { result ≡ count_of plain.now frames.now function instruction }
     ensures few { result ≤ instruction_size instruction }
 {
-    body_count(plain, function, instruction) + behind_count(plain, function, instruction)
+    body_count(plain, frames, function, instruction)
+        + behind_count(plain, frames, function, instruction)
 }
 
 /// The lines of a function's code.
-fn code_count(plain: &Plain, function: usize, code: &[Instruction]) -> usize
+fn code_count(plain: &Plain, frames: &[Frame], function: usize, code: &[Instruction]) -> usize
+    requires fit { AreFrames plain.now frames.now }
     requires function { function < length plain.now.functions }
     requires few { AreFew plain.now }
     requires in_range { All (IsInRange plain.now (routine_at plain.now function)) code.now }
     requires small { sum_by instruction_size code.now ≤ MOST_SIZE }
-    ensures value { result ≡ sum_by (count_of plain.now function) code.now }
+    ensures value { result ≡ sum_by (count_of plain.now frames.now function) code.now }
     ensures small { result ≤ sum_by instruction_size code.now }
 {
     let mut lines = 0;
     for instruction in code {
-        lines += count_of(plain, function, *instruction);
+        lines += count_of(plain, frames, function, *instruction);
     }
     lines
 }
@@ -143,35 +188,42 @@ fn code_count(plain: &Plain, function: usize, code: &[Instruction]) -> usize
 pub(crate) fn instruction_lines(
     alloc: Global,
     plain: &Plain,
+    frames: &[Frame],
     function: usize,
     first: usize,
     code: &[Instruction],
 ) -> Result<Vec<usize>, AllocError>
+    requires fit { AreFrames plain.now frames.now }
     requires function { function < length plain.now.functions }
     requires few { AreFew plain.now }
     requires in_range { All (IsInRange plain.now (routine_at plain.now function)) code.now }
     requires small { sum_by instruction_size code.now ≤ MOST_SIZE }
     requires fits { first + sum_by instruction_size code.now ≤ most_lines }
-    ensures { IfOk result (λ lines. lines.items ≡ instruction_lines plain.now function first code.now) }
+    ensures { IfOk result (λ lines. lines.items ≡ instruction_lines plain.now frames.now function first code.now) }
 {
     let mut lines = Vec::new(alloc);
     let mut here = first;
     for instruction in code {
         lines.push(here)?;
-        here += count_of(plain, function, *instruction);
+        here += count_of(plain, frames, function, *instruction);
     }
     Ok(lines)
 }
 
 /// The number of the first line of each function.
-pub(crate) fn function_starts(alloc: Global, plain: &Plain) -> Result<Vec<usize>, AllocError>
-    ensures starts { IfOk result (λ starts. starts.items ≡ function_starts plain.now 0 START_LINES plain.now.functions) }
+pub(crate) fn function_starts(
+    alloc: Global,
+    plain: &Plain,
+    frames: &[Frame],
+) -> Result<Vec<usize>, AllocError>
+    requires { AreFrames plain.now frames.now }
+    ensures starts { IfOk result (λ starts. starts.items ≡ function_starts plain.now frames.now 0 START_LINES plain.now.functions) }
     ensures plain { IfOk result (λ _. IsPlain plain.now) }
 {
     let mut starts = Vec::new(alloc);
     let mut here = START_LINES;
     for function in plain.functions() {
-        let lines = code_count(plain, starts.len(), &function.code);
+        let lines = code_count(plain, frames, starts.len(), &function.code);
         starts.push(here)?;
         here += lines;
     }

@@ -1,16 +1,17 @@
 //! The lines of handlers and of exceptions that are thrown.
-ghost use Rattle.std.specs.Prelude.{◌≡◌, ◌+◌, ◌*◌, ◌<◌, ◌≤◌, [], ◌∷◌, OnOk};
+ghost use Rattle.std.specs.Prelude.{◌≡◌, suc, ◌+◌, ◌*◌, ◌<◌, ◌≤◌, [], ◌∷◌, length, OnOk};
 ghost use Rattle.cyc_plain.specs.declared.limits.TheConstants.{RECORD_WORDS};
-ghost use Rattle.cyc_select.specs.Selection.{ordinary, load_slot, load_record, recorded_code, caught_code, opened_code, try_code, unwound_code, throw_code};
-ghost use Rattle.cyc_select.specs.Emission.{AddsLines, IsReached, IsFound, AreReached, most_lines};
+ghost use Rattle.cyc_frame.specs.declared.home.TheConstants.{MOST_BOTH};
+ghost use Rattle.cyc_select.specs.Selection.{ordinary, load, store_slot, slot_offset, reload_count, load_record, recorded_code, caught_code, opened_code, try_code, unwound_code, throw_code};
+ghost use Rattle.cyc_select.specs.Emission.{AddsLines, IsFound, AreReached, most_lines};
 
 use crate::code::Line;
 use crate::constants::{CALLS, FRAME, HANDLERS, ZERO};
 use crate::emitter::Emitter;
 use crate::instructions::{
-    add_immediate, load, load_slot, offset_of, register, small, store, store_slot, syscall,
+    add_immediate, load, load_word, offset_of, register, small, store, store_slot, syscall,
 };
-use crate::operands::load_count;
+use crate::operands::{load_count, reload_count};
 use cyc_frame::{Frame, MOST_FRAME_WORDS};
 use cyc_isa::{BranchOp, Instr, MemoryOp};
 use cyc_machine::constants::{ARGUMENT, END_UNCAUGHT, RETURN_ADDRESS, SECOND_ARGUMENT, SERVICE};
@@ -31,10 +32,10 @@ fn load_record(target: u8, offset: u16) -> Instr
 
 impl Emitter {
     /// What a record has, but for the line that an exception comes to.
-    fn recorded(&mut self, frame: Frame, first: usize) -> Result<(), AllocError>
-        requires return_address { frame.return_address ≤ MOST_FRAME_WORDS }
-        requires target { AreReached frame first RECORD_WORDS }
-        ensures { AddsLines result self.old self.new (ordinary (recorded_code frame first)) }
+    fn recorded(&mut self, frame: &Frame, first: usize) -> Result<(), AllocError>
+        requires return_address { frame.now.return_address ≤ MOST_FRAME_WORDS }
+        requires target { AreReached frame.now first RECORD_WORDS }
+        ensures { AddsLines result self.old self.new (ordinary (recorded_code frame.now first)) }
     {
         self.ordinary(&[
             store_slot(frame, HANDLERS, first),
@@ -44,11 +45,11 @@ impl Emitter {
         ])
     }
 
-    /// Where an exception comes to a handler.
-    fn caught(&mut self, frame: Frame, first: usize) -> Result<(), AllocError>
-        requires return_address { frame.return_address ≤ MOST_FRAME_WORDS }
-        requires target { AreReached frame first RECORD_WORDS }
-        ensures { AddsLines result self.old self.new (ordinary (caught_code frame first)) }
+    /// An exception has come to a handler: its tag and its word come into the record.
+    fn landed(&mut self, frame: &Frame, first: usize) -> Result<(), AllocError>
+        requires return_address { frame.now.return_address ≤ MOST_FRAME_WORDS }
+        requires target { AreReached frame.now first RECORD_WORDS }
+        ensures { AddsLines result self.old self.new (ordinary (load RETURN_ADDRESS (4 * frame.now.return_address) ∷ store_slot frame.now ARGUMENT first ∷ store_slot frame.now SECOND_ARGUMENT (suc first) ∷ [])) }
     {
         self.ordinary(&[
             load(RETURN_ADDRESS, offset_of(frame.return_address)),
@@ -57,11 +58,22 @@ impl Emitter {
         ])
     }
 
+    /// Where an exception comes to a handler.
+    fn caught(&mut self, frame: &Frame, first: usize) -> Result<(), AllocError>
+        requires return_address { frame.now.return_address ≤ MOST_FRAME_WORDS }
+        requires target { AreReached frame.now first RECORD_WORDS }
+        requires homes { AreReached frame.now 0 (length frame.now.homes) }
+        ensures { AddsLines result self.old self.new (ordinary (caught_code frame.now first)) }
+    {
+        self.landed(frame, first)?;
+        self.reloads(frame)
+    }
+
     /// The rest of a record, which is the newest one then.
-    fn opened(&mut self, frame: Frame, first: usize) -> Result<(), AllocError>
-        requires return_address { frame.return_address ≤ MOST_FRAME_WORDS }
-        requires target { AreReached frame first RECORD_WORDS }
-        ensures { AddsLines result self.old self.new (ordinary (opened_code frame first)) }
+    fn opened(&mut self, frame: &Frame, first: usize) -> Result<(), AllocError>
+        requires return_address { frame.now.return_address ≤ MOST_FRAME_WORDS }
+        requires target { AreReached frame.now first RECORD_WORDS }
+        ensures { AddsLines result self.old self.new (ordinary (opened_code frame.now first)) }
     {
         self.ordinary(&[
             store_slot(frame, RETURN_ADDRESS, first + 2),
@@ -73,29 +85,33 @@ impl Emitter {
     /// A handler is opened, whose first line has this label.
     pub(crate) fn open_handler(
         &mut self,
-        frame: Frame,
+        frame: &Frame,
         here: usize,
         first: usize,
         label: usize,
     ) -> Result<(), AllocError>
         requires fits { here ≤ most_lines }
-        requires return_address { frame.return_address ≤ MOST_FRAME_WORDS }
-        requires target { AreReached frame first RECORD_WORDS }
-        ensures { AddsLines result self.old self.new (try_code frame here first label) }
+        requires return_address { frame.now.return_address ≤ MOST_FRAME_WORDS }
+        requires target { AreReached frame.now first RECORD_WORDS }
+        requires homes { AreReached frame.now 0 (length frame.now.homes) }
+        requires few { reload_count frame.now ≤ MOST_BOTH }
+        ensures { AddsLines result self.old self.new (try_code frame.now here first label) }
     {
         self.recorded(frame, first)?;
-        self.line(Line::Call { label: here + 9 })?;
+        self.line(Line::Call {
+            label: here + 9 + reload_count(frame),
+        })?;
         self.caught(frame, first)?;
         self.line(Line::Jump { label })?;
         self.opened(frame, first)
     }
 
     /// The handler with this record is closed.
-    pub(crate) fn leave(&mut self, frame: Frame, first: usize) -> Result<(), AllocError>
-        requires target { AreReached frame first RECORD_WORDS }
-        ensures { AddsLines result self.old self.new (ordinary (load_slot frame HANDLERS first ∷ [])) }
+    pub(crate) fn leave(&mut self, frame: &Frame, first: usize) -> Result<(), AllocError>
+        requires target { AreReached frame.now first RECORD_WORDS }
+        ensures { AddsLines result self.old self.new (ordinary (load HANDLERS (slot_offset frame.now first) ∷ [])) }
     {
-        self.ordinary(&[load_slot(frame, HANDLERS, first)])
+        self.ordinary(&[load_word(frame, HANDLERS, first)])
     }
 
     /// The newest handler's call is the current one again.
@@ -113,15 +129,15 @@ impl Emitter {
     /// An exception is thrown.
     pub(crate) fn throw(
         &mut self,
-        frame: Frame,
+        frame: &Frame,
         here: usize,
         tag: Operand,
         value: Operand,
     ) -> Result<(), AllocError>
         requires fits { here ≤ most_lines }
-        requires tag { IsFound frame tag }
-        requires value { IsFound frame value }
-        ensures { AddsLines result self.old self.new (throw_code frame here tag value) }
+        requires tag { IsFound frame.now tag }
+        requires value { IsFound frame.now value }
+        ensures { AddsLines result self.old self.new (throw_code frame.now here tag value) }
     {
         self.load(frame, ARGUMENT, tag)?;
         self.load(frame, SECOND_ARGUMENT, value)?;

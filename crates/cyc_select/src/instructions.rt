@@ -1,12 +1,15 @@
 //! Single instructions of the machine, by what they are used for.
 ghost use Rattle.std.specs.Prelude.{◌≡◌, ◌+◌, ◌*◌, ◌<◌, ◌≤◌};
 ghost use Rattle.cyc_isa.specs.Decoding.{register_of, shift_amount_of, trap_code_of};
-ghost use Rattle.cyc_select.specs.Selection.{load, store, load_slot, store_slot, add_immediate, small, or_immediate, minus, is_zero, syscall, load_upper, or_lower, push_frame, pop_frame};
+ghost use Rattle.cyc_select.specs.Selection.{load, store, copy, slot_offset, load_slot, store_slot, add_immediate, small, or_immediate, minus, is_zero, syscall, load_upper, or_lower, push_frame, pop_frame};
 ghost use Rattle.cyc_select.specs.Emission.{IsReached};
 
 use crate::constants::{FRAME, ZERO};
+use crate::operands::value_register;
 use cyc_frame::{Frame, MOST_FRAME_WORDS};
-use cyc_isa::{ExceptionOp, ImmediateOp, Instr, MemoryOp, Register, ShiftAmount, TrapCode};
+use cyc_isa::{
+    ArithmeticOp, ExceptionOp, ImmediateOp, Instr, MemoryOp, Register, ShiftAmount, TrapCode,
+};
 
 /// The register of this number, which counts modulo 32.
 pub(crate) fn register(number: u8) -> Register
@@ -64,18 +67,41 @@ pub(crate) fn store(source: u8, offset: u16) -> Instr
     }
 }
 
-/// A slot of the current frame into a register.
-pub(crate) fn load_slot(frame: Frame, target: u8, slot: usize) -> Instr
-    requires { IsReached frame slot }
-    ensures { result ≡ load_slot frame target slot }
+/// A register into another one.
+pub(crate) fn copy(target: u8, source: u8) -> Instr
+    ensures { result ≡ copy target source }
+{
+    Instr::Arithmetic {
+        op: ArithmeticOp::AddUnsigned,
+        destination: register(target),
+        left: register(source),
+        right: register(ZERO),
+    }
+}
+
+/// A slot's word in the current frame into a register.
+pub(crate) fn load_word(frame: &Frame, target: u8, slot: usize) -> Instr
+    requires { IsReached frame.now slot }
+    ensures { result ≡ load target (slot_offset frame.now slot) }
 {
     load(target, offset_of(frame.first_slot + slot))
 }
 
+/// A slot's word into a register, from the one that the slot has or from the current frame.
+pub(crate) fn load_slot(frame: &Frame, target: u8, slot: usize) -> Instr
+    requires { IsReached frame.now slot }
+    ensures { result ≡ load_slot frame.now target slot }
+{
+    match value_register(frame, slot) {
+        Some(own) => copy(target, own),
+        None => load_word(frame, target, slot),
+    }
+}
+
 /// A register into a slot of the current frame.
-pub(crate) fn store_slot(frame: Frame, source: u8, slot: usize) -> Instr
-    requires { IsReached frame slot }
-    ensures { result ≡ store_slot frame source slot }
+pub(crate) fn store_slot(frame: &Frame, source: u8, slot: usize) -> Instr
+    requires { IsReached frame.now slot }
+    ensures { result ≡ store_slot frame.now source slot }
 {
     store(source, offset_of(frame.first_slot + slot))
 }
@@ -156,18 +182,18 @@ pub(crate) fn or_lower(target: u8, word: u32) -> Instr
 }
 
 /// The frame of a function that is called comes below the current one.
-pub(crate) fn push_frame(frame: Frame) -> Instr
-    requires some { 0 < frame.words }
-    requires small { frame.words ≤ MOST_FRAME_WORDS }
-    ensures { result ≡ push_frame frame }
+pub(crate) fn push_frame(frame: &Frame) -> Instr
+    requires some { 0 < frame.now.words }
+    requires small { frame.now.words ≤ MOST_FRAME_WORDS }
+    ensures { result ≡ push_frame frame.now }
 {
     add_immediate(FRAME, FRAME, minus(offset_of(frame.words)))
 }
 
 /// The current frame is left.
-pub(crate) fn pop_frame(frame: Frame) -> Instr
-    requires { frame.words ≤ MOST_FRAME_WORDS }
-    ensures { result ≡ pop_frame frame }
+pub(crate) fn pop_frame(frame: &Frame) -> Instr
+    requires { frame.now.words ≤ MOST_FRAME_WORDS }
+    ensures { result ≡ pop_frame frame.now }
 {
     add_immediate(FRAME, FRAME, offset_of(frame.words))
 }

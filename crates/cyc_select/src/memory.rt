@@ -5,9 +5,9 @@ ghost use Rattle.cyc_select.specs.Emission.{AddsLines, IsReached, IsFound};
 
 use crate::constants::{FIRST, FRAME, SECOND};
 use crate::emitter::Emitter;
-use crate::instructions::{add_immediate, offset_of, register, store_slot};
+use crate::instructions::{add_immediate, offset_of, register};
 use crate::numbers::fits_signed;
-use crate::operands::{operand_count, operand_register};
+use crate::operands::{made_in, operand_count, operand_register};
 use crate::operators::count_of_operation;
 use crate::plan::far_plan;
 use cyc_frame::Frame;
@@ -16,11 +16,11 @@ use cyc_plain::Operand;
 use std::alloc::AllocError;
 
 /// The register that an offset is added to.
-fn address_register(address: Operand, offset: u32) -> u8
-    ensures { result ≡ address_register address offset }
+fn address_register(frame: &Frame, address: Operand, offset: u32) -> u8
+    ensures { result ≡ address_register frame.now address offset }
 {
     if fits_signed(offset) {
-        operand_register(FIRST, address)
+        operand_register(frame, FIRST, address)
     } else {
         FIRST
     }
@@ -38,92 +38,91 @@ fn near_half(offset: u32) -> u16
 }
 
 /// A word of memory is loaded into a register, or stored from one.
-fn at_address(op: MemoryOp, target: u8, address: Operand, offset: u32) -> Instr
-    ensures { result ≡ at_address op target address offset }
+fn at_address(frame: &Frame, op: MemoryOp, target: u8, address: Operand, offset: u32) -> Instr
+    ensures { result ≡ at_address frame.now op target address offset }
 {
     Instr::Memory {
         op,
         target: register(target),
-        base: register(address_register(address, offset)),
+        base: register(address_register(frame, address, offset)),
         offset: near_half(offset),
     }
 }
 
 /// The lines of an address.
-pub(crate) fn address_count(address: Operand, offset: u32) -> usize
-    ensures value { result ≡ address_count address offset }
+pub(crate) fn address_count(frame: &Frame, address: Operand, offset: u32) -> usize
+    ensures value { result ≡ address_count frame.now address offset }
     ensures few { result ≤ 6 }
 {
     if fits_signed(offset) {
-        operand_count(address)
+        operand_count(frame, address)
     } else {
-        count_of_operation(far_plan(address, offset))
+        count_of_operation(frame, far_plan(address, offset))
     }
 }
 
 impl Emitter {
     /// The address comes into a register, but for an offset that fits the instruction.
-    fn address(&mut self, frame: Frame, address: Operand, offset: u32) -> Result<(), AllocError>
-        requires { IsFound frame address }
-        ensures { AddsLines result self.old self.new (ordinary (address_code frame address offset)) }
+    fn address(&mut self, frame: &Frame, address: Operand, offset: u32) -> Result<(), AllocError>
+        requires { IsFound frame.now address }
+        ensures { AddsLines result self.old self.new (ordinary (address_code frame.now address offset)) }
     {
         if fits_signed(offset) {
             return self.operand(frame, FIRST, address);
         }
-        self.operation_of(frame, far_plan(address, offset))
+        self.operation_of(frame, FIRST, far_plan(address, offset))
     }
 
     /// The address of a slot's word comes into a slot.
     pub(crate) fn address_of(
         &mut self,
-        frame: Frame,
+        frame: &Frame,
         destination: usize,
         slot: usize,
     ) -> Result<(), AllocError>
-        requires target { IsReached frame destination }
-        requires source { IsReached frame slot }
-        ensures { AddsLines result self.old self.new (address_of frame destination slot) }
+        requires target { IsReached frame.now destination }
+        requires source { IsReached frame.now slot }
+        ensures { AddsLines result self.old self.new (address_of frame.now destination slot) }
     {
-        self.ordinary(&[
-            add_immediate(FIRST, FRAME, offset_of(frame.first_slot + slot)),
-            store_slot(frame, FIRST, destination),
-        ])
+        let target = made_in(frame, destination);
+        let offset = offset_of(frame.first_slot + slot);
+        self.ordinary(&[add_immediate(target, FRAME, offset)])?;
+        self.keep(frame, destination)
     }
 
     /// A word of memory comes into a slot.
     pub(crate) fn load_word(
         &mut self,
-        frame: Frame,
+        frame: &Frame,
         destination: usize,
         address: Operand,
         offset: u32,
     ) -> Result<(), AllocError>
-        requires target { IsReached frame destination }
-        requires address { IsFound frame address }
-        ensures { AddsLines result self.old self.new (load_word frame destination address offset) }
+        requires target { IsReached frame.now destination }
+        requires address { IsFound frame.now address }
+        ensures { AddsLines result self.old self.new (load_word frame.now destination address offset) }
     {
+        let target = made_in(frame, destination);
         self.address(frame, address, offset)?;
-        self.ordinary(&[
-            at_address(MemoryOp::LoadWord, FIRST, address, offset),
-            store_slot(frame, FIRST, destination),
-        ])
+        self.ordinary(&[at_address(frame, MemoryOp::LoadWord, target, address, offset)])?;
+        self.keep(frame, destination)
     }
 
     /// An operand goes into a word of memory.
     pub(crate) fn store_word(
         &mut self,
-        frame: Frame,
+        frame: &Frame,
         address: Operand,
         offset: u32,
         source: Operand,
     ) -> Result<(), AllocError>
-        requires address { IsFound frame address }
-        requires source { IsFound frame source }
-        ensures { AddsLines result self.old self.new (store_word frame address offset source) }
+        requires address { IsFound frame.now address }
+        requires source { IsFound frame.now source }
+        ensures { AddsLines result self.old self.new (store_word frame.now address offset source) }
     {
         self.address(frame, address, offset)?;
         self.operand(frame, SECOND, source)?;
-        let from = operand_register(SECOND, source);
-        self.ordinary(&[at_address(MemoryOp::StoreWord, from, address, offset)])
+        let from = operand_register(frame, SECOND, source);
+        self.ordinary(&[at_address(frame, MemoryOp::StoreWord, from, address, offset)])
     }
 }

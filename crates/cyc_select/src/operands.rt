@@ -1,25 +1,118 @@
 //! The lines that bring an operand into a register.
-ghost use Rattle.std.specs.Prelude.{◌≡◌, ◌≤◌, OnOk};
-ghost use Rattle.cyc_select.specs.Selection.{ordinary, word_code, load_code, operand_code, operand_register, word_count, load_count, operand_count};
-ghost use Rattle.cyc_select.specs.Emission.{AddsLines, IsFound};
+ghost use Rattle.std.specs.Prelude.{◌≡◌, ◌≤◌, length, OnOk};
+ghost use Rattle.cyc_frame.specs.Homes.{home_of, both_count};
+ghost use Rattle.cyc_frame.specs.declared.home.TheConstants.{MOST_BOTH};
+ghost use Rattle.cyc_select.specs.Selection.{ordinary, value_register, is_kept, made_in, keep_code, keep_count, give_code, give_count, move_count, reload, reloads, reload_count, word_code, load_code, operand_code, operand_register, word_count, load_count, operand_count};
+ghost use Rattle.cyc_select.specs.Emission.{AddsLines, IsReached, AreReached, IsFound};
 
-use crate::constants::ZERO;
+use crate::constants::{FIRST, ZERO};
 use crate::emitter::Emitter;
-use crate::instructions::{load_slot, load_upper, or_immediate, or_lower, small};
+use crate::instructions::{
+    copy, load_slot, load_upper, load_word, or_immediate, or_lower, small, store_slot,
+};
 use crate::numbers::{fits_signed, is_zero_word};
-use cyc_frame::Frame;
+use cyc_frame::{Frame, Home};
 use cyc_plain::Operand;
 use std::alloc::AllocError;
 
-/// The register of an operand, which is this one where it comes into one.
-pub(crate) fn operand_register(register: u8, operand: Operand) -> u8
-    ensures { result ≡ operand_register register operand }
+/// The home of a slot.
+fn home(frame: &Frame, slot: usize) -> Home
+    ensures { result ≡ home_of frame.now.homes slot }
 {
-    if is_zero_word(operand) {
-        ZERO
-    } else {
-        register
+    match frame.homes.get(slot) {
+        Some(home) => *home,
+        None => Home::Memory,
     }
+}
+
+/// The register that a slot has, if it has one.
+pub(crate) fn value_register(frame: &Frame, slot: usize) -> Option<u8>
+    ensures { result ≡ value_register frame.now slot }
+{
+    match home(frame, slot) {
+        Home::Memory => None,
+        Home::Both { register } | Home::Register { register } => Some(register),
+    }
+}
+
+/// Whether a slot's word in the frame holds its value.
+pub(crate) fn is_kept(frame: &Frame, slot: usize) -> bool
+    ensures { result ≡ is_kept frame.now slot }
+{
+    match home(frame, slot) {
+        Home::Memory | Home::Both { .. } => true,
+        Home::Register { .. } => false,
+    }
+}
+
+/// The register where a slot's word is made.
+pub(crate) fn made_in(frame: &Frame, slot: usize) -> u8
+    ensures { result ≡ made_in frame.now slot }
+{
+    match value_register(frame, slot) {
+        Some(register) => register,
+        None => FIRST,
+    }
+}
+
+/// The register of an operand, which is this one where it comes into one.
+pub(crate) fn operand_register(frame: &Frame, register: u8, operand: Operand) -> u8
+    ensures { result ≡ operand_register frame.now register operand }
+{
+    match operand {
+        Operand::Slot { number } => match value_register(frame, number) {
+            Some(own) => own,
+            None => register,
+        },
+        Operand::Word { .. } => {
+            if is_zero_word(operand) {
+                ZERO
+            } else {
+                register
+            }
+        }
+    }
+}
+
+/// The lines that bring a slot's word from where it is made into the frame.
+pub(crate) fn keep_count(frame: &Frame, slot: usize) -> usize
+    ensures value { result ≡ keep_count frame.now slot }
+    ensures few { result ≤ 1 }
+{
+    if is_kept(frame, slot) { 1 } else { 0 }
+}
+
+/// The lines that bring a register's word into a slot.
+pub(crate) fn give_count(frame: &Frame, slot: usize) -> usize
+    ensures value { result ≡ give_count frame.now slot }
+    ensures few { result ≤ 2 }
+{
+    match value_register(frame, slot) {
+        Some(_) => keep_count(frame, slot) + 1,
+        None => 1,
+    }
+}
+
+fn both_count(home: Home) -> usize
+    ensures value { result ≡ both_count home }
+    ensures few { result ≤ 1 }
+{
+    match home {
+        Home::Memory | Home::Register { .. } => 0,
+        Home::Both { .. } => 1,
+    }
+}
+
+/// The lines that read registers again which stand beside memory.
+pub(crate) fn reload_count(frame: &Frame) -> usize
+    requires { reload_count frame.now ≤ MOST_BOTH }
+    ensures { result ≡ reload_count frame.now }
+{
+    let mut count = 0;
+    for slot in 0..frame.homes.len() {
+        count += both_count(home(frame, slot));
+    }
+    count
 }
 
 pub(crate) fn word_count(word: u32) -> usize
@@ -45,14 +138,33 @@ pub(crate) fn load_count(operand: Operand) -> usize
 }
 
 /// The lines of an operand that is in a register.
-pub(crate) fn operand_count(operand: Operand) -> usize
-    ensures value { result ≡ operand_count operand }
+pub(crate) fn operand_count(frame: &Frame, operand: Operand) -> usize
+    ensures value { result ≡ operand_count frame.now operand }
     ensures few { result ≤ 2 }
 {
-    if is_zero_word(operand) {
-        0
-    } else {
-        load_count(operand)
+    match operand {
+        Operand::Slot { number } => match value_register(frame, number) {
+            Some(_) => 0,
+            None => 1,
+        },
+        Operand::Word { word } => {
+            if is_zero_word(operand) {
+                0
+            } else {
+                word_count(word)
+            }
+        }
+    }
+}
+
+/// The lines that copy an operand into a slot.
+pub(crate) fn move_count(frame: &Frame, destination: usize, source: Operand) -> usize
+    ensures value { result ≡ move_count frame.now destination source }
+    ensures few { result ≤ 3 }
+{
+    match value_register(frame, destination) {
+        Some(_) => load_count(source) + keep_count(frame, destination),
+        None => operand_count(frame, source) + 1,
     }
 }
 
@@ -76,12 +188,12 @@ impl Emitter {
     /// An operand comes into a register.
     pub(crate) fn load(
         &mut self,
-        frame: Frame,
+        frame: &Frame,
         target: u8,
         operand: Operand,
     ) -> Result<(), AllocError>
-        requires { IsFound frame operand }
-        ensures { AddsLines result self.old self.new (ordinary (load_code frame target operand)) }
+        requires { IsFound frame.now operand }
+        ensures { AddsLines result self.old self.new (ordinary (load_code frame.now target operand)) }
     {
         match operand {
             Operand::Slot { number } => self.ordinary(&[load_slot(frame, target, number)]),
@@ -92,16 +204,73 @@ impl Emitter {
     /// An operand is in a register.
     pub(crate) fn operand(
         &mut self,
-        frame: Frame,
+        frame: &Frame,
         register: u8,
         operand: Operand,
     ) -> Result<(), AllocError>
-        requires { IsFound frame operand }
-        ensures { AddsLines result self.old self.new (ordinary (operand_code frame register operand)) }
+        requires { IsFound frame.now operand }
+        ensures { AddsLines result self.old self.new (ordinary (operand_code frame.now register operand)) }
     {
-        if is_zero_word(operand) {
+        match operand {
+            Operand::Slot { number } => {
+                if let Some(_) = value_register(frame, number) {
+                    return Ok(());
+                }
+                self.ordinary(&[load_word(frame, register, number)])
+            }
+            Operand::Word { word } => {
+                if is_zero_word(operand) {
+                    return Ok(());
+                }
+                self.word(register, word)
+            }
+        }
+    }
+
+    /// A slot's word comes from where it is made into the frame, where it lives there.
+    pub(crate) fn keep(&mut self, frame: &Frame, slot: usize) -> Result<(), AllocError>
+        requires { IsReached frame.now slot }
+        ensures { AddsLines result self.old self.new (ordinary (keep_code frame.now slot)) }
+    {
+        if !is_kept(frame, slot) {
             return Ok(());
         }
-        self.load(frame, register, operand)
+        self.ordinary(&[store_slot(frame, made_in(frame, slot), slot)])
+    }
+
+    /// A register's word comes into a slot.
+    pub(crate) fn give(&mut self, frame: &Frame, source: u8, slot: usize) -> Result<(), AllocError>
+        requires { IsReached frame.now slot }
+        ensures { AddsLines result self.old self.new (ordinary (give_code frame.now source slot)) }
+    {
+        match value_register(frame, slot) {
+            Some(register) => {
+                self.ordinary(&[copy(register, source)])?;
+                self.keep(frame, slot)
+            }
+            None => self.ordinary(&[store_slot(frame, source, slot)]),
+        }
+    }
+
+    /// The register of a slot is read again, where it stands beside memory.
+    fn reload(&mut self, frame: &Frame, slot: usize) -> Result<(), AllocError>
+        requires { IsReached frame.now slot }
+        ensures { AddsLines result self.old self.new (ordinary (reload frame.now (home_of frame.now.homes slot) slot)) }
+    {
+        match home(frame, slot) {
+            Home::Both { register } => self.ordinary(&[load_word(frame, register, slot)]),
+            Home::Memory | Home::Register { .. } => Ok(()),
+        }
+    }
+
+    /// All such registers are read again.
+    pub(crate) fn reloads(&mut self, frame: &Frame) -> Result<(), AllocError>
+        requires { AreReached frame.now 0 (length frame.now.homes) }
+        ensures { AddsLines result self.old self.new (ordinary (reloads frame.now)) }
+    {
+        for slot in 0..frame.homes.len() {
+            self.reload(frame, slot)?;
+        }
+        Ok(())
     }
 }

@@ -1,6 +1,6 @@
 //! The lines of an operator, of a test, and of what else a function does with its own slots.
 ghost use Rattle.std.specs.Prelude.{◌≡◌, ◌+◌, ◌*◌, ◌<◌, ◌≤◌, ◌^◌, [], ◌∷◌, ◌++◌, OnOk};
-ghost use Rattle.cyc_select.specs.Selection.{load_slot, store_slot, small, syscall, arithmetic_of, immediate_of, shift_of, shift_by_of, multiply_divide_of, move_from_of, upper_of_global, at_global, operation_code, outcome_code, operands_code, operation_of, computed_code, plan_code, test_code, branch_on, branch_line, operation_count, outcome_count, count_of_operation, plan_count, test_count, ordinary, quotient_code, loads_code, divided_code, divide_code, is_tested, part_of, operator_code, move_code, branch_code, write_code, load_global, store_global, uncaught_code};
+ghost use Rattle.cyc_select.specs.Selection.{give_code, small, syscall, arithmetic_of, immediate_of, shift_of, shift_by_of, multiply_divide_of, move_from_of, upper_of_global, at_global, operation_code, outcome_code, operands_code, operation_of, computed_code, plan_code, test_code, branch_on, branch_line, operation_count, outcome_count, count_of_operation, plan_count, test_count, ordinary, quotient_code, loads_code, divided_code, divide_code, is_tested, part_of, operator_code, move_code, branch_code, write_code, load_global, store_global, uncaught_code};
 ghost use Rattle.cyc_select.specs.Emission.{AddsLines, IsReached, IsFound, IsPlanFound, IsTestFound, most_lines};
 
 use crate::code::{Condition, Line};
@@ -10,7 +10,9 @@ use crate::instructions::{
     add_immediate, is_zero, minus, register, shift_amount, small, store_slot, syscall,
 };
 use crate::numbers::is_plain_divisor;
-use crate::operands::{load_count, operand_count, operand_register};
+use crate::operands::{
+    keep_count, load_count, made_in, operand_count, operand_register, value_register,
+};
 use crate::plan::{Operation, Outcome, Plan, Test, binary_plan};
 use cyc_frame::Frame;
 use cyc_isa::{
@@ -30,48 +32,48 @@ pub(crate) struct Parts {
     pub(crate) right: Operand,
 }
 
-/// An operation on two registers, into the first operand's.
-fn arithmetic(op: ArithmeticOp, left: u8, right: u8) -> Instr
-    ensures { result ≡ arithmetic_of op left right }
+/// An operation on two registers, into another one.
+fn arithmetic(op: ArithmeticOp, target: u8, left: u8, right: u8) -> Instr
+    ensures { result ≡ arithmetic_of op target left right }
 {
     Instr::Arithmetic {
         op,
-        destination: register(FIRST),
+        destination: register(target),
         left: register(left),
         right: register(right),
     }
 }
 
-fn shift(op: ShiftOp, source: u8, by: u8) -> Instr
-    ensures { result ≡ shift_of op source by }
+fn shift(op: ShiftOp, target: u8, source: u8, by: u8) -> Instr
+    ensures { result ≡ shift_of op target source by }
 {
     Instr::ShiftVariable {
         op,
-        destination: register(FIRST),
+        destination: register(target),
         source: register(source),
         by: register(by),
     }
 }
 
 /// An operation on a register and a number.
-fn immediate(op: ImmediateOp, left: u8, half: u16) -> Instr
-    ensures { result ≡ immediate_of op left half }
+fn immediate(op: ImmediateOp, target: u8, left: u8, half: u16) -> Instr
+    ensures { result ≡ immediate_of op target left half }
 {
     Instr::Immediate {
         op,
-        target: register(FIRST),
+        target: register(target),
         source: register(left),
         immediate: half,
     }
 }
 
 /// A shift by a number, which counts modulo 32.
-fn shift_by(op: ShiftOp, source: u8, amount: u8) -> Instr
-    ensures { result ≡ shift_by_of op source amount }
+fn shift_by(op: ShiftOp, target: u8, source: u8, amount: u8) -> Instr
+    ensures { result ≡ shift_by_of op target source amount }
 {
     Instr::Shift {
         op,
-        destination: register(FIRST),
+        destination: register(target),
         source: register(source),
         amount: shift_amount(amount),
     }
@@ -87,12 +89,12 @@ fn multiply_divide(op: MultiplyDivideOp, left: u8, right: u8) -> Instr
     }
 }
 
-fn move_from(op: MoveFromOp) -> Instr
-    ensures { result ≡ move_from_of op }
+fn move_from(op: MoveFromOp, target: u8) -> Instr
+    ensures { result ≡ move_from_of op target }
 {
     Instr::MoveFrom {
         op,
-        destination: register(FIRST),
+        destination: register(target),
     }
 }
 
@@ -146,29 +148,33 @@ fn outcome_count(outcome: Outcome) -> usize
 }
 
 /// The lines of a plan up to its outcome.
-pub(crate) fn count_of_operation(plan: Plan) -> usize
-    ensures value { result ≡ count_of_operation plan }
+pub(crate) fn count_of_operation(frame: &Frame, plan: Plan) -> usize
+    ensures value { result ≡ count_of_operation frame.now plan }
     ensures few { result ≤ 6 }
 {
-    operand_count(plan.left) + operand_count(plan.right) + operation_count(plan.operation)
+    operand_count(frame, plan.left)
+        + operand_count(frame, plan.right)
+        + operation_count(plan.operation)
 }
 
 /// The lines of a plan whose word goes to a slot.
-pub(crate) fn plan_count(plan: Plan) -> usize
-    ensures { result ≡ plan_count plan }
+pub(crate) fn plan_count(frame: &Frame, plan: Plan, destination: usize) -> usize
+    ensures { result ≡ plan_count frame.now plan destination }
 {
-    count_of_operation(plan) + outcome_count(plan.outcome) + 1
+    count_of_operation(frame, plan) + outcome_count(plan.outcome) + keep_count(frame, destination)
 }
 
 /// The lines before a branch.
-pub(crate) fn test_count(test: Test) -> usize
-    ensures value { result ≡ test_count test }
+pub(crate) fn test_count(frame: &Frame, test: Test) -> usize
+    ensures value { result ≡ test_count frame.now test }
     ensures few { result ≤ 6 }
 {
     match test {
-        Test::Operands { left, right, .. } => operand_count(left) + operand_count(right),
-        Test::Sign { operand, .. } => operand_count(operand),
-        Test::Computed { plan } => count_of_operation(plan),
+        Test::Operands { left, right, .. } => {
+            operand_count(frame, left) + operand_count(frame, right)
+        }
+        Test::Sign { operand, .. } => operand_count(frame, operand),
+        Test::Computed { plan } => count_of_operation(frame, plan),
     }
 }
 
@@ -183,18 +189,18 @@ fn branch_on(outcome: Outcome) -> BranchOp
 }
 
 /// The branch of a test, behind what it tests.
-fn branch_line(test: Test, label: usize) -> Line
-    ensures { result ≡ branch_line test label }
+fn branch_line(frame: &Frame, test: Test, label: usize) -> Line
+    ensures { result ≡ branch_line frame.now test label }
 {
     let condition = match test {
         Test::Operands { op, left, right } => Condition::Registers {
             op,
-            left: register(operand_register(FIRST, left)),
-            right: register(operand_register(SECOND, right)),
+            left: register(operand_register(frame, FIRST, left)),
+            right: register(operand_register(frame, SECOND, right)),
         },
         Test::Sign { op, operand } => Condition::Sign {
             op,
-            source: register(operand_register(FIRST, operand)),
+            source: register(operand_register(frame, FIRST, operand)),
         },
         Test::Computed { plan } => Condition::Registers {
             op: branch_on(plan.outcome),
@@ -229,143 +235,164 @@ impl Emitter {
     /// An operand is copied into a slot.
     pub(crate) fn copy(
         &mut self,
-        frame: Frame,
+        frame: &Frame,
         destination: usize,
         source: Operand,
     ) -> Result<(), AllocError>
-        requires target { IsReached frame destination }
-        requires source { IsFound frame source }
-        ensures { AddsLines result self.old self.new (move_code frame destination source) }
+        requires target { IsReached frame.now destination }
+        requires source { IsFound frame.now source }
+        ensures { AddsLines result self.old self.new (move_code frame.now destination source) }
     {
+        if let Some(own) = value_register(frame, destination) {
+            self.load(frame, own, source)?;
+            return self.keep(frame, destination);
+        }
         self.operand(frame, FIRST, source)?;
-        self.ordinary(&[store_slot(frame, operand_register(FIRST, source), destination)])
+        self.ordinary(&[store_slot(frame, operand_register(frame, FIRST, source), destination)])
     }
 
-    /// What makes a word of the words in two registers.
-    fn operation(&mut self, operation: Operation, left: u8, right: u8) -> Result<(), AllocError>
-        ensures { AddsLines result self.old self.new (ordinary (operation_code operation left right)) }
+    /// What makes a word of the words in two registers, in another one.
+    fn operation(
+        &mut self,
+        operation: Operation,
+        target: u8,
+        left: u8,
+        right: u8,
+    ) -> Result<(), AllocError>
+        ensures { AddsLines result self.old self.new (ordinary (operation_code operation target left right)) }
     {
         match operation {
-            Operation::Arithmetic { op } => self.ordinary(&[arithmetic(op, left, right)]),
-            Operation::Immediate { op, half } => self.ordinary(&[immediate(op, left, half)]),
-            Operation::Shift { op } => self.ordinary(&[shift(op, left, right)]),
-            Operation::ShiftBy { op, amount } => self.ordinary(&[shift_by(op, left, amount)]),
+            Operation::Arithmetic { op } => self.ordinary(&[arithmetic(op, target, left, right)]),
+            Operation::Immediate { op, half } => {
+                self.ordinary(&[immediate(op, target, left, half)])
+            }
+            Operation::Shift { op } => self.ordinary(&[shift(op, target, left, right)]),
+            Operation::ShiftBy { op, amount } => {
+                self.ordinary(&[shift_by(op, target, left, amount)])
+            }
             Operation::MultiplyDivide { op, from } => {
-                self.ordinary(&[multiply_divide(op, left, right), move_from(from)])
+                self.ordinary(&[multiply_divide(op, left, right), move_from(from, target)])
             }
         }
     }
 
     /// What is made of such a word.
-    fn outcome(&mut self, outcome: Outcome) -> Result<(), AllocError>
-        ensures { AddsLines result self.old self.new (ordinary (outcome_code outcome)) }
+    fn outcome(&mut self, outcome: Outcome, target: u8) -> Result<(), AllocError>
+        ensures { AddsLines result self.old self.new (ordinary (outcome_code outcome target)) }
     {
         match outcome {
             Outcome::AsItIs => Ok(()),
-            Outcome::WhetherZero => self.ordinary(&[is_zero(FIRST)]),
+            Outcome::WhetherZero => self.ordinary(&[is_zero(target)]),
             Outcome::WhetherNotZero => {
-                self.ordinary(&[arithmetic(ArithmeticOp::SetLessUnsigned, ZERO, FIRST)])
+                self.ordinary(&[arithmetic(ArithmeticOp::SetLessUnsigned, target, ZERO, target)])
             }
         }
     }
 
     /// Two operands, each in a register.
-    fn operands(&mut self, frame: Frame, left: Operand, right: Operand) -> Result<(), AllocError>
-        requires left { IsFound frame left }
-        requires right { IsFound frame right }
-        ensures { AddsLines result self.old self.new (ordinary (operands_code frame left right)) }
+    fn operands(&mut self, frame: &Frame, left: Operand, right: Operand) -> Result<(), AllocError>
+        requires left { IsFound frame.now left }
+        requires right { IsFound frame.now right }
+        ensures { AddsLines result self.old self.new (ordinary (operands_code frame.now left right)) }
     {
         self.operand(frame, FIRST, left)?;
         self.operand(frame, SECOND, right)
     }
 
-    /// A plan up to its outcome.
-    pub(crate) fn operation_of(&mut self, frame: Frame, plan: Plan) -> Result<(), AllocError>
-        requires { IsPlanFound frame plan }
-        ensures { AddsLines result self.old self.new (ordinary (operation_of frame plan)) }
+    /// A plan up to its outcome, into a register.
+    pub(crate) fn operation_of(
+        &mut self,
+        frame: &Frame,
+        target: u8,
+        plan: Plan,
+    ) -> Result<(), AllocError>
+        requires { IsPlanFound frame.now plan }
+        ensures { AddsLines result self.old self.new (ordinary (operation_of frame.now target plan)) }
     {
         self.operands(frame, plan.left, plan.right)?;
         self.operation(
             plan.operation,
-            operand_register(FIRST, plan.left),
-            operand_register(SECOND, plan.right),
+            target,
+            operand_register(frame, FIRST, plan.left),
+            operand_register(frame, SECOND, plan.right),
         )
     }
 
     /// A word that is computed.
-    fn computed(&mut self, frame: Frame, plan: Plan) -> Result<(), AllocError>
-        requires { IsPlanFound frame plan }
-        ensures { AddsLines result self.old self.new (ordinary (computed_code frame plan)) }
+    fn computed(&mut self, frame: &Frame, target: u8, plan: Plan) -> Result<(), AllocError>
+        requires { IsPlanFound frame.now plan }
+        ensures { AddsLines result self.old self.new (ordinary (computed_code frame.now target plan)) }
     {
-        self.operation_of(frame, plan)?;
-        self.outcome(plan.outcome)
+        self.operation_of(frame, target, plan)?;
+        self.outcome(plan.outcome, target)
     }
 
     /// It goes to a slot.
     pub(crate) fn plan(
         &mut self,
-        frame: Frame,
+        frame: &Frame,
         plan: Plan,
         destination: usize,
     ) -> Result<(), AllocError>
-        requires target { IsReached frame destination }
-        requires found { IsPlanFound frame plan }
-        ensures { AddsLines result self.old self.new (ordinary (plan_code frame plan destination)) }
+        requires target { IsReached frame.now destination }
+        requires found { IsPlanFound frame.now plan }
+        ensures { AddsLines result self.old self.new (ordinary (plan_code frame.now plan destination)) }
     {
-        self.computed(frame, plan)?;
-        self.ordinary(&[store_slot(frame, FIRST, destination)])
+        self.computed(frame, made_in(frame, destination), plan)?;
+        self.keep(frame, destination)
     }
 
     /// What a branch tests.
-    fn test(&mut self, frame: Frame, test: Test) -> Result<(), AllocError>
-        requires { IsTestFound frame test }
-        ensures { AddsLines result self.old self.new (ordinary (test_code frame test)) }
+    fn test(&mut self, frame: &Frame, test: Test) -> Result<(), AllocError>
+        requires { IsTestFound frame.now test }
+        ensures { AddsLines result self.old self.new (ordinary (test_code frame.now test)) }
     {
         match test {
             Test::Operands { left, right, .. } => self.operands(frame, left, right),
             Test::Sign { operand, .. } => self.operand(frame, FIRST, operand),
-            Test::Computed { plan } => self.operation_of(frame, plan),
+            Test::Computed { plan } => self.operation_of(frame, FIRST, plan),
         }
     }
 
     /// A jump where a test holds.
     pub(crate) fn branch_where(
         &mut self,
-        frame: Frame,
+        frame: &Frame,
         test: Test,
         label: usize,
     ) -> Result<(), AllocError>
-        requires { IsTestFound frame test }
-        ensures { AddsLines result self.old self.new (branch_code frame test label) }
+        requires { IsTestFound frame.now test }
+        ensures { AddsLines result self.old self.new (branch_code frame.now test label) }
     {
         self.test(frame, test)?;
-        self.line(branch_line(test, label))
+        self.line(branch_line(frame, test, label))
     }
 
     /// The negated dividend by 1, and behind that the division of the registers as they are.
     fn quotient(
         &mut self,
-        frame: Frame,
+        frame: &Frame,
         which: MoveFromOp,
         destination: usize,
     ) -> Result<(), AllocError>
-        requires { IsReached frame destination }
-        ensures { AddsLines result self.old self.new (quotient_code frame which destination) }
+        requires { IsReached frame.now destination }
+        ensures { AddsLines result self.old self.new (quotient_code frame.now which destination) }
     {
+        let target = made_in(frame, destination);
         self.ordinary(&[
-            arithmetic(ArithmeticOp::SubtractUnsigned, ZERO, FIRST),
+            arithmetic(ArithmeticOp::SubtractUnsigned, FIRST, ZERO, FIRST),
             small(SECOND, 1),
             multiply_divide(MultiplyDivideOp::Divide, FIRST, SECOND),
-            move_from(which),
-            store_slot(frame, FIRST, destination),
-        ])
+            move_from(which, target),
+        ])?;
+        self.keep(frame, destination)
     }
 
     /// Dividend and divisor come into their registers.
-    fn loads(&mut self, frame: Frame, left: Operand, right: Operand) -> Result<(), AllocError>
-        requires left { IsFound frame left }
-        requires right { IsFound frame right }
-        ensures { AddsLines result self.old self.new (ordinary (loads_code frame left right)) }
+    fn loads(&mut self, frame: &Frame, left: Operand, right: Operand) -> Result<(), AllocError>
+        requires left { IsFound frame.now left }
+        requires right { IsFound frame.now right }
+        ensures { AddsLines result self.old self.new (ordinary (loads_code frame.now left right)) }
     {
         self.load(frame, FIRST, left)?;
         self.load(frame, SECOND, right)
@@ -374,13 +401,13 @@ impl Emitter {
     /// The same, and -1 comes into a third.
     fn dividend_and_divisor(
         &mut self,
-        frame: Frame,
+        frame: &Frame,
         left: Operand,
         right: Operand,
     ) -> Result<(), AllocError>
-        requires left { IsFound frame left }
-        requires right { IsFound frame right }
-        ensures { AddsLines result self.old self.new (ordinary (divided_code frame left right)) }
+        requires left { IsFound frame.now left }
+        requires right { IsFound frame.now right }
+        ensures { AddsLines result self.old self.new (ordinary (divided_code frame.now left right)) }
     {
         self.loads(frame, left, right)?;
         self.ordinary(&[add_immediate(THIRD, ZERO, minus(1))])
@@ -390,16 +417,16 @@ impl Emitter {
     /// divided by 1.
     fn divide(
         &mut self,
-        frame: Frame,
+        frame: &Frame,
         here: usize,
         which: MoveFromOp,
         parts: Parts,
     ) -> Result<(), AllocError>
         requires fits { here ≤ most_lines }
-        requires target { IsReached frame parts.destination }
-        requires left { IsFound frame parts.left }
-        requires right { IsFound frame parts.right }
-        ensures { AddsLines result self.old self.new (divide_code frame here which parts.destination parts.left parts.right) }
+        requires target { IsReached frame.now parts.destination }
+        requires left { IsFound frame.now parts.left }
+        requires right { IsFound frame.now parts.right }
+        ensures { AddsLines result self.old self.new (divide_code frame.now here which parts.destination parts.left parts.right) }
     {
         let before = load_count(parts.left) + load_count(parts.right);
         self.dividend_and_divisor(frame, parts.left, parts.right)?;
@@ -410,16 +437,16 @@ impl Emitter {
     /// An operator on two operands.
     pub(crate) fn binary(
         &mut self,
-        frame: Frame,
+        frame: &Frame,
         here: usize,
         operator: BinaryOperator,
         parts: Parts,
     ) -> Result<(), AllocError>
         requires fits { here ≤ most_lines }
-        requires target { IsReached frame parts.destination }
-        requires left { IsFound frame parts.left }
-        requires right { IsFound frame parts.right }
-        ensures { AddsLines result self.old self.new (operator_code frame here operator parts.destination parts.left parts.right) }
+        requires target { IsReached frame.now parts.destination }
+        requires left { IsFound frame.now parts.left }
+        requires right { IsFound frame.now parts.right }
+        ensures { AddsLines result self.old self.new (operator_code frame.now here operator parts.destination parts.left parts.right) }
     {
         if is_tested(operator, parts.right) {
             return self.divide(frame, here, part_of(operator), parts);
@@ -429,21 +456,18 @@ impl Emitter {
     }
 
     /// A byte of the input comes into a slot.
-    pub(crate) fn read_byte(&mut self, frame: Frame, destination: usize) -> Result<(), AllocError>
-        requires { IsReached frame destination }
-        ensures { AddsLines result self.old self.new (ordinary (small SERVICE GET_BYTE ∷ syscall ∷ store_slot frame SERVICE destination ∷ [])) }
+    pub(crate) fn read_byte(&mut self, frame: &Frame, destination: usize) -> Result<(), AllocError>
+        requires { IsReached frame.now destination }
+        ensures { AddsLines result self.old self.new (ordinary (small SERVICE GET_BYTE ∷ syscall ∷ give_code frame.now SERVICE destination)) }
     {
-        self.ordinary(&[
-            small(SERVICE, GET_BYTE as u16),
-            syscall(),
-            store_slot(frame, SERVICE, destination),
-        ])
+        self.ordinary(&[small(SERVICE, GET_BYTE as u16), syscall()])?;
+        self.give(frame, SERVICE, destination)
     }
 
     /// An operand's low byte is printed.
-    pub(crate) fn write_byte(&mut self, frame: Frame, source: Operand) -> Result<(), AllocError>
-        requires { IsFound frame source }
-        ensures { AddsLines result self.old self.new (write_code frame source) }
+    pub(crate) fn write_byte(&mut self, frame: &Frame, source: Operand) -> Result<(), AllocError>
+        requires { IsFound frame.now source }
+        ensures { AddsLines result self.old self.new (write_code frame.now source) }
     {
         self.load(frame, ARGUMENT, source)?;
         self.ordinary(&[small(SERVICE, PUT_BYTE as u16), syscall()])
@@ -452,48 +476,53 @@ impl Emitter {
     /// A global comes into a slot.
     pub(crate) fn load_global(
         &mut self,
-        frame: Frame,
+        frame: &Frame,
         destination: usize,
         global: usize,
     ) -> Result<(), AllocError>
         requires global { global < MOST_GLOBALS }
-        requires target { IsReached frame destination }
-        ensures { AddsLines result self.old self.new (load_global frame destination global) }
+        requires target { IsReached frame.now destination }
+        ensures { AddsLines result self.old self.new (load_global frame.now destination global) }
     {
+        let target = made_in(frame, destination);
         self.ordinary(&[
             upper_of_global(global),
-            at_global(MemoryOp::LoadWord, FIRST, global),
-            store_slot(frame, FIRST, destination),
-        ])
+            at_global(MemoryOp::LoadWord, target, global),
+        ])?;
+        self.keep(frame, destination)
     }
 
     /// An operand goes into a global.
     pub(crate) fn store_global(
         &mut self,
-        frame: Frame,
+        frame: &Frame,
         global: usize,
         source: Operand,
     ) -> Result<(), AllocError>
         requires global { global < MOST_GLOBALS }
-        requires source { IsFound frame source }
-        ensures { AddsLines result self.old self.new (store_global frame global source) }
+        requires source { IsFound frame.now source }
+        ensures { AddsLines result self.old self.new (store_global frame.now global source) }
     {
         self.operand(frame, FIRST, source)?;
         self.ordinary(&[
             upper_of_global(global),
-            at_global(MemoryOp::StoreWord, operand_register(FIRST, source), global),
+            at_global(
+                MemoryOp::StoreWord,
+                operand_register(frame, FIRST, source),
+                global,
+            ),
         ])
     }
 
     /// The run ends with an exception that nothing caught.
     pub(crate) fn uncaught(
         &mut self,
-        frame: Frame,
+        frame: &Frame,
         tag: u32,
         value: Operand,
     ) -> Result<(), AllocError>
-        requires { IsFound frame value }
-        ensures { AddsLines result self.old self.new (uncaught_code frame tag value) }
+        requires { IsFound frame.now value }
+        ensures { AddsLines result self.old self.new (uncaught_code frame.now tag value) }
     {
         self.word(ARGUMENT, tag)?;
         self.load(frame, SECOND_ARGUMENT, value)?;

@@ -10,7 +10,7 @@ ghost use Rattle.cyc_select.specs.Emission.{AddsLines, IsKnown, IsReady};
 
 use crate::code::{Code, Line};
 use crate::constants::{CALLS, START_LINES};
-use crate::counting::{function_starts, instruction_lines};
+use crate::counting::{frame_in, function_starts, instruction_lines};
 use crate::emitter::Emitter;
 use crate::instructions::{add_immediate, minus, push_frame};
 use crate::tables::{Ready, Tables};
@@ -23,10 +23,10 @@ use std::alloc::{AllocError, Global};
 impl Emitter {
     /// The call of `main`, whose first line is the label: one call more is under way, and its frame lies below the end of
     /// the stack.
-    fn start(&mut self, frame: Frame, label: usize) -> Result<(), AllocError>
-        requires some { 0 < frame.words }
-        requires words { frame.words ≤ MOST_FRAME_WORDS }
-        ensures { AddsLines result self.old self.new (start_code frame label) }
+    fn start(&mut self, frame: &Frame, label: usize) -> Result<(), AllocError>
+        requires some { 0 < frame.now.words }
+        requires words { frame.now.words ≤ MOST_FRAME_WORDS }
+        ensures { AddsLines result self.old self.new (start_code frame.now label) }
     {
         self.ordinary(&[add_immediate(CALLS, ARGUMENT, minus(1)), push_frame(frame)])?;
         self.line(Line::Jump { label })
@@ -36,7 +36,7 @@ impl Emitter {
     fn code(&mut self, tables: &Tables, code: &[Instruction]) -> Result<(), AllocError>
         requires known { IsKnown tables.now }
         requires code { code.now ≡ (routine_at tables.now.plain.now tables.now.function).code }
-        ensures { AddsLines result self.old self.new (code_lines tables.now.plain.now tables.now.frames.now tables.now.function (function_line tables.now.plain.now tables.now.function) code.now) }
+        ensures { AddsLines result self.old self.new (code_lines tables.now.plain.now tables.now.frames.now tables.now.function (function_line tables.now.plain.now tables.now.frames.now tables.now.function) code.now) }
     {
         for index in 0..code.len() {
             self.instruction(tables, tables.line(index), code[index])?;
@@ -53,12 +53,12 @@ impl Emitter {
     ) -> Result<(), AllocError>
         requires ready { IsReady program.now }
         requires function { function < length program.now.plain.now.functions }
-        ensures { AddsLines result self.old self.new (code_lines program.now.plain.now program.now.frames.now function (function_line program.now.plain.now function) (routine_at program.now.plain.now function).code) }
+        ensures { AddsLines result self.old self.new (code_lines program.now.plain.now program.now.frames.now function (function_line program.now.plain.now program.now.frames.now function) (routine_at program.now.plain.now function).code) }
     {
         let routine = program.plain.function(function);
         let code = &routine.code;
         let first = program.starts[function];
-        let lines = instruction_lines(alloc, program.plain, function, first, code)?;
+        let lines = instruction_lines(alloc, program.plain, program.frames, function, first, code)?;
         let tables = Tables {
             plain: program.plain,
             frames: program.frames,
@@ -89,11 +89,12 @@ fn selected(alloc: Global, plain: &Plain, frames: &Frames) -> Result<Code, Alloc
     ensures plain { IfOk result (λ _. IsPlain plain.now) }
 {
     let frames = frames.as_slice();
-    let starts = function_starts(alloc, plain)?;
+    let starts = function_starts(alloc, plain, frames)?;
     let globals = Vec::from_slice(alloc, plain.globals())?;
     let main = plain.main();
     let mut emitter = Emitter::new(alloc);
-    emitter.start(frames[main], starts[main])?;
+    let frame = frame_in(plain, frames, main);
+    emitter.start(frame, starts[main])?;
     emitter.functions(
         alloc,
         &Ready {

@@ -2,10 +2,11 @@
 ghost use Rattle.std.specs.Prelude.{◌≡◌, ◌+◌, ◌<◌, ◌≤◌, ◌==◌, length};
 ghost use Rattle.cyc_plain.specs.Program.{routine_at};
 ghost use Rattle.cyc_frame.specs.Layout.{frame_at};
-ghost use Rattle.cyc_select.specs.Selection.{function_line, instruction_line};
+ghost use Rattle.cyc_frame.specs.declared.home.TheConstants.{MOST_BOTH};
+ghost use Rattle.cyc_select.specs.Selection.{reload_count, function_line, instruction_line};
 ghost use Rattle.cyc_select.specs.Emission.{AreReached, IsKnown};
 
-use crate::counting::results_of;
+use crate::counting::{frame_in, results_of};
 use cyc_frame::{Frame, MOST_FRAME_WORDS};
 use cyc_plain::{GREATEST_VALUE, Plain};
 
@@ -31,22 +32,24 @@ pub(crate) struct Tables<'a> {
 
 impl<'a> Tables<'a> {
     /// The frame of a function.
-    pub(crate) fn frame(&self, function: usize) -> Frame
+    pub(crate) fn frame(&self, function: usize) -> &'a Frame
         requires known { IsKnown self.now }
         requires function { function < length self.now.plain.now.functions }
-        ensures value { result ≡ frame_at self.now.frames.now function }
-        ensures words { result.words ≤ MOST_FRAME_WORDS }
-        ensures return_address { result.return_address < result.words }
-        ensures slots { AreReached result 0 (routine_at self.now.plain.now function).slots }
+        ensures value { result.now ≡ frame_at self.now.frames.now function }
+        ensures words { result.now.words ≤ MOST_FRAME_WORDS }
+        ensures return_address { result.now.return_address < result.now.words }
+        ensures homes { AreReached result.now 0 (length result.now.homes) }
+        ensures few { reload_count result.now ≤ MOST_BOTH }
+        ensures slots { AreReached result.now 0 (routine_at self.now.plain.now function).slots }
     {
-        self.frames[function]
+        frame_in(self.plain, self.frames, function)
     }
 
     /// The number of the first line of a function.
     pub(crate) fn start(&self, function: usize) -> usize
         requires known { IsKnown self.now }
         requires function { function < length self.now.plain.now.functions }
-        ensures { result ≡ function_line self.now.plain.now function }
+        ensures { result ≡ function_line self.now.plain.now self.now.frames.now function }
     {
         self.starts[function]
     }
@@ -55,7 +58,7 @@ impl<'a> Tables<'a> {
     pub(crate) fn line(&self, index: usize) -> usize
         requires known { IsKnown self.now }
         requires index { index < length (routine_at self.now.plain.now self.now.function).code }
-        ensures { result ≡ instruction_line self.now.plain.now self.now.function index }
+        ensures { result ≡ instruction_line self.now.plain.now self.now.frames.now self.now.function index }
     {
         self.lines[index]
     }

@@ -3,7 +3,7 @@
 -- The program has one limited run for each input. The machine has many runs from an image, since its services may
 -- choose; each of them does what the program does. This project's own choice: the form of the promise, and its bound of
 -- so many instructions for each step of the program.
-use Rattle.std.specs.Prelude.{◌≡◌, ℕ, ◌+◌, ◌*◌, ◌/◌, ◌<◌, false, List, length, map, Some, Ok, sum_by, if◌then◌else◌}
+use Rattle.std.specs.Prelude.{◌≡◌, ℕ, ◌+◌, ◌*◌, ◌/◌, ◌<◌, false, List, map, Some, Ok, sum_by, if◌then◌else◌}
 use Rattle.std.specs.List.{AllByRecursion}
 use Rattle.cyc_words.specs.Ending.{Ending}
 use Rattle.cyc_words.specs.Prefix.{IsPrefix}
@@ -25,7 +25,6 @@ use Rattle.cyc_meaning.specs.Run.{start, limited_run}
 use Rattle.cyc_meaning.specs.FrameCount.{words_of_all}
 use Rattle.cyc_words.specs.Simulation.{Preserves}
 use Rattle.cyc_meaning.specs.SourceMachine.{source_machine}
-use Rattle.cyc_lower.specs.Lowering.{scopes_of, scopes_words}
 use Rattle.cyc_machine.specs.WorldMachine.{world_machine}
 use Rattle.cyc_system.specs.ProgramImage.{HasForm}
 
@@ -33,10 +32,9 @@ use Rattle.cyc_system.specs.ProgramImage.{HasForm}
 abbrev pub text_words : ImageContents → ℕ
 text_words image = sum_by (λ s. if lies_in_text s then padded s.size / 4 else 0) image.segments
 
--- The words of data of a program's image: those of all its globals, and where it may open lexical regions one more, which tells how many
--- are open.
+-- the words of data of a program's image: those of all its globals
 abbrev pub data_words : Program → ℕ
-data_words p = words_of_all (map (λ (g : GlobalVariable). g.of_type) p.globals) + length (scopes_words (scopes_of p))
+data_words p = words_of_all (map (λ (g : GlobalVariable). g.of_type) p.globals)
 
 -- the machine has a place for each segment of the image
 abbrev pub IsLoadable : ImageContents → Type 0

@@ -1,7 +1,9 @@
 -- How a place in a text is shown to a person. All of it is this project's own choice.
-use Rattle.std.specs.Prelude.{◌≡◌, ℕ, ◌+◌, ◌-◌, ◌≤◌, ◌↔◌, ◌==◌, ◌/◌, ◌%◌, ◌&&◌, nat_le, min, List, [], ◌∷◌, ◌++◌, length, replicate, take, slice_index_or, drop, codes, if◌then◌else◌, false}
+use Rattle.std.specs.Prelude.{◌≡◌, ℕ, ◌+◌, ◌-◌, ◌≤◌, ◌↔◌, ◌==◌, ◌/◌, ◌%◌, ◌&&◌, nat_le, min, nat_lt, List, [], ◌∷◌, ◌++◌, length, replicate, take, slice_index_or, drop, codes, if◌then◌else◌, false}
 use Rattle.std.specs.List.{flat_map, slice_split}
 use Rattle.std.specs.Fmt.{digit_glyph}
+use Rattle.std.specs.Char.{encode_utf8}
+use Rattle.std.specs.Str.{chars, is_utf8}
 use Rattle.cyc_terminal.specs.declared.excerpt.Excerpt.{Excerpt}
 
 -- the lines of a text, without their line feeds
@@ -20,7 +22,7 @@ bytes_before line k = min (k - 1) (length line)
 abbrev pub escaped_byte : ℕ → List ℕ
 escaped_byte b = 92 ∷ 120 ∷ digit_glyph false (b / 16) ∷ digit_glyph false (b % 16) ∷ []
 
--- the characters that show a byte: printable ASCII and the tab as they are, a carriage return as a
+-- the characters that show a byte by itself: printable ASCII and the tab as they are, a carriage return as a
 -- space, and any other byte escaped, so that no byte of a text steers a terminal
 abbrev pub shown_byte : ℕ → List ℕ
 shown_byte b = if b == 9 then 9 ∷ []
@@ -32,11 +34,24 @@ shown_byte b = if b == 9 then 9 ∷ []
 abbrev pub blank_byte : ℕ → List ℕ
 blank_byte b = if b == 9 then 9 ∷ [] else replicate (length (shown_byte b)) 32
 
+-- A character as it is shown: one of ASCII as its byte, a control character beyond escaped as its two bytes, any other as it is.
+abbrev pub shown_char : ℕ → List ℕ
+shown_char c = if nat_lt c 128 then shown_byte c
+    else (if nat_lt c 160 then escaped_byte 194 ++ escaped_byte c
+    else encode_utf8 c)
+
+-- white space for a character, as wide as `shown_char` where each character that is shown has one column
+abbrev pub blank_char : ℕ → List ℕ
+blank_char c = if nat_lt c 128 then blank_byte c
+    else (if nat_lt c 160 then codes "        "
+    else 32 ∷ [])
+
+-- bytes as they are shown: by their characters where they are UTF-8, else each by itself
 abbrev pub shown_bytes : List ℕ → List ℕ
-shown_bytes bs = flat_map shown_byte bs
+shown_bytes bs = if is_utf8 bs then flat_map shown_char (chars bs) else flat_map shown_byte bs
 
 abbrev pub blank_bytes : List ℕ → List ℕ
-blank_bytes bs = flat_map blank_byte bs
+blank_bytes bs = if is_utf8 bs then flat_map blank_char (chars bs) else flat_map blank_byte bs
 
 -- how many bytes of a line an excerpt shows at most
 abbrev pub most_shown : ℕ

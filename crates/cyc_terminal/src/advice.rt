@@ -1,6 +1,10 @@
 //! What a person reads of a refusal: what is wrong, in words, and what to do about it; and of an image that is none, or of a
 //! run that ended by an exception. `docs/codes.txt` is the table of codes; a test of the suite compares these words with it.
+use crate::arguments::MOST_STEPS;
+use cyc_machine::Limits;
+use cyc_machine::constants::{MAX_CALLS, MAX_PAGES};
 use cyc_words::Code;
+use std::fmt;
 
 /// What is wrong at the place of a refusal.
 pub fn meaning(code: Code) -> &'static str {
@@ -38,7 +42,7 @@ pub fn meaning(code: Code) -> &'static str {
 }
 
 /// What to do about a refusal.
-pub fn hint(code: Code) -> &'static str {
+pub(crate) fn hint(code: Code) -> &'static str {
     match code {
         Code::UnknownByte => "remove the byte, or put it into a comment",
         Code::UnclosedComment => "close it with */",
@@ -88,13 +92,56 @@ pub fn image_fault(number: u32) -> &'static str {
     }
 }
 
-/// What the exception of this number is, in words.
-pub fn exception(number: u32) -> &'static str {
+/// Why a run ended before its program did, by what it was allowed. Its `Display` is that in words.
+#[derive(Clone, Copy)]
+pub enum Ending {
+    /// Nothing caught the exception of this number.
+    Uncaught(u32),
+    /// More calls or pages were wanted than these.
+    Full(Limits),
+    /// More instructions were wanted than so many.
+    Spent(u64),
+}
+
+impl fmt::Display for Ending {
+    fn fmt<W: fmt::Write>(&self, f: &mut fmt::Formatter<W>) -> fmt::Result {
+        match *self {
+            Ending::Uncaught(number) if number > BUILT_IN => {
+                let place = number - BUILT_IN;
+                write!(
+                    f,
+                    "uncaught exception {number}: number {place} of those that the program declares"
+                )
+            }
+            Ending::Uncaught(number) => f.write_str(built_in(number)),
+            Ending::Full(limits) => {
+                let (calls, pages) = (limits.calls(), limits.pages());
+                write!(
+                    f,
+                    "more than {calls} nested calls, or more memory than {pages} pages: --calls N allows up to {MAX_CALLS}, and --pages N up to {MAX_PAGES}"
+                )
+            }
+            Ending::Spent(budget) => {
+                write!(
+                    f,
+                    "more than {budget} instructions: --steps N allows up to {MOST_STEPS}"
+                )
+            }
+        }
+    }
+}
+
+/// How many exceptions there are beforehand.
+const BUILT_IN: u32 = 4;
+
+/// What the exception of this number is, of those that there are beforehand.
+fn built_in(number: u32) -> &'static str {
     match number {
         1 => "uncaught exception Null_Exception: a null pointer was dereferenced",
         2 => "uncaught exception Array_bounds: index out of bounds",
-        3 => "uncaught exception Array_size: array too large",
+        3 =>
+            "uncaught exception Array_size: an array has fewer than 0 elements, or more than 1,000 words",
         4 => "uncaught exception Div_zero: division by zero",
-        _ => "uncaught exception that the program declares",
+        _ => "uncaught exception 0, which no program has",
     }
 }

@@ -36,10 +36,18 @@ pub enum Request<'a> {
     },
 }
 
-const MOST_STEPS: u64 = 1_000_000_000_000;
+/// The most instructions that a run may be allowed.
+pub const MOST_STEPS: u64 = 1_000_000_000_000;
 
 const ABOUT: &str = "Checks programs in an integer profile of Cyclone, a safe C with regions, \
      compiles them to MIPS32 images, and runs and disassembles those images.";
+
+/// What `--version` says behind the program's name: the product, the toolchain that proves and builds it, and what is proved.
+const VERSION: &str = "(Hengvuol), of sources for rattle-kit-13f logic dac8208d650f15bf
+
+Proved, where it was built by make build: an image that it makes prints what its program means,
+and nothing else, and ends alike; no program that it accepts reaches what is freed. Trusted: the
+toolchain and the C library. docs/GUARANTEES.md in the repository says all of it.";
 
 const EXAMPLES: &str = "Examples:
   cyclone check hello.cyc                   say what is wrong with the program
@@ -104,6 +112,8 @@ struct Word {
 #[derive(Clone, Copy)]
 struct Plan {
     name: &'static str,
+    /// How its usage begins.
+    path: &'static str,
     about: &'static str,
     after_help: &'static str,
     words: &'static [Word],
@@ -168,24 +178,28 @@ const STEPS: Word = Word {
 const COMMANDS: &[Plan] = &[
     Plan {
         name: "check",
+        path: "cyclone check",
         about: "Checks a program, and says what is wrong with it",
         after_help: CHECK_HELP,
         words: &[SOURCE],
     },
     Plan {
         name: "compile",
+        path: "cyclone compile",
         about: "Compiles a program to an image",
         after_help: COMPILE_HELP,
         words: &[SOURCE, OUTPUT, CARRIED_PAGES, CARRIED_CALLS],
     },
     Plan {
         name: "run",
+        path: "cyclone run",
         about: "Runs an image",
         after_help: RUN_HELP,
         words: &[IMAGE, PAGES, CALLS, STEPS],
     },
     Plan {
         name: "disasm",
+        path: "cyclone disasm",
         about: "Disassembles an image",
         after_help: DISASM_HELP,
         words: &[IMAGE],
@@ -207,6 +221,7 @@ fn argument<'a>(alloc: Global, word: &Word) -> Arg<'a> {
 
 fn command<'a>(alloc: Global, plan: &Plan) -> Result<Command<'a>, AllocError> {
     let mut command = Command::new(alloc, plan.name)
+        .bin_name(plan.path)?
         .about(plan.about)
         .after_help(plan.after_help);
     for word in plan.words {
@@ -218,6 +233,7 @@ fn command<'a>(alloc: Global, plan: &Plan) -> Result<Command<'a>, AllocError> {
 fn program<'a>(alloc: Global) -> Result<Command<'a>, AllocError> {
     let mut program = Command::new(alloc, "cyclone")
         .bin_name("cyclone")?
+        .version(VERSION)
         .about(ABOUT)
         .after_help(EXAMPLES)
         .subcommand_required(true);
@@ -227,10 +243,29 @@ fn program<'a>(alloc: Global) -> Result<Command<'a>, AllocError> {
     Ok(program)
 }
 
+/// The command of this name by itself, so that a mistake behind it is told with its own usage; the program where there is none.
+fn command_named<'a>(alloc: Global, name: &str) -> Result<Command<'a>, AllocError> {
+    for plan in COMMANDS {
+        if plan.name == name {
+            return command(alloc, plan);
+        }
+    }
+    program(alloc)
+}
+
+/// The words that are read. Help on `help` is that of `help`; clap takes the word that asks for it as the name of a command.
+fn words_read(words: &[String]) -> &[String] {
+    match words {
+        [_, name, asked] if name.as_str() == "help" && matches!(asked.as_str(), "-h" | "--help") =>
+            { &words[..2] }
+        _ => words,
+    }
+}
+
 /// The number that the text of an option writes.
 fn number_in<'a>(
     alloc: Global,
-    program: &mut Command<'a>,
+    command: &mut Command<'a>,
     option: &str,
     text: &str,
     low: u64,
@@ -245,7 +280,7 @@ fn number_in<'a>(
             let message = format!(in alloc;
                 "--{option} takes a number from {low} to {high}, not {text:?}"
             )?;
-            Err(program.error(ErrorKind::ValueValidation, message.as_str())?)
+            Err(command.error(ErrorKind::ValueValidation, message.as_str())?)
         }
     }
 }
@@ -253,7 +288,7 @@ fn number_in<'a>(
 /// The number given for an option, or by its default.
 fn number_of<'a>(
     alloc: Global,
-    program: &mut Command<'a>,
+    command: &mut Command<'a>,
     matches: &ArgMatches<'a>,
     option: &str,
     low: u64,
@@ -264,13 +299,13 @@ fn number_of<'a>(
         (λ text. n ≡ digits_value 10 text)) }
 {
     let text = matches.get_str(option).unwrap_or("");
-    number_in(alloc, program, option, text, low, high)
+    number_in(alloc, command, option, text, low, high)
 }
 
 /// The number given for an option, where it is given.
 fn number_if_given<'a>(
     alloc: Global,
-    program: &mut Command<'a>,
+    command: &mut Command<'a>,
     matches: &ArgMatches<'a>,
     option: &str,
     low: u32,
@@ -283,7 +318,7 @@ fn number_if_given<'a>(
         Some(text) => {
             let number = number_in(
                 alloc,
-                program,
+                command,
                 option,
                 text,
                 u64::from(low),
@@ -297,7 +332,7 @@ fn number_if_given<'a>(
 
 /// A file that the words name. The parser asks for each, so one is there.
 fn file_of<'a>(
-    program: &mut Command<'a>,
+    command: &mut Command<'a>,
     matches: &ArgMatches<'a>,
     id: &str,
 ) -> Result<&'a str, Error>
@@ -305,33 +340,33 @@ fn file_of<'a>(
 {
     match matches.get_str(id) {
         Some(path) => Ok(path),
-        None => Err(program.error(ErrorKind::MissingRequiredArgument, "a file is missing")?),
+        None => Err(command.error(ErrorKind::MissingRequiredArgument, "a file is missing")?),
     }
 }
 
 /// The limits that the words give.
 fn limits_of<'a>(
     alloc: Global,
-    program: &mut Command<'a>,
+    command: &mut Command<'a>,
     matches: &ArgMatches<'a>,
 ) -> Result<GivenLimits, Error>
     ensures { IfOk result (λ limits. AreLimitsOf (first_value (found_of matches.now)) limits) }
 {
-    let pages = number_if_given(alloc, program, matches, "pages", MIN_PAGES, MAX_PAGES)?;
-    let calls = number_if_given(alloc, program, matches, "calls", MIN_CALLS, MAX_CALLS)?;
+    let pages = number_if_given(alloc, command, matches, "pages", MIN_PAGES, MAX_PAGES)?;
+    let calls = number_if_given(alloc, command, matches, "calls", MIN_CALLS, MAX_CALLS)?;
     Ok(GivenLimits { pages, calls })
 }
 
 fn compile_request<'a>(
     alloc: Global,
-    program: &mut Command<'a>,
+    command: &mut Command<'a>,
     matches: &ArgMatches<'a>,
 ) -> Result<Request<'a>, Error>
     ensures { IfOk result (IsCompileRequest (first_value (found_of matches.now))) }
 {
-    let source = file_of(program, matches, "source")?;
-    let image = file_of(program, matches, "image")?;
-    let limits = limits_of(alloc, program, matches)?;
+    let source = file_of(command, matches, "source")?;
+    let image = file_of(command, matches, "image")?;
+    let limits = limits_of(alloc, command, matches)?;
     Ok(Request::Compile {
         source,
         image,
@@ -342,31 +377,50 @@ fn compile_request<'a>(
 /// For how many instructions a run may go on.
 fn budget_of<'a>(
     alloc: Global,
-    program: &mut Command<'a>,
+    command: &mut Command<'a>,
     matches: &ArgMatches<'a>,
 ) -> Result<u64, Error>
     ensures value { IfOk result
         (λ budget. IsNumberOf (first_value (found_of matches.now)) (codes "steps") budget) }
     ensures range { IfOk result (λ budget. (1 ≤ budget) × (budget ≤ MOST_STEPS)) }
 {
-    number_of(alloc, program, matches, "steps", 1, MOST_STEPS)
+    number_of(alloc, command, matches, "steps", 1, MOST_STEPS)
 }
 
 fn run_request<'a>(
     alloc: Global,
-    program: &mut Command<'a>,
+    command: &mut Command<'a>,
     matches: &ArgMatches<'a>,
 ) -> Result<Request<'a>, Error>
     ensures { IfOk result (IsRunRequest (first_value (found_of matches.now))) }
 {
-    let image = file_of(program, matches, "image")?;
-    let limits = limits_of(alloc, program, matches)?;
-    let budget = budget_of(alloc, program, matches)?;
+    let image = file_of(command, matches, "image")?;
+    let limits = limits_of(alloc, command, matches)?;
+    let budget = budget_of(alloc, command, matches)?;
     Ok(Request::Run {
         image,
         limits,
         budget,
     })
+}
+
+/// What is asked for by the words behind the name of a command.
+fn request_of<'a>(alloc: Global, name: &str, matches: &ArgMatches<'a>) -> Result<Request<'a>, Error>
+    ensures { IfOk result IsWithinBudget }
+{
+    let mut command = command_named(alloc, name)?;
+    match name {
+        "compile" => compile_request(alloc, &mut command, matches),
+        "run" => run_request(alloc, &mut command, matches),
+        "disasm" => {
+            let image = file_of(&mut command, matches, "image")?;
+            Ok(Request::Disassemble { image })
+        }
+        _ => {
+            let source = file_of(&mut command, matches, "source")?;
+            Ok(Request::Check { source })
+        }
+    }
 }
 
 /// What the words ask for, of which the first is the program's name. The error is a mistake in the
@@ -375,18 +429,9 @@ pub fn read_request<'a>(alloc: Global, words: &'a [String]) -> Result<Request<'a
     ensures { IfOk result IsWithinBudget }
 {
     let mut program = program(alloc)?;
-    let matches = program.try_get_matches_from_mut(words)?;
-    match matches.subcommand() {
-        Some(("check", matches)) => {
-            let source = file_of(&mut program, matches, "source")?;
-            Ok(Request::Check { source })
-        }
-        Some(("compile", matches)) => compile_request(alloc, &mut program, matches),
-        Some(("run", matches)) => run_request(alloc, &mut program, matches),
-        Some(("disasm", matches)) => {
-            let image = file_of(&mut program, matches, "image")?;
-            Ok(Request::Disassemble { image })
-        }
-        _ => Err(program.error(ErrorKind::MissingSubcommand, "a command is missing")?),
-    }
+    let matches = program.try_get_matches_from_mut(words_read(words))?;
+    let Some((name, matches)) = matches.subcommand() else {
+        return Err(program.error(ErrorKind::MissingSubcommand, "a command is missing")?);
+    };
+    request_of(alloc, name, matches)
 }

@@ -1,9 +1,10 @@
 //! A line of a text with a mark under one place of it.
-ghost use Rattle.std.specs.Prelude.{◌≡◌, Some, slice_get, option_map, ◌≤◌, ◌<◌, ◌+◌};
+ghost use Rattle.std.specs.Prelude.{◌≡◌, Some, slice_get, option_map, ◌≤◌, ◌<◌, ◌+◌, flat_map};
 ghost use Rattle.std.specs.Fmt.{WritesOnOk};
-ghost use Rattle.cyc_terminal.specs.Excerpt.{IsExcerpt, bytes_before, dots, escaped_byte, excerpt_text, shown_byte, shown_bytes, blank_byte, blank_bytes, line_at, lines_of};
+ghost use Rattle.std.specs.Str.{chars};
+ghost use Rattle.cyc_terminal.specs.Excerpt.{IsExcerpt, bytes_before, dots, escaped_byte, excerpt_text, shown_byte, shown_bytes, shown_char, blank_byte, blank_bytes, blank_char, line_at, lines_of};
 
-use std::fmt;
+use std::{fmt, str};
 
 // The n-th piece, from 0, of the text cut at its line feeds.
 fn piece(text: &[u8], n: usize) -> Option<&[u8]>
@@ -13,7 +14,7 @@ fn piece(text: &[u8], n: usize) -> Option<&[u8]>
 }
 
 /// Line `line` of the text, counted from 1, without its line feed; empty where there is none.
-fn line_at(text: &[u8], line: u32) -> &[u8]
+pub(crate) fn line_at(text: &[u8], line: u32) -> &[u8]
     ensures { result.now ≡ line_at text.now line }
 {
     match piece(text, line.saturating_sub(1) as usize) {
@@ -49,6 +50,71 @@ fn write_blank<W: fmt::Write>(byte: u8, f: &mut fmt::Formatter<W>) -> fmt::Resul
     }
 }
 
+fn write_char<W: fmt::Write>(c: char, f: &mut fmt::Formatter<W>) -> fmt::Result
+    ensures { WritesOnOk W.write_str_gives f.old result (shown_char c) f.new }
+{
+    let code = u32::from(c);
+    if code < 0x80 {
+        write_byte(code as u8, f)
+    } else if code < 0xa0 {
+        write_escaped(0xc2, f)?;
+        write_escaped(code as u8, f)
+    } else {
+        f.write_char(c)
+    }
+}
+
+fn write_blank_char<W: fmt::Write>(c: char, f: &mut fmt::Formatter<W>) -> fmt::Result
+    ensures { WritesOnOk W.write_str_gives f.old result (blank_char c) f.new }
+{
+    let code = u32::from(c);
+    if code < 0x80 {
+        write_blank(code as u8, f)
+    } else if code < 0xa0 {
+        f.write_str("        ")
+    } else {
+        f.write_str(" ")
+    }
+}
+
+fn write_text<W: fmt::Write>(text: &str, f: &mut fmt::Formatter<W>) -> fmt::Result
+    ensures { WritesOnOk W.write_str_gives f.old result (flat_map shown_char (chars text.now)) f.new }
+{
+    for c in text.chars() {
+        write_char(c, f)?;
+    }
+    Ok(())
+}
+
+fn write_blank_text<W: fmt::Write>(text: &str, f: &mut fmt::Formatter<W>) -> fmt::Result
+    ensures { WritesOnOk W.write_str_gives f.old result (flat_map blank_char (chars text.now)) f.new }
+{
+    for c in text.chars() {
+        write_blank_char(c, f)?;
+    }
+    Ok(())
+}
+
+fn write_bytes<W: fmt::Write>(bytes: &[u8], f: &mut fmt::Formatter<W>) -> fmt::Result
+    ensures { WritesOnOk W.write_str_gives f.old result (flat_map shown_byte bytes.now) f.new }
+{
+    for byte in bytes {
+        write_byte(*byte, f)?;
+    }
+    Ok(())
+}
+
+fn write_blank_bytes<W: fmt::Write>(bytes: &[u8], f: &mut fmt::Formatter<W>) -> fmt::Result
+    ensures { WritesOnOk W.write_str_gives f.old result (flat_map blank_byte bytes.now) f.new }
+{
+    for byte in bytes {
+        write_blank(*byte, f)?;
+    }
+    Ok(())
+}
+
+/// A file's name or a piece of a text as it is shown: UTF-8 as it is written but for control characters, any other bytes by their
+/// numbers.
 #[derive(Drop)]
 pub struct Shown<'a>(pub &'a [u8]);
 
@@ -56,10 +122,10 @@ impl fmt::Display for Shown<'_> {
     ghost output = { λ s. Some (shown_bytes s.0.now) };
 
     fn fmt<W: fmt::Write>(&self, f: &mut fmt::Formatter<W>) -> fmt::Result {
-        for byte in self.0 {
-            write_byte(*byte, f)?;
+        match str::from_utf8(self.0) {
+            Ok(text) => write_text(text, f),
+            Err(_) => write_bytes(self.0, f),
         }
-        Ok(())
     }
 }
 
@@ -70,10 +136,10 @@ impl fmt::Display for Blank<'_> {
     ghost output = { λ s. Some (blank_bytes s.0.now) };
 
     fn fmt<W: fmt::Write>(&self, f: &mut fmt::Formatter<W>) -> fmt::Result {
-        for byte in self.0 {
-            write_blank(*byte, f)?;
+        match str::from_utf8(self.0) {
+            Ok(text) => write_blank_text(text, f),
+            Err(_) => write_blank_bytes(self.0, f),
         }
-        Ok(())
     }
 }
 

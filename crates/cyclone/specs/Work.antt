@@ -1,5 +1,5 @@
 -- What the program answers to a check, a run and a listing, by what the layers below it answered.
-use Rattle.std.specs.Prelude.{◌≡◌, ◌⊎◌, ℕ, true, List, Option, Result, Ok, Err}
+use Rattle.std.specs.Prelude.{◌≡◌, ◌⊎◌, ℕ, false, List, Option, Result, Ok, Err}
 use Rattle.cyc_words.specs.declared.fault.Fault.{Fault}
 use Rattle.cyc_words.specs.Fault.{memory_fault}
 use Rattle.cyc_types.specs.TypedTrees.{Program}
@@ -42,7 +42,7 @@ AnswersNoImage image answer = (answer ≡ NoMemory) ⊎ ((fault : ElfFault) × (
 -- the image was run between the devices, and the answer is for what came of it
 pub record AnswersRun (image : List ℕ) (limits : Bounds) (budget : ℕ) (old new : Devices) (answer : Answer) : Type 0 where
   pub outcome : Result Report RunFault
-  pub runs : AnswersAnew true (reading image) limits budget old new outcome
+  pub runs : AnswersAnew false (reading image) limits budget old new outcome
   pub answered : answer ≡ answer_of_run outcome
 
 -- the image was listed to the device, and the answer is for what came of it

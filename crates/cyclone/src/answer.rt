@@ -3,9 +3,9 @@ ghost use Rattle.std.specs.Prelude.{◌≡◌, Some};
 ghost use Rattle.cyclone.specs.Answer.{last_line, status_of, cause_words};
 
 use cyc_elf::ElfFault;
-use cyc_machine::{Cause, End, LoadFault};
+use cyc_machine::{Cause, End, Limits, LoadFault};
 use cyc_system::{RunFault, Stop};
-use cyc_terminal::{exception, image_fault};
+use cyc_terminal::{Ending, image_fault};
 use cyc_words::{Code, Fault};
 use std::fmt;
 
@@ -148,15 +148,22 @@ impl From<RunFault> for Answer {
     }
 }
 
+/// Why a run with these limits and this budget ended before its program did.
+pub fn ending(answer: &Answer, limits: Limits, budget: u64) -> Option<Ending> {
+    match *answer {
+        Answer::Uncaught(number, _) => Some(Ending::Uncaught(number)),
+        Answer::Full => Some(Ending::Full(limits)),
+        Answer::Spent => Some(Ending::Spent(budget)),
+        _ => None,
+    }
+}
+
 /// What there is to say about an answer to a person, beside its last line and what was said when it
 /// arose.
 pub fn explanation(answer: &Answer) -> Option<&'static str> {
     match *answer {
         Answer::BadImage(number) => Some(image_fault(number)),
-        Answer::Uncaught(number, _) => Some(exception(number)),
-        Answer::Full => Some("more nested calls than --calls, or more memory than --pages"),
         Answer::Trapped(_) => Some("the machine refused an instruction of the image"),
-        Answer::Spent => Some("more instructions than --steps"),
         Answer::NoMemory => Some("out of memory"),
         _ => None,
     }

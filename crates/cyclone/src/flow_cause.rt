@@ -2,7 +2,7 @@
 use crate::refusal::tree_of;
 use cyc_check::check;
 use cyc_flow::{Cause, Change, explain};
-use cyc_terminal::{Shown, excerpt_at};
+use cyc_terminal::{Shown, excerpt_at, is_in_name};
 use cyc_words::{Code, Fault, Span};
 use std::alloc::Global;
 use std::fmt;
@@ -33,10 +33,6 @@ fn words_of(change: Change, code: Code) -> &'static str {
         (Change::Locked, _) => "is locked here, in the body of a try",
         (Change::Assigned, _) => "is assigned here, in the body of a try",
     }
-}
-
-fn is_in_name(byte: u8) -> bool {
-    byte.is_ascii_alphanumeric() || byte == b'_'
 }
 
 /// The name that stands at a place, as far as it is shown.

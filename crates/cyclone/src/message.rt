@@ -1,21 +1,31 @@
 //! The message for a person who reads why a text was refused.
 use crate::flow_cause::Note;
 use cyc_flow::Cause;
-use cyc_terminal::{Shown, excerpt_at, hint, meaning};
+use cyc_terminal::{Shown, excerpt_at, hint_at, meaning};
 use cyc_words::Fault;
 use std::fmt;
 
 /// Why the text in the file `name` was refused: the place and what is wrong there, the line with a
-/// mark under the place, the types or regions at hand, and what to do. Where a variable is empty or
-/// locked, where it came to be so.
+/// mark under the place, the rule that is broken with the names, types or regions at hand, and what to
+/// do. Where a variable is empty or locked, where it came to be so.
 #[derive(Drop)]
 pub struct Message<'a> {
     pub name: &'a str,
     pub text: &'a [u8],
     pub fault: Fault,
-    /// The types or regions at hand, in lines.
+    /// The rule that is broken, in lines; where the last one is a hint, it stands in place of that of the
+    /// fault's code.
     pub words: Option<Vec<u8>>,
     pub cause: Option<Cause>,
+}
+
+/// Whether there is a hint among lines.
+fn has_hint(lines: &[u8]) -> bool {
+    let mut is_hinted = false;
+    for line in lines.split(|byte| *byte == b'\n') {
+        is_hinted = line.starts_with(b"hint: ");
+    }
+    is_hinted
 }
 
 impl fmt::Display for Message<'_> {
@@ -28,6 +38,9 @@ impl fmt::Display for Message<'_> {
             for line in words.split(|byte| *byte == b'\n') {
                 write!(f, "    {}\n", Shown(line))?;
             }
+            if has_hint(words) {
+                return Ok(());
+            }
         }
         if let Some(cause) = self.cause {
             let note = Note {
@@ -38,6 +51,6 @@ impl fmt::Display for Message<'_> {
             };
             write!(f, "{note}")?;
         }
-        write!(f, "    hint: {}\n", hint(code))
+        write!(f, "    hint: {}\n", hint_at(code, self.text, line, column))
     }
 }

@@ -2,15 +2,16 @@
 ghost use Rattle.std.specs.Prelude.{◌≡◌};
 ghost use Rattle.cyclone.specs.Answer.{answer_of_fault};
 
-use crate::answer::{Answer, explanation};
+use crate::answer::{Answer, ending, explanation};
 use crate::files::{read_image, read_text, write_image};
 use crate::flow_cause::cause_of;
 use crate::message::Message;
 use crate::refusal::words_for;
 use crate::work::{check, limits_of_run, list_image, run_image};
 use clap::error::ErrorKind;
+use cyc_lex::lex;
 use cyc_system::compile_with;
-use cyc_terminal::{GivenLimits, Keyboard, Request, Screen, Shown, read_request};
+use cyc_terminal::{GivenLimits, Keyboard, Request, Screen, Shown, Warnings, read_request};
 use cyc_words::Fault;
 use std::cell::RefCell;
 use std::env::{Env, FillError};
@@ -38,12 +39,24 @@ fn report_refusal(rt: &HostRuntime, name: &str, text: &[u8], fault: Fault) -> An
     answer
 }
 
+/// Says to a person what an accepted program has that means something else than in C. Where memory runs out there is nothing to say.
+fn report_warnings(rt: &HostRuntime, name: &str, text: &[u8]) {
+    let Ok(tokens) = lex(rt.alloc(), text) else {
+        return;
+    };
+    let tokens = tokens.as_slice();
+    let _ = rt.eprint(Warnings { name, text, tokens });
+}
+
 /// `check SOURCE`.
 fn check_file(rt: &HostRuntime, source: &str) -> Result<Answer, Answer> {
     let text = read_text(rt, source)?;
     let text = text.as_slice();
     match check(rt.alloc(), text) {
-        Ok(()) => Ok(Answer::Done),
+        Ok(()) => {
+            report_warnings(rt, source, text);
+            Ok(Answer::Done)
+        }
         Err(fault) => Err(report_refusal(rt, source, text, fault)),
     }
 }
@@ -58,7 +71,10 @@ fn compile_file(
     let text = read_text(rt, source)?;
     let text = text.as_slice();
     match compile_with(rt.alloc(), text, limits.carried()) {
-        Ok(bytes) => Ok(write_image(rt, image, bytes.as_slice())),
+        Ok(bytes) => {
+            report_warnings(rt, source, text);
+            Ok(write_image(rt, image, bytes.as_slice()))
+        }
         Err(fault) => Err(report_refusal(rt, source, text, fault)),
     }
 }
@@ -105,6 +121,9 @@ fn run_file(
     if screen.by_lines && !screen.at_line_start && rt.stderr().is_terminal() {
         let _ = rt.eprintln("");
     }
+    if let Some(ending) = ending(&answer, limits, budget) {
+        let _ = eprintln!(rt; "cyclone: {ending}");
+    }
     Ok(answer)
 }
 
@@ -141,13 +160,13 @@ fn carry_out(rt: &HostRuntime, request: Request<'_>) -> Answer {
     }
 }
 
-/// The answer to words that ask for no work: a wrong command line, or help, which has no answer
-/// where its text could be written.
+/// The answer to words that ask for no work: a wrong command line, or help or the version, which have no answer
+/// where their text could be written.
 fn print_usage(rt: &HostRuntime, error: &clap::Error) -> Option<Answer> {
     let written = error.print(rt);
     match error.kind() {
-        ErrorKind::DisplayHelp if written.is_ok() => None,
-        ErrorKind::DisplayHelp => Some(Answer::WriteFault),
+        ErrorKind::DisplayHelp | ErrorKind::DisplayVersion if written.is_ok() => None,
+        ErrorKind::DisplayHelp | ErrorKind::DisplayVersion => Some(Answer::WriteFault),
         ErrorKind::OutOfMemory => Some(Answer::NoMemory),
         _ => Some(Answer::Usage),
     }
@@ -200,8 +219,8 @@ fn answer_words(rt: &HostRuntime, words: &[String]) -> Option<Answer> {
     }
 }
 
-/// Does what the command line asks for. What the program answers, or nothing where help was asked for
-/// and given.
+/// Does what the command line asks for. What the program answers, or nothing where help or the version was
+/// asked for and given.
 pub fn serve(rt: &HostRuntime) -> Option<Answer> {
     let answer = match read_words(rt) {
         Ok(words) => answer_words(rt, words.as_slice())?,

@@ -29,17 +29,19 @@ use Rattle.cyc_meaning.specs.State.{World, Environment, no_locals, with_local, v
 use Rattle.cyc_meaning.specs.Step.{wrong, declared, inside, region_end, called, step}
 use Rattle.cyc_meaning.specs.SourceMachine.{status_in}
 use Rattle.cyc_meaning.specs.Run.{is_within, limited_step}
-use Rattle.cyc_lower.specs.Lowering.{outside_loops, lower_program, raises_of, globals_of, scopes_of}
+use Rattle.cyc_lower.specs.ControlCode.{outside_loops}
+use Rattle.cyc_lower.specs.Lowering.{lower_program, raises_of, globals_of, scopes_of}
 use Rattle.cyc_lower.proofs.relation.Stands.{ItemsAt}
 use Rattle.cyc_lower.specs.Slots.{starts_of, slot_of, global_types}
 use Rattle.cyc_lower.proofs.slots.Slots.{slot-parameter, words-parameter, slot_types-many, words-append}
 use Rattle.cyc_lower.proofs.slots.Widths.{kind_of_result, result_kind, same_kind, type_words, words_in, HasRoom}
-use Rattle.cyc_lower.proofs.value_steps.Values.{of_kind, int_is}
+use Rattle.cyc_lower.proofs.value_steps.ValueWords.{of_kind, int_is}
 use Rattle.cyc_objects.specs.Tables.{with_row, with_handle}
 use Rattle.cyc_objects.specs.Words.{Is}
 use Rattle.cyc_objects.specs.Related.{scopes}
 use Rattle.cyc_objects.proofs.Values.{Grows-row, Grows-handle, Is-grows}
-use Rattle.cyc_lower.proofs.relation.Relation.{IsIn, words_held, Holds, HoldsFrom, held, callers, homes, Shared, DataAt, DataIn, SharedAt, prints_only, gives_byte, StatementStack, LandsStack, PrintsStack, nowhere, behind_statement, Related, Matches, code_of, types_in, types_at, starts_at, parameters_in, parameters_at, bounds_in, bounds_at, called_at, returned_at, base_of, top, behind_records, in_place, floor, HandlersStand, CountsBy, row_of, call_slots}
+use Rattle.cyc_lower.proofs.relation.HeldValues.{IsIn, words_held, Holds, HoldsFrom, held, callers, homes, behind_records, row_of}
+use Rattle.cyc_lower.proofs.relation.Relation.{Shared, DataAt, DataIn, SharedAt, prints_only, gives_byte, StatementStack, LandsStack, PrintsStack, nowhere, behind_statement, Related, Matches, code_of, types_in, types_at, starts_at, parameters_in, parameters_at, bounds_in, bounds_at, called_at, returned_at, base_of, top, in_place, floor, HandlersStand, CountsBy, call_slots}
 use Rattle.cyc_lower.proofs.relation.Data.{words-reverse, Holds-rest, in_order, arguments_copied, data_declared, data_called, data_grows, HoldsFrom-grows, calls_counted}
 use Rattle.cyc_lower.proofs.relation.Accesses.{IsWell, is_fitting, is_declared, home_there}
 use Rattle.cyc_lower.proofs.relation.Matched.{IsMatched, above, below, matching, silently, by_one, by_two_known, shared_within, shared_way, steps_to, place_in, known}
@@ -219,7 +221,7 @@ module _ (source : Program) (pages calls : ℕ) where
   -- a function has been called, with its arguments in the first slots
   pub entered : FunctionsStand → (n base : ℕ) (h : Function) (arguments : List Kinded) (k : List Entry) (w : World) (slots globals : Words) (handlers : List Handler) (frames : List Frame) (store : StoreState) (output input : List ℕ)
       → slice_get source.functions n ≡ Some h
-      → (shared : Shared pages calls w (no_locals.home ∷ homes k) (CountsBy source None no_locals k globals store (scopes w.regions)) output input store (length frames))
+      → (shared : Shared pages calls w (no_locals.home ∷ homes k) (CountsBy source None no_locals k store (scopes w.regions)) output input store (length frames))
       → DataAt source shared.tables n base w.objects (λ (number : ℕ). None) (callers k) slots globals frames × HandlersStand source n slots handlers frames k → floor source n k ≡ base_of source n
       → HoldsFrom shared.tables slots 0 arguments → ((m : ℕ) → At (code_of source n) m (instructions.Finish (base_of source n)) → StatementStack source n outside_loops m frames k)
       → Related source pages calls (Entering h arguments) k no_locals w

@@ -30,16 +30,20 @@ use Rattle.cyc_lower.specs.Slots.{slot_of}
 use Rattle.cyc_lower.proofs.slots.Slots.{slot-room, room-inside}
 use Rattle.cyc_lower.proofs.slots.Widths.{HasRoom, Outside}
 use Rattle.cyc_lower.proofs.relation.Moves.{copied_is, copied_elsewhere}
-use Rattle.cyc_lower.specs.Lowering.{counter_operand, operand_of, are_as_wide, converts_there, break_target, continue_target, scopes_of, inside_loop, results_of, lower_function, lower_program, globals_of, null_of}
+use Rattle.cyc_lower.specs.ValueCode.{are_as_wide, converts_there, null_of}
+use Rattle.cyc_lower.specs.ControlCode.{counter_operand, break_target, continue_target, inside_loop}
+use Rattle.cyc_lower.specs.ExpressionCode.{operand_of}
+use Rattle.cyc_lower.specs.Lowering.{scopes_of, results_of, lower_function, lower_program, globals_of}
 use Rattle.cyc_lower.proofs.relation.Stands.{OperandBy, ExpressionAt, InitialAt, InitialBy, ReturnedAt, ItemsAt}
 use Rattle.cyc_objects.specs.Tables.{Tables, with_row, with_handle}
 use Rattle.cyc_objects.specs.Related.{scopes}
 use Rattle.cyc_objects.specs.Words.{Is}
 use Rattle.cyc_objects.proofs.Values.{Grows-row, Grows-handle}
 use Rattle.cyc_lower.proofs.relation.Sharing.{shared_declared, row_declared, shared_opened, shared_closed}
-use Rattle.cyc_lower.proofs.relation.Relation.{kept, counters_of, CountsBy, opened_by, types_on, starts_on, types_at, starts_at, given_at, returned_at, Holds, held, callers, homes, Shared, DataAt, SharedAt, in_temporary, in_local, ValueStack, AheadStack, StatementStack, LandsStack, Related, EvaluatingAt, as_operand, into_slot, for_effect, as_condition, in_operand, ahead, behind_statement, behind_call, behind_wrong, Below, IsLast, Arrives, in_place, by_jump, code_of, bounds_in, bounds_at, top, behind_records, by_jumps, HandlersStand, DataIn, Matches, floor, row_of, call_slots}
+use Rattle.cyc_lower.proofs.relation.HeldValues.{kept, counters_of, Holds, held, callers, homes, behind_records, row_of}
+use Rattle.cyc_lower.proofs.relation.Relation.{CountsBy, opened_by, types_on, starts_on, types_at, starts_at, given_at, returned_at, Shared, DataAt, SharedAt, in_temporary, in_local, ValueStack, AheadStack, StatementStack, LandsStack, Related, EvaluatingAt, as_operand, into_slot, for_effect, as_condition, in_operand, ahead, behind_statement, behind_call, behind_wrong, Below, IsLast, Arrives, in_place, by_jump, code_of, bounds_in, bounds_at, top, by_jumps, HandlersStand, DataIn, Matches, floor, call_slots}
 use Rattle.cyc_lower.proofs.relation.Data.{height-least, Holds-same, Holds-above, data_declared, data_returned, data_grows, held_by_caller, floor-least, handlers_same, calls_counted}
-use Rattle.cyc_lower.proofs.value_steps.Values.{int_at}
+use Rattle.cyc_lower.proofs.value_steps.ValueWords.{int_at}
 use Rattle.cyc_lower.proofs.relation.Accesses.{IsWell, is_declared, is_closed, home_there}
 use Rattle.cyc_lower.proofs.place_steps.SwapSteps.{begins_swap}
 use Rattle.cyc_lower.proofs.relation.Weights.{weight}
@@ -99,8 +103,8 @@ module _ (source : Program) (pages calls : ℕ) where
   returned tables a true locals g p slots frames k s m (is, at) holds stack =
       into_slot (top source g k) m at holds (in_temporary (omega arith) (subst (λ x. ValueStack source g locals (given_at source g a) (operands.Slot x) m frames k) is stack))
 
-  pub executing : (s : Statement) (k : List Entry) (e : Environment) (w : World) (c : Configuration) → IsStep source pages calls (Executing s) k e w c
-  executing (Block r js) k e w c well (shared, facts, (exits, q, items, stack)) =
+  pub executing : (s : Statement) (k : List Entry) (e : Environment) (w : World) (c : Configuration) → IsNested k e w → IsStep source pages calls (Executing s) k e w c
+  executing (Block r js) k e w c nested well (shared, facts, (exits, q, items, stack)) =
       silently source pages calls (Running (Executing (Block r js)) k e w) (Running Proceeding (Rest js ∷ region_end e w ∷ k) (inside e w) (opened w)) (plain.Running c) refl (
         shared_opened source pages calls k e w c shared,
         behind_statement exits
@@ -108,38 +112,38 @@ module _ (source : Program) (pages calls : ℕ) where
             (q, items, (q, in_place refl, stack)),
       )
       (omega arith)
-  executing Empty k e w c well (shared, facts, (exits, q, end, stack)) =
+  executing Empty k e w c nested well (shared, facts, (exits, q, end, stack)) =
       silently source pages calls (Running (Executing Empty) k e w) (Running Proceeding k e w) (plain.Running c) refl
       (shared, behind_statement exits facts (subst (λ r. StatementStack source c.active.function exits r c.frames k) (sym end) stack))
       (omega arith)
-  executing (Evaluate a) k e w c well (shared, facts, (exits, q, here, stack)) =
+  executing (Evaluate a) k e w c nested well (shared, facts, (exits, q, here, stack)) =
       silently source pages calls (Running (Executing (Evaluate a)) k e w) (Running (Evaluating a) (Discard ∷ k) e w) (plain.Running c) refl
       (shared, facts, for_effect q here tt (exits, stack))
       (omega arith)
-  executing (Swap a b) k e w c well related = begins_swap source pages calls a b k e w c well related
-  executing (If a s t) k e w c well (shared, facts, (exits, q, (x, y, m, r, at_a, jump, at_s, over, at_t), stack)) =
+  executing (Swap a b) k e w c nested well related = begins_swap source pages calls a b k e w c well related
+  executing (If a s t) k e w c nested well (shared, facts, (exits, q, (x, y, m, r, at_a, jump, at_s, over, at_t), stack)) =
       silently source pages calls (Running (Executing (If a s t)) k e w) (Running (Evaluating a) (Needs (Choose s t) ∷ k) e w) (plain.Running c) refl
       (shared, facts, as_condition x y m at_a tt (exits, r, q, jump, at_s, over, at_t, stack))
       (omega arith)
-  executing (While p a s) k e w c well (shared, facts, (exits, q, (x, y, m, r, enter, leave, at_a, jump, at_s, back, end, after), stack)) =
+  executing (While p a s) k e w c nested well (shared, facts, (exits, q, (x, y, m, r, enter, leave, at_a, jump, at_s, back, end, after), stack)) =
       by_one source pages calls refl shared enter
       (λ choice. (shared, facts, as_condition x y m at_a tt (inside_loop c.active.next exits, exits, q, (refl, refl, x, y, m, r, leave, at_a, jump, at_s, back, after), r, jump, at_s, back, stack)))
-  executing (typed.Return None) k e w c well (shared, facts, (exits, q, (s, m, (r, closing, marks), here), stack)) =
+  executing (typed.Return None) k e w c nested well (shared, facts, (exits, q, (s, m, (r, closing, marks), here), stack)) =
       leaving source pages calls false (Executing (typed.Return None)) (Returning None) k k e w c exits.in_function r m refl shared (omega arith) (record_left source c.active.function exits q c.frames k stack).1 closing marks facts.1
       (λ handlers stand marks_there marked. (shared_leaving source pages calls false k e w c shared, (facts.0, stand), m, marks_there, marked, (exits, q, s, here, stack)))
-  executing (typed.Return (Some (Convert from to a))) k e w c well (shared, facts, (exits, q, (s, m, r, u, at_a, at_to, leave, here, wide, kind_is), stack)) =
+  executing (typed.Return (Some (Convert from to a))) k e w c nested well (shared, facts, (exits, q, (s, m, r, u, at_a, at_to, leave, here, wide, kind_is), stack)) =
       silently source pages calls (Running (Executing (typed.Return (Some (Convert from to a)))) k e w) (Running (Evaluating a) (Needs (ConvertTo from to (target_by a)) ∷ Needs Return ∷ k) e w) (plain.Running c) refl
       (shared, facts, returned shared.tables a (are_as_wide from to) e.locals c.active.function c.active.next c.active.slots c.frames (Needs (ConvertTo from to (target_by a)) ∷ Needs Return ∷ k) s m at_a tt (r, at_to, (exits, q, s, u, refl, leave, here, (wide, kind_is), stack)))
       (omega arith)
-  executing Break k e w c well (shared, facts, (exits, q, (m, (r, closing, marks), here), stack)) =
+  executing Break k e w c nested well (shared, facts, (exits, q, (m, (r, closing, marks), here), stack)) =
       leaving source pages calls true (Executing Break) Breaking k k e w c exits.in_loop r m refl shared (omega arith) (record_left source c.active.function exits q c.frames k stack).0 closing marks facts.1
       (λ handlers stand marks_there marked. (shared_leaving source pages calls true k e w c shared, (facts.0, stand), m, marks_there, marked, (exits, q, here, stack)))
-  executing Continue k e w c well (shared, facts, (exits, q, (m, (r, closing, marks), here), stack)) =
+  executing Continue k e w c nested well (shared, facts, (exits, q, (m, (r, closing, marks), here), stack)) =
       leaving source pages calls true (Executing Continue) Continuing k k e w c exits.in_loop r m refl shared (omega arith) (record_left source c.active.function exits q c.frames k stack).0 closing marks facts.1
       (λ handlers stand marks_there marked. (shared_leaving source pages calls true k e w c shared, (facts.0, stand), m, marks_there, marked, (exits, q, here, stack)))
-  executing (typed.Throw tag None) k e w c well related = throws_none source pages calls tag k e w c well related
-  executing (typed.Throw tag (Some a)) k e w c well related = throws_some source pages calls tag a k e w c well related
-  executing (typed.Try s handler) k e w c well related = begins source pages calls s handler k e w c well related
+  executing (typed.Throw tag None) k e w c nested well related = throws_none source pages calls tag k e w c well related
+  executing (typed.Throw tag (Some a)) k e w c nested well related = throws_some source pages calls tag a k e w c well related
+  executing (typed.Try s handler) k e w c nested well related = begins source pages calls s handler k e w c nested well related
 
   -- ---- the end of a call
 
@@ -191,12 +195,12 @@ module _ (source : Program) (pages calls : ℕ) where
       let back = comes_back shared.tables active.function active.base s results active.slots globals f frames k e.locals outer w facts stand least in
       by_one source pages calls does shared here
       (λ choice. finished (Running Proceeding k outer w) c s choice none
-      (shared_returned w (outer.home ∷ homes k) (CountsBy source None outer k globals store (scopes w.regions)) output input store e.home (length frames) shared, behind_call (returned_at source active.function) (operands.Slot f.result) back.0 stack))
+      (shared_returned w (outer.home ∷ homes k) (CountsBy source None outer k store (scopes w.regions)) output input store e.home (length frames) shared, behind_call (returned_at source active.function) (operands.Slot f.result) back.0 stack))
   leaves_call focus active (f ∷ frames) globals store output input k e outer w s does shared (facts, (none, stand)) here (in_local below stack) =
       let c : Configuration = record { active = active; frames = f ∷ frames; globals = globals; store = store; output = output; input = input } in
       by_one source pages calls does shared here
       (λ choice. finished (Running Proceeding k outer w) c s choice none
-      (shared_returned w (outer.home ∷ homes k) (CountsBy source None outer k globals store (scopes w.regions)) output input store e.home (length frames) shared, behind_wrong (returned_at source active.function) f.result (calls_counted source f.caller.function f.caller.slots f.caller.handlers frames k stand) stack))
+      (shared_returned w (outer.home ∷ homes k) (CountsBy source None outer k store (scopes w.regions)) output input store e.home (length frames) shared, behind_wrong (returned_at source active.function) f.result (calls_counted source f.caller.function f.caller.slots f.caller.handlers frames k stand) stack))
 
   -- with a value
   hands_back : (v : Kinded) (active : Activation) (frames : List Frame) (globals : Words) (store : StoreState) (output input : List ℕ) (k : List Entry) (e outer : Environment) (w : World) (s : ℕ)
@@ -212,7 +216,7 @@ module _ (source : Program) (pages calls : ℕ) where
       let back = comes_back shared.tables active.function active.base s results active.slots globals f frames k e.locals outer w facts stand least in
       by_one source pages calls refl shared here
       (λ choice. finished (Running (Given v) k outer w) c s choice none (
-        shared_returned w (outer.home ∷ homes k) (CountsBy source None outer k globals store (scopes w.regions)) output input store e.home (length frames) shared,
+        shared_returned w (outer.home ∷ homes k) (CountsBy source None outer k store (scopes w.regions)) output input store e.home (length frames) shared,
         in_operand (operands.Slot f.result) back.0 (copied_is shared.tables v active.slots f.caller.slots s results f.result (omega (arith, wide)) is) (kept_holds _ _ _ k back.1) stack,
       ))
   hands_back v active (f ∷ frames) globals store output input k e outer w s shared (facts, (none, stand)) here is wide (in_local below stack) =
@@ -226,7 +230,7 @@ module _ (source : Program) (pages calls : ℕ) where
       λ n out. copied_elsewhere active.slots f.caller.slots s results d n (subst (λ many. Outside d many n) (sym wide) out) in
       by_one source pages calls refl shared here
       (λ choice. finished (Running (Given v) k outer w) c s choice none (
-        shared_returned w (outer.home ∷ homes k) (CountsBy source None outer k globals store (scopes w.regions)) output input store e.home (length frames) shared,
+        shared_returned w (outer.home ∷ homes k) (CountsBy source None outer k store (scopes w.regions)) output input store e.home (length frames) shared,
         ahead d (
           f.caller.slots,
           λ n out. sym (elsewhere n out),

@@ -18,7 +18,8 @@ use Rattle.cyc_plain.specs.declared.instruction.Instruction.TheVariants as instr
 use Rattle.cyc_lower.specs.declared.operands.Condition.{Condition}
 use Rattle.cyc_lower.specs.declared.statements.Exits.{Exits}
 use Rattle.cyc_lower.specs.Slots.{Starts}
-use Rattle.cyc_lower.specs.Lowering.{condition_code, condition_of, failing_jump, statement_code, items_code, break_target, continue_target, inside_loop, inside_region, opened_code, closed_code}
+use Rattle.cyc_lower.specs.ControlCode.{failing_jump, break_target, continue_target, inside_loop, inside_region, opened_code, closed_code}
+use Rattle.cyc_lower.specs.Lowering.{condition_code, condition_of, statement_code, items_code}
 use Rattle.cyc_lower.specs.Emission.{most_locals, loop_code, item_code, exits_behind, free_behind, kept_by_item}
 use Rattle.cyc_lower.proofs.emission.Emitting.{Remains, goes_on_by, no_shorter_than, written_back}
 
@@ -36,30 +37,30 @@ opened_items starts [] p s = []
 opened_items starts (j ∷ js) p s = one_item starts j js p s ++ opened_items starts js (p + length (one_item starts j js p s)) (next_item j js s)
 
 -- so many regions are closed, the newest first, whose marks stand in the slots from t on
-abbrev pub closed_items : Starts → (many t : ℕ) → List Instruction
-closed_items starts zero t = []
-closed_items starts (suc many) t = closed_items starts many (t + 1) ++ closed_code starts t
+abbrev pub closed_items : (many t : ℕ) → List Instruction
+closed_items zero t = []
+closed_items (suc many) t = closed_items many (t + 1) ++ closed_code t
 
 abbrev pub regions_in : List ItemCode → ℕ
 regions_in [] = 0
 regions_in (item.Region r n ∷ js) = suc (regions_in js)
 regions_in (j ∷ js) = regions_in js
 
-behind_one : (starts : Starts) (j : ItemCode) (js : List ItemCode) (p : ℕ) (exits : Exits) (t : ℕ) → items_code starts (items_of js) (p + length (item_code starts j p exits t)) exits t ≡ opened_items starts js (p + length (item_code starts j p exits t)) (exits, t) ++ closed_items starts (regions_in js) t
-    → item_code starts j p exits t ++ items_code starts (items_of js) (p + length (item_code starts j p exits t)) exits t ≡ (item_code starts j p exits t ++ opened_items starts js (p + length (item_code starts j p exits t)) (exits, t)) ++ closed_items starts (regions_in js) t
+behind_one : (starts : Starts) (j : ItemCode) (js : List ItemCode) (p : ℕ) (exits : Exits) (t : ℕ) → items_code starts (items_of js) (p + length (item_code starts j p exits t)) exits t ≡ opened_items starts js (p + length (item_code starts j p exits t)) (exits, t) ++ closed_items (regions_in js) t
+    → item_code starts j p exits t ++ items_code starts (items_of js) (p + length (item_code starts j p exits t)) exits t ≡ (item_code starts j p exits t ++ opened_items starts js (p + length (item_code starts j p exits t)) (exits, t)) ++ closed_items (regions_in js) t
 behind_one starts j js p exits t rest =
     let one = item_code starts j p exits t in
-    ap (λ (l : List Instruction). one ++ l) rest ∙ sym (append_assoc one (opened_items starts js (p + length one) (exits, t)) (closed_items starts (regions_in js) t))
+    ap (λ (l : List Instruction). one ++ l) rest ∙ sym (append_assoc one (opened_items starts js (p + length one) (exits, t)) (closed_items (regions_in js) t))
 
-items_opened : (starts : Starts) (js : List ItemCode) (p : ℕ) (exits : Exits) (t : ℕ) → items_code starts (items_of js) p exits t ≡ opened_items starts js p (exits, t) ++ closed_items starts (regions_in js) t
+items_opened : (starts : Starts) (js : List ItemCode) (p : ℕ) (exits : Exits) (t : ℕ) → items_code starts (items_of js) p exits t ≡ opened_items starts js p (exits, t) ++ closed_items (regions_in js) t
 items_opened starts [] p exits t = refl
 items_opened starts (item.Region r n ∷ js) p exits t =
     let first = opened_code starts n t in
     let front = opened_items starts js (p + length first) (inside_region exits t, t + 1) in
-    let back = closed_items starts (regions_in js) (t + 1) in
-    ap (λ (l : List Instruction). first ++ (l ++ closed_code starts t)) (items_opened starts js (p + length first) (inside_region exits t) (t + 1))
-    ∙ ap (λ (l : List Instruction). first ++ l) (append_assoc front back (closed_code starts t))
-    ∙ sym (append_assoc first front (back ++ closed_code starts t))
+    let back = closed_items (regions_in js) (t + 1) in
+    ap (λ (l : List Instruction). first ++ (l ++ closed_code t)) (items_opened starts js (p + length first) (inside_region exits t) (t + 1))
+    ∙ ap (λ (l : List Instruction). first ++ l) (append_assoc front back (closed_code t))
+    ∙ sym (append_assoc first front (back ++ closed_code t))
 items_opened starts (item.Execute s ∷ js) p exits t = behind_one starts (item.Execute s) js p exits t (items_opened starts js _ exits t)
 items_opened starts (item.Local n ty v ∷ js) p exits t = behind_one starts (item.Local n ty v) js p exits t (items_opened starts js _ exits t)
 items_opened starts (item.Open r n w k ∷ js) p exits t = behind_one starts (item.Open r n w k) js p exits t (items_opened starts js _ exits t)
@@ -67,13 +68,13 @@ items_opened starts (item.Alias r n ty w s ∷ js) p exits t = behind_one starts
 items_opened starts (item.DynamicRegion r n ∷ js) p exits t = behind_one starts (item.DynamicRegion r n) js p exits t (items_opened starts js _ exits t)
 
 -- the newest region is the first that is closed
-closed_first : (starts : Starts) (many t : ℕ) → closed_items starts (suc many) t ≡ closed_code starts (t + many) ++ closed_items starts many t
-closed_first starts zero t = let e : t + 0 ≡ t = omega arith in sym (append-nil _ ∙ ap (closed_code starts) e)
-closed_first starts (suc many) t =
+closed_first : (many t : ℕ) → closed_items (suc many) t ≡ closed_code (t + many) ++ closed_items many t
+closed_first zero t = let e : t + 0 ≡ t = omega arith in sym (append-nil _ ∙ ap closed_code e)
+closed_first (suc many) t =
     let e : t + 1 + many ≡ t + suc many = omega arith in
-    ap (λ (l : List Instruction). l ++ closed_code starts t) (closed_first starts many (t + 1))
-    ∙ append_assoc (closed_code starts (t + 1 + many)) (closed_items starts many (t + 1)) (closed_code starts t)
-    ∙ ap (λ (n : ℕ). closed_code starts n ++ closed_items starts (suc many) t) e
+    ap (λ (l : List Instruction). l ++ closed_code t) (closed_first many (t + 1))
+    ∙ append_assoc (closed_code (t + 1 + many)) (closed_items many (t + 1)) (closed_code t)
+    ∙ ap (λ (n : ℕ). closed_code n ++ closed_items (suc many) t) e
 
 -- The items of a block that are made so far, with those that are still to come: the ways out and the first slot for temporaries are those
 -- behind them, and there is room for what the others keep.
@@ -127,11 +128,11 @@ module _ (starts : Starts) (old : List Instruction) (js : List ItemCode) (first 
       )
 
 -- the regions from slot `behind` down to slot `free` are still to be closed, and then all is made
-abbrev pub ClosesLeft : Starts → (whole code : List Instruction) → (free behind : ℕ) → Type 0
-ClosesLeft starts whole code free behind = (many : ℕ) × (behind ≡ free + many) × (code ++ closed_items starts many free ≡ whole)
+abbrev pub ClosesLeft : (whole code : List Instruction) → (free behind : ℕ) → Type 0
+ClosesLeft whole code free behind = (many : ℕ) × (behind ≡ free + many) × (code ++ closed_items many free ≡ whole)
 
 pub closes_begin : (starts : Starts) (old : List Instruction) (js : List ItemCode) (first : Exits) (free i : ℕ) (code : List Instruction) (inside : Exits) (behind : ℕ) → length js ≤ i
-    → ItemsRemain starts old js first free i code inside behind → ClosesLeft starts (old ++ items_code starts (items_of js) (length old) first free) code free behind
+    → ItemsRemain starts old js first free i code inside behind → ClosesLeft (old ++ items_code starts (items_of js) (length old) first free) code free behind
 closes_begin starts old js first free i code inside behind done (made, regions, kept, begun) =
     let none = drop_all i js done in
     let front = opened_items starts js (length old) (first, free) in
@@ -139,26 +140,26 @@ closes_begin starts old js first free i code inside behind done (made, regions, 
     = sym (append-nil code) ∙ ap (λ (l : List ItemCode). code ++ opened_items starts l (length code) (inside, behind)) (sym none) ∙ made in (
       regions_in js,
       let e = ap regions_in none in omega (arith, regions, e),
-      ap (λ (l : List Instruction). l ++ closed_items starts (regions_in js) free) whole
-          ∙ append_assoc old front (closed_items starts (regions_in js) free)
+      ap (λ (l : List Instruction). l ++ closed_items (regions_in js) free) whole
+          ∙ append_assoc old front (closed_items (regions_in js) free)
           ∙ ap (λ (l : List Instruction). old ++ l) (sym (items_opened starts js (length old) first free)),
     )
 
-pub closes_next : (starts : Starts) (whole code new : List Instruction) (free behind next : ℕ) → free < behind → next ≡ behind - 1 → new ≡ code ++ closed_code starts next → ClosesLeft starts whole code free behind → ClosesLeft starts whole new free next
-closes_next starts whole code new free behind next more next_is is (zero, many_is, made) = absurd (omega (arith, more, many_is))
-closes_next starts whole code new free behind next more next_is is (suc many, many_is, made) =
+pub closes_next : (whole code new : List Instruction) (free behind next : ℕ) → free < behind → next ≡ behind - 1 → new ≡ code ++ closed_code next → ClosesLeft whole code free behind → ClosesLeft whole new free next
+closes_next whole code new free behind next more next_is is (zero, many_is, made) = absurd (omega (arith, more, many_is))
+closes_next whole code new free behind next more next_is is (suc many, many_is, made) =
     let e : next ≡ free + many = omega (arith, next_is, many_is) in (
       many,
       e,
-      ap (λ (l : List Instruction). l ++ closed_items starts many free) (is ∙ ap (λ (n : ℕ). code ++ closed_code starts n) e)
-          ∙ append_assoc code (closed_code starts (free + many)) (closed_items starts many free)
-          ∙ ap (λ (l : List Instruction). code ++ l) (sym (closed_first starts many free))
+      ap (λ (l : List Instruction). l ++ closed_items many free) (is ∙ ap (λ (n : ℕ). code ++ closed_code n) e)
+          ∙ append_assoc code (closed_code (free + many)) (closed_items many free)
+          ∙ ap (λ (l : List Instruction). code ++ l) (sym (closed_first many free))
           ∙ made,
     )
 
-pub closes_end : (starts : Starts) (whole code : List Instruction) (free behind : ℕ) → behind ≤ free → ClosesLeft starts whole code free behind → code ≡ whole
-closes_end starts whole code free behind done (zero, many_is, made) = sym (append-nil code) ∙ made
-closes_end starts whole code free behind done (suc many, many_is, made) = absurd (omega (arith, done, many_is))
+pub closes_end : (whole code : List Instruction) (free behind : ℕ) → behind ≤ free → ClosesLeft whole code free behind → code ≡ whole
+closes_end whole code free behind done (zero, many_is, made) = sym (append-nil code) ∙ made
+closes_end whole code free behind done (suc many, many_is, made) = absurd (omega (arith, done, many_is))
 
 module _ (starts : Starts) (value : Stmt) (region : ℕ) (v : Vec ItemCode Heap) (is : value ≡ stmt.Block region v) (items : List ItemCode) (same : items ≡ v.items) (old new : List Instruction) (exits : Exits) (d : ℕ) where
   pub made_block : new ≡ old ++ items_code starts (items_of items) (length old) exits d → new ≡ old ++ statement_code starts (view_statement value) (length old) exits d

@@ -14,7 +14,10 @@ use Rattle.cyc_plain.specs.declared.instruction.Operand.{Operand}
 use Rattle.cyc_plain.specs.declared.instruction.Instruction.{Instruction}
 use Rattle.cyc_lower.specs.declared.operands.Condition.{Condition}
 use Rattle.cyc_lower.specs.Slots.{Starts}
-use Rattle.cyc_lower.specs.Lowering.{operand_of, operand_or, left_of, left_slot, value_operand, failing_comparison, Compared, with_zero, compared_or, compared_of, first_operand, first_code, second_code, pair_code, condition_code, condition_of}
+use Rattle.cyc_lower.specs.ValueCode.{operand_or, failing_comparison}
+use Rattle.cyc_lower.specs.ControlCode.{Compared, with_zero, compared_or, compared_of}
+use Rattle.cyc_lower.specs.ExpressionCode.{operand_of, left_of, left_slot, value_operand}
+use Rattle.cyc_lower.specs.Lowering.{first_operand, first_code, second_code, pair_code, condition_code, condition_of}
 use Rattle.cyc_lower.specs.Emission.{most_locals, value_code, left_code, zero_condition}
 use Rattle.cyc_lower.proofs.emission.Emitting.{joined, room_behind}
 

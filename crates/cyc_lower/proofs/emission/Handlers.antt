@@ -16,7 +16,8 @@ use Rattle.cyc_plain.specs.declared.instruction.Instruction.TheVariants as instr
 use Rattle.cyc_meaning.specs.FrameCount.{kept_by_items, kept_by_clauses}
 use Rattle.cyc_lower.specs.declared.statements.Exits.{Exits}
 use Rattle.cyc_lower.specs.Slots.{Starts}
-use Rattle.cyc_lower.specs.Lowering.{statement_code, clauses_code, caught_code, items_code, other_jump, inside_try, behind_record, behind_record_in, kept_code, restored_code}
+use Rattle.cyc_lower.specs.ControlCode.{other_jump, inside_try, behind_record, behind_record_in, kept_code, restored_code}
+use Rattle.cyc_lower.specs.Lowering.{statement_code, clauses_code, caught_code, items_code}
 use Rattle.cyc_lower.specs.Emission.{case_code, caught_items_code, BeginClauses}
 use Rattle.cyc_lower.proofs.emission.Emitting.{Remains, goes_on_by, joined, written_back}
 use Rattle.cyc_lower.proofs.emission.Branching.{branched}
@@ -126,7 +127,7 @@ module _ (starts : Starts) (value : Stmt) (b : Box Stmt Heap) (v : Vec Clause He
 -- the record and what is kept behind it have room
 pub record_room : (scopes : Option ℕ) (t : ℕ) → behind_record_in scopes t ≤ t + 6
 record_room None t = omega arith
-record_room (Some global) t = omega arith
+record_room (Some place) t = omega arith
 
 -- ---- lengths
 

@@ -18,7 +18,11 @@ use Rattle.cyc_plain.specs.declared.instruction.Instruction.{Instruction}
 use Rattle.cyc_store.specs.declared.range.TheConstants.{HEAP, UNIQUE}
 use Rattle.cyc_lower.specs.declared.statements.Exits.{Exits}
 use Rattle.cyc_lower.specs.Slots.{with_counter, Starts, slot_of, global_of}
-use Rattle.cyc_lower.specs.Lowering.{begun_code, filled_code, elements_code, ended_code, raises_of, body_code, first_temporary, outside_loops, are_as_wide, converts_there, passed_words, operand_of, operand_or, code_unless, code_unless_slot, left_with, left_of, value_slot, slot_with, left_slot, value_operand, next_slot, source_of, source_slot, converted_operand, converted_by, conversion_code, divisor_code, operator_code, pointer_instructions, first_two, load_code, copy_code, address_code, object_code, place_operand, place_offset, expression_code, place_code, made_code, arguments_code, converted_code, converted_operand_code, printed_code, initial_code, operations_code, assignment_code, discarded_code, pair_code, condition_code, return_code, declaration_code, statement_code, items_code, behind_left, if_code, while_code, condition_of, failing_jump, compared_of, inside_loop, checked_code, right_slot, side_code, swap_code, thrown_code, caught_code, clauses_code, leave_code, try_code, clause_code, break_target, continue_target, null_of, span_of, span_in, followed_operand, followed_code, conversion_by, widened_code, count_code, loaded_code, saved_code, slot_or, all_passed, thinned_code, bounded_code, past_bounded, pointer_of, reached_operand, reached_code, word_by_word, load_word, global_code, starts_with, stores_code, read_side, write_side, exchange_code, kept_code, restored_code, behind_record, inside_try, inside_region, opened_code, closed_code}
+use Rattle.cyc_lower.specs.ValueCode.{first_temporary, are_as_wide, converts_there, passed_words, operand_or, code_unless, code_unless_slot, left_with, next_slot, converted_by, conversion_code, divisor_code, operator_code, pointer_instructions, first_two, copy_code, address_code, behind_left, checked_code, null_of, span_of, span_in, followed_operand, followed_code, conversion_by, widened_code, count_code, loaded_code, slot_or, all_passed, thinned_code, bounded_code, past_bounded, reached_operand, reached_code, word_by_word, load_word, global_code}
+use Rattle.cyc_lower.specs.ObjectCode.{begun_code, filled_code, elements_code, ended_code, object_code, right_slot, saved_code, stores_code}
+use Rattle.cyc_lower.specs.ControlCode.{outside_loops, if_code, while_code, failing_jump, compared_of, inside_loop, leave_code, try_code, clause_code, break_target, continue_target, kept_code, restored_code, behind_record, inside_try, inside_region, opened_code, closed_code}
+use Rattle.cyc_lower.specs.ExpressionCode.{operand_of, left_of, value_slot, slot_with, left_slot, value_operand, source_of, source_slot, converted_operand, load_code, place_operand, place_offset, expression_code, place_code, made_code, arguments_code, converted_code, converted_operand_code, printed_code, initial_code, operations_code, pointer_of}
+use Rattle.cyc_lower.specs.Lowering.{raises_of, body_code, assignment_code, discarded_code, pair_code, condition_code, return_code, declaration_code, statement_code, items_code, condition_of, side_code, swap_code, thrown_code, caught_code, clauses_code, starts_with, read_side, write_side, exchange_code}
 use Rattle.cyc_plain.specs.declared.instruction.Instruction.TheVariants as instructions
 use Rattle.cyc_meaning.specs.Values.{is_thin, words_of_kind}
 
@@ -368,9 +372,9 @@ module _ (starts : Starts) (raises : ℕ) where
         (condition_long (compared_of a).left (compared_of a).right (p + 2) (q + 2) t) (statement_long s (m + 1) (n + 1) q around t)
     statement_long (Return v) p q head exits t = return_long v p q head exits t
     statement_long Break p q head exits t =
-        joined (leave_code starts exits.in_loop) (instructions.Jump (break_target exits.head) ∷ []) (leave_code starts exits.in_loop) (instructions.Jump (break_target head) ∷ []) refl refl
+        joined (leave_code exits.in_loop) (instructions.Jump (break_target exits.head) ∷ []) (leave_code exits.in_loop) (instructions.Jump (break_target head) ∷ []) refl refl
     statement_long Continue p q head exits t =
-        joined (leave_code starts exits.in_loop) (instructions.Jump (continue_target exits.head) ∷ []) (leave_code starts exits.in_loop) (instructions.Jump (continue_target head) ∷ []) refl refl
+        joined (leave_code exits.in_loop) (instructions.Jump (continue_target exits.head) ∷ []) (leave_code exits.in_loop) (instructions.Jump (continue_target head) ∷ []) refl refl
     statement_long (Throw tag v) p q head exits t = joined _ _ _ _ (thrown_long v p q t) refl
     statement_long (Try s cs) p q head exits t =
         let close = instructions.Leave t ∷ [] in
@@ -397,7 +401,7 @@ module _ (starts : Starts) (raises : ℕ) where
     items_long (MoreItems (Declare n ty v) js) p q head exits t = joined _ _ _ _ (declaration_long n v p q t) (items_long js _ _ head exits t)
     items_long (MoreItems (DeclareRegion r n) js) p q head exits t =
         let opened = opened_code starts n t in
-        let closed = closed_code starts t in
+        let closed = closed_code t in
         let within = inside_region exits t in
         let first = items_code starts js (p + length opened) within (t + 1) in
         let second = items_code (other starts raises) js (q + length opened) (record within { head = head }) (t + 1) in

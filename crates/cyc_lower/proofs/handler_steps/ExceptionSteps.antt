@@ -27,12 +27,14 @@ use Rattle.cyc_plain.specs.Operators.{compares}
 use Rattle.cyc_meaning.specs.Values.{Operand as Kinded, words_of_kind}
 use Rattle.cyc_meaning.specs.State.{World, Environment, variable, made, closed, with_local, region_at, ThrowWith, Entry, Needs, NeedsPlace, Discard, Rest, Join, Loop, CloseRegion, CloseLexical, EndLoan, Handler, Caller, Main, Evaluating, Executing, Proceeding, Naming, Throwing, Catching, Running, Ended, State, Region, Access}
 use Rattle.cyc_meaning.specs.Nesting.{IsNested}
+use Rattle.cyc_store.specs.State.{lexical_count}
 use Rattle.cyc_meaning.specs.Regions.{closing_lexical}
 use Rattle.cyc_meaning.specs.Step.{inside}
 use Rattle.cyc_meaning.specs.Exceptions.{catches}
 use Rattle.cyc_lower.specs.declared.statements.Exits.{Exits}
 use Rattle.cyc_lower.specs.Slots.{slot_of}
-use Rattle.cyc_lower.specs.Lowering.{tag_operand, lower_program, inside_try, scopes_of}
+use Rattle.cyc_lower.specs.ControlCode.{tag_operand, inside_try}
+use Rattle.cyc_lower.specs.Lowering.{lower_program, scopes_of}
 use Rattle.cyc_objects.specs.Tables.{Tables, with_row, with_handle}
 use Rattle.cyc_objects.specs.Related as objects
 use Rattle.cyc_objects.proofs.Scopes.{scopes-counted, ends-newest}
@@ -43,11 +45,13 @@ use Rattle.cyc_lower.proofs.slots.Widths.{kind_positive, HasRoom, Outside}
 use Rattle.cyc_lower.proofs.relation.Moves.{moved_slots, put_elsewhere, moves, moved_is, moved_elsewhere}
 use Rattle.cyc_lower.proofs.relation.Stands.{CaughtAt, ItemsAt, ClausesAt, KeptAt, RestoredAt}
 use Rattle.cyc_lower.proofs.relation.Sharing.{shared_less, shared_declared, row_declared, shared_opened, shared_closed, shared_left}
-use Rattle.cyc_lower.proofs.relation.Relation.{behind_records, scopes_in, IsTold, IsKept, HasScopes, SharedBy, IsIntact, HandlersStand, DataIn, types_at, starts_at, held, callers, SharedAt, StatementStack, Matches, as_operand, behind_statement, in_place, by_jumps, code_of, bounds_at, floor, Arrives, DataAt, row_of, call_slots}
+use Rattle.cyc_lower.proofs.relation.HeldValues.{behind_records, scopes_in, MayBeOpen, IsKept, IsIntact, held, callers, row_of}
+use Rattle.cyc_lower.proofs.relation.Relation.{HasScopes, SharedBy, HandlersStand, DataIn, types_at, starts_at, SharedAt, StatementStack, Matches, as_operand, behind_statement, in_place, by_jumps, code_of, bounds_at, floor, Arrives, DataAt, call_slots}
 use Rattle.cyc_lower.proofs.relation.Data.{handlers_beside, data_written, data_declared, data_returned, data_grows}
 use Rattle.cyc_lower.proofs.relation.Accesses.{is_declared, is_closed, home_there}
 use Rattle.cyc_lower.proofs.relation.Matched.{Inside, inside_by, inside_within, IsMatched, Executes, executes, by_places, known, elsewhere, output_way, silently, by_one, by_one_printed, by_two, place_in}
-use Rattle.cyc_lower.proofs.region_steps.Closings.{closing_rest, closing_distinct, closing_known, closing_apart, closing_executes, data_told, shared_behind, settled}
+use Rattle.cyc_lower.proofs.region_steps.Closings.{closing_apart, closing_executes, shared_behind, settled}
+use Rattle.cyc_lower.proofs.region_steps.Scoped.{scopes_word}
 use Rattle.cyc_lower.proofs.handler_steps.Handling.{intact, closes_here, newest_open, caught_by, raised}
 use Rattle.cyc_lower.proofs.value_steps.Evaluations.{IsStep}
 use Rattle.cyc_lower.proofs.value_steps.Values.{taken, not_taken}
@@ -73,23 +77,23 @@ module _ (source : Program) (pages calls : ℕ) where
   -- What is kept behind its record.
   abbrev kept_slots : (scopes : Option ℕ) → Configuration → (slot : ℕ) → Words
   kept_slots None c slot = c.active.slots
-  kept_slots (Some global) c slot = put c.active.slots slot (c.globals global)
+  kept_slots (Some place) c slot = put c.active.slots slot (lexical_count c.store.regions % 2 ^ 32)
 
-  kept_there : (scopes : Option ℕ) (c : Configuration) (slot many : ℕ) → IsTold scopes c.globals many → IsKept scopes (kept_slots scopes c slot) slot many
-  kept_there None c slot many told = tt
-  kept_there (Some global) c slot many told = put-same c.active.slots slot (c.globals global) ∙ told
+  kept_there : (scopes : Option ℕ) (c : Configuration) (slot many : ℕ) → lexical_count c.store.regions % 2 ^ 32 ≡ many → IsKept scopes (kept_slots scopes c slot) slot many
+  kept_there None c slot many counted = tt
+  kept_there (Some place) c slot many counted = put-same c.active.slots slot (lexical_count c.store.regions % 2 ^ 32) ∙ counted
 
   kept_elsewhere : (scopes : Option ℕ) (c : Configuration) (slot n : ℕ) → Outside slot 1 n → kept_slots scopes c slot n ≡ c.active.slots n
   kept_elsewhere None c slot n out = refl
-  kept_elsewhere (Some global) c slot n out = put_elsewhere c.active.slots slot (c.globals global) 1 n (omega arith) out
+  kept_elsewhere (Some place) c slot n out = put_elsewhere c.active.slots slot (lexical_count c.store.regions % 2 ^ 32) 1 n (omega arith) out
 
   kept_same : (scopes : Option ℕ) (slots after : Words) (slot many : ℕ) → after slot ≡ slots slot → IsKept scopes slots slot many → IsKept scopes after slot many
   kept_same None slots after slot many same kept = tt
-  kept_same (Some global) slots after slot many same kept = same ∙ kept
+  kept_same (Some place) slots after slot many same kept = same ∙ kept
 
   -- its handler is opened, whose record has words that may be any
-  pub begins : (s : Statement) (handler : Clauses) (k : List Entry) (e : Environment) (w : World) (c : Configuration) → IsStep source pages calls (Executing (typed.Try s handler)) k e w c
-  begins s handler k e w c well (shared, facts, (exits, q, (r, m, u, keeping, opening, body, leave, over, restoring, clauses), stack)) =
+  pub begins : (s : Statement) (handler : Clauses) (k : List Entry) (e : Environment) (w : World) (c : Configuration) → IsNested k e w → IsStep source pages calls (Executing (typed.Try s handler)) k e w c
+  begins s handler k e w c nested well (shared, facts, (exits, q, (r, m, u, keeping, opening, body, leave, over, restoring, clauses), stack)) =
       by_keeping (scopes_of source) refl keeping
     where
       t : ℕ
@@ -130,7 +134,7 @@ module _ (source : Program) (pages calls : ℕ) where
       inside_one : (choice : Choice) → Matches source pages calls (Running (Executing s) (Handler handler ∷ k) e w) (opens choice begun t)
       inside_one choice =
           let (written, others) = data_written source shared.tables c.active.function c.active.base w.objects e.locals k c.active.slots (recorded choice) c.active.handlers c.globals c.frames t (suc RECORD_WORDS) (omega arith) (elsewhere choice) facts in
-          let is_kept = kept_same (scopes_of source) kept (recorded choice) slot (scopes_in k) (beside choice slot (inr (omega arith))) (kept_there (scopes_of source) c slot (scopes_in k) shared.counters.1) in (
+          let is_kept = kept_same (scopes_of source) kept (recorded choice) slot (scopes_in k) (beside choice slot (inr (omega arith))) (kept_there (scopes_of source) c slot (scopes_in k) (scopes_word shared.tables w c.store shared.related k e nested)) in (
             shared,
             (written, (refl, whole choice, is_kept, (exits, m + 1 + 1, u, m + 1, q, opening, restoring, clauses, over, stack), others)),
             (inside_try exits t, m, body, (exits, q, refl, leave, over, stack)),
@@ -146,10 +150,10 @@ module _ (source : Program) (pages calls : ℕ) where
           let begun_is : begun ≡ c = ap (λ (o : Option ℕ). with_slots (at c r) (kept_slots o c slot)) none ∙ ap (λ n. at c n) (sym end) in
           by_one source pages calls refl shared (subst (λ n. At (code_of source c.active.function) n (instructions.Try t (m + 1 + 1))) (sym end) opening)
           (λ choice. subst (λ (d : Configuration). Matches source pages calls (Running (Executing s) (Handler handler ∷ k) e w) (tries choice d t (m + 1 + 1) c.active.handlers)) begun_is (opens_here choice))
-      by_keeping (Some global) some (here, behind) =
+      by_keeping (Some place) some (here, behind) =
           by_two source pages calls begun refl shared shared here
           (λ choice. ap plain.Running (
-          ap (λ n. with_slots (at c n) (put c.active.slots slot (c.globals global))) behind
+          ap (λ n. with_slots (at c n) (put c.active.slots slot (lexical_count c.store.regions % 2 ^ 32))) behind
           ∙ ap (λ (o : Option ℕ). with_slots (at c r) (kept_slots o c slot)) (sym some)))
           opening (λ equal. omega (arith, equal, behind)) (λ choice. opens_here choice)
 
@@ -324,24 +328,20 @@ module _ (source : Program) (pages calls : ℕ) where
         by_handler [] (inside_resumed (inside_by source None pages calls (Handler handler ∷ k) e w c shared)) shared.same_output tt tt tt tt
         (subst (λ n. Matches source pages calls new_state (plain.Running (at resumed n))) (sym end)
         (shared_fewer None shared, written shared.tables facts others, (exits, out, q, clauses, over, stack, word, tag_is, value_is)))
-    by_restoring (Some place) is counted shared facts others (ask, tells) kept =
+    by_restoring (Some place) is counted shared facts others (ask, close) kept =
         let slot = floor source a.function k + RECORD_WORDS in
         let inside = inside_resumed (inside_by source (Some place) pages calls (Handler handler ∷ k) e w c shared) in
-        let fewer = shared_fewer (Some place) shared in
-        let (holds, stands) = written shared.tables facts others in
-        by_handler (place_in source pages calls resumed ∷ closing_rest source pages calls (scopes_of source) resumed) inside shared.same_output
-        (closing_apart source pages calls (scopes_of source) resumed slot p ask tells (place_in source pages calls c) _ here
-        (λ equal. let f : instructions.Throw x o ≡ instructions.Ask (requests.CloseTo (operands.Slot slot)) = equal in cc)
-        (λ global equal. let f : instructions.Throw x o ≡ instructions.StoreGlobal global (operands.Slot slot) = equal in cc))
-        (closing_apart source pages calls (scopes_of source) resumed slot p ask tells (place_in source pages calls thrown_to) _ opening
-        (λ equal. let f : instructions.Try (floor source a.function k) m ≡ instructions.Ask (requests.CloseTo (operands.Slot slot)) = equal in cc)
-        (λ global equal. let f : instructions.Try (floor source a.function k) m ≡ instructions.StoreGlobal global (operands.Slot slot) = equal in cc))
-        (closing_distinct source pages calls (scopes_of source) resumed) (closing_known source pages calls (scopes_of source) resumed slot p ask tells)
-        (closing_executes source pages calls (Throwing tag value) (Handler handler ∷ k) e w new_state resumed (scopes_of source) slot (scopes_in k) p ask tells inside
+        by_handler (place_in source pages calls resumed ∷ []) inside shared.same_output
+        (closing_apart source pages calls resumed slot ask (place_in source pages calls c) _ here
+        (λ equal. let f : instructions.Throw x o ≡ instructions.Ask (requests.CloseTo (operands.Slot slot)) = equal in cc))
+        (closing_apart source pages calls resumed slot ask (place_in source pages calls thrown_to) _ opening
+        (λ equal. let f : instructions.Try (floor source a.function k) m ≡ instructions.Ask (requests.CloseTo (operands.Slot slot)) = equal in cc))
+        (tt, tt) (known source pages calls resumed _ ask, tt)
+        (closing_executes source pages calls (Throwing tag value) (Handler handler ∷ k) e w new_state resumed slot (scopes_in k) p (ask, close) inside
         (both_elsewhere a.slots first tag value slot (inr (omega (arith, first_is))) ∙ kept) (omega (arith, counted, shared.counters.1.2))
         (λ choice allowed. (
-          settled source pages calls place k e w resumed (scopes_in k) p choice counted refl allowed fewer,
-          (data_told source pages calls shared.tables a.function a.base w.objects e.locals (callers k) told_slots c.globals rest (scopes_in k) holds, stands),
+          settled source pages calls place k e w resumed (scopes_in k) p choice counted refl allowed (shared_fewer (Some place) shared),
+          written shared.tables facts others,
           (exits, out, q, clauses, over, stack, word, tag_is, value_is),
         )))
 
@@ -355,9 +355,9 @@ module _ (source : Program) (pages calls : ℕ) where
       by_restoring tag value handler k e w c x o a rest index first contents later exits m p out q word here x_is o_is less same are first_is whole opening clauses over stack
       (scopes_of source) refl counted shared facts others restoring kept
 
-  told_has : (scopes : Option ℕ) → (scopes ≡ None → ⊥) → HasScopes scopes
-  told_has None never = never refl
-  told_has (Some place) never = tt
+  may_have : (scopes : Option ℕ) → (scopes ≡ None → ⊥) → HasScopes scopes
+  may_have None never = never refl
+  may_have (Some place) never = tt
 
   pub throwing : (tag value : ℕ) (k : List Entry) (e : Environment) (w : World) (c : Configuration) → IsNested k e w → IsStep source pages calls (Throwing tag value) k e w c
   throwing tag value [] e w c nested well (shared, fits, word, x, o, here, x_is, o_is, a, rest, less, same, facts, (none, last)) =
@@ -413,7 +413,7 @@ module _ (source : Program) (pages calls : ℕ) where
       (omega arith)
   throwing tag value (CloseLexical region ∷ k) e w c nested well (shared, fits, word, x, o, here, x_is, o_is, a, rest, less, same, facts, (marked, stand)) =
       let ends = ends-newest region k e w nested in
-      let has = told_has (scopes_of source) (λ none. by_none none shared) in
+      let has = may_have (scopes_of source) (λ none. by_none none shared) in
       silently source pages calls (Running (Throwing tag value) (CloseLexical region ∷ k) e w) (Running (Throwing tag value) k e (closed w region ends.region)) (plain.Running c)
       (ap (λ (found : Access Region). closing_lexical found (Throwing tag value) region k e w) ends.found)
       (shared_behind source pages calls (scopes_of source) region k e w c ends has has shared, fits, word, x, o, here, x_is, o_is, a, rest, less, same, facts, caught_by source a rest k stand)
@@ -421,9 +421,9 @@ module _ (source : Program) (pages calls : ℕ) where
     where
       by_none : scopes_of source ≡ None → SharedBy source (scopes_of source) pages calls (CloseLexical region ∷ k) e w c → ⊥
       by_none none s =
-          let told : IsTold (scopes_of source) c.globals (suc (scopes_in k)) =
+          let may : MayBeOpen (scopes_of source) (suc (scopes_in k)) =
           (subst (λ (closing : Option ℕ). SharedBy source closing pages calls (CloseLexical region ∷ k) e w c) none s).counters.1 in
-          let many : suc (scopes_in k) ≡ 0 = subst (λ (scopes : Option ℕ). IsTold scopes c.globals (suc (scopes_in k))) none told in
+          let many : suc (scopes_in k) ≡ 0 = subst (λ (scopes : Option ℕ). MayBeOpen scopes (suc (scopes_in k))) none may in
           omega (arith, many)
   throwing tag value (EndLoan lent ∷ k) e w c nested well (shared, fits, word, x, o, here, x_is, o_is, a, rest, less, same, facts, stand) =
       silently source pages calls (Running (Throwing tag value) (EndLoan lent ∷ k) e w) (Running (Throwing tag value) k e w) (plain.Running c) refl

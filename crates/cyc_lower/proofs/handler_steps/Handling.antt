@@ -15,10 +15,12 @@ use Rattle.cyc_meaning.specs.State.{World, Environment, Entry, Rest, Join, Loop,
 use Rattle.cyc_meaning.specs.Step.{step}
 use Rattle.cyc_lower.specs.declared.statements.Exits.{Exits}
 use Rattle.cyc_lower.specs.declared.statements.Opened.{Opened}
-use Rattle.cyc_lower.specs.Lowering.{outermost, with_handler, with_mark, scopes_of}
+use Rattle.cyc_lower.specs.ControlCode.{outermost, with_handler, with_mark}
+use Rattle.cyc_lower.specs.Lowering.{scopes_of}
 use Rattle.cyc_lower.proofs.relation.Weights.{weight}
 use Rattle.cyc_lower.proofs.relation.Stands.{HandlersAt, MarksAt}
-use Rattle.cyc_lower.proofs.relation.Relation.{IsIntact, HandlersStand, left_by, SharedAt, SharedBy, StatementStack, Related, Matches, code_of, bounds_at, types_at, floor, scopes_in, IsTold, IsMark, HasScopes, Newest, opened_by, CaughtBy, DataIn}
+use Rattle.cyc_lower.proofs.relation.HeldValues.{IsIntact, left_by, scopes_in, MayBeOpen, Newest}
+use Rattle.cyc_lower.proofs.relation.Relation.{HandlersStand, SharedAt, SharedBy, StatementStack, Related, Matches, code_of, bounds_at, types_at, floor, IsMark, HasScopes, opened_by, CaughtBy, DataIn}
 use Rattle.cyc_lower.proofs.relation.Sharing.{shared_ahead}
 use Rattle.cyc_lower.proofs.relation.Data.{calls_counted, record_below}
 use Rattle.cyc_lower.proofs.relation.Matched.{IsMatched, silently, by_one}
@@ -161,13 +163,13 @@ module _ (source : Program) where
   marked_some loop g (Main ∷ k) mark is = absurd (none-some mark is)
   marked_some loop g (entry ∷ k) mark is = marked_some loop g k mark is
 
-  -- and there is a word for their number then
-  pub marked_told : (loop : Bool) (g : ℕ) (k : List Entry) (globals : Words) → IsTold (scopes_of source) globals (scopes_in k) → (mark : ℕ) → (opened_by source loop g k).mark ≡ Some mark → HasScopes (scopes_of source)
-  marked_told loop g k globals told mark is = by (scopes_of source) told
+  -- so the program may open some
+  pub marked_told : (loop : Bool) (g : ℕ) (k : List Entry) → MayBeOpen (scopes_of source) (scopes_in k) → (mark : ℕ) → (opened_by source loop g k).mark ≡ Some mark → HasScopes (scopes_of source)
+  marked_told loop g k may mark is = by (scopes_of source) may
     where
-      by : (o : Option ℕ) → IsTold o globals (scopes_in k) → HasScopes o
+      by : (o : Option ℕ) → MayBeOpen o (scopes_in k) → HasScopes o
       by None none = omega (arith, none, marked_some loop g k mark is)
-      by (Some place) told = tt
+      by (Some place) may = tt
 
   -- It tells how many are open where those are left.
   pub marked_by : (loop : Bool) (g : ℕ) (slots : Words) (handlers : List plain.Handler) (frames : List Frame) (k : List Entry) (mark : ℕ) → (opened_by source loop g k).mark ≡ Some mark
@@ -205,7 +207,7 @@ module _ (source : Program) (pages calls : ℕ) where
   abbrev pub shared_leaving : (loop : Bool) (k : List Entry) (e : Environment) (w : World) (c : Configuration) → SharedAt source pages calls k e w c
       → SharedBy source (opened_by source loop c.active.function k).mark pages calls k e w c
   shared_leaving loop k e w c shared =
-      shared_ahead source (opened_by source loop c.active.function k).mark pages calls k e w c (marked_told source loop c.active.function k c.globals shared.counters.1) shared
+      shared_ahead source (opened_by source loop c.active.function k).mark pages calls k e w c (marked_told source loop c.active.function k shared.counters.1) shared
 
   -- A step that begins to leave entries: one instruction closes their handlers, or there are none. Lexical regions are closed later.
   pub leaving : (loop : Bool) (from next : Focus) (old k : List Entry) (e : Environment) (w : World) (c : Configuration) (opened : Opened) (r q : ℕ)

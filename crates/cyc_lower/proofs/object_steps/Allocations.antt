@@ -40,7 +40,8 @@ use Rattle.cyc_objects.proofs.RegionLemmas.{counted-same}
 use Rattle.cyc_objects.proofs.Making.{open-home, allocated, allocated-unique, refusal-allocate, refusal-unique, operands-blank, row-made, placed-range, room-fits}
 use Rattle.cyc_lower.proofs.slots.Widths.{kind_positive, wide_kind, Outside}
 use Rattle.cyc_lower.proofs.relation.Stands.{StoresAt, ObjectAt}
-use Rattle.cyc_lower.proofs.relation.Relation.{types_on, IsWord, IsIn, IsObject, words_held, height, Holds, HoldsFrom, held, callers, homes, silent, DataIn, SharedAt, in_temporary, into_slot, LandsMade, ValueStack, Matches, code_of, bounds_at, top, IsHandleOf, HasHandle, contents, floor, base_of}
+use Rattle.cyc_lower.proofs.relation.HeldValues.{IsWord, IsIn, IsObject, words_held, height, Holds, HoldsFrom, held, callers, homes, IsHandleOf, HasHandle, contents}
+use Rattle.cyc_lower.proofs.relation.Relation.{types_on, silent, DataIn, SharedAt, in_temporary, into_slot, LandsMade, ValueStack, Matches, code_of, bounds_at, top, floor, base_of}
 use Rattle.cyc_lower.proofs.object_steps.Handles.{has_handle}
 use Rattle.cyc_lower.proofs.relation.Data.{Is-same, height-least, one_word, Holds-same, Holds-rest, Holds-grows, HoldsFrom-grows, in_order, words-reverse, data_grows, variables_grow, contents_made, data_written, floor-least, Holds-above}
 use Rattle.cyc_lower.proofs.relation.Accesses.{IsWell, is_fitting}

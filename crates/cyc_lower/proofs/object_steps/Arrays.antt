@@ -42,11 +42,14 @@ use Rattle.cyc_objects.proofs.Values.{Grows-row}
 use Rattle.cyc_objects.proofs.Pointers.{pointer-word}
 use Rattle.cyc_objects.proofs.Cells.{element-found}
 use Rattle.cyc_objects.proofs.Making.{blanks-blank, part-made}
-use Rattle.cyc_lower.specs.Lowering.{is_in, most_elements, scale_of, lower_program, scopes_of}
+use Rattle.cyc_lower.specs.ValueCode.{is_in, scale_of}
+use Rattle.cyc_lower.specs.ObjectCode.{most_elements}
+use Rattle.cyc_lower.specs.Lowering.{lower_program}
 use Rattle.cyc_lower.proofs.slots.Widths.{Outside, same_kind, wide_kind}
 use Rattle.cyc_lower.proofs.relation.Stands.{CopyBy, BegunAt, ElementsAt, StoresAt}
 use Rattle.cyc_lower.proofs.object_steps.Handles.{has_handle}
-use Rattle.cyc_lower.proofs.relation.Relation.{IsWord, IsIn, Holds, held, callers, counters_of, arrays_in, IsHandleOf, homes, silent, DataIn, SharedAt, in_temporary, into_slot, LandsMade, ValueStack, Matches, code_of, bounds_at, types_on, floor, top, contents, IsTold, scopes_in, base_of}
+use Rattle.cyc_lower.proofs.relation.HeldValues.{IsWord, IsIn, Holds, held, callers, counters_of, arrays_in, IsHandleOf, homes, contents}
+use Rattle.cyc_lower.proofs.relation.Relation.{silent, DataIn, SharedAt, in_temporary, into_slot, LandsMade, ValueStack, Matches, code_of, bounds_at, types_on, floor, top, base_of}
 use Rattle.cyc_lower.proofs.relation.Data.{Is-same, height-least, one_word, Holds-same, Holds-grows, data_written, data_grows, variables_grow, contents_made, floor-least, Holds-above, newest_there}
 use Rattle.cyc_lower.proofs.relation.Accesses.{IsWell, is_fitting}
 use Rattle.cyc_lower.proofs.relation.Counters.{counters-many, counted_before}
@@ -616,10 +619,10 @@ module _ (source : Program) (pages calls : ℕ) where
     -- The words of the element come to its cell on a path, and behind it the index goes to the next one.
     goes_on : (m : ℕ) (parts : Parts) (links : List Link) → end_of c2 links ≡ reached parts m → IsPath source c2 links
         → At (code_of source g) m (instructions.Binary plain_binary.Add (free + 2) (operands.Slot (free + 2)) (operands.Word 1)) → At (code_of source g) (m + 1) (instructions.Jump h)
-        → objects.Related shared.tables (silent new) parts.store → parts.store.pages ≡ pages → demand parts.store ≤ pages → IsTold (scopes_of source) parts.globals (scopes_in k)
+        → objects.Related shared.tables (silent new) parts.store → parts.store.pages ≡ pages → demand parts.store ≤ pages
         → Like source c.frames parts.frames → ((n : ℕ) → base_of source g ≤ n → parts.slots n ≡ s2 n) → DataIn source shared.tables parts.slots k e new (reached parts m)
         → IsMatched source pages calls (Running (Given v) (entry ∷ k) e w) (plain.Running c)
-    goes_on m parts links ends path count_up jump related same_pages few_pages told like stands facts_later =
+    goes_on m parts links ends path count_up jump related same_pages few_pages like stands facts_later =
         let (branch, before, at_element, (p, scale, sum, stores, next_up, next_jump, end), restart, copy) = elements in
         let least : base_of source g ≤ free = omega (arith, floor-least source g k, height-least (floor source g k) (held k)) in
         let late : (n : ℕ) → free ≤ n → n < z → parts.slots n ≡ slots n = λ n from less. stands n (omega (arith, from, least)) ∙ early n less in
@@ -641,7 +644,7 @@ module _ (source : Program) (pages calls : ℕ) where
           variables = shared.variables;
           few_pages = few_pages;
           fits = subst (λ n. suc n ≤ calls) (sym (like_long source c.frames parts.frames like)) shared.fits;
-          counters = (shared.counters.0, told);
+          counters = shared.counters;
         } in
         let matches : Matches source pages calls next (plain.Running (at c4 h)) = (
           later,
@@ -713,7 +716,7 @@ module _ (source : Program) (pages calls : ℕ) where
           record { output = refl; demand = demand_there source pages calls k e w c2 shared names facts_there object index address word cell v.value found there value machine; frames = like_long source c.frames after.frames (frames_there source pages calls k e w c2 shared names facts_there object index address word cell v.value found there value machine) },
           tt,
         )
-        count_up jump (shared_saved source pages calls k e w c2 shared names facts_there object index address word cell v.value found there value machine).related kept.same_pages kept.few_pages kept.counters.1
+        count_up jump (shared_saved source pages calls k e w c2 shared names facts_there object index address word cell v.value found there value machine).related kept.same_pages kept.few_pages
         (frames_there source pages calls k e w c2 shared names facts_there object index address word cell v.value found there value machine)
         (λ n least. above_there source pages calls k e w c2 shared names facts_there object index address word cell v.value found there value machine n least)
         (data_saved source pages calls k e w c2 shared names facts_there object index address word cell v.value found there value machine)
@@ -748,7 +751,7 @@ module _ (source : Program) (pages calls : ℕ) where
         let kept : SharedAt source pages calls k e new after = shared_stored source pages calls k e w c2 shared names facts_there object index (s2 z) z 0 (free + 3) z_high (inl three_high) cell v.value found here wide fat_is words_there first second third in
         goes_on m (parts_of after) (all_links source pages calls k e w c2 shared names facts_there object index (s2 z) z 0 (free + 3) z_high (inl three_high) cell v.value found here wide fat_is words_there first second third) (ap (reached (parts_of after)) last)
         (all_path source pages calls k e w c2 shared names facts_there object index (s2 z) z 0 (free + 3) z_high (inl three_high) cell v.value found here wide fat_is words_there first second third at_first at_second at_third)
-        count_up jump (shared_stored source pages calls k e w c2 shared names facts_there object index (s2 z) z 0 (free + 3) z_high (inl three_high) cell v.value found here wide fat_is words_there first second third).related kept.same_pages kept.few_pages kept.counters.1
+        count_up jump (shared_stored source pages calls k e w c2 shared names facts_there object index (s2 z) z 0 (free + 3) z_high (inl three_high) cell v.value found here wide fat_is words_there first second third).related kept.same_pages kept.few_pages
         (frames_stored source pages calls k e w c2 shared names facts_there object index (s2 z) z 0 (free + 3) z_high (inl three_high) cell v.value found here wide fat_is words_there first second third)
         (λ n least. above_stored source pages calls k e w c2 shared names facts_there object index (s2 z) z 0 (free + 3) z_high (inl three_high) cell v.value found here wide fat_is words_there first second third n least)
         (data_stored source pages calls k e w c2 shared names facts_there object index (s2 z) z 0 (free + 3) z_high (inl three_high) cell v.value found here wide fat_is words_there first second third)

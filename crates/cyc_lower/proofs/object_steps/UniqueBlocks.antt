@@ -30,7 +30,8 @@ use Rattle.cyc_objects.specs.Words.{before, IsPartOf, Is}
 use Rattle.cyc_objects.proofs.Pointers.{not-null, part-not-null}
 use Rattle.cyc_objects.proofs.Services.{refusal-free, freed-unique}
 use Rattle.cyc_lower.specs.Lowering.{lower_program}
-use Rattle.cyc_lower.proofs.relation.Relation.{IsIn, content_of, callers, in_temporary, in_local, behind_call, behind_wrong, ProceedingAt, DataIn, SharedAt, LandsStack, ValueStack, Matches, code_of}
+use Rattle.cyc_lower.proofs.relation.HeldValues.{IsIn, content_of, callers}
+use Rattle.cyc_lower.proofs.relation.Relation.{in_temporary, in_local, behind_call, behind_wrong, ProceedingAt, DataIn, SharedAt, LandsStack, ValueStack, Matches, code_of}
 use Rattle.cyc_lower.proofs.relation.Data.{calls_counted, in_words, get_set_other, null_is, points_in}
 use Rattle.cyc_lower.proofs.relation.Accesses.{IsWell, is_fitting}
 use Rattle.cyc_lower.proofs.place_steps.CellWrites.{SameVariables, data_beside}

@@ -14,7 +14,8 @@ use Rattle.cyc_plain.specs.Step.{Choice, operand_word, with_slots, advanced, per
 use Rattle.cyc_plain.specs.Straight.{At}
 use Rattle.cyc_objects.specs.Tables.{Tables}
 use Rattle.cyc_objects.specs.Words.{Points}
-use Rattle.cyc_lower.specs.Lowering.{is_in, move_of, lower_program}
+use Rattle.cyc_lower.specs.ValueCode.{is_in, move_of}
+use Rattle.cyc_lower.specs.Lowering.{lower_program}
 use Rattle.cyc_lower.proofs.relation.Relation.{code_of}
 use Rattle.cyc_lower.proofs.relation.Stands.{CopyBy, AddressAt}
 use Rattle.cyc_lower.proofs.place_steps.PlaceWords.{add_is}

@@ -8,7 +8,8 @@ use Rattle.cyc_plain.specs.declared.instruction.Instruction.TheVariants as instr
 use Rattle.cyc_plain.specs.State.{put, Configuration, Words}
 use Rattle.cyc_plain.specs.Step.{with_slots, advanced, at, loads}
 use Rattle.cyc_plain.proofs.SlotLaws.{put-other}
-use Rattle.cyc_lower.specs.Lowering.{load_at, lower_program}
+use Rattle.cyc_lower.specs.ObjectCode.{load_at}
+use Rattle.cyc_lower.specs.Lowering.{lower_program}
 use Rattle.cyc_lower.proofs.relation.Stands.{EachAt}
 use Rattle.cyc_lower.proofs.relation.Relation.{code_of}
 use Rattle.cyc_lower.proofs.relation.Paths.{Link, is_quiet, end_of, IsPath}

@@ -1,5 +1,5 @@
 -- What a cell holds, by its address: it is one of the store's, a global's, or that of a local of a call under way.
-use Rattle.std.proofs.Common.{◌≡◌, ℕ, ◌+◌, ◌*◌, ◌<◌, List, length, Option, None, Some, refl, sym, ap, subst, ◌∙◌, arith, length-append}
+use Rattle.std.proofs.Common.{◌≡◌, ℕ, ◌+◌, ◌*◌, ◌<◌, List, length, Option, None, Some, refl, sym, ap, subst, ◌∙◌, arith}
 use Rattle.std.specs.Prelude.{slice_get}
 use Rattle.std.proofs.lemmas.Option.{none-some, same_Some}
 use Rattle.cyc_words.specs.Word.{add_of}
@@ -23,11 +23,12 @@ use Rattle.cyc_objects.specs.Related.{Alive}
 use Rattle.cyc_objects.proofs.Cells.{cell-read}
 use Rattle.cyc_objects.proofs.Values.{Is-same}
 use Rattle.cyc_lower.specs.Slots.{slot_of, global_types}
-use Rattle.cyc_lower.specs.Lowering.{lower_program, lower_globals, scopes_words, scopes_of}
+use Rattle.cyc_lower.specs.Lowering.{lower_program}
 use Rattle.cyc_lower.proofs.slots.Widths.{HasRoom}
 use Rattle.cyc_lower.proofs.slots.Slots.{slot-room, global-room, globals_counted}
 use Rattle.cyc_lower.proofs.relation.Known.{global-first, global_kind, first_word}
-use Rattle.cyc_lower.proofs.relation.Relation.{Waiting, DataAt, silent, contents, content_of, content_of_cell, with_kind, types_at, starts_at, base_of}
+use Rattle.cyc_lower.proofs.relation.HeldValues.{Waiting, contents, content_of, content_of_cell, with_kind}
+use Rattle.cyc_lower.proofs.relation.Relation.{DataAt, silent, types_at, starts_at, base_of}
 use Rattle.cyc_lower.proofs.relation.Rows.{local-pointer, local-kind}
 use Rattle.cyc_lower.proofs.relation.WaitingData.{frame_at}
 use Rattle.cyc_lower.proofs.relation.Leads.{IsNamed, is_global, is_local, is_waiting, AreNamed, Leads, to_store, to_variable, leads}
@@ -44,7 +45,7 @@ held_there w object at kind v found same has =
 -- the words of globals are there
 pub globals_long : (source : Program) (number : ℕ) → number < words_of_all (global_types source.globals) → number < length (lower_program source).globals
 globals_long source number few =
-    omega (arith, few, globals_counted source.globals, length-append (lower_globals source.globals) (scopes_words (scopes_of source)))
+    omega (arith, few, globals_counted source.globals)
 
 -- slots that are equal where a local has its words
 abbrev pub AreSame : (here : Option ℕ) → (words : ℕ) → (old new : Words) → Type 0

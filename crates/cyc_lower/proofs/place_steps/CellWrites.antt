@@ -25,8 +25,9 @@ use Rattle.cyc_lower.proofs.slots.Widths.{same_kind, kind_positive, words_in, Ha
 use Rattle.cyc_lower.proofs.slots.Slots.{global-room, slot-room}
 use Rattle.cyc_lower.proofs.relation.Moves.{put_elsewhere}
 use Rattle.cyc_lower.proofs.relation.Known.{IsVariableRow, row-away, global-first, global_kind, first_word}
-use Rattle.cyc_lower.proofs.relation.Relation.{IsWord, content_of, contents, Waiting, LocalsHold, GlobalsHold, FramesHold, DataAt, DataIn, SharedAt, callers, silent, types_at, IsTold, scopes_in, CallSlots, call_slots, base_of, starts_at}
-use Rattle.cyc_lower.proofs.relation.Data.{IsWord-is, get_set_other, locals_raised, told_beside, data_assigned_global, data_assigned, handlers_same}
+use Rattle.cyc_lower.proofs.relation.HeldValues.{IsWord, content_of, contents, Waiting, LocalsHold, GlobalsHold, callers, CallSlots}
+use Rattle.cyc_lower.proofs.relation.Relation.{FramesHold, DataAt, DataIn, SharedAt, silent, types_at, call_slots, base_of, starts_at}
+use Rattle.cyc_lower.proofs.relation.Data.{IsWord-is, get_set_other, locals_raised, data_assigned_global, data_assigned, handlers_same}
 use Rattle.cyc_lower.proofs.relation.Accesses.{IsWell, is_fitting, written_here, written_elsewhere, written_length}
 use Rattle.cyc_lower.proofs.place_steps.PlaceWords.{cell_kind}
 use Rattle.cyc_lower.proofs.place_steps.CellReads.{globals_long}
@@ -137,7 +138,6 @@ module _ (source : Program) (pages calls : ℕ) (k : List Entry) (e : Environmen
     pub related : objects.Related shared.tables (silent next) store
     pub same_pages : store.pages ≡ c.store.pages
     pub same_demand : demand store ≡ demand c.store
-    pub told : IsTold (scopes_of source) globals (scopes_in k)
     pub like : Like source c.frames frames
     pub above : (n : ℕ) → base_of source c.active.function ≤ n → slots n ≡ c.active.slots n
     pub either : (n : ℕ) → (slots n ≡ c.active.slots n) ⊎ (slots n ≡ word)
@@ -161,7 +161,6 @@ module _ (source : Program) (pages calls : ℕ) (k : List Entry) (e : Environmen
             (IsWord-is shared.tables at.cell.kind v word (words_from m address) 0 (ap m zero_far ∙ when_equal address address word (c.store.memory address) refl) is);
         same_pages = refl;
         same_demand = refl;
-        told = shared.counters.1;
         like = like_same source c.frames;
         above = λ n least. refl;
         either = λ n. inl refl;
@@ -216,7 +215,6 @@ module _ (source : Program) (pages calls : ℕ) (k : List Entry) (e : Environmen
         related = related_now start cell (inr (inl row));
         same_pages = refl;
         same_demand = refl;
-        told = told_beside source g object at.cell.kind c.globals globals (scopes_in k) room elsewhere shared.counters.1;
         like = like_same source c.frames;
         above = λ n least. refl;
         either = λ n. inl refl;
@@ -249,7 +247,6 @@ module _ (source : Program) (pages calls : ℕ) (k : List Entry) (e : Environmen
         related = related_now place.first cell row;
         same_pages = refl;
         same_demand = refl;
-        told = shared.counters.1;
         like = like_same source c.frames;
         above = λ n least. elsewhere n (inr (omega (arith, least, slot-room (types_at source g) number inside, room)));
         either = λ n. elim (cases_eq n slot) [
@@ -288,7 +285,6 @@ module _ (source : Program) (pages calls : ℕ) (k : List Entry) (e : Environmen
         related = related_now place.first cell row;
         same_pages = refl;
         same_demand = refl;
-        told = shared.counters.1;
         like = like_set source c.frames i f slot word frame.at (omega (arith, slot-room (types_at source h) number inside, room, kind_positive at.cell.kind));
         above = λ n least. refl;
         either = λ n. inl refl;
@@ -346,7 +342,7 @@ module _ (source : Program) (pages calls : ℕ) (k : List Entry) (e : Environmen
     variables = shared.variables;
     few_pages = subst (λ n. n ≤ pages) (sym is_saved.same_demand) shared.few_pages;
     fits = subst (λ n. suc n ≤ calls) (sym (like_long source c.frames is_saved.frames is_saved.like)) shared.fits;
-    counters = (shared.counters.0, is_saved.told);
+    counters = shared.counters;
   }
 
   -- and so do the data of all calls

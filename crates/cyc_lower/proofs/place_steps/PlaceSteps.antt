@@ -18,10 +18,13 @@ use Rattle.cyc_meaning.specs.Values.{Value, Thin, Operand as Kinded, is_kind, wo
 use Rattle.cyc_meaning.specs.State.{World, Access, Found, Closed, Missing, Located, cell_at, Environment, LoadFrom, Entry, NeedsPlace, GivenPlace, Given, Running, ConvertTo, StoreCell, TakeAddress, StoreTo, Needs, Evaluating, SwapLeft, SwapRight, Chain, BesideHandle, Store, Initialise}
 use Rattle.cyc_meaning.specs.Step.{wrong, read, loaded, target_by}
 use Rattle.cyc_objects.specs.Words.{Points, Is}
-use Rattle.cyc_lower.specs.Lowering.{source_of, source_slot, lower_program, right_slot}
+use Rattle.cyc_lower.specs.ObjectCode.{right_slot}
+use Rattle.cyc_lower.specs.ExpressionCode.{source_of, source_slot}
+use Rattle.cyc_lower.specs.Lowering.{lower_program}
 use Rattle.cyc_lower.proofs.slots.Widths.{kind_positive, same_kind, wide_kind, Outside, HasRoom}
 use Rattle.cyc_lower.proofs.relation.Moves.{put_elsewhere}
-use Rattle.cyc_lower.proofs.relation.Relation.{types_on, starts_on, Matches, held, Holds, DataIn, SharedAt, in_temporary, in_local, LandsStack, HandsOnStack, Related, code_of, bounds_at, top, floor, AheadStack, callers, types_at, starts_at}
+use Rattle.cyc_lower.proofs.relation.HeldValues.{held, Holds, callers}
+use Rattle.cyc_lower.proofs.relation.Relation.{types_on, starts_on, Matches, DataIn, SharedAt, in_temporary, in_local, LandsStack, HandsOnStack, Related, code_of, bounds_at, top, floor, AheadStack, types_at, starts_at}
 use Rattle.cyc_lower.proofs.relation.Data.{height-least, floor-least, Holds-same, data_written}
 use Rattle.cyc_lower.proofs.relation.Stands.{OperandBy, ExpressionAt, ConvertedOperandAt, LoadedBy, SavedAt}
 use Rattle.cyc_lower.proofs.place_steps.CellReads.{cell_reads, read_there, one_there, one_is, IsRead as IsCellRead, IsOwn, AreSame}
@@ -32,7 +35,8 @@ use Rattle.cyc_lower.proofs.relation.Accesses.{IsWell}
 use Rattle.cyc_lower.proofs.relation.Matched.{IsMatched, silently, by_one}
 use Rattle.cyc_lower.proofs.relation.Paths.{is_quiet, by_path}
 use Rattle.cyc_lower.proofs.value_steps.Evaluations.{IsStep, sources, landed}
-use Rattle.cyc_lower.proofs.value_steps.Values.{of_kind, landed_there}
+use Rattle.cyc_lower.proofs.value_steps.ValueWords.{of_kind}
+use Rattle.cyc_lower.proofs.value_steps.Values.{landed_there}
 use Rattle.cyc_plain.specs.Memory.{memory_at}
 use Rattle.cyc_lower.proofs.relation.Leads.{AreNamed}
 use Rattle.cyc_lower.proofs.slots.Slots.{room-inside}

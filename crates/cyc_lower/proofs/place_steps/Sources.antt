@@ -10,7 +10,9 @@ use Rattle.cyc_plain.specs.declared.instruction.Operand.{Operand}
 use Rattle.cyc_plain.specs.declared.instruction.Operand.TheVariants as operands
 use Rattle.cyc_meaning.specs.Values.{words_of_kind, kind_of}
 use Rattle.cyc_lower.specs.Slots.{Types, starts_of, slot_of}
-use Rattle.cyc_lower.specs.Lowering.{operand_or, operand_of, value_slot, null_of, are_as_wide, counter_operand, converted_operand, passed_words}
+use Rattle.cyc_lower.specs.ValueCode.{operand_or, null_of, are_as_wide, passed_words}
+use Rattle.cyc_lower.specs.ControlCode.{counter_operand}
+use Rattle.cyc_lower.specs.ExpressionCode.{operand_of, value_slot, converted_operand}
 use Rattle.cyc_lower.proofs.slots.Widths.{given, words_in}
 use Rattle.cyc_lower.proofs.slots.Slots.{room-inside}
 use Rattle.cyc_lower.proofs.relation.Fitting.{Fits, FitsConverted}

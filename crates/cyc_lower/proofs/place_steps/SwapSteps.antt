@@ -19,15 +19,18 @@ use Rattle.cyc_meaning.specs.Swaps.{finds_right_object, finds_left_object, swap_
 use Rattle.cyc_objects.specs.Tables.{Tables}
 use Rattle.cyc_objects.specs.Words.{Points, Is}
 use Rattle.cyc_lower.specs.declared.statements.Exits.{Exits}
-use Rattle.cyc_lower.specs.Lowering.{right_slot, move_of, load_word, load_at, lower_program}
+use Rattle.cyc_lower.specs.ValueCode.{move_of, load_word}
+use Rattle.cyc_lower.specs.ObjectCode.{right_slot, load_at}
+use Rattle.cyc_lower.specs.Lowering.{lower_program}
 use Rattle.cyc_lower.specs.Slots.{slot_of, global_of, global_types}
 use Rattle.cyc_lower.proofs.slots.Widths.{same_kind, kind_positive, wide_kind, Outside}
 use Rattle.cyc_lower.proofs.slots.Slots.{slot-room, global-inside}
 use Rattle.cyc_lower.proofs.relation.Moves.{put_elsewhere, moved_slots, moves, moved_elsewhere, moved_is}
 use Rattle.cyc_lower.proofs.relation.Weights.{focus_weight, stack_weight}
 use Rattle.cyc_lower.proofs.relation.Stands.{EachAt, StoresAt, HasSide, SideAt, ReadAt, WriteAt, ExchangeAt, PlaceAt}
-use Rattle.cyc_lower.proofs.relation.Relation.{base_of, floor, IsWord, Holds, held, contents, callers, behind_statement, IsSideAt, IsLeft, WritesAt, StatementStack, DataIn, SharedAt, Matches, code_of, bounds_at, types_at, starts_at, base_of, scopes_in}
-use Rattle.cyc_lower.proofs.relation.Data.{Is-same, one_word, data_written, data_assigned, data_assigned_global, handlers_beside, floor-least, told_beside}
+use Rattle.cyc_lower.proofs.relation.HeldValues.{IsWord, Holds, held, contents, callers}
+use Rattle.cyc_lower.proofs.relation.Relation.{base_of, floor, behind_statement, IsSideAt, IsLeft, WritesAt, StatementStack, DataIn, SharedAt, Matches, code_of, bounds_at, types_at, starts_at, base_of}
+use Rattle.cyc_lower.proofs.relation.Data.{Is-same, one_word, data_written, data_assigned, data_assigned_global, handlers_beside, floor-least}
 use Rattle.cyc_lower.proofs.relation.Sharing.{shared_written, shared_beside}
 use Rattle.cyc_lower.proofs.relation.Accesses.{IsWell, is_stored, written_here, written_elsewhere, written_length}
 use Rattle.cyc_lower.proofs.place_steps.CellWrites.{cell_is_there, saves_there, shared_saved, data_saved, with_word, above_there, frames_there}
@@ -387,7 +390,7 @@ module _ (source : Program) (pages calls : ℕ) where
       by_links source pages calls (Writing (x ∷ writes) None) k e w c (Running (Writing writes None) k e next) (global_links c own place_of (operands.Slot v)) by.some (does ∙ stored.gives) shared by.path
       (subst (λ (y : Configuration). Matches source pages calls (Running (Writing writes None) k e next) (plain.Running y)) (sym by.leads) (
         shared_written source pages calls k e w after
-            (shared_beside source pages calls k e w c shared globals (told_beside source g n x.operand.kind c.globals globals (scopes_in k) room (λ m out. stored_elsewhere c.active.slots c.globals own place_of (operands.Slot v) m (kind_positive x.operand.kind) out) shared.counters.1))
+            (shared_beside source pages calls k e w c shared globals)
             object stored.at x.operand.value stored.object_there stored.cell_there (inr (inl (subst (IsGlobalRow shared.tables (global_types source.globals)) same (facts.0.4 n few).0))),
         (
           data_assigned_global shared.tables source g c.active.base w.objects next.objects e.locals (callers k) c.active.slots c.globals globals c.frames n x.operand room

@@ -31,8 +31,9 @@ use Rattle.cyc_lower.proofs.slots.Slots.{global-room, slot-room, slot-apart}
 use Rattle.cyc_lower.proofs.relation.Moves.{put_elsewhere}
 use Rattle.cyc_lower.proofs.relation.Known.{row-away, global-first, global_kind, first_word, IsVariableRow}
 use Rattle.cyc_lower.proofs.place_steps.PlaceWords.{stored_still, three_put, three_words, three_elsewhere, three_written, three_of, cell_kind}
-use Rattle.cyc_lower.proofs.relation.Relation.{content_of, SharedAt, DataAt, DataIn, callers, silent, code_of, types_at, IsTold, scopes_in, Waiting, base_of, starts_at, contents}
-use Rattle.cyc_lower.proofs.relation.Data.{Is-same, get_set_other, told_beside, data_assigned_global, data_assigned, handlers_same}
+use Rattle.cyc_lower.proofs.relation.HeldValues.{content_of, callers, Waiting, contents}
+use Rattle.cyc_lower.proofs.relation.Relation.{SharedAt, DataAt, DataIn, silent, code_of, types_at, base_of, starts_at}
+use Rattle.cyc_lower.proofs.relation.Data.{Is-same, get_set_other, data_assigned_global, data_assigned, handlers_same}
 use Rattle.cyc_lower.proofs.relation.Accesses.{written_here, written_elsewhere, written_length}
 use Rattle.cyc_lower.proofs.place_steps.CellReads.{globals_long, IsOwn, AreSame}
 use Rattle.cyc_lower.proofs.place_steps.CellWrites.{data_beside}
@@ -120,7 +121,6 @@ module _ (source : Program) (pages calls : ℕ) (k : List Entry) (e : Environmen
     pub all_far : IsAsFar two all
     pub same_pages : all.store.pages ≡ c.store.pages
     pub related : objects.Related shared.tables (silent next) all.store
-    pub told : IsTold (scopes_of source) all.globals (scopes_in k)
     pub like : Like source c.frames all.frames
     pub above : (m : ℕ) → base_of source c.active.function ≤ m → all.slots m ≡ c.active.slots m
     pub value : (j : ℕ) → j < 3 → all.slots (n + j) ≡ c.active.slots (n + j)
@@ -178,7 +178,6 @@ module _ (source : Program) (pages calls : ℕ) (k : List Entry) (e : Environmen
           (three_words c.store.memory address (slots n) (slots (suc n)) (slots (suc (suc n))) shared.related.sound.words (words.0 n) (words.0 (suc n)) (words.0 (suc (suc n))))
           (λ y other. three_elsewhere c.store.memory address (slots n) (slots (suc n)) (slots (suc (suc n))) y (λ j below same. other j (omega (arith, below, ap words_of_kind fat)) same))
           (subst (λ kind. Is shared.tables kind v (words_from all_put address) 0) (sym fat) (three_written shared.tables v c.store.memory address (slots n) (slots (suc n)) (slots (suc (suc n))) in_slots));
-      told = shared.counters.1;
       like = like_same source c.frames;
       above = λ m least. refl;
       value = λ j below. refl;
@@ -259,7 +258,6 @@ module _ (source : Program) (pages calls : ℕ) (k : List Entry) (e : Environmen
         all_far = (refl, refl);
         same_pages = refl;
         related = related_now zeroth at_cell (inr (inl row));
-        told = told_beside source g object cell.cell.kind c.globals (after c.globals start 3) (scopes_in k) room elsewhere shared.counters.1;
         like = like_same source c.frames;
         above = λ m least. refl;
         value = λ j below. refl;
@@ -336,7 +334,6 @@ module _ (source : Program) (pages calls : ℕ) (k : List Entry) (e : Environmen
         all_far = (refl, refl);
         same_pages = refl;
         related = related_now place.first at_cell row;
-        told = shared.counters.1;
         like = like_same source c.frames;
         above = λ m least. high_still number inside room 3 (omega arith) m least;
         value = λ j below. still number inside room 3 (omega arith) j below;
@@ -393,7 +390,6 @@ module _ (source : Program) (pages calls : ℕ) (k : List Entry) (e : Environmen
         all_far = (refl, far (after old start 3) ∙ sym (far (after old start 2)));
         same_pages = refl;
         related = related_now place.first at_cell row;
-        told = shared.counters.1;
         like = like_slots source c.frames i f (after old start 3) frame.at (λ m least. elsewhere m (inr (omega (arith, least, bound, room, three))));
         above = λ m least. refl;
         value = λ j below. refl;
@@ -485,7 +481,7 @@ module _ (source : Program) (pages calls : ℕ) (k : List Entry) (e : Environmen
     variables = shared.variables;
     few_pages = subst (λ x. x ≤ pages) (sym (is_saved.all_far.0 ∙ (is_saved.two_far.0 ∙ is_saved.one_far.0))) shared.few_pages;
     fits = subst (λ x. suc x ≤ calls) (sym (like_long source c.frames is_saved.all.frames is_saved.like)) shared.fits;
-    counters = (shared.counters.0, is_saved.told);
+    counters = shared.counters;
   }
 
   pub data_stored : DataIn source shared.tables stored.active.slots k e next stored

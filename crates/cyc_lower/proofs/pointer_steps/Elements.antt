@@ -32,11 +32,13 @@ use Rattle.cyc_objects.specs.Related as objects
 use Rattle.cyc_objects.proofs.NumberLemmas.{slice_get-map}
 use Rattle.cyc_objects.proofs.Pointers.{part-not-null, pointer-word, thinned, fat-moved}
 use Rattle.cyc_lower.specs.Lowerable.{is_pointer}
-use Rattle.cyc_lower.specs.Lowering.{raising, scale_of, reached_operand, followed_operand, lower_program}
+use Rattle.cyc_lower.specs.ValueCode.{raising, scale_of, reached_operand, followed_operand}
+use Rattle.cyc_lower.specs.Lowering.{lower_program}
 use Rattle.cyc_lower.proofs.slots.Widths.{wide_kind, same_kind, Outside}
 use Rattle.cyc_lower.proofs.relation.Moves.{put_elsewhere}
 use Rattle.cyc_lower.proofs.relation.Stands.{SteppedAt, ReachedBy, ReachedAt, FollowedAt, ValueAt}
-use Rattle.cyc_lower.proofs.relation.Relation.{IsIn, IsLow, types_at, types_on, floor, Holds, held, as_operand, DataIn, SharedAt, ValueStack, PlaceStack, Matches, code_of, bounds_at, top, IsParts, ReadyAt, with_left, as_right}
+use Rattle.cyc_lower.proofs.relation.HeldValues.{IsIn, IsLow, Holds, held, IsParts}
+use Rattle.cyc_lower.proofs.relation.Relation.{types_at, types_on, floor, as_operand, DataIn, SharedAt, ValueStack, PlaceStack, Matches, code_of, bounds_at, top, ReadyAt, with_left, as_right}
 use Rattle.cyc_lower.proofs.relation.Data.{Is-same, height-least, Holds-same, data_written, in_words}
 use Rattle.cyc_lower.proofs.relation.Accesses.{IsWell, is_fitting}
 use Rattle.cyc_lower.proofs.place_steps.PlaceWords.{narrow_element, wide_element, stays}

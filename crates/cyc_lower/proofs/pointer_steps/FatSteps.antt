@@ -24,11 +24,13 @@ use Rattle.cyc_meaning.specs.Step.{computed, step}
 use Rattle.cyc_objects.specs.Tables.{Tables}
 use Rattle.cyc_objects.specs.Words.{IsPartOf, Is}
 use Rattle.cyc_objects.proofs.Pointers.{not-null, part-not-null, thin-to_fat}
-use Rattle.cyc_lower.specs.Lowering.{jump_if_zero, lower_program}
+use Rattle.cyc_lower.specs.ValueCode.{jump_if_zero}
+use Rattle.cyc_lower.specs.Lowering.{lower_program}
 use Rattle.cyc_lower.proofs.slots.Widths.{Outside}
 use Rattle.cyc_lower.proofs.relation.Stands.{CountAt, WidenedAt}
 use Rattle.cyc_lower.proofs.object_steps.Handles.{kept_holds}
-use Rattle.cyc_lower.proofs.relation.Relation.{IsIn, floor, types_at, Holds, held, in_operand, DataIn, SharedAt, ValueStack, LandsStack, Matches, code_of, bounds_at, top}
+use Rattle.cyc_lower.proofs.relation.HeldValues.{IsIn, Holds, held}
+use Rattle.cyc_lower.proofs.relation.Relation.{floor, types_at, in_operand, DataIn, SharedAt, ValueStack, LandsStack, Matches, code_of, bounds_at, top}
 use Rattle.cyc_lower.proofs.relation.Data.{height-least, Holds-same, data_written}
 use Rattle.cyc_lower.proofs.relation.Accesses.{IsWell}
 use Rattle.cyc_lower.proofs.relation.Matched.{IsMatched, silently, by_one}

@@ -30,11 +30,13 @@ use Rattle.cyc_objects.specs.Related as objects
 use Rattle.cyc_objects.proofs.Pointers.{not-null, part-not-null, ThinIs, thin_null, thin_cell, fat-moved}
 use Rattle.cyc_objects.proofs.Comparing.{thin-compared}
 use Rattle.cyc_types.specs.Texts.{is_comparison}
-use Rattle.cyc_lower.specs.Lowering.{left_kind, behind_left, pointer_operator, lower_program}
+use Rattle.cyc_lower.specs.ValueCode.{left_kind, behind_left, pointer_operator}
+use Rattle.cyc_lower.specs.Lowering.{lower_program}
 use Rattle.cyc_lower.proofs.slots.Widths.{same_kind, Outside}
 use Rattle.cyc_lower.proofs.relation.Moves.{copied_elsewhere}
 use Rattle.cyc_lower.proofs.relation.Stands.{FirstTwoAt, IndexAt, PointerAt, ValueAt}
-use Rattle.cyc_lower.proofs.relation.Relation.{types_on, IsIn, silent, Holds, held, DataIn, SharedAt, LandsStack, in_temporary, in_local, EvaluatingAt, as_operand, Matches, code_of, bounds_at, top, floor, callers}
+use Rattle.cyc_lower.proofs.relation.HeldValues.{IsIn, Holds, held, callers}
+use Rattle.cyc_lower.proofs.relation.Relation.{types_on, silent, DataIn, SharedAt, LandsStack, in_temporary, in_local, EvaluatingAt, as_operand, Matches, code_of, bounds_at, top, floor}
 use Rattle.cyc_lower.proofs.relation.Data.{height-least, in_words, floor-least}
 use Rattle.cyc_lower.proofs.relation.Accesses.{IsWell}
 use Rattle.cyc_lower.proofs.relation.Matched.{IsMatched, by_one, by_two}

@@ -23,7 +23,8 @@ use Rattle.cyc_objects.specs.Words.{IsPartOf, Points, Is}
 use Rattle.cyc_objects.proofs.Pointers.{part-not-null}
 use Rattle.cyc_lower.proofs.relation.Stands.{ReachedBy, ThinnedAt}
 use Rattle.cyc_lower.proofs.object_steps.Handles.{kept_holds}
-use Rattle.cyc_lower.proofs.relation.Relation.{IsIn, types_at, floor, Holds, held, in_operand, DataIn, SharedAt, ValueStack, Matches, code_of, bounds_at, top}
+use Rattle.cyc_lower.proofs.relation.HeldValues.{IsIn, Holds, held}
+use Rattle.cyc_lower.proofs.relation.Relation.{types_at, floor, in_operand, DataIn, SharedAt, ValueStack, Matches, code_of, bounds_at, top}
 use Rattle.cyc_lower.proofs.relation.Data.{height-least, Holds-same, data_written}
 use Rattle.cyc_lower.proofs.relation.Matched.{IsMatched}
 use Rattle.cyc_lower.proofs.pointer_steps.Elements.{scaled, first_is, cell_is, elsewhere, leaves_null, raises_null, raises_bounds, reaches_first, reaches_cell, RaisesNull}

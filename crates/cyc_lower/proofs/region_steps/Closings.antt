@@ -1,9 +1,6 @@
--- Lexical regions are closed down to a mark, by the store, and it is told how many are open then. The source closes one at a step, and the
--- store several of them at once.
-use Rattle.std.proofs.Common.{◌≡◌, ◌≢◌, ℕ, suc, ◌+◌, ◌≤◌, ◌<◌, true, List, [], ◌∷◌, Option, None, Some, refl, sym, ap, subst, arith}
-use Rattle.std.specs.Prelude.{Contains}
+-- Lexical regions are closed down to a mark, by the store. The source closes one at a step, and the store several of them at once.
+use Rattle.std.proofs.Common.{◌≡◌, ◌≢◌, ℕ, suc, ◌≤◌, true, List, [], ◌∷◌, Option, None, Some, refl, sym, ap, subst, arith}
 use Rattle.std.specs.List.{AllByRecursion}
-use Rattle.cyc_words.specs.Simulation.{IsDistinct}
 use Rattle.cyc_types.specs.TypedTrees.{Program}
 use Rattle.cyc_words.specs.Demand.{demand_of}
 use Rattle.cyc_store.specs.State.{Home, StoreState, sizes_in, down_to, demand, lexical_count}
@@ -15,88 +12,55 @@ use Rattle.cyc_plain.specs.declared.instruction.Operand.TheVariants as operands
 use Rattle.cyc_plain.specs.declared.instruction.Request.TheVariants as requests
 use Rattle.cyc_plain.specs.declared.instruction.Instruction.{Instruction}
 use Rattle.cyc_plain.specs.declared.instruction.Instruction.TheVariants as instructions
-use Rattle.cyc_plain.specs.Program.{CodePlace, places_of}
+use Rattle.cyc_plain.specs.Program.{CodePlace}
 use Rattle.cyc_plain.specs.Straight.{At}
 use Rattle.cyc_plain.specs.State as plain
-use Rattle.cyc_plain.specs.State.{Words, put, Frame, Configuration}
+use Rattle.cyc_plain.specs.State.{Configuration}
 use Rattle.cyc_plain.specs.Step.{at, served_to}
 use Rattle.cyc_plain.specs.Step as plain_step
 use Rattle.cyc_plain.proofs.Steps.{step_serves}
-use Rattle.cyc_plain.proofs.SlotLaws.{put-same, put-other}
-use Rattle.cyc_meaning.specs.FrameCount.{words_of_all}
-use Rattle.cyc_meaning.specs.State.{Object, World, closed, Environment, Entry, CloseLexical, Focus, State, Running}
+use Rattle.cyc_meaning.specs.State.{World, closed, Environment, Entry, CloseLexical, Focus, State, Running}
 use Rattle.cyc_meaning.specs.Step.{step}
 use Rattle.cyc_store.proofs.KeptUnwinding.{down_to-lower}
-use Rattle.cyc_objects.specs.Tables.{Tables}
 use Rattle.cyc_objects.specs.Related.{Related, scopes, closed_to}
 use Rattle.cyc_objects.proofs.Closing.{scopes-closed, closed-behind, closed-at_once, refusal-close_to}
 use Rattle.cyc_objects.proofs.Scopes.{Ends}
-use Rattle.cyc_lower.specs.Slots.{global_types}
 use Rattle.cyc_lower.specs.Lowering.{lower_program, scopes_of}
-use Rattle.cyc_lower.proofs.slots.Slots.{scopes_behind}
-use Rattle.cyc_lower.proofs.relation.Data.{data_behind}
-use Rattle.cyc_lower.proofs.relation.Stands.{ToldAt, ClosedAt}
-use Rattle.cyc_lower.proofs.relation.Relation.{IsTold, HasScopes, store_by, silent, scopes_in, Waiting, DataAt, ScopesBy, SharedBy, SharedAt, Matches, code_of, bounds_at, types_at}
-use Rattle.cyc_lower.proofs.relation.Matched.{Inside, IsMatched, Executes, executes, by_places, place_in, known, apart, elsewhere, output_way, inside_within}
-
--- what the word holds then
-abbrev pub told_in : (scopes : Option ℕ) → Words → (many : ℕ) → Words
-told_in None globals many = globals
-told_in (Some place) globals many = put globals place many
-
-pub is_told : (scopes : Option ℕ) (globals : Words) (many : ℕ) → HasScopes scopes → IsTold scopes (told_in scopes globals many) many
-is_told None globals many has = absurd has
-is_told (Some place) globals many has = put-same globals place many
+use Rattle.cyc_lower.proofs.relation.Stands.{ClosedAt}
+use Rattle.cyc_lower.proofs.relation.HeldValues.{MayBeOpen, scopes_in}
+use Rattle.cyc_lower.proofs.relation.Relation.{HasScopes, store_by, silent, ScopesBy, SharedBy, SharedAt, Matches, code_of, bounds_at, types_at}
+use Rattle.cyc_lower.proofs.relation.Matched.{Inside, IsMatched, Executes, by_places, place_in, known, elsewhere, output_way, inside_within}
 
 -- what is closed asks for no more pages
 pub fewer_pages : (s : StoreState) (mark : ℕ) (choice : services.Choice) → demand (served s (CloseTo mark) choice) ≤ demand s
 fewer_pages s mark choice = demand-part (IsPart-down_to mark s.regions) s.classes
 
 -- the state behind the code, where the regions are closed down to so many
-abbrev pub closed_down : (scopes : Option ℕ) → Configuration → services.Choice → (many q : ℕ) → Configuration
-closed_down scopes c choice many q = record (at c q) { store = served c.store (CloseTo many) choice; globals = told_in scopes c.globals many }
+abbrev pub closed_down : Configuration → services.Choice → (many q : ℕ) → Configuration
+closed_down c choice many q = record (at c q) { store = served c.store (CloseTo many) choice }
 
 module _ (source : Program) (pages calls : ℕ) where
-  -- its places, of which there are one or two
-  abbrev pub closing_rest : (scopes : Option ℕ) → Configuration → List CodePlace
-  closing_rest None c = []
-  closing_rest (Some place) c = place_in source pages calls (at c (c.active.next + 1)) ∷ []
-
-  pub closing_distinct : (scopes : Option ℕ) (c : Configuration) → IsDistinct (place_in source pages calls c ∷ closing_rest scopes c)
-  closing_distinct None c = (tt, tt)
-  closing_distinct (Some place) c = ((apart source pages calls c (at c (c.active.next + 1)) (λ same. omega (arith, same)), tt), (tt, tt))
-
-  pub closing_known : (scopes : Option ℕ) (c : Configuration) (slot q : ℕ) → At (code_of source c.active.function) c.active.next (instructions.Ask (requests.CloseTo (operands.Slot slot)))
-      → ToldAt (code_of source c.active.function) (bounds_at source c.active.function) (types_at source c.active.function) scopes (operands.Slot slot) (c.active.next + 1) q
-      → AllByRecursion (Contains (places_of (lower_program source))) (place_in source pages calls c ∷ closing_rest scopes c)
-  closing_known None c slot q ask tells = (known source pages calls c _ ask, tt)
-  closing_known (Some place) c slot q ask (tells, end) = (known source pages calls c _ ask, (known source pages calls (at c (c.active.next + 1)) _ tells, tt))
-
   -- another instruction stands elsewhere
-  pub closing_apart : (scopes : Option ℕ) (c : Configuration) (slot q : ℕ) → At (code_of source c.active.function) c.active.next (instructions.Ask (requests.CloseTo (operands.Slot slot)))
-      → ToldAt (code_of source c.active.function) (bounds_at source c.active.function) (types_at source c.active.function) scopes (operands.Slot slot) (c.active.next + 1) q
+  pub closing_apart : (c : Configuration) (slot : ℕ) → At (code_of source c.active.function) c.active.next (instructions.Ask (requests.CloseTo (operands.Slot slot)))
       → (place : CodePlace) (i : Instruction) → At (code_of source place.function) place.index i → (i ≢ instructions.Ask (requests.CloseTo (operands.Slot slot)))
-      → ((global : ℕ) → i ≢ instructions.StoreGlobal global (operands.Slot slot)) → AllByRecursion (λ q. place ≢ q) (place_in source pages calls c ∷ closing_rest scopes c)
-  closing_apart None c slot q ask tells place i here first second = (elsewhere source pages calls place (place_in source pages calls c) i _ here ask first, tt)
-  closing_apart (Some global) c slot q ask (tells, end) place i here first second = (
-    elsewhere source pages calls place (place_in source pages calls c) i _ here ask first,
-    (elsewhere source pages calls place (place_in source pages calls (at c (c.active.next + 1))) i _ here tells (second global), tt),
-  )
+      → AllByRecursion (λ q. place ≢ q) (place_in source pages calls c ∷ [])
+  closing_apart c slot ask place i here other = (elsewhere source pages calls place (place_in source pages calls c) i _ here ask other, tt)
 
   -- the store closes them, whatever it chooses
-  pub closing_executes : (focus : Focus) (k : List Entry) (e : Environment) (w : World) (next : State) (c : Configuration) (scopes : Option ℕ) (slot many q : ℕ)
-      → At (code_of source c.active.function) c.active.next (instructions.Ask (requests.CloseTo (operands.Slot slot)))
-      → ToldAt (code_of source c.active.function) (bounds_at source c.active.function) (types_at source c.active.function) scopes (operands.Slot slot) (c.active.next + 1) q
+  pub closing_executes : (focus : Focus) (k : List Entry) (e : Environment) (w : World) (next : State) (c : Configuration) (slot many q : ℕ)
+      → ClosedAt (code_of source c.active.function) (bounds_at source c.active.function) (types_at source c.active.function) slot c.active.next q
       → Inside source pages calls w c → c.active.slots slot ≡ many → many ≤ lexical_count c.store.regions
-      → ((choice : services.Choice) → IsAllowed c.store (CloseTo many) choice → Matches source pages calls next (plain.Running (closed_down scopes c choice many q)))
-      → Executes source pages calls (Running focus k e w) next (place_in source pages calls c ∷ closing_rest scopes c) (plain.Running c)
-  closing_executes focus k e w next c scopes slot many q ask tells inside marked more goes = (
+      → ((choice : services.Choice) → IsAllowed c.store (CloseTo many) choice → Matches source pages calls next (plain.Running (closed_down c choice many q)))
+      → Executes source pages calls (Running focus k e w) next (place_in source pages calls c ∷ []) (plain.Running c)
+  closing_executes focus k e w next c slot many q (ask, end) inside marked more goes = (
     refl,
     output_way source pages calls focus k e w c inside.0,
     λ u stepped.
         let (choice, served_it, is) = step_serves (lower_program source) pages calls c (requests.CloseTo (operands.Slot slot)) u ask stepped free (λ chosen served_it. asked_within chosen) in
-        subst (Executes source pages calls (Running focus k e w) next (closing_rest scopes c)) (sym is)
-        (behind scopes tells choice (λ s. goes choice (subst (λ m. IsAllowed c.store (CloseTo m) choice) marked served_it.allowed))),
+        subst (Executes source pages calls (Running focus k e w) next []) (sym is)
+        (subst (λ n. Matches source pages calls next (plain.Running (closed_down c choice mark n))) (sym end)
+        (subst (λ m. Matches source pages calls next (plain.Running (closed_down c choice m q))) (sym marked)
+        (goes choice (subst (λ m. IsAllowed c.store (CloseTo m) choice) marked served_it.allowed)))),
   )
     where
       mark : ℕ
@@ -105,50 +69,20 @@ module _ (source : Program) (pages calls : ℕ) where
       free : refusal c.store (CloseTo mark) ≡ None
       free = refusal-close_to c.store mark (omega (arith, marked, more))
 
-      asked : services.Choice → Configuration
-      asked choice = served_to choice c 0 (CloseTo mark)
-
-      asked_inside : (choice : services.Choice) → Inside source pages calls w (asked choice)
-      asked_inside choice = (inside.0, omega (arith, inside.1, fewer_pages c.store mark choice), inside.2, inside.3)
-
-      asked_within : (choice : services.Choice) → plain_step.is_within pages calls (plain.Running (asked choice)) ≡ true
-      asked_within choice = inside_within source pages calls w (asked choice) (asked_inside choice)
-
-      behind : (o : Option ℕ) → ToldAt (code_of source c.active.function) (bounds_at source c.active.function) (types_at source c.active.function) o (operands.Slot slot) (c.active.next + 1) q
-          → (choice : services.Choice) → ((s : Unit {0}) → Matches source pages calls next (plain.Running (closed_down o c choice many q)))
-          → Executes source pages calls (Running focus k e w) next (closing_rest o c) (plain.Running (asked choice))
-      behind None end choice done =
-          subst (λ n. Matches source pages calls next (plain.Running (closed_down None c choice mark n))) (sym end)
-          (subst (λ m. Matches source pages calls next (plain.Running (closed_down None c choice m q))) (sym marked) (done tt))
-      behind (Some place) (here, end) choice done =
-          executes source pages calls (Running focus k e w) next (asked choice) (instructions.StoreGlobal place (operands.Slot slot)) [] here
-          (λ other. inside_within source pages calls w (closed_down (Some place) c choice mark (c.active.next + 1 + 1)) (asked_inside choice))
-          (output_way source pages calls focus k e w (asked choice) inside.0)
-          (λ other. subst (λ n. Matches source pages calls next (plain.Running (closed_down (Some place) c choice mark n))) (sym end)
-          (subst (λ m. Matches source pages calls next (plain.Running (closed_down (Some place) c choice m q))) (sym marked) (done tt)))
+      asked_within : (choice : services.Choice) → plain_step.is_within pages calls (plain.Running (served_to choice c 0 (CloseTo mark))) ≡ true
+      asked_within choice =
+          inside_within source pages calls w (served_to choice c 0 (CloseTo mark)) (inside.0, omega (arith, inside.1, fewer_pages c.store mark choice), inside.2, inside.3)
 
   -- a step of the source is matched by closing them
   pub by_closing : (focus : Focus) (k : List Entry) (e : Environment) (w : World) (next : State) (c : Configuration) (slot many q : ℕ) → step source (Running focus k e w) ≡ next
       → ClosedAt (code_of source c.active.function) (bounds_at source c.active.function) (types_at source c.active.function) slot c.active.next q
       → Inside source pages calls w c → c.active.slots slot ≡ many → many ≤ lexical_count c.store.regions
-      → ((choice : services.Choice) → IsAllowed c.store (CloseTo many) choice → Matches source pages calls next (plain.Running (closed_down (scopes_of source) c choice many q)))
+      → ((choice : services.Choice) → IsAllowed c.store (CloseTo many) choice → Matches source pages calls next (plain.Running (closed_down c choice many q)))
       → IsMatched source pages calls (Running focus k e w) (plain.Running c)
-  by_closing focus k e w next c slot many q does (ask, tells) inside marked more goes =
-      by_places source pages calls (Running focus k e w) next (place_in source pages calls c) (closing_rest (scopes_of source) c) (plain.Running c) does
-      (closing_distinct (scopes_of source) c) (closing_known (scopes_of source) c slot q ask tells)
-      (closing_executes focus k e w next c (scopes_of source) slot many q ask tells inside marked more goes)
-
-  -- ---- data
-
-  -- the globals of the source stay
-  pub data_told : (t : Tables) (g base : ℕ) (objects : List Object) (locals : ℕ → Option ℕ) (outer : List Waiting) (slots globals : Words) (frames : List Frame) (many : ℕ)
-      → DataAt source t g base objects locals outer slots globals frames → DataAt source t g base objects locals outer slots (told_in (scopes_of source) globals many) frames
-  data_told t g base objects locals outer slots globals frames many facts =
-      data_behind t source g base objects locals outer slots globals (told_in (scopes_of source) globals many) frames (λ m below. stays m below (scopes_of source) (scopes_behind source)) facts
-    where
-      stays : (m : ℕ) → m < words_of_all (global_types source.globals) → (o : Option ℕ) → ((place : ℕ) → o ≡ Some place → words_of_all (global_types source.globals) ≡ place) → told_in o globals many m ≡ globals m
-      stays m below None behind = refl
-      stays m below (Some place) behind = put-other globals place m many (λ same. omega (arith, same, below, behind place refl))
+  by_closing focus k e w next c slot many q does (ask, end) inside marked more goes =
+      by_places source pages calls (Running focus k e w) next (place_in source pages calls c) [] (plain.Running c) does
+      (tt, tt) (known source pages calls c _ ask, tt)
+      (closing_executes focus k e w next c slot many q (ask, end) inside marked more goes)
 
   -- ---- what is shared
 
@@ -193,14 +127,14 @@ module _ (source : Program) (pages calls : ℕ) where
           (demand-part (IsPart-down_to now (down_to (suc now) c.store.regions)) c.store.classes) in
           omega (arith, few, ap (λ n. demand (closed_to c.store n)) less, part)
 
-      counted : (o : Option ℕ) → HasScopes o → ScopesBy source o c.globals c.store (scopes_in (CloseLexical region ∷ k)) (scopes w.regions)
-          → ScopesBy source o c.globals c.store (scopes_in k) (scopes after.regions)
+      counted : (o : Option ℕ) → HasScopes o → ScopesBy source o c.store (scopes_in (CloseLexical region ∷ k)) (scopes w.regions)
+          → ScopesBy source o c.store (scopes_in k) (scopes after.regions)
       counted None leaves told = absurd leaves
       counted (Some mark) leaves (has, sound, more) = (has, sound, omega (arith, more, less))
 
   -- the store closes what the source has closed
   abbrev pub settled : (mark : ℕ) (k : List Entry) (e : Environment) (w : World) (c : Configuration) (many q : ℕ) (choice : services.Choice) → scopes w.regions ≡ many → scopes_in k ≡ many
-      → IsAllowed c.store (CloseTo many) choice → SharedBy source (Some mark) pages calls k e w c → SharedAt source pages calls k e w (closed_down (scopes_of source) c choice many q)
+      → IsAllowed c.store (CloseTo many) choice → SharedBy source (Some mark) pages calls k e w c → SharedAt source pages calls k e w (closed_down c choice many q)
   settled mark k e w c many q choice now ended allowed s = record {
     tables = s.tables;
     same_output = s.same_output;
@@ -212,5 +146,9 @@ module _ (source : Program) (pages calls : ℕ) where
     variables = s.variables;
     few_pages = subst (λ n. demand (closed_to c.store n) ≤ pages) now s.few_pages;
     fits = s.fits;
-    counters = (s.counters.0, subst (IsTold (scopes_of source) (told_in (scopes_of source) c.globals many)) (sym ended) (is_told (scopes_of source) c.globals many s.counters.1.0));
+    counters = (s.counters.0, may (scopes_of source) s.counters.1.0);
   }
+    where
+      may : (o : Option ℕ) → HasScopes o → MayBeOpen o (scopes_in k)
+      may None has = absurd has
+      may (Some place) has = tt

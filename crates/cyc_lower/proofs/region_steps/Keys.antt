@@ -23,7 +23,8 @@ use Rattle.cyc_objects.specs.Tables.{Tables}
 use Rattle.cyc_objects.specs.Related.{has_home}
 use Rattle.cyc_objects.proofs.Making.{open-home}
 use Rattle.cyc_objects.proofs.Services.{refusal-close, closed-dynamic}
-use Rattle.cyc_lower.proofs.relation.Relation.{IsIn, DataIn, SharedAt, ValueStack, LandsStack}
+use Rattle.cyc_lower.proofs.relation.HeldValues.{IsIn}
+use Rattle.cyc_lower.proofs.relation.Relation.{DataIn, SharedAt, ValueStack, LandsStack}
 use Rattle.cyc_lower.proofs.relation.Accesses.{IsWell}
 use Rattle.cyc_lower.proofs.relation.Matched.{IsMatched, shared_within}
 use Rattle.cyc_lower.proofs.object_steps.Asking.{by_asking}

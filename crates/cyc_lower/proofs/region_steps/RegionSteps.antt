@@ -2,7 +2,6 @@
 use Rattle.std.proofs.Common.{◌≡◌, ◌≢◌, ℕ, suc, ◌+◌, ◌≤◌, ◌<◌, Bool, true, List, [], ◌∷◌, length, Option, None, Some, slice_get, refl, sym, ap, subst, ◌∙◌, inl, inr, arith}
 use Rattle.std.specs.Prelude.{nat_lt, if◌then◌else◌}
 use Rattle.std.proofs.lemmas.Bool.{cases_Bool}
-use Rattle.cyc_words.specs.Word.{add_of}
 use Rattle.cyc_types.specs.declared.typed.Kind.TheVariants as kinds
 use Rattle.cyc_types.specs.TypedTrees.{Items, MoreItems, DeclareRegion, Function, Program, OpenRegion, DeclareAlias, DeclareKey}
 use Rattle.cyc_store.specs.State.{demand, lexical_count}
@@ -29,16 +28,18 @@ use Rattle.cyc_objects.proofs.Values.{Grows-handle}
 use Rattle.cyc_objects.proofs.Variables.{handle-made}
 use Rattle.cyc_objects.proofs.Services.{opened-lexical, refusal-lexical, opened-dynamic, refusal-dynamic}
 use Rattle.cyc_lower.specs.declared.statements.Exits.{Exits}
-use Rattle.cyc_lower.specs.Lowering.{inside_region, scopes_of}
+use Rattle.cyc_lower.specs.ControlCode.{inside_region}
+use Rattle.cyc_lower.specs.Lowering.{scopes_of}
 use Rattle.cyc_lower.proofs.slots.Slots.{slot_types-many}
 use Rattle.cyc_lower.proofs.slots.Widths.{Outside}
 use Rattle.cyc_lower.proofs.relation.Stands.{NamedAt, ClosedAt, ItemsAt}
-use Rattle.cyc_lower.proofs.relation.Relation.{homes, callers, scopes_in, IsTold, DataAt, SharedAt, StatementStack, Matches, DataIn, code_of, bounds_in, bounds_at, types_in, types_at, floor, behind_statement, IsIn, contents, starts_at, in_operand, ValueStack, HasScopes}
+use Rattle.cyc_lower.proofs.relation.HeldValues.{homes, callers, scopes_in, MayBeOpen, IsIn, contents}
+use Rattle.cyc_lower.proofs.relation.Relation.{HasScopes, SharedAt, StatementStack, Matches, DataIn, code_of, bounds_in, bounds_at, types_in, types_at, floor, behind_statement, starts_at, in_operand, ValueStack}
 use Rattle.cyc_lower.proofs.relation.Data.{data_written, data_grows, variables_grow}
 use Rattle.cyc_lower.proofs.relation.Matched.{IsMatched, silently, shared_within, known, inside_by}
-use Rattle.cyc_lower.proofs.relation.Paths.{is_quiet, runs}
+use Rattle.cyc_lower.proofs.relation.Paths.{runs}
 use Rattle.cyc_lower.proofs.object_steps.Asking.{past_pages, asks_then, by_full}
-use Rattle.cyc_lower.proofs.region_steps.Scoped.{scopes_there, scopes_small}
+use Rattle.cyc_lower.proofs.region_steps.Scoped.{scopes_there}
 use Rattle.cyc_objects.proofs.Closing.{scopes-same, scopes-closed}
 use Rattle.cyc_objects.proofs.Scopes.{ends-newest, scopes-counted}
 use Rattle.cyc_objects.specs.Related.{scopes}
@@ -51,7 +52,7 @@ use Rattle.cyc_lower.specs.Slots.{slot_of}
 use Rattle.cyc_lower.proofs.relation.Accesses.{IsWell, is_loaded, is_fitting}
 use Rattle.cyc_lower.proofs.relation.Moves.{put_elsewhere}
 use Rattle.cyc_lower.proofs.relation.Weights.{stack_weight}
-use Rattle.cyc_lower.proofs.region_steps.Closings.{told_in, by_closing, data_told, shared_behind, settled}
+use Rattle.cyc_lower.proofs.region_steps.Closings.{by_closing, shared_behind, settled}
 use Rattle.cyc_lower.proofs.relation.Sharing.{shared_ahead}
 
 module _ (source : Program) (pages calls : ℕ) where
@@ -66,48 +67,32 @@ module _ (source : Program) (pages calls : ℕ) where
   -- ---- a lexical region is opened
 
   module _ (k : List Entry) (e : Environment) (w : World) (c : Configuration) (shared : SharedAt source pages calls k e w c) (facts : DataIn source shared.tables c.active.slots k e w c) (nested : IsNested k e w)
-      (free : refusal c.store OpenLexical ≡ None) (choice : services.Choice) (served_it : plain_step.IsServed c.store OpenLexical choice) (global : ℕ) (told_there : scopes_of source ≡ Some global) where
+      (free : refusal c.store OpenLexical ≡ None) (choice : services.Choice) (served_it : plain_step.IsServed c.store OpenLexical choice) (place : ℕ) (some : scopes_of source ≡ Some place) where
     abbrev t : ℕ
     t = floor source c.active.function k
 
-    -- the store has answered, its mark is in its slot, the next count is there, and is told
+    -- the store has answered, and its mark is in its slot
     abbrev asked : Configuration
     asked = served_to choice c (t + 1) OpenLexical
 
     abbrev marked : Configuration
     marked = advanced (with_slots asked (put asked.active.slots t (asked.active.slots (t + 2))))
 
-    abbrev added : Configuration
-    added = advanced (with_slots marked (put marked.active.slots (t + 2) (add_of (marked.active.slots t) 1)))
-
-    abbrev told : Configuration
-    told = advanced (record added { globals = put added.globals global (added.active.slots (t + 2)) })
-
-    asked_is : asked.active.slots (t + 2) ≡ scopes_in k
-    asked_is =
+    mark_is : marked.active.slots t ≡ scopes_in k
+    mark_is =
         let place : t + 2 ≡ suc (t + 1) = omega arith in
-        ap asked.active.slots place ∙ put-same (put c.active.slots (t + 1) choice.handle) (suc (t + 1)) (lexical_count c.store.regions) ∙ scopes_there shared.tables w c.store shared.related k e nested
+        put-same asked.active.slots t (asked.active.slots (t + 2))
+        ∙ ap asked.active.slots place ∙ put-same (put c.active.slots (t + 1) choice.handle) (suc (t + 1)) (lexical_count c.store.regions) ∙ scopes_there shared.tables w c.store shared.related k e nested
 
-    mark_is : told.active.slots t ≡ scopes_in k
-    mark_is = put-other marked.active.slots (t + 2) t (add_of (marked.active.slots t) 1) (λ same. omega (arith, same)) ∙ put-same asked.active.slots t (asked.active.slots (t + 2)) ∙ asked_is
-
-    handle_is : told.active.slots (t + 1) ≡ choice.handle
+    handle_is : marked.active.slots (t + 1) ≡ choice.handle
     handle_is =
-        put-other marked.active.slots (t + 2) (t + 1) (add_of (marked.active.slots t) 1) (λ same. omega (arith, same))
-        ∙ put-other asked.active.slots t (t + 1) (asked.active.slots (t + 2)) (λ same. omega (arith, same))
+        put-other asked.active.slots t (t + 1) (asked.active.slots (t + 2)) (λ same. omega (arith, same))
         ∙ put-other (put c.active.slots (t + 1) choice.handle) (suc (t + 1)) (t + 1) (lexical_count c.store.regions) (λ same. omega (arith, same))
         ∙ put-same c.active.slots (t + 1) choice.handle
 
-    next_is : told.active.slots (t + 2) ≡ suc (scopes_in k)
-    next_is =
-        put-same marked.active.slots (t + 2) (add_of (marked.active.slots t) 1)
-        ∙ ap (λ n. add_of n 1) (put-same asked.active.slots t (asked.active.slots (t + 2)) ∙ asked_is)
-        ∙ scopes_small shared.tables w c.store shared.related k e nested
-
-    elsewhere : (m : ℕ) → Outside t 3 m → told.active.slots m ≡ c.active.slots m
+    elsewhere : (m : ℕ) → Outside t 3 m → marked.active.slots m ≡ c.active.slots m
     elsewhere m out =
-        put-other marked.active.slots (t + 2) m (add_of (marked.active.slots t) 1) (apart (t + 2) m (omega arith) (omega arith) out)
-        ∙ put-other asked.active.slots t m (asked.active.slots (t + 2)) (apart t m (omega arith) (omega arith) out)
+        put-other asked.active.slots t m (asked.active.slots (t + 2)) (apart t m (omega arith) (omega arith) out)
         ∙ put-other (put c.active.slots (t + 1) choice.handle) (suc (t + 1)) m (lexical_count c.store.regions) (apart (suc (t + 1)) m (omega arith) (omega arith) out)
         ∙ put-other c.active.slots (t + 1) m choice.handle (apart (t + 1) m (omega arith) (omega arith) out)
       where
@@ -121,14 +106,14 @@ module _ (source : Program) (pages calls : ℕ) where
     grows : Grows shared.tables grown
     grows = Grows-handle shared.tables (Some choice.handle)
 
-    within_pages : demand told.store ≤ pages
+    within_pages : demand marked.store ≤ pages
     within_pages = omega (arith, (served-sound c.store OpenLexical choice shared.related.sound free served_it.allowed).demand, shared.same_pages)
 
-    is_told : IsTold (scopes_of source) told.globals (suc (scopes_in k))
-    is_told = subst (λ o. IsTold o told.globals (suc (scopes_in k))) (sym told_there) (put-same c.globals global (added.active.slots (t + 2)) ∙ next_is)
+    may_be : MayBeOpen (scopes_of source) (suc (scopes_in k))
+    may_be = subst (λ o. MayBeOpen o (suc (scopes_in k))) (sym some) tt
 
-    abbrev shared_told : SharedAt source pages calls (CloseLexical (length w.regions) ∷ k) e (opened_as Lexical w) told
-    shared_told = record {
+    abbrev shared_marked : SharedAt source pages calls (CloseLexical (length w.regions) ∷ k) e (opened_as Lexical w) marked
+    shared_marked = record {
       tables = grown;
       same_output = shared.same_output;
       same_input = shared.same_input;
@@ -138,40 +123,36 @@ module _ (source : Program) (pages calls : ℕ) where
       variables = variables_grow shared.tables grown grows (e.home ∷ homes k) shared.variables;
       few_pages = within_pages;
       fits = shared.fits;
-      counters = (shared.counters.0, is_told);
+      counters = (shared.counters.0, may_be);
     }
 
-    data_opened : DataIn source grown told.active.slots (CloseLexical (length w.regions) ∷ k) e (opened_as Lexical w) told
+    data_opened : DataIn source grown marked.active.slots (CloseLexical (length w.regions) ∷ k) e (opened_as Lexical w) marked
     data_opened =
         let g = c.active.function in
-        let (written, stand) = data_written source shared.tables g c.active.base w.objects e.locals k c.active.slots told.active.slots c.active.handlers c.globals c.frames t 3 (omega arith) elsewhere facts in (
-          subst (λ o. DataAt source grown g c.active.base w.objects e.locals (callers k) told.active.slots (told_in o c.globals (added.active.slots (t + 2))) c.frames) told_there
-              (data_told source pages calls grown g c.active.base w.objects e.locals (callers k) told.active.slots c.globals c.frames (added.active.slots (t + 2))
-              (data_grows shared.tables grown grows source g c.active.base w.objects e.locals (callers k) told.active.slots c.globals c.frames written)),
-          (mark_is, stand),
-        )
+        let (written, stand) = data_written source shared.tables g c.active.base w.objects e.locals k c.active.slots marked.active.slots c.active.handlers c.globals c.frames t 3 (omega arith) elsewhere facts in
+        (data_grows shared.tables grown grows source g c.active.base w.objects e.locals (callers k) marked.active.slots c.globals c.frames written, (mark_is, stand))
 
   -- where its handle is named, and behind it its items
-  named_at : (n : ℕ) (js : Items) (k : List Entry) (e : Environment) (w : World) (c : Configuration) (exits : Exits) (global m u q : ℕ)
+  named_at : (n : ℕ) (js : Items) (k : List Entry) (e : Environment) (w : World) (c : Configuration) (exits : Exits) (place m u q : ℕ)
       → (shared : SharedAt source pages calls k e w c) (facts : DataIn source shared.tables c.active.slots k e w c) (nested : IsNested k e w)
-      (free : refusal c.store OpenLexical ≡ None) (choice : services.Choice) (served_it : plain_step.IsServed c.store OpenLexical choice) (told_there : scopes_of source ≡ Some global)
-      → NamedAt (code_of source c.active.function) (bounds_at source c.active.function) (types_at source c.active.function) n kinds.Handle (operands.Slot (floor source c.active.function k + 1)) (c.active.next + 1 + 1 + 1 + 1) m
+      (free : refusal c.store OpenLexical ≡ None) (choice : services.Choice) (served_it : plain_step.IsServed c.store OpenLexical choice) (some : scopes_of source ≡ Some place)
+      → NamedAt (code_of source c.active.function) (bounds_at source c.active.function) (types_at source c.active.function) n kinds.Handle (operands.Slot (floor source c.active.function k + 1)) (c.active.next + 1 + 1) m
       → ItemsAt (code_of source c.active.function) (bounds_at source c.active.function) (types_at source c.active.function) js (inside_region exits (floor source c.active.function k)) (floor source c.active.function k + 1) m u
       → ClosedAt (code_of source c.active.function) (bounds_at source c.active.function) (types_at source c.active.function) (floor source c.active.function k) u q
       → StatementStack source c.active.function exits q c.frames k
       → Matches source pages calls (Running (Naming n (record { kind = kinds.Handle; value = Handle (length w.regions) }) js) (CloseLexical (length w.regions) ∷ k) e (opened_as Lexical w))
-      (plain.Running (told k e w c shared facts nested free choice served_it global told_there))
-  named_at n js k e w c exits global m u q shared facts nested free choice served_it told_there (few, room, move, end) items close stack =
+      (plain.Running (marked k e w c shared facts nested free choice served_it place some))
+  named_at n js k e w c exits place m u q shared facts nested free choice served_it some (few, room, move, end) items close stack =
       let g = c.active.function in
       let t = floor source g k in (
-        shared_told k e w c shared facts nested free choice served_it global told_there,
-        data_opened k e w c shared facts nested free choice served_it global told_there,
+        shared_marked k e w c shared facts nested free choice served_it place some,
+        data_opened k e w c shared facts nested free choice served_it place some,
         (
           inside_region exits t,
           u,
           operands.Slot (t + 1),
           move,
-          handle-made shared.related (Some choice.handle) ∙ ap (λ h. Some (Some h)) (sym (handle_is k e w c shared facts nested free choice served_it global told_there)),
+          handle-made shared.related (Some choice.handle) ∙ ap (λ h. Some (Some h)) (sym (handle_is k e w c shared facts nested free choice served_it place some)),
           local_there g n few,
           room,
           subst (λ p. ItemsAt (code_of source g) (bounds_at source g) (types_at source g) js (inside_region exits t) (t + 1) p u) (sym end) items,
@@ -183,7 +164,7 @@ module _ (source : Program) (pages calls : ℕ) where
       → (shared : SharedAt source pages calls k e w c) → DataIn source shared.tables c.active.slots k e w c → IsNested k e w
       → ItemsAt (code_of source c.active.function) (bounds_at source c.active.function) (types_at source c.active.function) (MoreItems (DeclareRegion r n) js) exits (floor source c.active.function k) c.active.next q
       → StatementStack source c.active.function exits q c.frames k → IsMatched source pages calls (Running Proceeding (Rest (MoreItems (DeclareRegion r n) js) ∷ k) e w) (plain.Running c)
-  opens_region r n js k e w c exits q shared facts nested (m, u, (global, told_there, ask, move, add, store, named), items, close) stack =
+  opens_region r n js k e w c exits q shared facts nested (m, u, (place, some, ask, move, named), items, close) stack =
       let old = Rest (MoreItems (DeclareRegion r n) js) ∷ k in
       let t = floor source c.active.function k in
       let new = opened_as Lexical w in
@@ -195,19 +176,14 @@ module _ (source : Program) (pages calls : ℕ) where
             shared ask (refusal-lexical shared.related ∙ ap full_at over)
         | inr room ↦
             let free = refusal-lexical shared.related ∙ ap full_at room in
-            asks_then source pages calls Proceeding old e w c next (requests.OpenLexical (t + 1)) 3 refl shared.same_output ask
-            (known source pages calls (at c (c.active.next + 1)) _ move, (known source pages calls (at c (c.active.next + 1 + 1)) _ add, (known source pages calls (at c (c.active.next + 1 + 1 + 1)) _ store, tt)))
-            free
+            asks_then source pages calls Proceeding old e w c next (requests.OpenLexical (t + 1)) 1 refl shared.same_output ask
+            (known source pages calls (at c (c.active.next + 1)) _ move, tt) free
             (λ choice served_it.
-            let a = asked k e w c shared facts nested free choice served_it global told_there in
-            let b = marked k e w c shared facts nested free choice served_it global told_there in
-            let d = added k e w c shared facts nested free choice served_it global told_there in
-            let within = shared_within source pages calls (CloseLexical (length w.regions) ∷ k) e new (told k e w c shared facts nested free choice served_it global told_there) (shared_told k e w c shared facts nested free choice served_it global told_there) in (
-              runs source pages calls Proceeding old e w next a
-                  (record { instruction = instructions.Move t (operands.Slot (t + 2)); behind = b } ∷ record { instruction = instructions.Binary plain_binary.Add (t + 2) (operands.Slot t) (operands.Word 1); behind = d } ∷ [])
-                  (instructions.StoreGlobal global (operands.Slot (t + 2))) within shared.same_output
-                  (move, (λ later. refl), omega arith, is_quiet a b.active, (add, (λ later. refl), omega arith, is_quiet b d.active, tt)) store
-                  (λ later. named_at n js k e w c exits global m u q shared facts nested free choice served_it told_there named items close stack),
+            let a = asked k e w c shared facts nested free choice served_it place some in
+            let b = marked k e w c shared facts nested free choice served_it place some in
+            let within = shared_within source pages calls (CloseLexical (length w.regions) ∷ k) e new b (shared_marked k e w c shared facts nested free choice served_it place some) in (
+              runs source pages calls Proceeding old e w next a [] (instructions.Move t (operands.Slot (t + 2))) within shared.same_output tt move
+                  (λ later. named_at n js k e w c exits place m u q shared facts nested free choice served_it some named items close stack),
               within,
             ))
       ]
@@ -225,20 +201,19 @@ module _ (source : Program) (pages calls : ℕ) where
       let new = closed w number ends.region in
       let many : scopes w.regions ≡ suc (scopes_in k) = scopes-counted (CloseLexical number ∷ k) e w nested in
       let now : scopes w.regions ≡ suc (scopes new.regions) = scopes-closed w.regions number ends.region ends.there ends.scope in
-      let has = told_somewhere (scopes_of source) c.globals (scopes_in k) shared.counters.1 in
+      let has = somewhere (scopes_of source) (scopes_in k) shared.counters.1 in
       let ahead = shared_ahead source (Some own) pages calls (CloseLexical number ∷ k) e w c (λ mark is. has) shared in
       by_closing source pages calls Proceeding (CloseLexical number ∷ k) e w (Running Proceeding k e new) c own (scopes_in k) q
       (ap (λ a. closing_lexical a Proceeding number k e w) ends.found) close (inside_by source None pages calls (CloseLexical number ∷ k) e w c shared) marked
       (omega (arith, scopes-same shared.related.regions, many))
       (λ choice allowed. (
         settled source pages calls own k e new c (scopes_in k) q choice (omega (arith, many, now)) refl allowed (shared_behind source pages calls (Some own) number k e w c ends has tt ahead),
-        behind_statement outer
-            (data_told source pages calls shared.tables g c.active.base w.objects e.locals (callers k) c.active.slots c.globals c.frames (scopes_in k) facts, stand) stack,
+        behind_statement outer (facts, stand) stack,
       ))
     where
-      told_somewhere : (o : Option ℕ) (globals : Words) (n : ℕ) → IsTold o globals (suc n) → HasScopes o
-      told_somewhere None globals n told = omega (arith, told)
-      told_somewhere (Some place) globals n told = tt
+      somewhere : (o : Option ℕ) (n : ℕ) → MayBeOpen o (suc n) → HasScopes o
+      somewhere None n none = omega (arith, none)
+      somewhere (Some place) n may = tt
 
   -- what was lent comes back
   pub ends_loan : (lent : ℕ) (k : List Entry) (e : Environment) (w : World) (c : Configuration) (exits : Exits)

@@ -1,5 +1,5 @@
 -- The lexical regions that are open, as entries end them: how many the store has.
-use Rattle.std.proofs.Common.{◌≡◌, suc, ◌+◌, ◌≤◌, List, ◌∙◌, arith}
+use Rattle.std.proofs.Common.{◌≡◌, ◌≤◌, List, ◌∙◌, arith}
 use Rattle.std.specs.Prelude.{◌%◌, ◌^◌}
 use Rattle.cyc_store.specs.State.{StoreState, lexical_count}
 use Rattle.cyc_meaning.specs.State.{World, Environment, Entry}
@@ -8,7 +8,8 @@ use Rattle.cyc_objects.specs.Tables.{Tables}
 use Rattle.cyc_objects.specs.Related as objects
 use Rattle.cyc_objects.proofs.Closing.{scopes-same}
 use Rattle.cyc_objects.proofs.Scopes.{scopes-counted, lexicals-within}
-use Rattle.cyc_lower.proofs.relation.Relation.{silent, scopes_in}
+use Rattle.cyc_lower.proofs.relation.HeldValues.{scopes_in}
+use Rattle.cyc_lower.proofs.relation.Relation.{silent}
 
 -- ---- of the source
 
@@ -17,8 +18,8 @@ module _ (t : Tables) (w : World) (s : StoreState) (related : objects.Related t 
   pub scopes_there : (k : List Entry) (e : Environment) → IsNested k e w → lexical_count s.regions ≡ scopes_in k
   scopes_there k e nested = scopes-same related.regions ∙ scopes-counted k e w nested
 
-  -- they are few, so that one more is told by a word
-  pub scopes_small : (k : List Entry) (e : Environment) → IsNested k e w → (scopes_in k + 1) % 2 ^ 32 ≡ suc (scopes_in k)
-  scopes_small k e nested =
-      let few : scopes_in k ≤ 65536 = omega (arith, scopes_there k e nested, lexicals-within s related.sound, related.few) in
-      omega (arith, few)
+  -- they are so few that a word tells their number
+  pub scopes_word : (k : List Entry) (e : Environment) → IsNested k e w → lexical_count s.regions % 2 ^ 32 ≡ scopes_in k
+  scopes_word k e nested =
+      let few : lexical_count s.regions ≤ 65536 = omega (arith, lexicals-within s related.sound, related.few) in
+      omega (arith, few, scopes_there k e nested)

@@ -9,12 +9,13 @@ use Rattle.cyc_meaning.specs.Step.{step}
 use Rattle.cyc_objects.specs.Related.{scopes}
 use Rattle.cyc_objects.proofs.Closing.{scopes-closed}
 use Rattle.cyc_objects.proofs.Scopes.{scopes-counted, ends-newest}
-use Rattle.cyc_lower.specs.Lowering.{outermost, scopes_of}
+use Rattle.cyc_lower.specs.ControlCode.{outermost}
 use Rattle.cyc_lower.proofs.relation.Stands.{MarksAt}
-use Rattle.cyc_lower.proofs.relation.Relation.{left_by, scopes_in, callers, IsMark, SharedBy, DataAt, HandlersStand, FocusAt, Leaves, Related, opened_by, floor, code_of, bounds_at, types_at}
+use Rattle.cyc_lower.proofs.relation.HeldValues.{left_by, scopes_in, callers}
+use Rattle.cyc_lower.proofs.relation.Relation.{IsMark, SharedBy, DataAt, HandlersStand, FocusAt, Leaves, Related, opened_by, floor, code_of, bounds_at, types_at}
 use Rattle.cyc_lower.proofs.relation.Weights.{weight}
 use Rattle.cyc_lower.proofs.relation.Matched.{inside_by, IsMatched, silently}
-use Rattle.cyc_lower.proofs.region_steps.Closings.{closed_down, by_closing, data_told, shared_behind, settled}
+use Rattle.cyc_lower.proofs.region_steps.Closings.{closed_down, by_closing, shared_behind, settled}
 use Rattle.cyc_lower.proofs.handler_steps.Handling.{unmarked}
 
 module _ (source : Program) (pages calls : ℕ) (loop : Bool) (focus : Focus) (region : ℕ) (k : List Entry) (e : Environment) (w : World) (c : Configuration)
@@ -40,11 +41,11 @@ module _ (source : Program) (pages calls : ℕ) (loop : Bool) (focus : Focus) (r
       let now : scopes w.regions ≡ suc (scopes (closed w region ends.region).regions) = scopes-closed w.regions region ends.region ends.there ends.scope in
       by_closing source pages calls focus (CloseLexical region ∷ k) e w (Running focus k e (closed w region ends.region)) c own many r (does ends.region ends.found) marks
       (inside_by source (Some own) pages calls (CloseLexical region ∷ k) e w c shared) marked (omega (arith, left, counted, shared.counters.1.2))
-      (λ choice allowed. enters (closed w region ends.region) (closed_down (scopes_of source) c choice many r)
-      (subst (λ (closing : Option ℕ). Leaves source loop closing pages calls focus k e (closed w region ends.region) (closed_down (scopes_of source) c choice many r)) (sym none) (
+      (λ choice allowed. enters (closed w region ends.region) (closed_down c choice many r)
+      (subst (λ (closing : Option ℕ). Leaves source loop closing pages calls focus k e (closed w region ends.region) (closed_down c choice many r)) (sym none) (
         settled source pages calls own k e (closed w region ends.region) c many r choice (omega (arith, left, counted, now)) (sym left) allowed
             (shared_behind source pages calls (Some own) region k e w c ends shared.counters.1.0 tt shared),
-        (data_told source pages calls shared.tables g c.active.base w.objects e.locals (callers k) c.active.slots c.globals c.frames many facts, stand),
+        (facts, stand),
         r,
         refl,
         tt,

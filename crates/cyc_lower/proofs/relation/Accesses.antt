@@ -12,7 +12,7 @@ use Rattle.cyc_meaning.specs.Step.{wrong, read, loaded, loaded_from, stored, dec
 use Rattle.cyc_meaning.specs.SourceMachine.{status_in}
 use Rattle.cyc_meaning.proofs.NestingLemmas.{region_is}
 use Rattle.cyc_lower.proofs.slots.Widths.{same_kind, same_kinds}
-use Rattle.cyc_lower.proofs.relation.Relation.{with_kind, content_of_cell, content_of, contents}
+use Rattle.cyc_lower.proofs.relation.HeldValues.{with_kind, content_of_cell, content_of, contents}
 use Rattle.cyc_lower.proofs.relation.Data.{get_set_same, get_set_other}
 
 abbrev pub IsWell : State → Type 0

@@ -23,7 +23,8 @@ use Rattle.cyc_lower.specs.Lowering.{lower_program}
 use Rattle.cyc_lower.proofs.slots.Widths.{words_in}
 use Rattle.cyc_lower.proofs.slots.Slots.{slot-apart, global-apart}
 use Rattle.cyc_lower.proofs.relation.Known.{global-first, first_word}
-use Rattle.cyc_lower.proofs.relation.Relation.{Waiting, DataAt, silent, code_of, types_at, starts_at}
+use Rattle.cyc_lower.proofs.relation.HeldValues.{Waiting}
+use Rattle.cyc_lower.proofs.relation.Relation.{DataAt, silent, code_of, types_at, starts_at}
 use Rattle.cyc_lower.proofs.relation.Rows.{local-pointer}
 use Rattle.cyc_lower.proofs.relation.WaitingData.{frame_at}
 use Rattle.cyc_lower.proofs.relation.Leads.{IsNamed, is_global, is_local, is_waiting, AreNamed}

@@ -6,7 +6,7 @@ use Rattle.std.proofs.lemmas.Option.{same_Some, none-some}
 use Rattle.cyc_plain.specs.State.{Words}
 use Rattle.cyc_meaning.specs.State.{FreeObject, CloseByKey, PlaceBy, BesideHandle, CountElements, Index, Advance, LoadFrom, TakeAddress, StoreTo, Awaiting, ConvertTo, Operate, Chain, Apply, ApplyPointer, Follow, FollowMember, Decide, Store, StoreCell, Pass, MakePlain, MakeFields, MakeArray, FillElement, Entry, Needs, NeedsPlace, Caller}
 use Rattle.cyc_objects.specs.Tables.{Tables}
-use Rattle.cyc_lower.proofs.relation.Relation.{height, Holds, held, counters_of, arrays_in, AreCounted}
+use Rattle.cyc_lower.proofs.relation.HeldValues.{height, Holds, held, counters_of, arrays_in, AreCounted}
 use Rattle.cyc_lower.proofs.relation.Data.{Holds-rest, height-append}
 
 -- what is found in a list with one more

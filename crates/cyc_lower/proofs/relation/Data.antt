@@ -17,16 +17,18 @@ use Rattle.cyc_meaning.specs.Values.{Value, Int, Null, Thin, Handle, Key, Operan
 use Rattle.cyc_meaning.specs.State.{Object, Environment, with_local, Entry, Handler, Caller, Main, calls_in, CloseLexical, Loop}
 use Rattle.cyc_meaning.specs.FrameCount.{words_of_all}
 use Rattle.cyc_lower.specs.Slots.{starts_of, slot_of, global_of, global_types, Types}
-use Rattle.cyc_lower.specs.Lowering.{behind_record_in, scopes_of}
+use Rattle.cyc_lower.specs.ControlCode.{behind_record_in}
+use Rattle.cyc_lower.specs.Lowering.{scopes_of}
 use Rattle.cyc_lower.proofs.slots.Widths.{words_in, HasRoom, HasGlobal, Outside}
-use Rattle.cyc_lower.proofs.slots.Slots.{slot-room, slot-apart, global-room, global-apart, global-inside, scopes_behind}
+use Rattle.cyc_lower.proofs.slots.Slots.{slot-room, slot-apart, global-room, global-apart, global-inside}
 use Rattle.cyc_plain.specs.declared.instruction.Operand.{Operand as Place}
 use Rattle.cyc_plain.specs.declared.instruction.Operand.TheVariants as operands
 use Rattle.cyc_objects.specs.Tables.{Tables, Grows}
 use Rattle.cyc_objects.specs.Words.{Points, Is}
 use Rattle.cyc_objects.proofs.Values.{Is-grows, Is-same as words_same}
 use Rattle.cyc_lower.proofs.relation.Known.{global-row_grows}
-use Rattle.cyc_lower.proofs.relation.Relation.{CallSlots, row_of, IsLocalRow, call_slots, behind_records, scopes_in, IsKept, IsTold, floor, HandlersStand, callers, IsWord, IsIn, Waiting, AreOfVariables, words_held, height, Holds, HoldsFrom, content_of, contents, LocalsHold, GlobalsHold, FramesHold, DataAt, types_at, starts_at, base_of, left_by}
+use Rattle.cyc_lower.proofs.relation.HeldValues.{CallSlots, row_of, IsLocalRow, behind_records, scopes_in, IsKept, callers, IsWord, IsIn, Waiting, words_held, height, Holds, HoldsFrom, content_of, contents, LocalsHold, GlobalsHold, left_by}
+use Rattle.cyc_lower.proofs.relation.Relation.{call_slots, floor, HandlersStand, AreOfVariables, FramesHold, DataAt, types_at, starts_at, base_of}
 
 -- ---- values in slots
 
@@ -498,18 +500,6 @@ module _ (t : Tables) where
     pub held_by_caller : (g base : ℕ) (objects : List Object) (locals : ℕ → Option ℕ) (e : Waiting) (outer : List Waiting) (slots globals : Words) (f : Frame) (frames : List Frame)
         → DataAt source t g base objects locals (e ∷ outer) slots globals (f ∷ frames) → Holds t f.caller.slots (e.temporaries (scopes_of source) (base_of source f.caller.function)) e.values
     held_by_caller g base objects locals e outer slots globals f frames (low, below, hold, (under, less, (waits, values), waiting), words) = values
-
--- ---- the word that tells how many lexical regions are open
-
--- it stays where a global is written
-pub told_beside : (source : Program) (g number : ℕ) (kind : Kind) (globals after : Words) (many : ℕ) → HasGlobal (types_at source g) number kind
-    → ((m : ℕ) → Outside (global_of (starts_at source g) number) (words_of_kind kind) m → after m ≡ globals m) → IsTold (scopes_of source) globals many → IsTold (scopes_of source) after many
-told_beside source g number kind globals after many room elsewhere told = by (scopes_of source) (scopes_behind source) told
-  where
-    by : (o : Option ℕ) → ((place : ℕ) → o ≡ Some place → words_of_all (global_types source.globals) ≡ place) → IsTold o globals many → IsTold o after many
-    by None behind told = told
-    by (Some place) behind told =
-        elsewhere place (inr (omega (arith, behind place refl, room, global-room (types_at source g) number (global-inside (types_at source g) number kind room)))) ∙ told
 
 -- ---- records of handlers
 

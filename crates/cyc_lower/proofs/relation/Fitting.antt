@@ -32,9 +32,11 @@ use Rattle.cyc_store.specs.declared.range.TheConstants.{MOST_BLOCK_WORDS}
 use Rattle.cyc_meaning.specs.Values.{kind_of, is_thin, words_of_kind}
 use Rattle.cyc_meaning.specs.FrameCount.{result_words, words_of_all, operand_words}
 use Rattle.cyc_lower.specs.Slots.{Types, counted, global_types}
-use Rattle.cyc_lower.specs.Lowering.{types_of, passed_words, all_passed, results_of, left_kind, scopes_of, is_handle, may_open, scopes_if, lower_globals, words_behind}
+use Rattle.cyc_lower.specs.ValueCode.{passed_words, all_passed, left_kind, words_behind}
+use Rattle.cyc_lower.specs.Lowering.{types_of, results_of, scopes_of, is_handle, may_open, scopes_if}
 use Rattle.cyc_lower.proofs.slots.Widths.{kind_of_result, result_kind, called_kind, given, passed_kind, type_words, HasRoom, HasGlobal, chain_kind, HasField, HasVariable}
 use Rattle.cyc_lower.proofs.slots.Slots.{words-there, words_positive}
+use Rattle.cyc_plain.specs.declared.limits.TheConstants.{RECORD_WORDS}
 use Rattle.cyc_plain.proofs.Placed.{below_of_get}
 use Rattle.std.specs.List.{list_any}
 use Rattle.std.proofs.lemmas.List.Folds.{list_any-append}
@@ -106,9 +108,9 @@ module _ (b : Numbering) where
     FitOperations types left t (ThenPointer o a os) = (words_of_kind (left_kind o) ≤ left) × Fits types a × FitOperations types (words_of t) t os
     FitOperations types left t (ThenPointerPeek n o a os) = (words_of_kind (left_kind o) ≤ left) × Fits types a × FitOperations types (words_of t) t os
 
--- a word tells how many lexical regions are open
+-- lexical regions may be opened
 abbrev pub IsCounting : (scopes : Option ℕ) → Type 0
-IsCounting scopes = (global : ℕ) × (scopes ≡ Some global)
+IsCounting scopes = (place : ℕ) × (scopes ≡ Some place)
 
 module _ (b : Numbering) (types : Types) where
   -- a side of a swap of values of this kind
@@ -702,9 +704,9 @@ has_handle [] n r there = absurd (none-some (type_forms.Handle r) there)
 has_handle (t ∷ ts) zero r there = ap (λ (u : Ty). is_handle u || list_any is_handle ts) (same_Some t (type_forms.Handle r) there)
 has_handle (t ∷ ts) (suc n) r there = either (is_handle t) (list_any is_handle ts) (has_handle ts n r there)
 
-may_count : (may : Bool) (globals : ℕ) → may ≡ true → IsCounting (scopes_if may globals)
-may_count true globals is = (globals, refl)
-may_count false globals is = absurd (let f : false ≡ true = is in cc)
+may_count : (may : Bool) → may ≡ true → IsCounting (scopes_if may)
+may_count true is = (RECORD_WORDS, refl)
+may_count false is = absurd (let f : false ≡ true = is in cc)
 
 -- these functions are of the program
 functions_fit : (p : Program) (hs : List Function) → (list_any may_open hs ≡ true → list_any may_open p.functions ≡ true) → AreLowerableFunctions (length p.globals) (signatures_of p.functions) hs → AreWellTypedFunctions p hs
@@ -712,7 +714,7 @@ functions_fit : (p : Program) (hs : List Function) → (list_any may_open hs ≡
 functions_fit p [] among numbered well = tt
 functions_fit p (h ∷ hs) among (one, all) (well, rest) = (
   body_fits (numbering_of (length p.globals) (signatures_of p.functions) h) (types_of p.structs (global_types p.globals) (scopes_of p) h) h.body (body_context p h) refl refl refl refl refl refl
-      (λ n r there. may_count (list_any may_open p.functions) (length (lower_globals p.globals)) (among (ap (λ (x : Bool). x || list_any may_open hs) (opens n r there)))) one well.body,
+      (λ n r there. may_count (list_any may_open p.functions) (among (ap (λ (x : Bool). x || list_any may_open hs) (opens n r there)))) one well.body,
   functions_fit p hs (λ later. among (either (may_open h) (list_any may_open hs) later)) all rest,
 )
   where

@@ -21,7 +21,7 @@ use Rattle.cyc_plain.specs.Memory.{slots_base}
 use Rattle.cyc_lower.specs.Slots.{starts_from}
 use Rattle.cyc_lower.proofs.slots.Widths.{words_in}
 use Rattle.cyc_words.specs.Word.{add_of, mul_of}
-use Rattle.cyc_lower.specs.Lowering.{address_of_global}
+use Rattle.cyc_lower.specs.ValueCode.{address_of_global}
 
 -- the first word of a global, of which all have these types
 abbrev pub first_word : List Ty → (number : ℕ) → ℕ

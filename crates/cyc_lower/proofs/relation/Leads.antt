@@ -13,7 +13,8 @@ use Rattle.cyc_objects.proofs.Cells.{found-either}
 use Rattle.cyc_lower.specs.Slots.{starts_of, slot_of, global_types}
 use Rattle.cyc_lower.specs.Lowering.{lower_program}
 use Rattle.cyc_lower.proofs.slots.Widths.{words_in}
-use Rattle.cyc_lower.proofs.relation.Relation.{Waiting, silent, code_of, types_at}
+use Rattle.cyc_lower.proofs.relation.HeldValues.{Waiting}
+use Rattle.cyc_lower.proofs.relation.Relation.{silent, code_of, types_at}
 
 -- a variable that is live, by its number: one of so many globals, or a local of the running call or of one that waits
 pub data IsNamed (globals : ℕ) (locals : ℕ → Option ℕ) (outer : List Waiting) (object : ℕ) : Type 0 where

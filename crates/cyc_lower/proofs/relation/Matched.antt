@@ -30,7 +30,8 @@ use Rattle.cyc_lower.specs.Lowering.{lower_program, scopes_of}
 use Rattle.cyc_meaning.specs.SourceMachine.{status_in, source_machine}
 use Rattle.cyc_lower.proofs.relation.Weights.{weight}
 use Rattle.cyc_lower.proofs.relation.Data.{calls_counted, calls_left}
-use Rattle.cyc_lower.proofs.relation.Relation.{Lands, in_temporary, in_local, HandsOn, drops, leaves, copies, Prints, prints_only, gives_byte, SharedAt, SharedBy, opened_by, GivenAt, in_operand, nowhere, ahead, compared, with_left, ProceedingAt, behind_statement, behind_call, behind_wrong, Related, Matches, code_of, DataFor, handling}
+use Rattle.cyc_lower.proofs.relation.HeldValues.{handling}
+use Rattle.cyc_lower.proofs.relation.Relation.{Lands, in_temporary, in_local, HandsOn, drops, leaves, copies, Prints, prints_only, gives_byte, SharedAt, SharedBy, opened_by, GivenAt, in_operand, nowhere, ahead, compared, with_left, ProceedingAt, behind_statement, behind_call, behind_wrong, Related, Matches, code_of, DataFor}
 
 module _ (source : Program) where
   -- ---- where a value goes

@@ -10,11 +10,11 @@ use Rattle.cyc_plain.specs.State.{Words, put, copied, Configuration, Running}
 use Rattle.cyc_plain.specs.Step.{Choice, with_slots, advanced, performed}
 use Rattle.cyc_plain.proofs.SlotLaws.{put-same, put-other, copied-inside, copied-below, copied-above}
 use Rattle.cyc_meaning.specs.Values.{Operand as Kinded, words_of_kind}
-use Rattle.cyc_lower.specs.Lowering.{move_of}
+use Rattle.cyc_lower.specs.ValueCode.{move_of}
 use Rattle.cyc_lower.proofs.slots.Widths.{Outside}
 use Rattle.cyc_objects.specs.Tables.{Tables}
 use Rattle.cyc_objects.specs.Words.{Is}
-use Rattle.cyc_lower.proofs.relation.Relation.{IsIn}
+use Rattle.cyc_lower.proofs.relation.HeldValues.{IsIn}
 use Rattle.cyc_lower.proofs.relation.Data.{IsWord-is, Is-same}
 
 abbrev pub moved_slots : Words → (words d : ℕ) → Operand → Words

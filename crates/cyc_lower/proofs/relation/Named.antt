@@ -1,5 +1,5 @@
 -- Variables that are live have names, and the slots of calls lie apart: what the source and the plain program keep of their own accord.
-use Rattle.std.proofs.Common.{◌≡◌, ℕ, zero, suc, ◌+◌, ◌<◌, true, false, List, [], ◌∷◌, length, Option, None, Some, is_some, slice_get, refl, sym, ap, subst, ◌∙◌, arith, inl, inr}
+use Rattle.std.proofs.Common.{◌≡◌, ℕ, zero, suc, ◌+◌, ◌<◌, ◌≤◌, true, false, List, [], ◌∷◌, length, Option, None, Some, is_some, slice_get, refl, sym, ap, subst, ◌∙◌, arith, inl, inr}
 use Rattle.std.proofs.lemmas.List.{length-map}
 use Rattle.std.proofs.lemmas.Option.{same_Some, none-some}
 use Rattle.cyc_types.specs.TypedTrees.{GlobalVariable, Program}
@@ -23,7 +23,8 @@ use Rattle.cyc_lower.proofs.slots.Slots.{type-there, starts-are, words-there}
 use Rattle.cyc_lower.proofs.relation.Fitting.{IsFitting}
 use Rattle.cyc_lower.proofs.relation.Pinned.{pinned-whole, takes_locals}
 use Rattle.cyc_lower.proofs.sizes.WellFormed.{well_formed}
-use Rattle.cyc_lower.proofs.relation.Relation.{Waiting, callers, silent, code_of, types_at}
+use Rattle.cyc_lower.proofs.relation.HeldValues.{Waiting, callers}
+use Rattle.cyc_lower.proofs.relation.Relation.{silent, code_of, types_at}
 use Rattle.cyc_lower.proofs.relation.Leads.{IsNamed, is_global, is_local, is_waiting, AreNamed}
 
 -- a call that waits has these locals
@@ -58,7 +59,7 @@ module _ (source : Program) where
           let (y, at, same) = waits k call own here in
           is_waiting call number y at (ap (λ (l : Locals). l number) same ∙ is)
 
-  module _ (fitting : IsFitting source) (of_words : IsOfWordsProgram source) (few : words_of_all (global_types source.globals) < MOST_GLOBALS) where
+  module _ (fitting : IsFitting source) (of_words : IsOfWordsProgram source) (few : words_of_all (global_types source.globals) ≤ MOST_GLOBALS) where
     whole : (n number j : ℕ) → number < length (types_at source n).locals → j < words_in (types_at source n).locals number → is_pinned (code_of source n) (slot_of (starts_of (types_at source n)) number) ≡ true
         → is_pinned (code_of source n) (slot_of (starts_of (types_at source n)) number + j) ≡ true
     whole n number j inside room pinned =

@@ -18,7 +18,8 @@ use Rattle.cyc_lower.specs.Lowering.{globals_of, lower_function, scopes_of}
 use Rattle.cyc_lower.proofs.relation.Fitting.{AreFitting, IsFitting}
 use Rattle.cyc_lower.proofs.relation.Relation.{code_of, local_types, types_at}
 use Rattle.cyc_lower.proofs.slots.Slots.{slot-below, slots-apart}
-use Rattle.cyc_lower.proofs.sizes.WellFormed.{TakesLocal, function_takes}
+use Rattle.cyc_lower.proofs.sizes.RangeLemmas.{TakesLocal}
+use Rattle.cyc_lower.proofs.sizes.WellFormed.{function_takes}
 
 -- ---- the code of a function
 

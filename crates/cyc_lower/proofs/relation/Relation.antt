@@ -1,7 +1,7 @@
 -- What a state of the source and one of the plain program have in common while the one is matched by the other.
 use Rattle.std.proofs.Common.{max, ◌≡◌, ◌⊎◌, ℕ, suc, ◌+◌, ◌*◌, ◌≤◌, ◌<◌, true, List, [], ◌∷◌, ◌++◌, length, Option, None, Some, slice_get, ◌^◌, false, Bool}
 use Rattle.cyc_words.specs.Word.{add_of, IsWord as IsNumber}
-use Rattle.std.specs.Prelude.{◌==◌, ◌&&◌, nat_le, if◌then◌else◌, option_map}
+use Rattle.std.specs.Prelude.{if◌then◌else◌, option_map}
 use Rattle.cyc_types.specs.declared.typed.Kind.{Kind}
 use Rattle.cyc_types.specs.declared.typed.Kind.TheVariants as kinds
 use Rattle.cyc_types.specs.declared.typed.Callee.{Callee}
@@ -13,9 +13,9 @@ use Rattle.cyc_types.specs.TypedTrees.{Lvalue, Local, Global, Expression, NoArgu
 use Rattle.cyc_types.specs.Numbered.{Numbering, argument_count, numbering_of, signatures_of}
 use Rattle.cyc_store.specs.State.{StoreState, demand, lexical_count}
 use Rattle.cyc_store.specs.Soundness.{IsSound}
-use Rattle.cyc_store.specs.declared.range.TheConstants.{HEAP, UNIQUE, MOST_BLOCK_WORDS}
-use Rattle.cyc_objects.specs.Tables.{Row, Variable, Placed, Tables}
-use Rattle.cyc_objects.specs.Words.{words_of_kinds, InRange, Is, Points, before}
+use Rattle.cyc_store.specs.declared.range.TheConstants.{MOST_BLOCK_WORDS}
+use Rattle.cyc_objects.specs.Tables.{Tables}
+use Rattle.cyc_objects.specs.Words.{words_of_kinds, Is, Points, before}
 use Rattle.cyc_objects.specs.Related as objects
 use Rattle.cyc_objects.specs.Related.{scopes, closed_to}
 use Rattle.cyc_plain.specs.declared.instruction.BinaryOperator.TheVariants as plain_binary
@@ -32,12 +32,10 @@ use Rattle.cyc_plain.specs.Program.{routine_at}
 use Rattle.cyc_plain.specs.State.{Words, Activation, Frame, Configuration}
 use Rattle.cyc_plain.specs.Step.{operand_word, throws}
 use Rattle.cyc_plain.specs.State as plain
-use Rattle.cyc_plain.specs.Memory.{slots_base, is_pinned}
 use Rattle.cyc_plain.specs.Straight.{At}
-use Rattle.cyc_meaning.specs.Values.{Fat, Value, Null, Thin, Handle, Operand as Kinded, Cell, kinds_of, words_of_kind, is_thin}
+use Rattle.cyc_meaning.specs.Values.{Fat, Value, Thin, Handle, Operand as Kinded, kinds_of, words_of_kind, is_thin}
 use Rattle.cyc_meaning.specs.Allocation.{writes_from, blanks_of}
-use Rattle.cyc_meaning.specs.State.{Owner, InRegion, Unique, Object, World, heap_number, globals_number, Environment, ConvertTo, Operate, Chain, Apply, ApplyPointer, Follow, LoadFrom, Decide, Store, Pass, PlaceBy, BesideHandle, MakePlain, MakeFields, MakeArray, FillElement, Initialise, Choose, Test, Return, Entry, Needs, NeedsPlace, Discard, Rest, Join, Loop, CloseRegion, CloseLexical, EndLoan, Handler, Caller, Main, calls_in, Focus, Evaluating, Locating, Given, Executing, Proceeding, Calling, Entering, Binding, Writing, Beginning, Repeating, Breaking, Continuing, Returning, Throwing, State, Running, Ended, GivenPlace, FollowMember, TakeAddress, StoreTo, StoreCell, FreeObject, CloseByKey, SwapLeft, SwapRight, Write, Swapping, ThrowWith, Naming, Catching, CountElements, Index, Advance, OpenBy, AliasOf}
-use Rattle.cyc_meaning.specs.Nesting.{lexicals_of}
+use Rattle.cyc_meaning.specs.State.{Object, World, globals_number, Environment, ConvertTo, Operate, Chain, Apply, ApplyPointer, Follow, LoadFrom, Decide, Store, Pass, PlaceBy, BesideHandle, MakePlain, MakeFields, MakeArray, FillElement, Initialise, Choose, Test, Return, Entry, Needs, NeedsPlace, Discard, Rest, Join, Loop, CloseRegion, CloseLexical, EndLoan, Handler, Caller, Main, calls_in, Focus, Evaluating, Locating, Given, Executing, Proceeding, Calling, Entering, Binding, Writing, Beginning, Repeating, Breaking, Continuing, Returning, Throwing, State, Running, Ended, GivenPlace, FollowMember, TakeAddress, StoreTo, StoreCell, FreeObject, CloseByKey, SwapLeft, SwapRight, Write, Swapping, ThrowWith, Naming, Catching, CountElements, Index, Advance, OpenBy, AliasOf}
 use Rattle.cyc_meaning.specs.Step.{object_of}
 use Rattle.cyc_meaning.specs.Operators.{null_exception, is_zero}
 use Rattle.cyc_meaning.specs.FrameCount.{words_of_all}
@@ -45,276 +43,14 @@ use Rattle.cyc_lower.specs.declared.statements.Exits.{Exits}
 use Rattle.cyc_lower.specs.declared.statements.Opened.{Opened}
 use Rattle.cyc_meaning.specs.Pointers.{result_kind as operator_kind}
 use Rattle.cyc_lower.specs.Slots.{Types, Starts, starts_of, slot_of, global_of, global_types}
-use Rattle.cyc_lower.specs.Lowering.{unary_operator, failing_comparison, operand_of, move_of, low_byte, converts_there, all_passed, compared_of, break_target, continue_target, results_of, lower_program, outside_loops, slot_types, raises_of, right_slot, tag_operand, followed_operand, reached_operand, globals_of, scopes_of, nothing_opened, with_handler, with_mark, inside_try, inside_region, behind_record_in}
+use Rattle.cyc_lower.specs.ValueCode.{unary_operator, failing_comparison, move_of, low_byte, converts_there, all_passed, slot_types, followed_operand, reached_operand}
+use Rattle.cyc_lower.specs.ObjectCode.{right_slot}
+use Rattle.cyc_lower.specs.ControlCode.{compared_of, break_target, continue_target, outside_loops, tag_operand, nothing_opened, with_handler, with_mark, inside_try, inside_region}
+use Rattle.cyc_lower.specs.ExpressionCode.{operand_of}
+use Rattle.cyc_lower.specs.Lowering.{results_of, lower_program, raises_of, globals_of, scopes_of}
 use Rattle.cyc_lower.proofs.slots.Widths.{kind_of_result, given, called_kind, HasRoom, Outside, chain_kind, HasGlobal, made_kind}
 use Rattle.cyc_lower.proofs.relation.Stands.{BegunAt, ElementsAt, CheckAt, ConversionAt, PlaceAt, OperatorAt, TruthAt, CopyAt, ExpressionAt, ArgumentsAt, OperationsAt, ValueAt, ConditionAt, FailingAt, ComparesAt, DiscardedAt, StatementAt, ItemsAt, PointerAt, StoresAt, ObjectAt, AddressAt, ConvertedOperandAt, FreedAt, HasSide, SideAt, ReadAt, WriteAt, ExchangeAt, LeaveAt, ClausesAt, CountAt, SavedAt, LoadedAt, FollowedAt, ReachedAt, GlobalAt, ClosedAt, MarksAt, RestoredAt, MadeAt, NamedAt}
-use Rattle.cyc_lower.proofs.relation.Known.{IsGlobalRow}
-
--- ---- values in slots
-
--- One word is a value: any but a fat pointer that is not null.
-abbrev pub IsWord : Tables → Kind → Value → (word : ℕ) → Type 0
-IsWord t kinds.Fat Null word = word ≡ 0
-IsWord t kinds.Fat v word = ⊥
-IsWord t kind v word = Is t kind v (λ (i : ℕ). word) 0
-
--- the words of an operand are a value
-abbrev pub IsIn : Tables → Kinded → Words → Operand → Type 0
-IsIn t v slots (operands.Slot n) = Is t v.kind v.value slots n
-IsIn t v slots (operands.Word w) = IsWord t v.kind v.value w
-
--- an operand that is a word, or stands before or at this slot
-abbrev pub IsLow : Operand → (t : ℕ) → Type 0
-IsLow (operands.Slot n) t = n ≤ t
-IsLow (operands.Word w) t = Unit {0}
-
--- the words of a fat pointer whose index is apart from the others
-abbrev pub IsParts : Tables → Value → Words → (n m : ℕ) → Type 0
-IsParts t v slots n m = Is t kinds.Fat v (λ j. if j == 0 then slots n else if j == 1 then slots (n + 1) else slots m) 0
-
-abbrev pub words_held : List Kinded → ℕ
-words_held [] = 0
-words_held (v ∷ vs) = words_held vs + words_of_kind v.kind
-
--- the slot behind values, of which the last one stands in the first slots
-abbrev pub height : ℕ → List Kinded → ℕ
-height base [] = base
-height base (v ∷ vs) = height base vs + words_of_kind v.kind
-
-abbrev pub Holds : Tables → Words → ℕ → List Kinded → Type 0
-Holds t slots base [] = Unit {0}
-Holds t slots base (v ∷ vs) = Is t v.kind v.value slots (height base vs) × Holds t slots base vs
-
--- values in order from this slot on
-abbrev pub HoldsFrom : Tables → Words → ℕ → List Kinded → Type 0
-HoldsFrom t slots first [] = Unit {0}
-HoldsFrom t slots first (v ∷ vs) = Is t v.kind v.value slots first × HoldsFrom t slots (first + words_of_kind v.kind) vs
-
--- the values of the running call that are inside the entries of a stack
-abbrev pub held : List Entry → List Kinded
-held [] = []
-held (Needs (ConvertTo from to target) ∷ k) = held k
-held (Needs (Operate operator) ∷ k) = held k
-held (Needs (Chain rest) ∷ k) = held k
-held (Needs (Apply operator left) ∷ k) = left ∷ held k
-held (Needs (ApplyPointer peek operator left) ∷ k) = left ∷ held k
-held (Needs Decide ∷ k) = held k
-held (Needs CountElements ∷ k) = held k
-held (Needs (Store place) ∷ k) = held k
--- the address of the cell waits for what is stored in it
-held (Needs (StoreCell peek place) ∷ k) = record { kind = kinds.NonNull; value = place } ∷ held k
-held (Needs (Pass callee before rest) ∷ k) = before ++ held k
-held (Needs (PlaceBy initial) ∷ k) = held k
--- the handle stays while what is made is evaluated
-held (Needs (BesideHandle region) ∷ k) = record { kind = kinds.Handle; value = Handle region } ∷ held k
-held (Needs (MakePlain owner kind) ∷ k) = held k
-held (Needs (MakeFields owner before fields) ∷ k) = before ++ held k
-held (Needs (MakeArray owner level kind element) ∷ k) = held k
-held (Needs (FillElement object count index level kind element) ∷ k) = record { kind = kinds.Fat; value = Fat object 0 count index } ∷ held k
-held (Needs (Initialise number kind items) ∷ k) = []
-held (Needs (Choose first second) ∷ k) = []
-held (Needs (Test condition body) ∷ k) = []
-held (Needs Return ∷ k) = []
-held (Needs (Follow pointer target) ∷ k) = held k
-held (Needs FreeObject ∷ k) = held k
-held (Needs CloseByKey ∷ k) = held k
-held (Needs (Index peek target index) ∷ k) = held k
-held (Needs (Advance peek target base) ∷ k) = base ∷ held k
-held (Needs (FollowMember pointer fields field) ∷ k) = held k
-held (NeedsPlace (SwapLeft kind peek right) ∷ k) = []
-held (NeedsPlace (SwapRight kind peek false left) ∷ k) = []
-held (NeedsPlace (SwapRight kind peek true left) ∷ k) = record { kind = kinds.NonNull; value = left } ∷ []
-held (NeedsPlace a ∷ k) = held k
-held (entry ∷ k) = []
-
--- What stays where a value is handed on: a handle that only what was made needed does not.
-abbrev pub kept : List Entry → List Kinded
-kept (Needs (BesideHandle region) ∷ k) = kept k
-kept k = held k
-
--- The slots of the counters of the running call, the outermost first: each is the index of the pointer that an array holds.
-abbrev pub counters_of : (base : ℕ) → List Entry → List ℕ
-counters_of base [] = []
-counters_of base (Needs (ConvertTo from to target) ∷ k) = counters_of base k
-counters_of base (Needs (Operate operator) ∷ k) = counters_of base k
-counters_of base (Needs (Chain rest) ∷ k) = counters_of base k
-counters_of base (Needs (Apply operator left) ∷ k) = counters_of base k
-counters_of base (Needs (ApplyPointer peek operator left) ∷ k) = counters_of base k
-counters_of base (Needs Decide ∷ k) = counters_of base k
-counters_of base (Needs CountElements ∷ k) = counters_of base k
-counters_of base (Needs (Store place) ∷ k) = counters_of base k
-counters_of base (Needs (StoreCell peek place) ∷ k) = counters_of base k
-counters_of base (Needs (Pass callee before rest) ∷ k) = counters_of base k
-counters_of base (Needs (PlaceBy initial) ∷ k) = counters_of base k
-counters_of base (Needs (BesideHandle region) ∷ k) = counters_of base k
-counters_of base (Needs (MakePlain owner kind) ∷ k) = counters_of base k
-counters_of base (Needs (MakeFields owner before fields) ∷ k) = counters_of base k
-counters_of base (Needs (MakeArray owner level kind element) ∷ k) = counters_of base k
-counters_of base (Needs (FillElement object count index level kind element) ∷ k) = counters_of base k ++ (height base (held k) + 2) ∷ []
-counters_of base (Needs (Follow pointer target) ∷ k) = counters_of base k
-counters_of base (Needs (FollowMember pointer fields field) ∷ k) = counters_of base k
-counters_of base (Needs FreeObject ∷ k) = counters_of base k
-counters_of base (Needs CloseByKey ∷ k) = counters_of base k
-counters_of base (Needs (Index peek target index) ∷ k) = counters_of base k
-counters_of base (Needs (Advance peek target pointer) ∷ k) = counters_of base k
-counters_of base (NeedsPlace (LoadFrom cell) ∷ k) = counters_of base k
-counters_of base (NeedsPlace TakeAddress ∷ k) = counters_of base k
-counters_of base (NeedsPlace (StoreTo peek c) ∷ k) = counters_of base k
-counters_of base (entry ∷ k) = []
-
--- how many arrays of the running call are being filled
-abbrev pub arrays_in : List Entry → ℕ
-arrays_in [] = 0
-arrays_in (Needs (FillElement object count index level kind element) ∷ k) = suc (arrays_in k)
-arrays_in (Caller e ∷ k) = 0
-arrays_in (entry ∷ k) = arrays_in k
-
--- the counter of each array that is being filled, of the running call and of those that wait, is where the array is
-abbrev pub AreCounted : (ℕ → Option ℕ) → List Entry → Type 0
-AreCounted counters [] = Unit {0}
-AreCounted counters (Needs (FillElement object count index level kind element) ∷ k) =
-    ((level ≡ arrays_in k) × (level ≡ length (counters_of 0 k)) × (counters level ≡ Some index)) × AreCounted counters k
-AreCounted counters (Caller e ∷ k) = AreCounted e.counters k
-AreCounted counters (entry ∷ k) = AreCounted counters k
-
--- ---- new objects
-
--- The handle of the region where an object with this owner is made, above these entries and from this slot on: a word, or the slot before,
--- where the newest entry keeps it.
-abbrev pub IsHandleOf : Owner → (handle : Operand) → (t : ℕ) → List Entry → Type 0
-IsHandleOf (InRegion region) (operands.Word n) t k = (region ≡ heap_number) × (n ≡ HEAP)
-IsHandleOf (InRegion region) (operands.Slot n) t (Needs (BesideHandle beside) ∷ k) = (region ≡ beside) × (suc n ≡ t)
-IsHandleOf (Unique true) (operands.Word n) t k = n ≡ UNIQUE
-IsHandleOf owner handle t k = ⊥
-
--- and the word that it is
-abbrev pub HasHandle : Tables → Owner → (word : ℕ) → Type 0
-HasHandle t (InRegion region) word = slice_get t.handles region ≡ Some (Some word)
-HasHandle t (Unique true) word = word ≡ UNIQUE
-HasHandle t (Unique false) word = ⊥
-
--- a new object has cells of these kinds, which stand from this address on
-pub record IsObject (t : Tables) (object address : ℕ) (kinds : List Kind) : Type 0 where
-  pub row : slice_get t.rows object ≡ Some (Placed address kinds)
-  pub range : InRange address kinds
-  pub some : 0 < length kinds
-
--- ---- objects and the words that stand for them
-
-abbrev pub with_kind : Kind → Option Value → Option Kinded
-with_kind kind None = None
-with_kind kind (Some v) = Some (record { kind = kind; value = v })
-
-abbrev pub content_of_cell : Option Cell → Option Kinded
-content_of_cell None = None
-content_of_cell (Some c) = with_kind c.kind c.content
-
-abbrev pub content_of : Option Object → Option Kinded
-content_of None = None
-content_of (Some x) = content_of_cell (slice_get x.cells 0)
-
--- what a variable holds, by the number of its object
-abbrev pub contents : List Object → ℕ → Option Kinded
-contents objects number = content_of (slice_get objects number)
-
--- the code of a call, and the address of its first slot
-pub record CallSlots : Type 0 where
-  pub code : List Instruction
-  pub base : ℕ
-
--- Where a variable of this kind stands that has its words from a slot on: there, if the code takes its address.
-abbrev pub row_of : CallSlots → (slot : ℕ) → Kind → Row
-row_of s slot kind = if is_pinned s.code slot && nat_le slots_base s.base then Placed (s.base + 4 * slot) (kind ∷ []) else Variable
-
--- the row of a local, whose words have room in its slots
-pub record IsLocalRow (t : Tables) (types : Types) (s : CallSlots) (number object : ℕ) : Type 0 where
-  pub kind : Kind
-  pub room : HasRoom types number kind
-  pub row : slice_get t.rows object ≡ Some (row_of s (slot_of (starts_of types) number) kind)
-
--- The locals of a call, which have these types and whose objects are all from `low` on and below `high`: the slots of each have what
--- it holds, there is room for it, and they are its object's words where that has an address.
-pub record LocalsHold (t : Tables) (types : Types) (s : CallSlots) (objects : List Object) (locals : ℕ → Option ℕ) (low high : ℕ) (slots : Words) : Type 0 where
-  pub within : (number object : ℕ) → locals number ≡ Some object → (number < length types.locals) × (low ≤ object) × (object < high)
-  pub apart : (number other object : ℕ) → locals number ≡ Some object → locals other ≡ Some object → number ≡ other
-  pub rows : (number object : ℕ) → locals number ≡ Some object → IsLocalRow t types s number object
-  pub holds : (number object : ℕ) (v : Kinded) → locals number ≡ Some object → contents objects object ≡ Some v
-      → Is t v.kind v.value slots (slot_of (starts_of types) number) × HasRoom types number v.kind
-
--- the words of each global, which has one of these types, have what it holds, and there is room for it; they are its object's
-abbrev pub GlobalsHold : Tables → Types → List Object → Words → Type 0
-GlobalsHold t types objects words =
-    (number : ℕ) → number < length types.globals
-    → IsGlobalRow t types.globals number
-    × ((v : Kinded) → contents objects number ≡ Some v → Is t v.kind v.value words (global_of (starts_of types) number) × HasGlobal types number v.kind)
-
--- The first temporary of the running call, whose locals end at a slot: what is kept of the handlers that it has open and of its lexical
--- regions stands between.
-abbrev pub behind_records : List Entry → (scopes : Option ℕ) → (slot : ℕ) → ℕ
-behind_records [] scopes slot = slot
-behind_records (Handler clauses ∷ k) scopes slot = behind_record_in scopes (behind_records k scopes slot)
-behind_records (CloseLexical region ∷ k) scopes slot = behind_records k scopes slot + 1
-behind_records (Caller e ∷ k) scopes slot = slot
-behind_records (Main ∷ k) scopes slot = slot
-behind_records (entry ∷ k) scopes slot = behind_records k scopes slot
-
--- how many lexical regions are open, of all calls
-abbrev pub scopes_in : List Entry → ℕ
-scopes_in k = length (lexicals_of k)
-
--- so many are told by the word for it: where there is none, none is ever opened
-abbrev pub IsTold : (scopes : Option ℕ) → Words → (many : ℕ) → Type 0
-IsTold None words many = many ≡ 0
-IsTold (Some place) words many = words place ≡ many
-
--- a call that waits: its locals, its first temporary by the end of its locals, and the values that it holds
-pub record Waiting : Type 0 where
-  pub locals : ℕ → Option ℕ
-  pub temporaries : Option ℕ → ℕ → ℕ
-  pub values : List Kinded
-
-abbrev pub callers : List Entry → List Waiting
-callers [] = []
-callers (Caller e ∷ k) = record { locals = e.locals; temporaries = behind_records k; values = held k } ∷ callers k
-callers (entry ∷ k) = callers k
-
--- the newest handler is open
-abbrev pub Newest : List plain.Handler → ((index first : ℕ) → Words → List plain.Handler → Type 0) → Type 0
-Newest [] P = ⊥
-Newest (plain.Caught ∷ handlers) P = ⊥
-Newest (plain.Open index first contents ∷ handlers) P = P index first contents handlers
-
--- the record of a handler holds what it held when the handler was opened
-abbrev pub IsIntact : Words → (first : ℕ) → (contents : Words) → Type 0
-IsIntact slots first contents =
-    (slots first ≡ contents 0) × (slots (first + 1) ≡ contents 1) × (slots (first + 2) ≡ contents 2) × (slots (first + 3) ≡ contents 3)
-
--- a `try` keeps in a slot how many lexical regions are open
-abbrev pub IsKept : (scopes : Option ℕ) → Words → (slot many : ℕ) → Type 0
-IsKept None slots slot many = Unit {0}
-IsKept (Some place) slots slot many = slots slot ≡ many
-
--- What is left of the entries where a loop is left, or the function: its handlers are the open ones then.
-abbrev pub left_by : (loop : Bool) → List Entry → List Entry
-left_by loop [] = []
-left_by loop (Loop condition body ∷ k) = if loop then k else left_by loop k
-left_by loop (Caller e ∷ k) = Caller e ∷ k
-left_by loop (Main ∷ k) = Main ∷ k
-left_by loop (entry ∷ k) = left_by loop k
-
--- the plain program has closed the handlers that a focus leaves at once
-abbrev pub handling : Focus → List Entry → List Entry
-handling Breaking k = left_by true k
-handling Continuing k = left_by true k
-handling (Returning v) k = left_by false k
-handling focus k = k
-
--- the regions of variables that entries name
-abbrev pub homes : List Entry → List ℕ
-homes [] = []
-homes (CloseRegion region home ∷ k) = region ∷ home ∷ homes k
-homes (Caller e ∷ k) = e.home ∷ homes k
-homes (entry ∷ k) = homes k
+use Rattle.cyc_lower.proofs.relation.HeldValues.{IsIn, IsLow, IsParts, words_held, height, Holds, HoldsFrom, held, kept, counters_of, AreCounted, IsHandleOf, IsObject, contents, CallSlots, LocalsHold, GlobalsHold, behind_records, scopes_in, MayBeOpen, Waiting, callers, Newest, IsIntact, IsKept, left_by, handling, homes}
 
 -- ---- what is shared
 
@@ -349,7 +85,7 @@ abbrev pub store_by : (closing : Option ℕ) → StoreState → (many : ℕ) →
 store_by None store many = store
 store_by (Some mark) store many = closed_to store many
 
--- The store still has those regions that the source has closed. There is a word then that tells how many are open.
+-- The store still has those regions that the source has closed. The program may open some then.
 abbrev pub HasScopes : Option ℕ → Type 0
 HasScopes None = ⊥
 HasScopes (Some place) = Unit {0}
@@ -898,17 +634,17 @@ module _ (source : Program) where
 
   -- What is said of the counters of arrays, and of the lexical regions that are open: so many entries end them, and so many the source has
   -- open.
-  abbrev pub ScopesBy : (closing : Option ℕ) → (globals : Words) → StoreState → (ended now : ℕ) → Type 0
-  ScopesBy None globals store ended now = IsTold (scopes_of source) globals ended
-  ScopesBy (Some mark) globals store ended now = IsAhead (scopes_of source) store now
+  abbrev pub ScopesBy : (closing : Option ℕ) → StoreState → (ended now : ℕ) → Type 0
+  ScopesBy None store ended now = MayBeOpen (scopes_of source) ended
+  ScopesBy (Some mark) store ended now = IsAhead (scopes_of source) store now
 
-  abbrev pub CountsBy : (closing : Option ℕ) → Environment → List Entry → (globals : Words) → StoreState → (now : ℕ) → Type 0
-  CountsBy closing e k globals store now = AreCounted e.counters k × ScopesBy closing globals store (scopes_in k) now
+  abbrev pub CountsBy : (closing : Option ℕ) → Environment → List Entry → StoreState → (now : ℕ) → Type 0
+  CountsBy closing e k store now = AreCounted e.counters k × ScopesBy closing store (scopes_in k) now
 
   -- what is shared while lexical regions are left, or not
   abbrev pub SharedBy : (closing : Option ℕ) → (pages calls : ℕ) → List Entry → Environment → World → Configuration → Type 0
   SharedBy closing pages calls k e w c =
-      Shared pages calls w (e.home ∷ homes k) (CountsBy closing e k c.globals c.store (scopes w.regions)) c.output c.input (store_by closing c.store (scopes w.regions)) (length c.frames)
+      Shared pages calls w (e.home ∷ homes k) (CountsBy closing e k c.store (scopes w.regions)) c.output c.input (store_by closing c.store (scopes w.regions)) (length c.frames)
 
   abbrev pub SharedAt : (pages calls : ℕ) → List Entry → Environment → World → Configuration → Type 0
   SharedAt pages calls k e w c = SharedBy None pages calls k e w c

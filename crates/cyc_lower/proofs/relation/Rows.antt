@@ -14,7 +14,7 @@ use Rattle.cyc_objects.proofs.Pointers.{same-row}
 use Rattle.cyc_objects.proofs.Cells.{not-placed}
 use Rattle.cyc_lower.specs.Slots.{Types, starts_of, slot_of}
 use Rattle.cyc_lower.proofs.relation.Known.{IsVariableRow}
-use Rattle.cyc_lower.proofs.relation.Relation.{CallSlots, row_of, IsLocalRow}
+use Rattle.cyc_lower.proofs.relation.HeldValues.{CallSlots, row_of, IsLocalRow}
 
 -- whether it stands there
 abbrev pub stands_in : CallSlots → (slot : ℕ) → Bool

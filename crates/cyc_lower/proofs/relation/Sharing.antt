@@ -16,7 +16,8 @@ use Rattle.cyc_store.proofs.CountLemmas.{demand-part}
 use Rattle.cyc_store.proofs.HolderLemmas.{IsPart-down_to}
 use Rattle.cyc_objects.proofs.Values.{Grows-row, Grows-handle}
 use Rattle.cyc_objects.proofs.Variables.{declared, assigned-away, opened-variables, closed-variables, handle-made}
-use Rattle.cyc_lower.proofs.relation.Relation.{homes, IsTold, HasScopes, SharedAt, SharedBy, ScopesBy, store_by, scopes_in, silent}
+use Rattle.cyc_lower.proofs.relation.HeldValues.{homes, scopes_in}
+use Rattle.cyc_lower.proofs.relation.Relation.{HasScopes, SharedAt, SharedBy, ScopesBy, store_by, silent}
 use Rattle.cyc_lower.specs.Lowering.{scopes_of}
 use Rattle.cyc_lower.proofs.relation.Counters.{counted_less}
 use Rattle.cyc_lower.proofs.relation.Data.{variables_grow}
@@ -60,9 +61,9 @@ module _ (source : Program) (pages calls : ℕ) (k : List Entry) (e : Environmen
     counters = s.counters;
   }
 
-  -- a global is written, and the word stays that tells how many lexical regions are open
-  abbrev pub shared_beside : (globals : Words) → IsTold (scopes_of source) globals (scopes_in k) → SharedAt source pages calls k e w (record c { globals = globals })
-  shared_beside globals told = record {
+  -- a global is written
+  abbrev pub shared_beside : (globals : Words) → SharedAt source pages calls k e w (record c { globals = globals })
+  shared_beside globals = record {
     tables = s.tables;
     same_output = s.same_output;
     same_input = s.same_input;
@@ -72,7 +73,7 @@ module _ (source : Program) (pages calls : ℕ) (k : List Entry) (e : Environmen
     variables = s.variables;
     few_pages = s.few_pages;
     fits = s.fits;
-    counters = (s.counters.0, told);
+    counters = s.counters;
   }
 
   -- the region of a block opens, and closes at the end of what is then waiting
@@ -106,7 +107,7 @@ shared_closed source closing pages calls k e w c number home r there s = record 
   variables = s.variables.1.1;
   few_pages = subst (λ now. demand (store_by closing c.store now) ≤ pages) same s.few_pages;
   fits = s.fits;
-  counters = (s.counters.0, subst (ScopesBy source closing c.globals c.store (scopes_in k)) same s.counters.1);
+  counters = (s.counters.0, subst (ScopesBy source closing c.store (scopes_in k)) same s.counters.1);
 }
   where
     after : Related s.tables (silent (closed w number r)) (store_by closing c.store (scopes w.regions))
@@ -143,7 +144,7 @@ shared_ahead source closing pages calls k e w c known s = record {
     fewer None = omega arith
     fewer (Some mark) = demand-part (IsPart-down_to (scopes w.regions) c.store.regions) c.store.classes
 
-    counted : (o : Option ℕ) → ((mark : ℕ) → o ≡ Some mark → HasScopes (scopes_of source)) → ScopesBy source o c.globals c.store (scopes_in k) (scopes w.regions)
+    counted : (o : Option ℕ) → ((mark : ℕ) → o ≡ Some mark → HasScopes (scopes_of source)) → ScopesBy source o c.store (scopes_in k) (scopes w.regions)
     counted None there = s.counters.1
     counted (Some mark) there = (there mark refl, s.related.sound, omega (arith, scopes-same s.related.regions))
 

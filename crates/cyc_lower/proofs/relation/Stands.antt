@@ -31,7 +31,11 @@ use Rattle.cyc_meaning.specs.Values.{is_thin, words_of_kind, kind_of}
 use Rattle.cyc_lower.specs.declared.statements.Exits.{Exits}
 use Rattle.cyc_lower.specs.declared.statements.Opened.{Opened}
 use Rattle.cyc_lower.specs.Slots.{counted, Types, starts_of, slot_of, field_of, global_of}
-use Rattle.cyc_lower.specs.Lowering.{most_elements, unary_operator, binary_operator, operand_of, source_of, source_slot, failing_comparison, left_with, left_of, value_slot, next_slot, slot_with, left_slot, is_in, move_of, test_jump, are_as_wide, converts_there, passed_words, all_passed, compared_of, low_byte, break_target, continue_target, results_of, behind_left, inside_loop, inside_try, behind_record_in, pointer_operator, raising, jump_if_zero, right_slot, tag_operand, other_jump, goes_on, span_of, span_in, followed_operand, scale_of, pointer_of, reached_operand, load_word, store_word, load_at, inside_region, address_of_global}
+use Rattle.cyc_lower.specs.ValueCode.{unary_operator, binary_operator, failing_comparison, left_with, next_slot, is_in, move_of, test_jump, are_as_wide, converts_there, passed_words, all_passed, low_byte, behind_left, pointer_operator, raising, jump_if_zero, span_of, span_in, followed_operand, scale_of, reached_operand, load_word, store_word, address_of_global}
+use Rattle.cyc_lower.specs.ObjectCode.{most_elements, right_slot, load_at}
+use Rattle.cyc_lower.specs.ControlCode.{compared_of, break_target, continue_target, inside_loop, inside_try, behind_record_in, tag_operand, other_jump, goes_on, inside_region}
+use Rattle.cyc_lower.specs.ExpressionCode.{operand_of, source_of, source_slot, left_of, value_slot, slot_with, left_slot, pointer_of}
+use Rattle.cyc_lower.specs.Lowering.{results_of}
 use Rattle.cyc_lower.proofs.slots.Widths.{kind_of_result, given, passed_kind, HasRoom, HasField, HasGlobal, words_in}
 
 -- ---- expressions
@@ -468,14 +472,9 @@ module _ (code : List Instruction) (bounds : Numbering) (types : Types) where
   HandlersAt None p q = p ≡ q
   HandlersAt (Some first) p q = At code p (instructions.Leave first) × (p + 1 ≡ q)
 
-  -- it is told how many lexical regions are open, where there is a word for it
-  abbrev pub ToldAt : (scopes : Option ℕ) → Operand → (p q : ℕ) → Type 0
-  ToldAt None o p q = p ≡ q
-  ToldAt (Some global) o p q = At code p (instructions.StoreGlobal global o) × (p + 1 ≡ q)
-
   -- lexical regions are closed down to the mark in a slot
   abbrev pub ClosedAt : (mark p q : ℕ) → Type 0
-  ClosedAt mark p q = At code p (instructions.Ask (requests.CloseTo (operands.Slot mark))) × ToldAt types.scopes (operands.Slot mark) (p + 1) q
+  ClosedAt mark p q = At code p (instructions.Ask (requests.CloseTo (operands.Slot mark))) × (p + 1 ≡ q)
 
   abbrev pub MarksAt : Option ℕ → (p q : ℕ) → Type 0
   MarksAt None p q = p ≡ q
@@ -488,11 +487,11 @@ module _ (code : List Instruction) (bounds : Numbering) (types : Types) where
   -- a `try` keeps in a slot how many lexical regions are open, and closes the others where an exception comes to it
   abbrev pub KeptAt : (scopes : Option ℕ) → (slot p q : ℕ) → Type 0
   KeptAt None slot p q = p ≡ q
-  KeptAt (Some global) slot p q = At code p (instructions.LoadGlobal slot global) × (p + 1 ≡ q)
+  KeptAt (Some place) slot p q = At code p (instructions.CountLexical slot) × (p + 1 ≡ q)
 
   abbrev pub RestoredAt : (scopes : Option ℕ) → (slot p q : ℕ) → Type 0
   RestoredAt None slot p q = p ≡ q
-  RestoredAt (Some global) slot p q = ClosedAt slot p q
+  RestoredAt (Some place) slot p q = ClosedAt slot p q
 
   abbrev pub ReturnAt : Option Converted → Exits → (t p : ℕ) → Type 0
   ReturnAt None exits t p = (s : ℕ) × (m : ℕ) × LeaveAt exits.in_function p m × At code m (instructions.Finish s)
@@ -520,14 +519,12 @@ module _ (code : List Instruction) (bounds : Numbering) (types : Types) where
   NamedAt n kind o p q =
       (n < bounds.locals) × HasRoom types n kind × At code p (move_of (words_of_kind kind) (slot_of (starts_of types) n) o) × (p + 1 ≡ q)
 
-  -- a lexical region is opened, and there is a word that tells how many are open
+  -- a lexical region is opened, as the program may
   abbrev pub OpenedAt : (number t p q : ℕ) → Type 0
   OpenedAt n t p q =
-      (global : ℕ) × (types.scopes ≡ Some global) × At code p (instructions.Ask (requests.OpenLexical (t + 1)))
+      (place : ℕ) × (types.scopes ≡ Some place) × At code p (instructions.Ask (requests.OpenLexical (t + 1)))
       × At code (p + 1) (instructions.Move t (operands.Slot (t + 2)))
-      × At code (p + 1 + 1) (instructions.Binary plain_binary.Add (t + 2) (operands.Slot t) (operands.Word 1))
-      × At code (p + 1 + 1 + 1) (instructions.StoreGlobal global (operands.Slot (t + 2)))
-      × NamedAt n kinds.Handle (operands.Slot (t + 1)) (p + 1 + 1 + 1 + 1) q
+      × NamedAt n kinds.Handle (operands.Slot (t + 1)) (p + 1 + 1) q
 
   -- with these ways out
   abbrev mutual

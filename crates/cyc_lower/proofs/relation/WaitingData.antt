@@ -12,7 +12,8 @@ use Rattle.cyc_lower.specs.Slots.{slot_of, global_types}
 use Rattle.cyc_lower.specs.Lowering.{scopes_of}
 use Rattle.cyc_lower.proofs.slots.Widths.{HasRoom, Outside}
 use Rattle.cyc_lower.proofs.slots.Slots.{slot-room}
-use Rattle.cyc_lower.proofs.relation.Relation.{Waiting, LocalsHold, FramesHold, DataAt, Holds, contents, call_slots, types_at, starts_at, base_of, callers}
+use Rattle.cyc_lower.proofs.relation.HeldValues.{Waiting, LocalsHold, Holds, contents, callers}
+use Rattle.cyc_lower.proofs.relation.Relation.{FramesHold, DataAt, call_slots, types_at, starts_at, base_of}
 use Rattle.cyc_lower.proofs.relation.Data.{locals_assigned, locals_kept, frames_kept, globals_kept, globals_below, Holds-above, behind-least}
 use Rattle.cyc_plain.specs.Memory.{IsBelow, AreBelow}
 

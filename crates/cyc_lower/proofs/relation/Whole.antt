@@ -1,5 +1,5 @@
 -- Each run of the plain program is one of the source.
-use Rattle.std.proofs.Common.{◌≡◌, ℕ, zero, suc, ◌≤◌, ◌<◌, Bool, true, false, List, [], ◌∷◌, length, map, Option, None, Some, slice_get, slice_index, refl, sym, ap, subst, ◌∙◌, arith, inl, inr, ◌+◌, ◌-◌, ◌++◌}
+use Rattle.std.proofs.Common.{◌≡◌, ℕ, zero, suc, ◌≤◌, ◌<◌, Bool, true, false, List, [], ◌∷◌, length, map, Option, None, Some, slice_get, slice_index, refl, sym, ap, subst, ◌∙◌, arith, inl, inr, ◌+◌, ◌-◌}
 use Rattle.std.specs.Prelude.{◌==◌, if◌then◌else◌}
 use Rattle.std.proofs.lemmas.Bool.{le-leb, and_from}
 use Rattle.std.proofs.lemmas.Option.{same_Some, none-some}
@@ -31,7 +31,7 @@ use Rattle.cyc_meaning.specs.Values.{Int, Null, Operand as Kinded, kind_of, word
 use Rattle.cyc_meaning.specs.State.{World, Environment, no_locals, constant_value, global_object, first_world, Entry, Main, Focus, Evaluating, Locating, Given, GivenPlace, Executing, Proceeding, Calling, Entering, Binding, Writing, Beginning, Repeating, Breaking, Continuing, Returning, Throwing, State, Running, Ended, Dead, Wrong, output_of, input_of, status_of, Swapping, Naming, Catching}
 use Rattle.cyc_meaning.specs.Step.{wrong, called, step}
 use Rattle.cyc_meaning.specs.Run.{start, is_within, limited_step}
-use Rattle.cyc_lower.specs.Lowering.{initial_word, lower_global, lower_program, lower_globals, scopes_of, scopes_if, scopes_words, may_open}
+use Rattle.cyc_lower.specs.Lowering.{initial_word, lower_global, lower_program, lower_globals, scopes_of, scopes_if, may_open}
 use Rattle.cyc_lower.specs.Lowered.{FollowsSource}
 use Rattle.cyc_lower.specs.Words.{IsOfWordsProgram}
 use Rattle.cyc_meaning.specs.SourceMachine.{status_in}
@@ -42,7 +42,8 @@ use Rattle.cyc_meaning.proofs.VariableRuns.{NestsAndNames, both_kept, names_star
 use Rattle.cyc_objects.specs.Tables.{Tables, first_tables}
 use Rattle.cyc_objects.specs.Related as objects
 use Rattle.cyc_objects.proofs.Start.{start-related}
-use Rattle.cyc_lower.proofs.relation.Relation.{IsWord, silent, call_slots, callers, contents, Related, Matches, types_at, starts_at, IsTold}
+use Rattle.cyc_lower.proofs.relation.HeldValues.{IsWord, callers, contents, MayBeOpen}
+use Rattle.cyc_lower.proofs.relation.Relation.{silent, call_slots, Related, Matches, types_at, starts_at}
 use Rattle.cyc_lower.proofs.relation.Fitting.{IsFitting}
 use Rattle.cyc_lower.proofs.relation.Data.{no_locals_hold, IsWord-is}
 use Rattle.cyc_lower.proofs.relation.Accesses.{IsWell}
@@ -59,9 +60,9 @@ use Rattle.cyc_lower.proofs.handler_steps.ExceptionSteps.{naming, throwing, catc
 use Rattle.cyc_lower.proofs.call_steps.Calls.{FunctionsStand, calling, entering, binding, entered}
 use Rattle.cyc_lower.proofs.emission.Bridge.{functions_stand}
 use Rattle.cyc_lower.specs.Slots.{slot_in, global_of, global_types}
-use Rattle.cyc_lower.proofs.slots.Widths.{words_in, type_words, kind_positive}
-use Rattle.cyc_lower.proofs.slots.Slots.{words_positive, globals-are, global-room, globals_counted}
-use Rattle.std.proofs.lemmas.List.{length-replicate, get_or-append_right, get_or_append_left}
+use Rattle.cyc_lower.proofs.slots.Widths.{words_in, type_words}
+use Rattle.cyc_lower.proofs.slots.Slots.{words_positive, globals-are}
+use Rattle.std.proofs.lemmas.List.{length-replicate, get_or-append_right}
 use Rattle.cyc_meaning.specs.FrameCount.{words_of_all}
 use Rattle.cyc_lower.proofs.relation.GlobalRows.{global_rows, are_globals, start-rows}
 use Rattle.cyc_lower.proofs.relation.Leads.{AreNamed}
@@ -109,18 +110,11 @@ globals_start t (g ∷ gs) (suc number) v (well, rest) has =
     ∙ ap (λ (n : ℕ). slice_index (lower_globals gs) n) (let e : words_of g.of_type + behind - words_of g.of_type ≡ behind = omega arith in e) in
     (subst (IsWord t v.kind v.value) (sym next) is, room)
 
--- The same in all words of the program, of which one may stand behind those of the globals. That tells that no lexical region is open.
-globals_there : (source : Program) (n : ℕ) → n < words_of_all (global_types source.globals) → slice_index (lower_program source).globals n ≡ slice_index (lower_globals source.globals) n
-globals_there source n few = get_or_append_left (lower_globals source.globals) (scopes_words (scopes_of source)) 0 n (omega (arith, few, globals_counted source.globals))
-
-none_open : (source : Program) → IsTold (scopes_of source) (λ global. slice_index (lower_program source).globals global) 0
+none_open : (source : Program) → MayBeOpen (scopes_of source) 0
 none_open source = by (list_any may_open source.functions)
   where
-    xs : List ℕ
-    xs = lower_globals source.globals
-
-    by : (may : Bool) → IsTold (scopes_if may (length xs)) (λ global. slice_index (xs ++ scopes_words (scopes_if may (length xs))) global) 0
-    by true = get_or-append_right xs (0 ∷ []) (length xs) (length xs) 0 refl (omega arith) ∙ ap (slice_index (0 ∷ [])) (let e : length xs - length xs ≡ 0 = omega arith in e)
+    by : (may : Bool) → MayBeOpen (scopes_if may) 0
+    by true = tt
     by false = refl
 
 globals_many : (gs : List GlobalVariable) → length (global_types gs) ≤ length (map global_object gs)
@@ -128,7 +122,7 @@ globals_many [] = omega arith
 globals_many (g ∷ gs) = omega (arith, globals_many gs)
 
 module _ (source : Program) (pages calls : ℕ) (well_typed : AreWellTypedGlobals source.globals) (few_globals : words_of_all (global_types source.globals) ≤ MOST_GLOBALS) (stand : FunctionsStand source pages calls) (of_words : HasWords (lower_program source))
-    (fitting : IsFitting source) (typed_words : IsOfWordsProgram source) (rise : FunctionsRise source) (room : words_of_all (global_types source.globals) < MOST_GLOBALS) where
+    (fitting : IsFitting source) (typed_words : IsOfWordsProgram source) (rise : FunctionsRise source) where
   -- ---- all steps
 
   stepping : (focus : Focus) (k : List Entry) (e : Environment) (w : World) (c : Configuration) → IsWell (step source (Running focus k e w)) → IsNested k e w → plain.HoldsWords (plain.Running c) → AreNamed source e.locals (callers k) w c.active.function c.active.base c.frames c.store → Related source pages calls focus k e w c
@@ -136,7 +130,7 @@ module _ (source : Program) (pages calls : ℕ) (well_typed : AreWellTypedGlobal
   stepping (Evaluating a) k e w c well nested words names related = evaluating source pages calls a k e w c names well related
   stepping (Locating x) k e w c well nested words names related = locating source pages calls x k e w c well related
   stepping (Given v) k e w c well nested words names related = given source pages calls v k e w c of_words words names well related
-  stepping (Executing s) k e w c well nested words names related = executing source pages calls s k e w c well related
+  stepping (Executing s) k e w c well nested words names related = executing source pages calls s k e w c nested well related
   stepping Proceeding k e w c well nested words names related = proceeding source pages calls k e w c nested well related
   stepping (Calling f before) k e w c well nested words names related = calling source pages calls stand f before k e w c well related
   stepping (Entering h arguments) k e w c well nested words names related = entering source pages calls h arguments k e w c well related
@@ -191,7 +185,7 @@ module _ (source : Program) (pages calls : ℕ) (well_typed : AreWellTypedGlobal
       stepped_above (above source pages calls) (below source pages calls) matching_lies Named named_kept (Running focus k e w) (plain.Running c) (nested, names)
       (stepped_keeping (above source pages calls) (below source pages calls) (matching source pages calls) Lies lies_kept (Running focus k e w) (plain.Running c) (words, lie)
       (stepping focus k e w c (goes_well (Running focus k e w) never) nested words
-      (names_there source fitting typed_words room k e.locals w c.active.function c.active.base c.frames c.store names.1.3 lie) related))
+      (names_there source fitting typed_words few_globals k e.locals w c.active.function c.active.base c.frames c.store names.1.3 lie) related))
   steps (Running focus k e w) (plain.Ended ending output input) ((related, lies), named) running never = absurd related
   steps (Running focus k e w) (plain.Stuck output input) ((related, lies), named) running never = absurd related
   steps (Ended ending output input) t related running never = absurd (let f : simulation.Ended ending ≡ simulation.Running = running in cc)
@@ -231,8 +225,7 @@ module _ (source : Program) (pages calls : ℕ) (well_typed : AreWellTypedGlobal
                 let (is, room) = globals_start t source.globals number v well_typed has in
                 let first = global_of (starts_at source source.main) number in
                 let first_is = globals-are (types_at source source.main) number few in
-                let there = globals_there source first (omega (arith, room, kind_positive v.kind, global-room (types_at source source.main) number few)) in
-                (IsWord-is t v.kind v.value (slice_index (lower_globals source.globals) (slot_in (global_types source.globals) number)) words first (there ∙ ap (slice_index (lower_globals source.globals)) first_is) is, room),
+                (IsWord-is t v.kind v.value (slice_index (lower_globals source.globals) (slot_in (global_types source.globals) number)) words first (ap (slice_index (lower_globals source.globals)) first_is) is, room),
           ),
         ),
         (refl, tt),
@@ -272,7 +265,7 @@ module _ (source : Program) (pages calls : ℕ) (well_typed : AreWellTypedGlobal
       )
 
 -- The lowered program of one that fits does what that does.
-pub follows : (source : Program) → IsFitting source → IsOfWordsProgram source → FunctionsRise source → words_of_all (global_types source.globals) < MOST_GLOBALS → HasWords (lower_program source) → (pages calls base : ℕ) (store : StoreState) (input : List ℕ)
+pub follows : (source : Program) → IsFitting source → IsOfWordsProgram source → FunctionsRise source → words_of_all (global_types source.globals) ≤ MOST_GLOBALS → HasWords (lower_program source) → (pages calls base : ℕ) (store : StoreState) (input : List ℕ)
     → IsNew pages store → 1 ≤ pages → pages ≤ MOST_PAGES → 1 ≤ calls → AllByRecursion (λ b. b < 256) input → IsBelow (lower_program source) (lower_program source).main base slots_end → FollowsSource source (lower_program source) pages calls base store input
-follows source fitting typed_words rise room of_words pages calls base store input new some_page few_pages some_call bytes lies =
-    follows_source source pages calls fitting.globals (omega (arith, room)) (functions_stand source pages calls fitting) of_words fitting typed_words rise room base store input new some_page few_pages some_call bytes lies
+follows source fitting typed_words rise few_globals of_words pages calls base store input new some_page few_pages some_call bytes lies =
+    follows_source source pages calls fitting.globals few_globals (functions_stand source pages calls fitting) of_words fitting typed_words rise base store input new some_page few_pages some_call bytes lies

@@ -20,7 +20,8 @@ use Rattle.cyc_lower.specs.Lowered.{AreLoweredFunctions, CanBeLowered, HasTooMan
 use Rattle.cyc_lower.proofs.sizes.Routines.{one_too_many}
 use Rattle.cyc_lower.proofs.relation.Fitting.{is_fitting_program}
 use Rattle.cyc_lower.proofs.sizes.Sizes.{function_size}
-use Rattle.cyc_lower.proofs.sizes.WellFormed.{all_counted, well_formed}
+use Rattle.cyc_lower.proofs.sizes.WellFormed.{well_formed}
+use Rattle.cyc_lower.proofs.slots.Slots.{globals_counted}
 use Rattle.cyc_lower.proofs.sizes.WordLemmas.{has_words}
 use Rattle.cyc_lower.proofs.relation.Whole.{follows}
 use Rattle.cyc_meaning.proofs.Rising.{functions_rise}
@@ -34,7 +35,7 @@ is_lowered source well fit = record {
   well_formed = well_formed source (is_fitting_program source fit.lowerable well) fit.of_words fit.few_globals;
   words = has_words source fit.of_words;
   functions = functions_lowered source.structs (globals_of source) (scopes_of source) source.functions;
-  globals = omega (arith, all_counted source);
+  globals = sym (globals_counted source.globals);
   follows = λ pages calls base store input new some_page few_pages some_call bytes below.
       follows source (is_fitting_program source fit.lowerable well) fit.of_words (functions_rise source well) fit.few_globals (has_words source fit.of_words) pages calls base store input new some_page few_pages some_call bytes below;
 }

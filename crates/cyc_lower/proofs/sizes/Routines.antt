@@ -11,7 +11,9 @@ use Rattle.cyc_meaning.specs.FrameCount.{kept_by_items, frame_count, words_of_al
 use Rattle.cyc_plain.specs.declared.instruction.Instruction.{Instruction}
 use Rattle.cyc_plain.specs.declared.instruction.Instruction.TheVariants.{Finish}
 use Rattle.cyc_lower.specs.Slots.{starts_from}
-use Rattle.cyc_lower.specs.Lowering.{first_temporary, outside_loops, items_code, function_code, slot_types, raises_of, body_code, blocks, starts_with}
+use Rattle.cyc_lower.specs.ValueCode.{first_temporary, slot_types, blocks}
+use Rattle.cyc_lower.specs.ControlCode.{outside_loops}
+use Rattle.cyc_lower.specs.Lowering.{items_code, function_code, raises_of, body_code, starts_with}
 use Rattle.cyc_lower.specs.declared.limits.TheConstants.{MOST_FUNCTIONS}
 use Rattle.cyc_lower.specs.Lowered.{HasTooMany}
 use Rattle.cyc_lower.specs.Emission.{most_frame_count, most_locals}

@@ -33,7 +33,11 @@ use Rattle.cyc_lower.specs.Slots.{with_counter, slot_of, Starts, global_of}
 use Rattle.cyc_store.specs.declared.range.TheConstants.{HEAP, UNIQUE}
 use Rattle.cyc_meaning.specs.Values.{kind_of, words_of_kind, is_thin}
 use Rattle.cyc_lower.proofs.slots.Widths.{kind_few, type_words}
-use Rattle.cyc_lower.specs.Lowering.{begun_code, filled_code, ended_code, elements_code, converts_there, passed_words, all_passed, source_of, source_slot, converted_by, moved_by, move_of, unary_operator, binary_operator, operand_of, operand_or, code_unless, slot_or, code_unless_slot, left_of, value_slot, next_slot, left_slot, value_operand, converted_operand, printed_operand, conversion_code, divisor_code, checked_code, operator_code, truth_code, load_code, low_byte, test_code, is_in, copy_code, expression_code, arguments_code, converted_code, converted_operand_code, printed_code, initial_code, assignment_code, operations_code, discarded_code, failing_comparison, compared_or, left_with, slot_with, first_code, second_code, pair_code, condition_code, condition_of, failing_jump, break_target, continue_target, return_code, declaration_code, statement_code, items_code, first_temporary, jump_if_zero, jump_if_nonzero, lower_function, behind_left, pointer_code, outside_loops, inside_loop, pointer_operator, index_of, first_two, pointer_instructions, stores_code, object_code, made_code, place_operand, place_offset, place_code, address_code, store_address_code, blocks, free_code, right_slot, side_code, read_side, write_side, exchange_code, swap_code, leave_code, tag_operand, other_jump, clause_code, caught_code, clauses_code, element_by, count_code, span_of, tested_code, widened_code, conversion_by, tested_by, check_code, are_as_wide, saved_code, loaded_code, bounds_code, stepped_code, bounded_code, past_bounded, thinned_code, reached_code, followed_code, followed_operand, followed_by, span_in, pointer_of, pointer_slot, reached_operand, word_by_word, load_word, store_word, global_code, starts_with, raises_of, load_at, opened_code, closed_code, named_code, dynamic_code, closing_code, scopes_code, scopes_code_in, handlers_code, marks_code, kept_code, kept_code_in, restored_code, restored_code_in, behind_record, inside_try, inside_region}
+use Rattle.cyc_lower.specs.ValueCode.{converts_there, passed_words, all_passed, converted_by, moved_by, move_of, unary_operator, binary_operator, operand_or, code_unless, slot_or, code_unless_slot, next_slot, conversion_code, divisor_code, checked_code, operator_code, truth_code, low_byte, test_code, is_in, copy_code, failing_comparison, left_with, first_temporary, jump_if_zero, jump_if_nonzero, behind_left, pointer_code, pointer_operator, index_of, first_two, pointer_instructions, address_code, blocks, element_by, count_code, span_of, tested_code, widened_code, conversion_by, tested_by, check_code, are_as_wide, loaded_code, bounds_code, stepped_code, bounded_code, past_bounded, thinned_code, reached_code, followed_code, followed_operand, followed_by, span_in, reached_operand, word_by_word, load_word, store_word, global_code}
+use Rattle.cyc_lower.specs.ObjectCode.{begun_code, filled_code, ended_code, elements_code, stores_code, object_code, free_code, right_slot, saved_code, load_at}
+use Rattle.cyc_lower.specs.ControlCode.{compared_or, failing_jump, break_target, continue_target, outside_loops, inside_loop, leave_code, tag_operand, other_jump, clause_code, opened_code, closed_code, named_code, dynamic_code, closing_code, handlers_code, marks_code, kept_code, kept_code_in, restored_code, restored_code_in, behind_record, inside_try, inside_region}
+use Rattle.cyc_lower.specs.ExpressionCode.{source_of, source_slot, operand_of, left_of, value_slot, left_slot, value_operand, converted_operand, printed_operand, load_code, expression_code, arguments_code, converted_code, converted_operand_code, printed_code, initial_code, operations_code, slot_with, made_code, place_operand, place_offset, place_code, pointer_of, pointer_slot}
+use Rattle.cyc_lower.specs.Lowering.{assignment_code, discarded_code, first_code, second_code, pair_code, condition_code, condition_of, return_code, declaration_code, statement_code, items_code, lower_function, store_address_code, side_code, read_side, write_side, exchange_code, swap_code, caught_code, clauses_code, starts_with, raises_of}
 use Rattle.cyc_meaning.specs.Operators.{null_exception}
 use Rattle.cyc_lower.specs.Lowered.{size_per_weight}
 use Rattle.cyc_lower.specs.declared.statements.Opened.{Opened}
@@ -262,47 +266,34 @@ filled_size kinds.Key head t = omega arith
 
 -- ---- regions and handlers
 
-scopes_size : (scopes : Option ℕ) (o : Operand) → code_size (scopes_code_in scopes o) ≤ 5
-scopes_size None o = omega arith
-scopes_size (Some global) o = omega arith
-
-closed_size : (starts : Starts) (m : ℕ) → code_size (closed_code starts m) ≤ 10
-closed_size starts m = omega (arith, cons (instructions.Ask (requests.CloseTo (operands.Slot m))) (scopes_code starts (operands.Slot m)), scopes_size starts.scopes (operands.Slot m))
+closed_size : (m : ℕ) → code_size (closed_code m) ≤ 10
+closed_size m = omega arith
 
 opened_size : (starts : Starts) (n t : ℕ) → code_size (opened_code starts n t) ≤ 36
 opened_size starts n t =
-    let count = scopes_code starts (operands.Slot (t + 2)) in
     let name = named_code starts 1 n (operands.Slot (t + 1)) in
-    let add = instructions.Binary plain_binary.Add (t + 2) (operands.Slot t) (operands.Word 1) in
     let keep = instructions.Move t (operands.Slot (t + 2)) in
-    omega (
-      arith,
-      cons (instructions.Ask (requests.OpenLexical (t + 1))) (keep ∷ add ∷ count ++ name),
-      cons keep (add ∷ count ++ name),
-      cons add (count ++ name),
-      both count name,
-      scopes_size starts.scopes (operands.Slot (t + 2)),
-    )
+    omega (arith, cons (instructions.Ask (requests.OpenLexical (t + 1))) (keep ∷ name), cons keep name)
 
 handlers_size : (first : Option ℕ) → code_size (handlers_code first) ≤ 5
 handlers_size None = omega arith
 handlers_size (Some first) = omega arith
 
-marks_size : (starts : Starts) (mark : Option ℕ) → code_size (marks_code starts mark) ≤ 10
-marks_size starts None = omega arith
-marks_size starts (Some m) = closed_size starts m
+marks_size : (mark : Option ℕ) → code_size (marks_code mark) ≤ 10
+marks_size None = omega arith
+marks_size (Some m) = closed_size m
 
 -- all handlers are closed by one instruction, where there are some, and so are all regions
-leave_size : (starts : Starts) (opened : Opened) → code_size (leave_code starts opened) ≤ 15
-leave_size starts opened = omega (arith, both (handlers_code opened.handler) (marks_code starts opened.mark), handlers_size opened.handler, marks_size starts opened.mark)
+leave_size : (opened : Opened) → code_size (leave_code opened) ≤ 15
+leave_size opened = omega (arith, both (handlers_code opened.handler) (marks_code opened.mark), handlers_size opened.handler, marks_size opened.mark)
 
 kept_size : (scopes : Option ℕ) (t : ℕ) → code_size (kept_code_in scopes t) ≤ 5
 kept_size None t = omega arith
-kept_size (Some global) t = omega arith
+kept_size (Some place) t = omega arith
 
-restored_size : (starts : Starts) (scopes : Option ℕ) (t : ℕ) → code_size (restored_code_in starts scopes t) ≤ 10
-restored_size starts None t = omega arith
-restored_size starts (Some global) t = closed_size starts (t + RECORD_WORDS)
+restored_size : (scopes : Option ℕ) (t : ℕ) → code_size (restored_code_in scopes t) ≤ 10
+restored_size None t = omega arith
+restored_size (Some place) t = closed_size (t + RECORD_WORDS)
 
 -- a list of arguments with a comma before each has at most one token more
 more_weight : (cs : Arguments) → more_arguments_weight cs ≤ arguments_weight cs + 1
@@ -622,7 +613,7 @@ module _ (starts : Starts) where
   condition_size a p t = alone_size a p t
 
   return_size : (v : Option Converted) (p : ℕ) (exits : Exits) (t : ℕ) → code_size (return_code starts v p exits t) ≤ size_per_weight * statement_weight (Return v)
-  return_size None p exits t = omega (arith, both (leave_code starts exits.in_function) (instructions.Finish t ∷ []), leave_size starts exits.in_function)
+  return_size None p exits t = omega (arith, both (leave_code exits.in_function) (instructions.Finish t ∷ []), leave_size exits.in_function)
   return_size (Some (Convert from to a)) p exits t =
       let known = source_of starts (Convert from to a) in
       let inner = expression_code starts a p t t in
@@ -631,13 +622,13 @@ module _ (starts : Starts) where
       let conversion = conversion_code starts from to (span_of a) (operands.Slot s) (p + length front) in
       omega (
         arith,
-        both ((front ++ conversion) ++ leave_code starts exits.in_function) (instructions.Finish s ∷ []),
-        both (front ++ conversion) (leave_code starts exits.in_function),
+        both ((front ++ conversion) ++ leave_code exits.in_function) (instructions.Finish s ∷ []),
+        both (front ++ conversion) (leave_code exits.in_function),
         both front conversion,
         unless_slot_size known inner,
         expression_size starts a p t t,
         conversion_size starts from to (span_of a) (operands.Slot s) (p + length front),
-        leave_size starts exits.in_function,
+        leave_size exits.in_function,
       )
 
   throw_size : (n : ℕ) (v : Option Expression) (p : ℕ) (exits : Exits) (t : ℕ) → code_size (statement_code starts (Throw n v) p exits t) ≤ size_per_weight * statement_weight (Throw n v)
@@ -751,8 +742,8 @@ module _ (starts : Starts) where
           statement_size s (m + 1) (inside_loop p exits) t,
         )
     statement_size (Return v) p exits d = return_size v p exits d
-    statement_size Break p exits d = omega (arith, both (leave_code starts exits.in_loop) (instructions.Jump (break_target exits.head) ∷ []), leave_size starts exits.in_loop)
-    statement_size Continue p exits d = omega (arith, both (leave_code starts exits.in_loop) (instructions.Jump (continue_target exits.head) ∷ []), leave_size starts exits.in_loop)
+    statement_size Break p exits d = omega (arith, both (leave_code exits.in_loop) (instructions.Jump (break_target exits.head) ∷ []), leave_size exits.in_loop)
+    statement_size Continue p exits d = omega (arith, both (leave_code exits.in_loop) (instructions.Jump (continue_target exits.head) ∷ []), leave_size exits.in_loop)
     statement_size (Throw n v) p exits d = throw_size n v p exits d
     statement_size (Try s cs) p exits t =
         let kept = kept_code starts t in
@@ -773,7 +764,7 @@ module _ (starts : Starts) where
           cons over (restored ++ clauses),
           both restored clauses,
           kept_size starts.scopes t,
-          restored_size starts starts.scopes t,
+          restored_size starts.scopes t,
           statement_size s (m + 1) (inside_try exits t) (behind_record starts t),
           clauses_size cs (out + 1 + length restored) out exits t,
         )
@@ -791,7 +782,7 @@ module _ (starts : Starts) where
     items_size (MoreItems (DeclareRegion r n) js) p exits t =
         let front = opened_code starts n t in
         let inner = items_code starts js (p + length front) (inside_region exits t) (t + 1) in
-        omega (arith, both front (inner ++ closed_code starts t), both inner (closed_code starts t), opened_size starts n t, closed_size starts t, items_size js (p + length front) (inside_region exits t) (t + 1))
+        omega (arith, both front (inner ++ closed_code t), both inner (closed_code t), opened_size starts n t, closed_size t, items_size js (p + length front) (inside_region exits t) (t + 1))
     items_size (MoreItems (OpenRegion r n w k) js) p exits t =
         omega (arith, cons (move_of 1 (slot_of starts n) (operands.Slot (slot_of starts k))) (items_code starts js (p + 1) exits t), items_size js (p + 1) exits t)
     items_size (MoreItems (DeclareAlias r n ty w m) js) p exits t =

@@ -34,7 +34,11 @@ use Rattle.cyc_words.proofs.Lists.{all_append}
 use Rattle.cyc_types.specs.Types.{words_of, Ty}
 use Rattle.cyc_store.specs.declared.range.TheConstants.{HEAP, UNIQUE}
 use Rattle.cyc_meaning.specs.Values.{words_of_kind, is_thin, kind_of}
-use Rattle.cyc_lower.specs.Lowering.{begun_code, filled_code, ended_code, elements_code, counter_operand, are_as_wide, converts_there, passed_words, source_of, source_slot, converted_by, moved_by, move_of, operand_of, operand_or, code_unless, slot_or, code_unless_slot, left_with, left_of, value_slot, next_slot, left_slot, value_operand, converted_operand, printed_operand, check_code, conversion_code, divisor_code, checked_code, operator_code, truth_code, load_code, test_code, is_in, copy_code, expression_code, arguments_code, converted_code, converted_operand_code, printed_code, initial_code, assignment_code, operations_code, discarded_code, failing_comparison, compared_or, compared_of, slot_with, first_code, second_code, pair_code, condition_code, condition_of, return_code, declaration_code, statement_code, items_code, first_temporary, initial_word, lower_function, lower_program, behind_left, pointer_code, outside_loops, inside_loop, index_of, first_two, pointer_instructions, stores_code, object_code, made_code, place_operand, place_offset, place_code, address_code, addressed_by, store_address_code, store_code, guard_code, blocks, leave_code, clause_code, caught_code, clauses_code, function_code, right_slot, side_code, read_side, write_side, exchange_code, swap_code, element_by, count_code, span_of, null_of, tested_code, widened_code, conversion_by, tested_by, saved_code, all_passed, bounds_code, stepped_code, bounded_code, thinned_code, reached_code, followed_code, followed_operand, followed_by, span_in, pointer_of, pointer_slot, reached_operand, word_by_word, load_word, store_word, global_code, globals_of, lower_globals, starts_with, raises_of, asked_code, load_at, opened_code, closed_code, named_code, dynamic_code, scopes_code, scopes_code_in, handlers_code, marks_code, kept_code, kept_code_in, restored_code, restored_code_in, behind_record, inside_try, inside_region, scopes_of, scopes_words}
+use Rattle.cyc_lower.specs.ValueCode.{are_as_wide, converts_there, passed_words, converted_by, moved_by, move_of, operand_or, code_unless, slot_or, code_unless_slot, left_with, next_slot, check_code, conversion_code, divisor_code, checked_code, operator_code, truth_code, test_code, is_in, copy_code, failing_comparison, first_temporary, behind_left, pointer_code, index_of, first_two, pointer_instructions, address_code, addressed_by, guard_code, blocks, element_by, count_code, span_of, null_of, tested_code, widened_code, conversion_by, tested_by, all_passed, bounds_code, stepped_code, bounded_code, thinned_code, reached_code, followed_code, followed_operand, followed_by, span_in, reached_operand, word_by_word, load_word, store_word, global_code}
+use Rattle.cyc_lower.specs.ObjectCode.{begun_code, filled_code, ended_code, elements_code, stores_code, object_code, right_slot, saved_code, asked_code, load_at}
+use Rattle.cyc_lower.specs.ControlCode.{counter_operand, compared_or, compared_of, outside_loops, inside_loop, leave_code, clause_code, opened_code, closed_code, named_code, dynamic_code, handlers_code, marks_code, kept_code, kept_code_in, restored_code, restored_code_in, behind_record, inside_try, inside_region}
+use Rattle.cyc_lower.specs.ExpressionCode.{source_of, source_slot, operand_of, left_of, value_slot, left_slot, value_operand, converted_operand, printed_operand, load_code, expression_code, arguments_code, converted_code, converted_operand_code, printed_code, initial_code, operations_code, slot_with, made_code, place_operand, place_offset, place_code, pointer_of, pointer_slot}
+use Rattle.cyc_lower.specs.Lowering.{assignment_code, discarded_code, first_code, second_code, pair_code, condition_code, condition_of, return_code, declaration_code, statement_code, items_code, initial_word, lower_function, lower_program, store_address_code, store_code, caught_code, clauses_code, function_code, side_code, read_side, write_side, exchange_code, swap_code, globals_of, lower_globals, starts_with, raises_of, scopes_of}
 use Rattle.cyc_lower.proofs.slots.Widths.{kind_few, type_words}
 use Rattle.cyc_lower.specs.declared.statements.Opened.{Opened}
 use Rattle.cyc_lower.proofs.acceptance.LowerableLemmas.{all_few}
@@ -579,19 +583,15 @@ module _ (starts : Starts) where
 
   -- ---- regions
 
-  kept_scopes_words : (scopes : Option ℕ) (o : Operand) → IsOfWord o → HaveWords (scopes_code_in scopes o)
-  kept_scopes_words None o word = tt
-  kept_scopes_words (Some global) o word = (word, tt)
-
   named_words : (words n : ℕ) (o : Operand) → IsOfWord o → HaveWords (named_code starts words n o)
   named_words words n o word = move_words words (slot_of starts n) o word
 
   opened_words : (n t : ℕ) → HaveWords (opened_code starts n t)
   opened_words n t =
-      ((tt, tt), (tt, ((tt, omega arith), append (scopes_code starts (operands.Slot (t + 2))) _ (kept_scopes_words starts.scopes (operands.Slot (t + 2)) tt) (named_words 1 n (operands.Slot (t + 1)) tt))))
+      ((tt, tt), (tt, named_words 1 n (operands.Slot (t + 1)) tt))
 
-  closed_words : (m : ℕ) → HaveWords (closed_code starts m)
-  closed_words m = ((tt, tt), kept_scopes_words starts.scopes (operands.Slot m) tt)
+  closed_words : (m : ℕ) → HaveWords (closed_code m)
+  closed_words m = ((tt, tt), tt)
 
   dynamic_words : (n t : ℕ) → HaveWords (dynamic_code starts n t)
   dynamic_words n t = ((tt, tt), named_words 1 n (operands.Slot t) tt)
@@ -602,31 +602,31 @@ module _ (starts : Starts) where
   handlers_words None = tt
   handlers_words (Some first) = (tt, tt)
 
-  marks_words : (mark : Option ℕ) → HaveWords (marks_code starts mark)
+  marks_words : (mark : Option ℕ) → HaveWords (marks_code mark)
   marks_words None = tt
   marks_words (Some m) = closed_words m
 
-  leave_words : (opened : Opened) → HaveWords (leave_code starts opened)
-  leave_words opened = append (handlers_code opened.handler) (marks_code starts opened.mark) (handlers_words opened.handler) (marks_words opened.mark)
+  leave_words : (opened : Opened) → HaveWords (leave_code opened)
+  leave_words opened = append (handlers_code opened.handler) (marks_code opened.mark) (handlers_words opened.handler) (marks_words opened.mark)
 
   kept_words : (scopes : Option ℕ) (t : ℕ) → HaveWords (kept_code_in scopes t)
   kept_words None t = tt
-  kept_words (Some global) t = (tt, tt)
+  kept_words (Some place) t = (tt, tt)
 
-  restored_words : (scopes : Option ℕ) (t : ℕ) → HaveWords (restored_code_in starts scopes t)
+  restored_words : (scopes : Option ℕ) (t : ℕ) → HaveWords (restored_code_in scopes t)
   restored_words None t = tt
-  restored_words (Some global) t = closed_words (t + RECORD_WORDS)
+  restored_words (Some place) t = closed_words (t + RECORD_WORDS)
 
   return_words : (v : Option Converted) (p : ℕ) (exits : Exits) (t : ℕ) → IsOfWordsInitial v → HaveWords (return_code starts v p exits t)
-  return_words None p exits t words = append (leave_code starts exits.in_function) _ (leave_words exits.in_function) (tt, tt)
+  return_words None p exits t words = append (leave_code exits.in_function) _ (leave_words exits.in_function) (tt, tt)
   return_words (Some (Convert from to a)) p exits t words =
       let known = source_of starts (Convert from to a) in
       let inner = expression_code starts a p t t in
       let front = code_unless_slot known inner in
       let s = slot_or known t in
       let conversion = conversion_code starts from to (span_of a) (operands.Slot s) (p + length front) in
-      append ((front ++ conversion) ++ leave_code starts exits.in_function) _
-      (append (front ++ conversion) (leave_code starts exits.in_function)
+      append ((front ++ conversion) ++ leave_code exits.in_function) _
+      (append (front ++ conversion) (leave_code exits.in_function)
       (append front conversion (unless_slot_words known inner (expression_words starts a p t t words)) (conversion_words starts from to (span_of a) (operands.Slot s) (p + length front) tt)) (leave_words exits.in_function))
       (tt, tt)
 
@@ -700,8 +700,8 @@ module _ (starts : Starts) where
         let body = statement_code starts s (m + 1) (inside_loop p exits) t in
         (tt, (tt, append (condition ++ _ ∷ body) _ (append condition (_ ∷ body) (condition_words a (p + 2) t first) (condition_word a t first, statement_words s (m + 1) (inside_loop p exits) t second)) (tt, tt)))
     statement_words (Return v) p exits t words = return_words v p exits t words
-    statement_words Break p exits t words = append (leave_code starts exits.in_loop) _ (leave_words exits.in_loop) (tt, tt)
-    statement_words Continue p exits t words = append (leave_code starts exits.in_loop) _ (leave_words exits.in_loop) (tt, tt)
+    statement_words Break p exits t words = append (leave_code exits.in_loop) _ (leave_words exits.in_loop) (tt, tt)
+    statement_words Continue p exits t words = append (leave_code exits.in_loop) _ (leave_words exits.in_loop) (tt, tt)
     statement_words (Throw tag v) p exits t words = throw_words tag v p exits t words
     statement_words (Try s cs) p exits t (first, rest) =
         let kept = kept_code starts t in
@@ -728,7 +728,7 @@ module _ (starts : Starts) where
     items_words (MoreItems (DeclareRegion r n) js) p exits t words =
         let front = opened_code starts n t in
         let inner = items_code starts js (p + length front) (inside_region exits t) (t + 1) in
-        append front (inner ++ closed_code starts t) (opened_words n t) (append inner (closed_code starts t) (items_words js (p + length front) (inside_region exits t) (t + 1) words) (closed_words t))
+        append front (inner ++ closed_code t) (opened_words n t) (append inner (closed_code t) (items_words js (p + length front) (inside_region exits t) (t + 1) words) (closed_words t))
     items_words (MoreItems (OpenRegion r n w k) js) p exits t words =
         let key = operands.Slot (slot_of starts k) in
         append (named_code starts 1 n key) (items_code starts js (p + 1) exits t) (named_words 1 n key tt) (items_words js (p + 1) exits t words)
@@ -778,15 +778,10 @@ globals_words : (gs : List GlobalVariable) → AreOfWordsGlobals gs → AllByRec
 globals_words [] words = tt
 globals_words (g ∷ gs) (first, rest) = (constant_word g.value first, zeros_words (words_of g.of_type - 1) (lower_globals gs) (globals_words gs rest))
 
--- how many lexical regions are open at the start
-scopes_word : (scopes : Option ℕ) → AllByRecursion IsWord (scopes_words scopes)
-scopes_word None = tt
-scopes_word (Some global) = (omega arith, tt)
-
 pub has_words : (source : Program) → IsOfWordsProgram source → HasWords (lower_program source)
 has_words source words =
     let scopes = scopes_of source in
     record {
       functions = All-from_recursion (λ r. All HasWord r.code) (map (lower_function source.structs (globals_of source) scopes) source.functions) (functions_words source.structs (globals_of source) scopes source.functions words.functions);
-      globals = All-from_recursion IsWord (lower_globals source.globals ++ scopes_words scopes) (all_append IsWord (lower_globals source.globals) (scopes_words scopes) (globals_words source.globals words.globals) (scopes_word scopes));
+      globals = All-from_recursion IsWord (lower_globals source.globals) (globals_words source.globals words.globals);
     }

@@ -8,7 +8,8 @@ use Rattle.cyc_types.specs.TypedTrees.{GlobalVariable}
 use Rattle.cyc_types.specs.TypedTreeView.{view_global}
 use Rattle.cyc_meaning.specs.FrameCount.{words_of_all}
 use Rattle.cyc_lower.specs.Slots.{global_types, starts_from}
-use Rattle.cyc_lower.specs.Lowering.{initial_word, lower_global, lower_globals, address_of_global}
+use Rattle.cyc_lower.specs.ValueCode.{address_of_global}
+use Rattle.cyc_lower.specs.Lowering.{initial_word, lower_global, lower_globals}
 use Rattle.cyc_plain.specs.declared.limits.TheConstants.{GLOBALS_BASE, MOST_GLOBALS}
 
 -- those from one on

@@ -1,7 +1,7 @@
 -- The slots of locals are apart, in their order, and none is left out.
 use Rattle.std.specs.Prelude.{unwrap_or, ◌-◌}
-use Rattle.std.proofs.Common.{◌≡◌, ◌≢◌, ◌⊎◌, ℕ, zero, suc, ◌+◌, ◌≤◌, ◌<◌, List, [], ◌∷◌, ◌++◌, length, Bool, true, false, Option, Some, slice_get, refl, sym, ap, ◌∙◌, arith, inl, inr, length-append, append_assoc, None}
-use Rattle.std.specs.List.{AllByRecursion, list_any}
+use Rattle.std.proofs.Common.{◌≡◌, ◌≢◌, ◌⊎◌, ℕ, zero, suc, ◌+◌, ◌≤◌, ◌<◌, List, [], ◌∷◌, ◌++◌, length, Option, Some, slice_get, refl, sym, ap, ◌∙◌, arith, inl, inr, length-append, append_assoc, None}
+use Rattle.std.specs.List.{AllByRecursion}
 use Rattle.std.proofs.lemmas.List.{length-replicate}
 use Rattle.std.proofs.lemmas.Option.{same_Some, none-some}
 use Rattle.std.proofs.lemmas.Bool.{cases_lt}
@@ -10,10 +10,11 @@ use Rattle.cyc_syntax.specs.declared.tree.PointerKind.TheVariants.{Nullable, Non
 use Rattle.cyc_types.specs.declared.typed.Kind.{Kind}
 use Rattle.cyc_types.specs.Types.{Ty, words_of, words_of_mark}
 use Rattle.cyc_types.specs.Types as types
-use Rattle.cyc_types.specs.TypedTrees.{StructType, Function, GlobalVariable, Program}
+use Rattle.cyc_types.specs.TypedTrees.{StructType, Function, GlobalVariable}
 use Rattle.cyc_meaning.specs.FrameCount.{words_of_all}
 use Rattle.cyc_lower.specs.Slots.{global_types, slot_in, starts_from, Types, starts_of, slot_of, global_of}
-use Rattle.cyc_lower.specs.Lowering.{slot_types, first_temporary, lower_global, lower_globals, may_open, scopes_if, scopes_of}
+use Rattle.cyc_lower.specs.ValueCode.{slot_types, first_temporary}
+use Rattle.cyc_lower.specs.Lowering.{lower_global, lower_globals}
 use Rattle.cyc_lower.proofs.slots.Widths.{kind_positive, words_in, HasRoom, HasGlobal}
 
 -- ---- words
@@ -168,14 +169,6 @@ global-inside ts n kind room = room-inside (as_locals ts) n kind room
 pub globals_counted : (gs : List GlobalVariable) → words_of_all (global_types gs) ≡ length (lower_globals gs)
 globals_counted [] = refl
 globals_counted (g ∷ gs) = omega (arith, length-append (lower_global g) (lower_globals gs), length-replicate {A = ℕ} (words_of g.of_type - 1) 0, words_positive g.of_type, globals_counted gs)
-
--- the word that tells how many lexical regions are open is behind them
-pub scopes_behind : (source : Program) (place : ℕ) → scopes_of source ≡ Some place → words_of_all (global_types source.globals) ≡ place
-scopes_behind source place is = by (list_any may_open source.functions) is
-  where
-    by : (b : Bool) → scopes_if b (length (lower_globals source.globals)) ≡ Some place → words_of_all (global_types source.globals) ≡ place
-    by true some = globals_counted source.globals ∙ same_Some (length (lower_globals source.globals)) place some
-    by false none = absurd (none-some place none)
 
 -- ---- parameters
 

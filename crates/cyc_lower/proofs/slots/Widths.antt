@@ -13,7 +13,7 @@ use Rattle.cyc_types.specs.TypedTrees.{Load, type_of_place, Expression, NullPoin
 use Rattle.cyc_meaning.specs.Pointers.{result_kind as operator_kind}
 use Rattle.cyc_meaning.specs.Values.{kind_of, number_of_kind, is_kind, words_of_kind, are_kinds}
 use Rattle.cyc_lower.specs.Slots.{Types}
-use Rattle.cyc_lower.specs.Lowering.{words_behind}
+use Rattle.cyc_lower.specs.ValueCode.{words_behind}
 
 -- ---- kinds and their words
 

@@ -38,12 +38,16 @@ use Rattle.cyc_lower.proofs.place_steps.PlaceWords.{field_bytes, add_is}
 use Rattle.cyc_lower.proofs.slots.Slots.{slot-room, slot-low, words-there, words_positive}
 use Rattle.cyc_lower.proofs.slots.Widths.{kind_positive, type_words, made_kind, HasRoom, Outside}
 use Rattle.cyc_lower.proofs.relation.Moves.{moved_slots, moves, put_elsewhere, moved_elsewhere, moved_is}
-use Rattle.cyc_lower.specs.Lowering.{counter_operand, failing_comparison, operand_of, value_slot, source_of, source_slot, are_as_wide, converts_there, all_passed, move_of, left_with, slot_with, compared_or, compared_of, lower_program, null_of, followed_operand, span_in, operand_or, reached_operand, pointer_of, load_word, address_of_global}
+use Rattle.cyc_lower.specs.ValueCode.{failing_comparison, are_as_wide, converts_there, all_passed, move_of, left_with, null_of, followed_operand, span_in, operand_or, reached_operand, load_word, address_of_global}
+use Rattle.cyc_lower.specs.ControlCode.{counter_operand, compared_or, compared_of}
+use Rattle.cyc_lower.specs.ExpressionCode.{operand_of, value_slot, source_of, source_slot, slot_with, pointer_of}
+use Rattle.cyc_lower.specs.Lowering.{lower_program}
 use Rattle.cyc_lower.proofs.relation.Weights.{weight, stack_weight, expression_weight, arguments_weight, object_weight}
 use Rattle.cyc_lower.proofs.relation.Stands.{CopyBy, CopyAt, OperandBy, InitialBy, ExpressionAt, ArgumentsAt, ObjectAt, MadeAt, ValueAt, PairAt, ConditionAt, AssignmentAt, PrintedAt, DiscardedAt, StoredAt, LoadedAt, ReturnedAt, ReachedAt, EachAt}
 use Rattle.cyc_objects.specs.Tables.{Tables}
 use Rattle.cyc_objects.specs.Words.{Is, Points}
-use Rattle.cyc_lower.proofs.relation.Relation.{counters_of, types_on, starts_on, IsIn, types_at, starts_at, given_at, called_at, words_held, height, Holds, held, kept, contents, in_temporary, in_local, drops, leaves, copies, prints_only, gives_byte, DataIn, SharedAt, CallAt, to_slot, to_jump, ValueStack, PlaceStack, ConditionStack, DroppedStack, AheadStack, LandsStack, LandsMade, HandsOnStack, PrintsStack, RightAt, EvaluatingAt, as_operand, into_slot, for_effect, as_right, as_condition, in_operand, ahead, with_left, Related, Matches, code_of, bounds_at, top, IsHandleOf, floor, IsLow, callers}
+use Rattle.cyc_lower.proofs.relation.HeldValues.{counters_of, IsIn, words_held, height, Holds, held, kept, contents, IsHandleOf, IsLow, callers}
+use Rattle.cyc_lower.proofs.relation.Relation.{types_on, starts_on, types_at, starts_at, given_at, called_at, in_temporary, in_local, drops, leaves, copies, prints_only, gives_byte, DataIn, SharedAt, CallAt, to_slot, to_jump, ValueStack, PlaceStack, ConditionStack, DroppedStack, AheadStack, LandsStack, LandsMade, HandsOnStack, PrintsStack, RightAt, EvaluatingAt, as_operand, into_slot, for_effect, as_right, as_condition, in_operand, ahead, with_left, Related, Matches, code_of, bounds_at, top, floor}
 use Rattle.cyc_lower.proofs.object_steps.Handles.{kept_holds, kept_low}
 use Rattle.cyc_lower.proofs.relation.Data.{height-least, Holds-same, Holds-above, floor-least, data_written}
 use Rattle.cyc_types.specs.Numbered.{Numbering}

@@ -14,10 +14,12 @@ use Rattle.cyc_meaning.specs.State.{World, Environment, Entry, Focus, State, Run
 use Rattle.cyc_meaning.specs.Step.{step}
 use Rattle.cyc_objects.specs.Tables.{Tables}
 use Rattle.cyc_objects.specs.Words.{Is}
-use Rattle.cyc_lower.specs.Lowering.{lower_program, load_word, store_word}
+use Rattle.cyc_lower.specs.ValueCode.{load_word, store_word}
+use Rattle.cyc_lower.specs.Lowering.{lower_program}
 use Rattle.cyc_lower.proofs.slots.Widths.{Outside}
 use Rattle.cyc_lower.proofs.relation.Stands.{EachAt, GlobalAt}
-use Rattle.cyc_lower.proofs.relation.Relation.{IsIn, SharedAt, Matches, code_of}
+use Rattle.cyc_lower.proofs.relation.HeldValues.{IsIn}
+use Rattle.cyc_lower.proofs.relation.Relation.{SharedAt, Matches, code_of}
 use Rattle.cyc_lower.proofs.relation.Data.{Is-same, IsWord-is}
 use Rattle.cyc_lower.proofs.relation.Moves.{put_elsewhere}
 use Rattle.cyc_lower.proofs.relation.Matched.{IsMatched}

@@ -1,4 +1,4 @@
-use Rattle.std.proofs.Common.{sym, arith, true, false, inl, inr}
+use Rattle.std.proofs.Common.{ℕ, ◌+◌, ◌∙◌, sym, ap, arith, true, false, inl, inr}
 use Rattle.cyc_asm.proofs.Tables.{length-most_of_each, most_low, formed_here, width_here, near_here, width_of_branch}
 use Rattle.cyc_asm.proofs.layout.width_at.Goals as goal
 
@@ -24,22 +24,26 @@ returns-in-Ordinary c = sym (width_here c.args.lines.now c.args.number _ _ c.req
 pub returns-then-is_near : goal.returns-then-is_near
 returns-then-is_near c =
     let label = formed_here c.args.lines.now c.args.number _ _ c.requires.formed c.requires.within c.in-Branch.is in
-    sym (
+    ap (λ (n : ℕ). n + 1) c.head_width.ensures
+    ∙ sym (
     width_of_branch c.args.lines.now c.args.number _ _ _ true c.requires.within c.in-Branch.is
     (near_here c.args.lines.now c.args.most.now c.args.number c.in-Branch.label c.is_near.result true c.requires.most c.requires.within label c.is_near.ensures c.if-is_near.true))
 
 pub returns-else-is_near : goal.returns-else-is_near
 returns-else-is_near c =
     let label = formed_here c.args.lines.now c.args.number _ _ c.requires.formed c.requires.within c.in-Branch.is in
-    sym (
+    ap (λ (n : ℕ). n + 3) c.head_width-else-is_near.ensures
+    ∙ sym (
     width_of_branch c.args.lines.now c.args.number _ _ _ false c.requires.within c.in-Branch.is
     (near_here c.args.lines.now c.args.most.now c.args.number c.in-Branch.label c.is_near.result false c.requires.most c.requires.within label c.is_near.ensures c.if-is_near.false))
 
 pub returns-in-Jump : goal.returns-in-Jump
-returns-in-Jump c = elim c.in-Jump.is [
-  | inl jump ↦ sym (width_here c.args.lines.now c.args.number _ _ c.requires.within jump.1)
-  | inr others ↦ elim others [
-    | inl call ↦ sym (width_here c.args.lines.now c.args.number _ _ c.requires.within call.1)
-    | inr return ↦ sym (width_here c.args.lines.now c.args.number _ _ c.requires.within return)
-  ]
-]
+returns-in-Jump c =
+    ap (λ (n : ℕ). n + 1) c.head_width-in-Jump.ensures
+    ∙ elim c.in-Jump.is [
+      | inl jump ↦ sym (width_here c.args.lines.now c.args.number _ _ c.requires.within jump.1)
+      | inr others ↦ elim others [
+        | inl call ↦ sym (width_here c.args.lines.now c.args.number _ _ c.requires.within call.1)
+        | inr return ↦ sym (width_here c.args.lines.now c.args.number _ _ c.requires.within return)
+      ]
+    ]

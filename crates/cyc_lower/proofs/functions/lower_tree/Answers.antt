@@ -1,4 +1,4 @@
-use Rattle.std.proofs.Common.{◌≡◌, ℕ, List, ◌++◌, length, Option, ◌∙◌, ap, map, subst, sym, arith}
+use Rattle.std.proofs.Common.{◌≡◌, ℕ, List, Option, ◌∙◌, ap, map, subst, sym, arith}
 use Rattle.std.specs.List.{list_any}
 use Rattle.cyc_types.specs.declared.typed.Function.{Function}
 use Rattle.cyc_types.specs.declared.typed.Global.{Global}
@@ -8,7 +8,7 @@ use Rattle.cyc_plain.specs.Program.{program_of, routine_of}
 use Rattle.cyc_plain.specs.WellFormed.{IsPlain}
 use Rattle.cyc_meaning.specs.FrameCount.{words_of_all}
 use Rattle.cyc_lower.specs.Slots.{starts_from, global_types}
-use Rattle.cyc_lower.specs.Lowering.{lower_function, lower_globals, globals_of, lower_program, may_open, scopes_if, scopes_of, scopes_words}
+use Rattle.cyc_lower.specs.Lowering.{lower_function, lower_globals, globals_of, lower_program, may_open, scopes_if, scopes_of}
 use Rattle.cyc_lower.proofs.sizes.Lowerings.{is_plain}
 use Rattle.cyc_lower.proofs.functions.lower_tree.Goals as goal
 
@@ -23,20 +23,14 @@ new-requires c =
     let starts : c.in_ok-starts.starts.items ≡ globals_of source = c.in_ok-starts.ensures ∙ ap (λ (gs : List Global). starts_from 0 (global_types (map view_global gs))) c.deref.ensures.value in
     let words : c.in_ok-globals.globals.items ≡ lower_globals source.globals
     = c.in_ok-globals.ensures ∙ ap (λ (gs : List Global). lower_globals (map view_global gs)) c.deref-2.ensures.value in
-    let scopes : c.in_ok-scopes.scopes ≡ scopes_of source
-    = c.in_ok-scopes.ensures.0
-    ∙ ap (λ (fs : List Function). scopes_if (list_any may_open (map view_function fs)) (length c.in_ok-globals.globals.items)) c.deref-3.ensures.value
-    ∙ ap (λ (ws : List ℕ). scopes_if (list_any may_open source.functions) (length ws)) words in
+    let scopes : c.scopes_of-scopes.result ≡ scopes_of source
+    = c.scopes_of-scopes.ensures ∙ ap (λ (fs : List Function). scopes_if (list_any may_open (map view_function fs))) c.deref-3.ensures.value in
     let functions : map routine_of c.in_ok-functions.functions.items ≡ map (lower_function source.structs (globals_of source) (scopes_of source)) source.functions
     = c.in_ok-functions.ensures
-    ∙ ap (λ (ss : List StructType). map (lower_function (map view_struct ss) c.deref-5.result.now c.in_ok-scopes.scopes) (map view_function c.deref-6.result.now)) c.deref-4.ensures.value
-    ∙ ap (λ (l : List ℕ). map (lower_function source.structs l c.in_ok-scopes.scopes) (map view_function c.deref-6.result.now)) (c.deref-5.ensures.value ∙ starts)
+    ∙ ap (λ (ss : List StructType). map (lower_function (map view_struct ss) c.deref-5.result.now c.scopes_of-scopes.result) (map view_function c.deref-6.result.now)) c.deref-4.ensures.value
+    ∙ ap (λ (l : List ℕ). map (lower_function source.structs l c.scopes_of-scopes.result) (map view_function c.deref-6.result.now)) (c.deref-5.ensures.value ∙ starts)
     ∙ ap (λ (o : Option ℕ). map (lower_function source.structs (globals_of source) o) (map view_function c.deref-6.result.now)) scopes
     ∙ ap (λ (fs : List Function). map (lower_function source.structs (globals_of source) (scopes_of source)) (map view_function fs)) c.deref-6.ensures.value in
-    let globals : c.add_scopes.new.globals.items ≡ lower_globals source.globals ++ scopes_words (scopes_of source)
-    = c.in_ok-scopes.ensures.1
-    ∙ ap (λ (ws : List ℕ). ws ++ scopes_words c.in_ok-scopes.scopes) words
-    ∙ ap (λ (o : Option ℕ). lower_globals source.globals ++ scopes_words o) scopes in
-    let same : program_of c.in_ok-functions.functions.items c.add_scopes.new.globals.items c.args.tree.now.main ≡ lower_program source
-    = λ i. record { functions = functions i; globals = globals i; main = source.main } in
+    let same : program_of c.in_ok-functions.functions.items c.in_ok-globals.globals.items c.args.tree.now.main ≡ lower_program source
+    = λ i. record { functions = functions i; globals = words i; main = source.main } in
     subst IsPlain (sym same) (is_plain source c.requires.well_typed c.requires.can_be c.requires.small)

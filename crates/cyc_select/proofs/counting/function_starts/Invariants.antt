@@ -9,7 +9,7 @@ use Rattle.cyc_select.proofs.counting.function_starts.Given as goal
 abbrev pub invariant-loop-function : goal.invariant-loop-function
 invariant-loop-function l =
     (length l.starts.items ≡ l.function-index)
-    × (l.starts.items ++ function_starts l.plain l.function-index l.here (map routine_of (drop l.function-index l.function-items))
-    ≡ function_starts l.plain 0 START_LINES l.plain.functions)
+    × (l.starts.items ++ function_starts l.plain l.frames l.function-index l.here (map routine_of (drop l.function-index l.function-items))
+    ≡ function_starts l.plain l.frames 0 START_LINES l.plain.functions)
     × (l.here + sum_by size (map routine_of (drop l.function-index l.function-items)) ≤ most_lines)
     × (map routine_of l.function-items ≡ l.plain.functions) × (START_LINES ≤ l.here)

@@ -9,7 +9,8 @@ use Rattle.cyc_types.specs.TypedTreeView.{view_expression, view_statement, items
 use Rattle.cyc_meaning.specs.FrameCount.{kept_by_items, kept_by_clauses}
 use Rattle.cyc_plain.specs.declared.instruction.Instruction.{Instruction}
 use Rattle.cyc_plain.specs.declared.instruction.Instruction.TheVariants.{Jump, Leave}
-use Rattle.cyc_lower.specs.Lowering.{items_code, other_jump, statement_code, inside_try}
+use Rattle.cyc_lower.specs.ControlCode.{other_jump, inside_try}
+use Rattle.cyc_lower.specs.Lowering.{items_code, statement_code}
 use Rattle.cyc_lower.specs.declared.statements.Exits.{Exits}
 use Rattle.cyc_lower.specs.declared.statements.Opened.{Opened}
 use Rattle.cyc_lower.specs.Emission.{view_starts}
@@ -104,10 +105,10 @@ lower_items-loop-behind-init t c =
 
 pub lower_items-loop-behind-preserved : goal.lower_items-loop-behind-preserved
 lower_items-loop-behind-preserved t c =
-    closes_next (view_starts c.args.starts.now) _ c.loop-behind.self.code.items c.close_lexical.new.self.code.items c.args.free c.loop-behind.behind _ c.loop-behind-test.true refl c.in_ok-close_lexical.ensures c.loop-behind.invariant
+    closes_next _ c.loop-behind.self.code.items c.close_lexical.new.self.code.items c.args.free c.loop-behind.behind _ c.loop-behind-test.true refl c.in_ok-close_lexical.ensures c.loop-behind.invariant
 
 pub lower_items-returns : goal.lower_items-returns
-lower_items-returns t c = closes_end (view_starts c.args.starts.now) _ c.loop-behind.self.code.items c.args.free c.loop-behind.behind c.loop-behind-test.false c.loop-behind.invariant
+lower_items-returns t c = closes_end _ c.loop-behind.self.code.items c.args.free c.loop-behind.behind c.loop-behind-test.false c.loop-behind.invariant
 
 pub lower_statement-lower_statement-requires-in-Try : goal.lower_statement-lower_statement-requires-in-Try
 lower_statement-lower_statement-requires-in-Try t c =

@@ -17,7 +17,7 @@ decreases-lower_items-loop-behind l = l.behind
 
 abbrev pub invariant-lower_items-loop-behind : goal.invariant-lower_items-loop-behind
 invariant-lower_items-loop-behind l =
-    ClosesLeft (view_starts l.starts) (l.fn.self.code.items ++ items_code (view_starts l.starts) (items_of l.items) (length l.fn.self.code.items) l.fn.exits l.free) l.self.code.items l.free l.behind
+    ClosesLeft (l.fn.self.code.items ++ items_code (view_starts l.starts) (items_of l.items) (length l.fn.self.code.items) l.fn.exits l.free) l.self.code.items l.free l.behind
 
 abbrev pub invariant-lower_clauses-loop-clause : goal.invariant-lower_clauses-loop-clause
 invariant-lower_clauses-loop-clause l =

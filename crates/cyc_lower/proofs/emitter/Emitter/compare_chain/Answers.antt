@@ -3,7 +3,7 @@ use Rattle.std.proofs.lemmas.Result.{IfOk-weaker}
 use Rattle.cyc_types.specs.TypedTrees.{Expression}
 use Rattle.cyc_types.specs.TypedTreeView.{view_expression}
 use Rattle.cyc_plain.specs.declared.instruction.Comparison.TheVariants as comparisons
-use Rattle.cyc_lower.specs.Lowering.{with_zero, compared_of}
+use Rattle.cyc_lower.specs.ControlCode.{with_zero, compared_of}
 use Rattle.cyc_lower.specs.Emission.{view_starts}
 use Rattle.cyc_lower.proofs.emission.Conditions.{not_single, made_alone, room_for_first, made_compared}
 use Rattle.cyc_lower.proofs.emitter.Emitter.compare_chain.Goals as goal

@@ -1,5 +1,5 @@
 use Rattle.std.proofs.Common.{◌≡◌, ℕ, ◌+◌, [], ◌∷◌, ◌++◌, ap, ◌∙◌, arith}
-use Rattle.cyc_lower.specs.Lowering.{load_at}
+use Rattle.cyc_lower.specs.ObjectCode.{load_at}
 use Rattle.cyc_lower.proofs.emission.Emitting.{words_begin, words_next, words_end}
 use Rattle.cyc_lower.proofs.emitter.Emitter.load_words.Goals as goal
 

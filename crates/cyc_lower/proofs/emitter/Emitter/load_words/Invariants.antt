@@ -1,4 +1,4 @@
-use Rattle.cyc_lower.specs.Lowering.{load_at}
+use Rattle.cyc_lower.specs.ObjectCode.{load_at}
 use Rattle.cyc_lower.proofs.emission.Emitting.{WordsLeft}
 use Rattle.cyc_lower.proofs.emitter.Emitter.load_words.Given as goal
 

@@ -5,6 +5,6 @@ use Rattle.cyc_select.proofs.emitter.Emitter.arguments.Goals as goal
 
 pub loop-slot-preserved : goal.loop-slot-preserved
 loop-slot-preserved c =
-    copied c.args.caller c.args.callee c.args.source c.loop-slot.slot c.args.count
-    (c.args.self.now.lines.items ++ ordinary (copies c.args.caller c.args.callee c.args.source 0 c.args.count))
+    copied c.args.caller.now c.args.callee.now c.args.source c.loop-slot.slot c.args.count
+    (c.args.self.now.lines.items ++ ordinary (copies c.args.caller.now c.args.callee.now c.args.source 0 c.args.count))
     c.loop-slot.self.lines.items c.argument.new.self.lines.items c.loop-slot-test.true c.in_ok-argument.ensures c.loop-slot.invariant

@@ -11,14 +11,14 @@ branch_where-requires c =
     let r : Routine = routine_at program c.args.tables.now.function in
     let in_range = subst (IsInRange program r) c.in-Branch.is c.requires.in_range in
     let reached = c.frame-frame.ensures.slots in
-    subst (IsTestFound c.frame-frame.result) (sym c.test_of.ensures)
-    (test_found c.frame-frame.result c.in-Branch.comparison c.in-Branch.left c.in-Branch.right
-    (operand_found c.frame-frame.result r c.in-Branch.left reached in_range.0)
-    (operand_found c.frame-frame.result r c.in-Branch.right reached in_range.1))
+    subst (IsTestFound c.frame-frame.result.now) (sym c.test_of.ensures)
+    (test_found c.frame-frame.result.now c.in-Branch.comparison c.in-Branch.left c.in-Branch.right
+    (operand_found c.frame-frame.result.now r c.in-Branch.left reached in_range.0)
+    (operand_found c.frame-frame.result.now r c.in-Branch.right reached in_range.1))
 
 pub ask-requires : goal.ask-requires
 ask-requires c =
     let program = c.args.tables.now.plain.now in
     let r : Routine = routine_at program c.args.tables.now.function in
-    request_found c.frame-frame.result r c.in-Ask.request c.frame-frame.ensures.slots
+    request_found c.frame-frame.result.now r c.in-Ask.request c.frame-frame.ensures.slots
     (subst (IsInRange program r) c.in-Ask.is c.requires.in_range)

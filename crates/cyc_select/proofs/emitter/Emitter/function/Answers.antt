@@ -33,6 +33,7 @@ instruction_lines-requires-clause-fits c =
 pub code-requires-clause-known : goal.code-requires-clause-known
 code-requires-clause-known c =
     let program = c.args.program.now.plain.now in
+    let frames = c.args.program.now.frames.now in
     let same : c.deref.result.now ≡ (routine_at program c.args.function).code = c.deref.ensures.value ∙ ap (λ (r : Routine). r.code) c.function-routine.ensures in
     record {
       ready = c.requires.ready;
@@ -40,6 +41,6 @@ code-requires-clause-known c =
       lines_are =
           c.deref-2.ensures.value
           ∙ c.in_ok-lines.ensures
-          ∙ ap (λ (n : ℕ). instruction_lines program c.args.function n c.deref.result.now) (ready_start c.requires.ready c.args.function c.requires.function)
-          ∙ ap (λ (code : List Instruction). instruction_lines program c.args.function (function_line program c.args.function) code) same;
+          ∙ ap (λ (n : ℕ). instruction_lines program frames c.args.function n c.deref.result.now) (ready_start c.requires.ready c.args.function c.requires.function)
+          ∙ ap (λ (code : List Instruction). instruction_lines program frames c.args.function (function_line program frames c.args.function) code) same;
     }

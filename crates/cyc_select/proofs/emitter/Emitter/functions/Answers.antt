@@ -15,7 +15,7 @@ loop-function-preserved c =
     let below : k < length program.functions = omega (arith, length-map c.functions-count.result.now routine_of, ap length c.functions-count.ensures.value, c.loop-function-test.true) in
     goes_on (c.args.self.now.lines.items ++ function_lines program frames 0 START_LINES program.functions)
     c.loop-function.self.lines.items c.function.new.self.lines.items
-    (code_lines program frames k (function_line program k) (routine_at program k).code)
-    (function_lines program frames (k + 1) (function_line program (k + 1)) (drop (k + 1) program.functions))
-    (function_lines program frames k (function_line program k) (drop k program.functions))
+    (code_lines program frames k (function_line program frames k) (routine_at program k).code)
+    (function_lines program frames (k + 1) (function_line program frames (k + 1)) (drop (k + 1) program.functions))
+    (function_lines program frames k (function_line program frames k) (drop k program.functions))
     c.in_ok-function.ensures (functions_next program frames k below) c.loop-function.invariant

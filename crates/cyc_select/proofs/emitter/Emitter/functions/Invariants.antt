@@ -7,6 +7,6 @@ use Rattle.cyc_select.proofs.emitter.Emitter.functions.Given as goal
 abbrev pub invariant-loop-function : goal.invariant-loop-function
 invariant-loop-function l =
     l.self.lines.items
-    ++ function_lines l.program.plain.now l.program.frames.now l.function (function_line l.program.plain.now l.function) (drop l.function l.program.plain.now.functions)
+    ++ function_lines l.program.plain.now l.program.frames.now l.function (function_line l.program.plain.now l.program.frames.now l.function) (drop l.function l.program.plain.now.functions)
     ≡ l.fn.self.lines.items
     ++ function_lines l.program.plain.now l.program.frames.now 0 START_LINES l.program.plain.now.functions

@@ -1,24 +1,31 @@
-use Rattle.std.proofs.Common.{◌<◌, length, arith, rules}
+use Rattle.std.proofs.Common.{◌<◌, ◌≤◌, length, sym, subst}
 use Rattle.cyc_plain.specs.Program.{routine_at}
+use Rattle.cyc_frame.specs.Frame.{Frame}
 use Rattle.cyc_frame.specs.Layout.{frame_at}
-use Rattle.cyc_select.proofs.Numbering.{words_small, slots_reached}
+use Rattle.cyc_frame.specs.declared.frame.TheConstants.{MOST_FRAME_WORDS}
+use Rattle.cyc_select.specs.Emission.{AreReached}
+use Rattle.cyc_select.proofs.Numbering.{words_small, slots_reached, homes_reached}
 use Rattle.cyc_select.proofs.tables.Tables.frame.Goals as goal
-
-pub offset_bounds-self-function : goal.offset_bounds-self-function
-offset_bounds-self-function c =
-    let inside : c.args.function < length c.args.self.now.frames.now = omega (arith, c.requires.function, c.requires.known.ready.fit.as_many) in
-    search rules
-
-pub bounds-self-function : goal.bounds-self-function
-bounds-self-function c = omega (arith, c.requires.function, c.requires.known.ready.fit.as_many)
 
 pub returns-clause-words : goal.returns-clause-words
 returns-clause-words c =
-    words_small (routine_at c.args.self.now.plain.now c.args.function) (frame_at c.args.self.now.frames.now c.args.function) (c.requires.known.ready.fit.each c.args.function c.requires.function)
+    subst (λ (f : Frame). f.words ≤ MOST_FRAME_WORDS) (sym c.frame_in.ensures.value)
+    (words_small (routine_at c.args.self.now.plain.now c.args.function) (frame_at c.args.self.now.frames.now c.args.function) (c.requires.known.ready.fit.each c.args.function c.requires.function))
 
 pub returns-clause-return_address : goal.returns-clause-return_address
-returns-clause-return_address c = (c.requires.known.ready.fit.each c.args.function c.requires.function).return_inside
+returns-clause-return_address c =
+    subst (λ (f : Frame). f.return_address < f.words) (sym c.frame_in.ensures.value) (c.requires.known.ready.fit.each c.args.function c.requires.function).return_inside
 
 pub returns-clause-slots : goal.returns-clause-slots
 returns-clause-slots c =
-    slots_reached (routine_at c.args.self.now.plain.now c.args.function) (frame_at c.args.self.now.frames.now c.args.function) (c.requires.known.ready.fit.each c.args.function c.requires.function)
+    subst (λ (f : Frame). AreReached f 0 (routine_at c.args.self.now.plain.now c.args.function).slots) (sym c.frame_in.ensures.value)
+    (slots_reached (routine_at c.args.self.now.plain.now c.args.function) (frame_at c.args.self.now.frames.now c.args.function) (c.requires.known.ready.fit.each c.args.function c.requires.function))
+
+pub returns-clause-homes : goal.returns-clause-homes
+returns-clause-homes c =
+    subst (λ (f : Frame). AreReached f 0 (length f.homes)) (sym c.frame_in.ensures.value)
+    (homes_reached c.args.self.now.plain.now (routine_at c.args.self.now.plain.now c.args.function) (frame_at c.args.self.now.frames.now c.args.function)
+    (c.requires.known.ready.fit.each c.args.function c.requires.function) (c.requires.known.ready.fit.homes c.args.function c.requires.function))
+
+pub returns-clause-few : goal.returns-clause-few
+returns-clause-few c = c.frame_in.ensures.few

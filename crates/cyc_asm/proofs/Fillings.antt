@@ -1,0 +1,168 @@
+-- Laws of the slots that are filled.
+use Rattle.std.proofs.Common.{◌≡◌, ◌≢◌, ℕ, zero, suc, ◌+◌, ◌<◌, List, [], ◌∷◌, length, get_or, take, Bool, true, false, cond, not, nat_eq, Option, None, Some, refl, sym, ap, subst, ◌∙◌, arith, inl, inr, eq-eqb}
+use Rattle.std.specs.Prelude.{◌⊎◌, ◌||◌, ◌&&◌, slice_get, slice_set}
+use Rattle.std.proofs.lemmas.Bool.{cases_eq, ne_eqb}
+use Rattle.std.proofs.lemmas.List.{get_or-set_same, get_or-set_other, length-set}
+use Rattle.std.proofs.lemmas.List.Folds.{list_any_at, list_any_more}
+use Rattle.std.proofs.lemmas.Option.{slice_get_within, get_or_from_slice_get}
+use Rattle.cyc_isa.specs.declared.instr.Instr.{Instr}
+use Rattle.cyc_select.specs.declared.code.Line.{Line}
+use Rattle.cyc_select.specs.declared.code.Line.TheVariants as lines
+use Rattle.cyc_asm.specs.Slots.{is_movable, moves, label_of, is_label, is_named, moved, filling, AreNamed}
+
+-- a line that is a branch or a jump
+abbrev pub is_jump : Line → Bool
+is_jump (lines.Ordinary instruction) = false
+is_jump line = true
+
+-- ---- a filled slot
+
+-- what it means that an instruction fills the slot of a line
+pub record IsFilled (code : List Line) (number : ℕ) (i : Instr) : Type 0 where
+  pub before : ℕ
+  pub line : Line
+  pub is : number ≡ suc before
+  pub from : slice_get code before ≡ Some (lines.Ordinary i)
+  pub at : slice_get code number ≡ Some line
+  pub moves : moves i line ≡ true
+  pub unnamed : is_named code number ≡ false
+
+pub filled : (code : List Line) (number : ℕ) (i : Instr) → filling code number ≡ Some i → IsFilled code number i
+filled code zero i is = absurd (let e : None ≡ Some i = is in cc)
+filled code (suc before) i is = unless (is_named code (suc before)) refl is
+  where
+    same : (b : Bool) (j : Instr) → cond b (Some j) None ≡ Some i → (b ≡ true) × (j ≡ i)
+    same true j is = (refl, let e : Some j ≡ Some i = is in cc)
+    same false j is = absurd (let e : None ≡ Some i = is in cc)
+
+    by : (first second : Option Line) → slice_get code before ≡ first → slice_get code (suc before) ≡ second → moved first second ≡ Some i → is_named code (suc before) ≡ false → IsFilled code (suc before) i
+    by (Some (lines.Ordinary j)) (Some line) from at is unnamed =
+        let (may, one) = same (moves j line) j is in
+        record {
+          before = before;
+          line = line;
+          is = refl;
+          from = from ∙ ap (λ (x : Instr). Some (lines.Ordinary x)) one;
+          at = at;
+          moves = subst (λ (x : Instr). moves x line ≡ true) one may;
+          unnamed = unnamed;
+        }
+    by (Some (lines.Ordinary j)) None from at is unnamed = absurd (let e : None ≡ Some i = is in cc)
+    by (Some (lines.Branch condition label)) second from at is unnamed = absurd (let e : None ≡ Some i = is in cc)
+    by (Some (lines.Jump label)) second from at is unnamed = absurd (let e : None ≡ Some i = is in cc)
+    by (Some (lines.Call label)) second from at is unnamed = absurd (let e : None ≡ Some i = is in cc)
+    by (Some lines.Return) second from at is unnamed = absurd (let e : None ≡ Some i = is in cc)
+    by None second from at is unnamed = absurd (let e : None ≡ Some i = is in cc)
+
+    unless : (named : Bool) → is_named code (suc before) ≡ named → cond named None (moved (slice_get code before) (slice_get code (suc before))) ≡ Some i → IsFilled code (suc before) i
+    unless true named is = absurd (let e : None ≡ Some i = is in cc)
+    unless false unnamed is = by (slice_get code before) (slice_get code (suc before)) refl refl is unnamed
+
+-- what fills a slot may move, and its line is a branch or a jump
+pub filled_moves : (i : Instr) (line : Line) → moves i line ≡ true → (is_movable i ≡ true) × (is_jump line ≡ true)
+filled_moves i (lines.Ordinary other) may = absurd (let e : false ≡ true = may in cc)
+filled_moves i (lines.Branch condition label) may = (and_first (is_movable i) _ may, refl)
+  where
+    and_first : (a b : Bool) → (a && b) ≡ true → a ≡ true
+    and_first true b both = refl
+    and_first false b both = both
+filled_moves i (lines.Jump label) may = (may, refl)
+filled_moves i (lines.Call label) may = (and_first (is_movable i) _ may, refl)
+  where
+    and_first : (a b : Bool) → (a && b) ≡ true → a ≡ true
+    and_first true b both = refl
+    and_first false b both = both
+filled_moves i lines.Return may = (and_first (is_movable i) _ may, refl)
+  where
+    and_first : (a b : Bool) → (a && b) ≡ true → a ≡ true
+    and_first true b both = refl
+    and_first false b both = both
+
+-- ---- slots that are empty
+
+-- a line at which a used label stands
+pub named_empty : (code : List Line) (number label : ℕ) (line : Line) → slice_get code number ≡ Some line → label_of line ≡ Some label → filling code label ≡ None
+named_empty code number zero line at goes = refl
+named_empty code number (suc before) line at goes =
+    ap (λ b. cond b None (moved (slice_get code before) (slice_get code (suc before))))
+    (list_any_at (λ (l : Line). is_label (suc before) (label_of l)) code number line (slice_get_within code number line at)
+    (ap (λ (l : Line). is_label (suc before) (label_of l)) (get_or_from_slice_get code number line line at)
+    ∙ ap (is_label (suc before)) goes ∙ eq-eqb (suc before) (suc before) refl))
+
+-- a line behind a branch or jump
+pub behind_empty : (code : List Line) (number : ℕ) (line : Line) → slice_get code number ≡ Some line → is_jump line ≡ true → filling code (suc number) ≡ None
+behind_empty code number line at jumps =
+    unless (is_named code (suc number)) (ap (λ (o : Option Line). moved o (slice_get code (suc number))) at ∙ still line jumps (slice_get code (suc number)))
+  where
+    still : (line : Line) → is_jump line ≡ true → (behind : Option Line) → moved (Some line) behind ≡ None
+    still (lines.Ordinary i) jumps behind = absurd (let e : false ≡ true = jumps in cc)
+    still (lines.Branch condition label) jumps behind = refl
+    still (lines.Jump label) jumps behind = refl
+    still (lines.Call label) jumps behind = refl
+    still lines.Return jumps behind = refl
+
+    unless : (named : Bool) → moved (slice_get code number) (slice_get code (suc number)) ≡ None → cond named None (moved (slice_get code number) (slice_get code (suc number))) ≡ None
+    unless true none = refl
+    unless false none = none
+
+-- an ordinary line has no slot
+pub ordinary_empty : (code : List Line) (number : ℕ) (i : Instr) → slice_get code number ≡ Some (lines.Ordinary i) → filling code number ≡ None
+ordinary_empty code number i at = by (filling code number) refl
+  where
+    by : (o : Option Instr) → filling code number ≡ o → filling code number ≡ None
+    by None is = is
+    by (Some j) is =
+        let f = filled code number j is in
+        let one : Some f.line ≡ Some (lines.Ordinary i) = sym f.at ∙ at in
+        let same : f.line ≡ lines.Ordinary i = cc in
+        absurd (let e : false ≡ true = ap (moves j) (sym same) ∙ f.moves in cc)
+
+-- ---- the table of labels
+
+-- nobody goes anywhere yet
+pub named_none : (code : List Line) (count : ℕ) (named : List Bool) → length named ≡ count → ((number : ℕ) → number < count → get_or named number false ≡ false) → AreNamed (take 0 code) count named
+named_none code count named long each = record { long = long; each = each }
+
+-- one more line, which goes nowhere
+pub named_past : (code : List Line) (index count : ℕ) (named : List Bool) (d line : Line) → index < length code → get_or code index d ≡ line → label_of line ≡ None
+    → AreNamed (take index code) count named → AreNamed (take (index + 1) code) count named
+named_past code index count named d line below here nowhere so_far = record {
+  long = so_far.long;
+  each = λ number inside.
+      so_far.each number inside
+      ∙ sym (list_any_more (λ (l : Line). is_label number (label_of l)) code index d below
+      ∙ ap (λ b. is_named (take index code) number || b) (ap (λ (l : Line). is_label number (label_of l)) here ∙ ap (is_label number) nowhere)
+      ∙ or_false (is_named (take index code) number));
+}
+  where
+    or_false : (b : Bool) → (b || false) ≡ b
+    or_false true = refl
+    or_false false = refl
+
+-- one more line, which goes there
+pub named_more : (code : List Line) (index count : ℕ) (named : List Bool) (d line : Line) (label : ℕ) → index < length code → get_or code index d ≡ line → label_of line ≡ Some label → label < count
+    → AreNamed (take index code) count named → AreNamed (take (index + 1) code) count (slice_set named label true)
+named_more code index count named d line label below here goes known so_far = record {
+  long = length-set named label true ∙ so_far.long;
+  each = λ number inside.
+      by number (cases_eq number label) inside
+      ∙ sym (list_any_more (λ (l : Line). is_label number (label_of l)) code index d below
+      ∙ ap (λ b. is_named (take index code) number || b) (ap (λ (l : Line). is_label number (label_of l)) here ∙ ap (is_label number) goes));
+}
+  where
+    or_false : (b : Bool) → b ≡ (b || false)
+    or_false true = refl
+    or_false false = refl
+
+    or_true : (b : Bool) → true ≡ (b || true)
+    or_true true = refl
+    or_true false = refl
+
+    by : (number : ℕ) → (number ≡ label) ⊎ (number ≢ label) → number < count → get_or (slice_set named label true) number false ≡ (is_named (take index code) number || nat_eq label number)
+    by number (inl same) inside =
+        ap (λ (n : ℕ). get_or (slice_set named label true) n false) same
+        ∙ get_or-set_same named label true false (let l = so_far.long in omega (arith, l, known))
+        ∙ or_true (is_named (take index code) number) ∙ ap (λ b. is_named (take index code) number || b) (sym (eq-eqb label number (sym same)))
+    by number (inr other) inside =
+        get_or-set_other named label number true false other ∙ so_far.each number inside
+        ∙ or_false (is_named (take index code) number) ∙ ap (λ b. is_named (take index code) number || b) (sym (ne_eqb label number (λ e. other (sym e))))

@@ -1,0 +1,134 @@
+//! A home for each slot of a function.
+ghost use Rattle.std.specs.Prelude.{◌≡◌, ◌+◌, ◌≤◌, length, IfOk};
+ghost use Rattle.cyc_plain.specs.Program.{routine_of};
+ghost use Rattle.cyc_frame.specs.Allocation.{AreFirstHomes, IsHomeOf};
+ghost use Rattle.cyc_frame.specs.Homes.{AreHomes, both_count};
+ghost use Rattle.cyc_frame.specs.Live.{IsSound};
+ghost use Rattle.cyc_frame.specs.Masks.{AreMasks};
+
+use crate::home::{FIRST_REGISTER, Home, MOST_BOTH};
+use crate::live::{self, MOST_CHOSEN};
+use crate::masks::mask_at;
+use cyc_plain::{Function, Plain};
+use std::alloc::{AllocError, Global};
+
+/// A mask for one slot more: where it is chosen the bit of the next number, while there is one. Answers the number after it.
+#[tactic(auto, using(crate::proofs::Bits::none_more, crate::proofs::Bits::one_more, crate::proofs::Bits::one_bit))]
+fn number(masks: &mut Vec<u32>, next: u32, is_chosen: bool) -> Result<u32, AllocError>
+    requires numbered { AreMasks masks.old.items next }
+    requires few { next ≤ MOST_CHOSEN }
+    ensures numbered { IfOk result (λ after. AreMasks masks.new.items after) }
+    ensures few { IfOk result (λ after. after ≤ MOST_CHOSEN) }
+{
+    if !is_chosen || next >= MOST_CHOSEN {
+        masks.push(0)?;
+        return Ok(next);
+    }
+    masks.push(1 << next)?;
+    Ok(next + 1)
+}
+
+/// The masks of slots: those that are chosen get numbers in order, while there are some.
+#[tactic(auto, using(crate::proofs::Bits::no_masks, crate::proofs::Bits::fewer))]
+pub(crate) fn masks_of(alloc: Global, chosen: &[bool]) -> Result<Vec<u32>, AllocError>
+    ensures { IfOk result (λ masks. AreMasks masks.items MOST_CHOSEN) }
+{
+    let mut masks = Vec::new(alloc);
+    let mut next = 0;
+    for is_chosen in chosen {
+        next = number(&mut masks, next, *is_chosen)?;
+    }
+    Ok(masks)
+}
+
+/// The home of a slot, where so many have both already.
+fn home_of(
+    plain: &Plain,
+    function: &Function,
+    masks: &[u32],
+    live: &[u32],
+    kept: u32,
+    slot: usize,
+    both: usize,
+) -> Home
+    requires numbered { AreMasks masks.now MOST_CHOSEN }
+    requires sound { IsSound plain.now (routine_of function.now) masks.now live.now kept }
+    requires few { both ≤ MOST_BOTH }
+    ensures home { IsHomeOf plain.now (routine_of function.now) masks.now slot result }
+    ensures few { both + both_count result ≤ MOST_BOTH }
+{
+    let mask = mask_at(masks, slot);
+    let number = mask.trailing_zeros();
+    if mask == 0 || number >= MOST_CHOSEN {
+        return Home::Memory;
+    }
+    if slot >= function.parameters && mask_at(live, 0) & mask != 0 {
+        return Home::Memory;
+    }
+    let register = FIRST_REGISTER + number as u8;
+    if kept & mask == 0 {
+        return Home::Register { register };
+    }
+    if both >= MOST_BOTH {
+        return Home::Memory;
+    }
+    Home::Both { register }
+}
+
+fn both_in(home: Home) -> usize
+    ensures { result ≡ both_count home }
+{
+    match home {
+        Home::Both { .. } => 1,
+        _ => 0,
+    }
+}
+
+#[tactic(auto, using(crate::proofs::Homes::no_homes, crate::proofs::Homes::more_homes, crate::proofs::Homes::are_homes))]
+fn homes_in(
+    alloc: Global,
+    plain: &Plain,
+    function: &Function,
+    masks: &[u32],
+    live: &[u32],
+    kept: u32,
+) -> Result<Vec<Home>, AllocError>
+    requires numbered { AreMasks masks.now MOST_CHOSEN }
+    requires sound { IsSound plain.now (routine_of function.now) masks.now live.now kept }
+    ensures { IfOk result (λ homes. AreHomes plain.now (routine_of function.now) homes.items) }
+{
+    let mut homes = Vec::new(alloc);
+    let mut both = 0;
+    for slot in 0..function.slots {
+        let home = home_of(plain, function, masks, live, kept, slot, both);
+        both += both_in(home);
+        homes.push(home)?;
+    }
+    Ok(homes)
+}
+
+/// Every slot in memory.
+#[tactic(auto, using(crate::proofs::InMemory::memory_homes))]
+fn in_memory(alloc: Global, plain: &Plain, function: &Function) -> Result<Vec<Home>, AllocError>
+    ensures { IfOk result (λ homes. AreHomes plain.now (routine_of function.now) homes.items) }
+{
+    Ok(vec![in alloc; Home::Memory; function.slots]?)
+}
+
+/// A home for each slot of a function: those that are chosen get registers, in order, while there are some.
+pub(crate) fn allocate(
+    alloc: Global,
+    plain: &Plain,
+    function: &Function,
+    chosen: &[bool],
+) -> Result<Vec<Home>, AllocError>
+    ensures { IfOk result (λ homes. AreHomes plain.now (routine_of function.now) homes.items) }
+{
+    let masks = masks_of(alloc, chosen)?;
+    let live = live::table(alloc, plain, function, &masks)?;
+    let kept = live::kept(plain, function, &masks, &live);
+    if !live::is_sound(plain, function, &masks, &live, kept) {
+        return in_memory(alloc, plain, function);
+    }
+    homes_in(alloc, plain, function, &masks, &live, kept)
+}

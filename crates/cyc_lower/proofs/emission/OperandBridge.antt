@@ -1,0 +1,379 @@
+-- Operands, and what changes them, stand where the code of a function is.
+use Rattle.std.proofs.Common.{◌≡◌, ℕ, zero, suc, ◌+◌, ◌≤◌, Bool, true, false, List, [], ◌∷◌, ◌++◌, length, Option, None, Some, slice_get, refl, sym, ap, subst, ◌∙◌, arith, length-append}
+use Rattle.std.specs.Prelude.{if◌then◌else◌, ◌==◌}
+use Rattle.cyc_meaning.specs.Operators.{array_size, null_exception, division_by_zero, array_bounds}
+use Rattle.cyc_types.specs.declared.typed.Kind.{Kind}
+use Rattle.cyc_types.specs.declared.typed.Kind.TheVariants as kinds
+use Rattle.cyc_types.specs.declared.typed.Operator.{Operator}
+use Rattle.cyc_types.specs.declared.typed.Operator.TheVariants as operators
+use Rattle.cyc_types.specs.declared.typed.PointerOperator.{PointerOperator}
+use Rattle.cyc_types.specs.declared.typed.PointerOperator.TheVariants as pointers
+use Rattle.cyc_types.specs.TypedTrees.{Counter, Load, Lvalue, Local, Global, Expression, Number, NullPointer, Copy, Binary, Convert, Arguments, NoArguments, MoreArguments, Operations, NoOperations, ThenCompute, Move, Peek, HeapRegion}
+use Rattle.cyc_types.specs.Numbered.{Numbering, argument_count}
+use Rattle.cyc_plain.specs.declared.instruction.BinaryOperator.TheVariants as plain_binary
+use Rattle.cyc_plain.specs.declared.instruction.Comparison.{Comparison}
+use Rattle.cyc_plain.specs.declared.instruction.BinaryOperator.TheVariants as plain_binary
+use Rattle.cyc_plain.specs.declared.instruction.Comparison.TheVariants as comparisons
+use Rattle.cyc_plain.specs.declared.instruction.Operand.{Operand}
+use Rattle.cyc_plain.specs.declared.instruction.Operand.TheVariants as operands
+use Rattle.cyc_plain.specs.declared.instruction.Instruction.{Instruction}
+use Rattle.cyc_plain.specs.declared.instruction.Instruction.TheVariants as instructions
+use Rattle.cyc_plain.specs.Straight.{At, HasAt}
+use Rattle.cyc_plain.proofs.Straight.{has_front, has_back}
+use Rattle.cyc_store.specs.declared.range.TheConstants.{MOST_BLOCK_WORDS}
+use Rattle.cyc_meaning.specs.Values.{words_of_kind, is_thin}
+use Rattle.cyc_lower.specs.Slots.{Types, starts_of, slot_of, global_of}
+use Rattle.cyc_lower.specs.ValueCode.{are_as_wide, converts_there, moved_by, move_of, operand_or, code_unless, slot_or, code_unless_slot, left_with, next_slot, check_code, conversion_code, divisor_code, checked_code, operator_code, is_in, pointer_operator, index_code, pointer_instructions, address_code, raising, blocks, guard_code, jump_if_zero, count_code, span_of, null_of, tested_code, widened_code, conversion_by, all_passed, bounds_code, stepped_code, bounded_code, past_bounded, thinned_code, reached_code, followed_code, word_by_word, load_word, store_word, global_code}
+use Rattle.cyc_lower.specs.ObjectCode.{most_elements, begun_code, filled_code, stores_code, object_code, free_code, saved_code}
+use Rattle.cyc_lower.specs.ControlCode.{counter_operand}
+use Rattle.cyc_lower.specs.ExpressionCode.{source_of, source_slot, operand_of, left_of, value_slot, slot_with, left_slot, value_operand, converted_operand, load_code, expression_code}
+use Rattle.cyc_lower.proofs.relation.Stands.{BegunAt, FilledAt, OperandBy, CheckAt, ConversionBy, ConversionAt, DivisorAt, CheckedAt, OperatorAt, LoadAt, CopyBy, ExpressionAt, InitialBy, ReturnedAt, FirstTwoAt, IndexAt, PointerAt, StoresAt, ObjectAt, AddressAt, GuardAt, FreedAt, CountAt, TestedAt, WidenedAt, LoadedBy, SavedAt, BoundsAt, SteppedAt, ThinnedAt, ReachedAt, FollowedAt, EachAt, GlobalAt}
+use Rattle.cyc_lower.proofs.emission.Lengths.{past_long}
+use Rattle.cyc_lower.specs.Lowerable.{is_converted, is_pointer}
+use Rattle.cyc_lower.proofs.slots.Widths.{given, kind_positive}
+use Rattle.cyc_lower.proofs.relation.Fitting.{FitsPlace}
+use Rattle.cyc_lower.specs.Lowerable.{is_converted}
+use Rattle.cyc_lower.proofs.value_steps.ValueWords.{as_wide}
+use Rattle.cyc_lower.proofs.slots.Slots.{global-inside}
+use Rattle.cyc_lower.proofs.place_steps.Sources.{IsApart}
+
+-- the end of the second part
+pub cut : (p q : ℕ) (a b : List Instruction) → p + length (a ++ b) ≡ q → p + length a + length b ≡ q
+cut p q a b end = omega (arith, end, length-append a b)
+
+-- the blocks that raise exceptions stand behind this place
+abbrev pub BlocksStand : List Instruction → (raises : ℕ) → Type 0
+BlocksStand code raises = (tag : ℕ) → 1 ≤ tag → tag ≤ 4 → At code (raises + tag) (raising tag)
+
+pub blocks_stand : (code : List Instruction) (raises : ℕ) → HasAt code (raises + 1) blocks → BlocksStand code raises
+blocks_stand code raises has zero some few = absurd (omega (arith, some))
+blocks_stand code raises (first, rest) (suc zero) some few = first
+blocks_stand code raises (first, (second, rest)) (suc (suc zero)) some few = subst (λ n. At code n (raising 2)) (let e : raises + 1 + 1 ≡ raises + 2 = omega arith in e) second
+blocks_stand code raises (first, (second, (third, rest))) (suc (suc (suc zero))) some few = subst (λ n. At code n (raising 3)) (let e : raises + 1 + 1 + 1 ≡ raises + 3 = omega arith in e) third
+blocks_stand code raises (first, (second, (third, (fourth, none)))) (suc (suc (suc (suc zero)))) some few =
+    subst (λ n. At code n (raising 4)) (let e : raises + 1 + 1 + 1 + 1 ≡ raises + 4 = omega arith in e) fourth
+blocks_stand code raises has (suc (suc (suc (suc (suc n))))) some few = absurd (omega (arith, few))
+
+module _ (code : List Instruction) (b : Numbering) (types : Types) (raised : BlocksStand code types.raises) where
+  -- ---- operands
+
+  -- an operand without code, or code that stands here
+  pub operand_by : (known : Option Operand) (computed : Type 0) (x : List Instruction) (slot p q : ℕ) → p + length (code_unless known x) ≡ q → HasAt code p (code_unless known x)
+      → (p + length x ≡ q → HasAt code p x → computed) → OperandBy code b types known computed slot (operand_or known slot) p q
+  operand_by (Some o) computed x slot p q end has stands = (refl, omega (arith, end))
+  operand_by None computed x slot p q end has stands = (refl, stands end has)
+
+  pub returned_by : (known : Option Operand) (computed : Type 0) (x : List Instruction) (slot p q : ℕ) → p + length (code_unless_slot known x) ≡ q → HasAt code p (code_unless_slot known x)
+      → (p + length x ≡ q → HasAt code p x → computed) → ReturnedAt code b types known computed slot (slot_or known slot) p q
+  returned_by (Some (operands.Slot n)) computed x slot p q end has stands = (refl, omega (arith, end))
+  returned_by (Some (operands.Word n)) computed x slot p q end has stands = (refl, stands end has)
+  returned_by None computed x slot p q end has stands = (refl, stands end has)
+
+  -- a left operand is slot t where its right one has code
+  abbrev LeftBy : Option Operand → Type 0 → Type 0
+  LeftBy (Some o) in_slot = Unit {0}
+  LeftBy None in_slot = in_slot
+
+  pub right_by : (known : Option Operand) (in_slot computed : Type 0) (x : List Instruction) (slot p q : ℕ) → LeftBy known in_slot → p + length (code_unless known x) ≡ q → HasAt code p (code_unless known x)
+      → (p + length x ≡ q → HasAt code p x → computed) → OperandBy code b types known (in_slot × computed) slot (operand_or known slot) p q
+  right_by (Some o) in_slot computed x slot p q left end has stands = (refl, omega (arith, end))
+  right_by None in_slot computed x slot p q left end has stands = (refl, (left, stands end has))
+
+  abbrev pub IsLeft : Operations → Operand → (d t : ℕ) → Type 0
+  IsLeft NoOperations l d t = l ≡ operands.Slot d
+  IsLeft (ThenCompute o a os) l d t = LeftBy (operand_of (starts_of types) a) (l ≡ operands.Slot t)
+  IsLeft os l d t = l ≡ operands.Slot t
+
+  left_here : (known : Option Operand) (l : Operand) (t : ℕ) → l ≡ operands.Slot t → LeftBy known (l ≡ operands.Slot t)
+  left_here (Some o) l t is = tt
+  left_here None l t is = is
+
+  pub left_first : (known : Option Operand) (a : Expression) (t : ℕ) → LeftBy known (operand_or (left_with known (operand_of (starts_of types) a)) (slot_with (starts_of types) known a t) ≡ operands.Slot t)
+  left_first (Some o) a t = tt
+  left_first None a t = refl
+
+  pub next_left : (os : Operations) (d t : ℕ) → IsLeft os (operands.Slot (next_slot os d t)) d t
+  next_left NoOperations d t = refl
+  next_left (ThenCompute o a os) d t = left_here (operand_of (starts_of types) a) (operands.Slot t) t refl
+  next_left os d t = refl
+
+  pub first_left : (a : Expression) (os : Operations) (d t : ℕ) → IsLeft os (operand_or (left_of (starts_of types) a os) (left_slot (starts_of types) a os d t)) d t
+  first_left a NoOperations d t = refl
+  first_left a (ThenCompute o c os) d t = left_first (operand_of (starts_of types) c) a t
+  first_left a os d t = refl
+
+  -- ---- expressions
+
+  guard_stands : (tag : ℕ) (failing : Comparison) (l r : Operand) (p q : ℕ) → 1 ≤ tag → tag ≤ 4 → p + 1 ≡ q → HasAt code p (guard_code (starts_of types) tag failing l r) → GuardAt code b types tag failing l r p q
+  guard_stands tag failing l r p q some few end (jump, none) = (types.raises + tag, jump, raised tag some few, end)
+
+  pub freed_stands : (o : Operand) (p q : ℕ) → p + 2 ≡ q → HasAt code p (free_code o p) → FreedAt code b types o p q
+  freed_stands o p q end (jump, (ask, none)) = (subst (λ t. At code p (jump_if_zero o t)) end jump, ask, omega (arith, end))
+
+  pub check_stands : (tag : ℕ) (o : Operand) (p q : ℕ) → 1 ≤ tag → tag ≤ 4 → p + 1 ≡ q → HasAt code p (check_code (starts_of types) tag o) → CheckAt code b types tag o p q
+  check_stands tag o p q some few end has = guard_stands tag comparisons.Equal o (operands.Word 0) p q some few end has
+
+  bounds_stands : (index bound : Operand) (p q : ℕ) → p + 1 ≡ q → HasAt code p (bounds_code (starts_of types) index bound) → BoundsAt code b types index bound p q
+  bounds_stands index bound p q end has = guard_stands array_bounds comparisons.GreaterOrEqualUnsigned index bound p q (omega arith) (omega arith) end has
+
+  stepped_stands : (span : Option ℕ) (n m t p q : ℕ) → p + length (stepped_code span n m t) ≡ q → HasAt code p (stepped_code span n m t) → SteppedAt code b types span n m t p q
+  stepped_stands None n m t p q end has = omega (arith, end)
+  stepped_stands (Some words) n m t p q end (scale, (sum, none)) = (scale, sum, omega (arith, end))
+
+  bounded_stands : (span : Option ℕ) (n m t p q : ℕ) → p + length (bounded_code (starts_of types) span n m t) ≡ q → HasAt code p (bounded_code (starts_of types) span n m t)
+      → (s : ℕ) × BoundsAt code b types (operands.Slot m) (operands.Slot (n + 1)) p s × SteppedAt code b types span n m t s q
+  bounded_stands span n m t p q end has =
+      let bounds = bounds_code (starts_of types) (operands.Slot m) (operands.Slot (n + 1)) in
+      let step = stepped_code span n m t in
+      let s = p + length bounds in (
+        s,
+        bounds_stands (operands.Slot m) (operands.Slot (n + 1)) p s refl (has_front code p bounds step has),
+        stepped_stands span n m t s q (cut p q bounds step end) (has_back code p bounds step has),
+      )
+
+  pub reached_stands : (span : Option ℕ) (n m t p q : ℕ) → p + length (reached_code (starts_of types) span n m t) ≡ q → HasAt code p (reached_code (starts_of types) span n m t) → ReachedAt code b types span n m t p q
+  reached_stands span n m t p q end has =
+      let check = check_code (starts_of types) null_exception (operands.Slot n) in
+      let r = p + length check in
+      let bounded = bounded_code (starts_of types) span n m t in
+      let (s, bounds, stepped) = bounded_stands span n m t r q (cut p q check bounded end) (has_back code p check bounded has) in
+      (r, s, check_stands null_exception (operands.Slot n) p r (omega arith) (omega arith) refl (has_front code p check bounded has), bounds, stepped)
+
+  -- a pointer that is not thin stands in slots
+  abbrev IsInSlots : (thin : Bool) → Operand → Type 0
+  IsInSlots true o = Unit {0}
+  IsInSlots false (operands.Slot n) = Unit {0}
+  IsInSlots false (operands.Word w) = ⊥
+
+  pub followed_stands : (thin : Bool) (span : Option ℕ) (o : Operand) (t p q : ℕ) → IsInSlots thin o → p + length (followed_code (starts_of types) thin span o t) ≡ q → HasAt code p (followed_code (starts_of types) thin span o t) → FollowedAt code b types thin span o t p q
+  followed_stands true span o t p q in_slots end has = check_stands null_exception o p q (omega arith) (omega arith) end has
+  followed_stands false span (operands.Slot n) t p q in_slots end has = reached_stands span n (n + 2) t p q end has
+  followed_stands false span (operands.Word w) t p q in_slots end has = absurd in_slots
+
+  slot_any : (thin : Bool) (n : ℕ) → IsInSlots thin (operands.Slot n)
+  slot_any true n = tt
+  slot_any false n = tt
+
+  counter_in_slot : (thin : Bool) (found : Option ℕ) (t : ℕ) → IsInSlots thin (operand_or (counter_operand found) t)
+  counter_in_slot thin (Some n) t = slot_any thin n
+  counter_in_slot thin None t = slot_any thin t
+
+  pub in_slots : (k : Kind) (a : Expression) (t : ℕ) → is_pointer k ≡ true → k ≡ given b.functions a → IsInSlots (is_thin k) (value_operand (starts_of types) a t)
+  in_slots k (Number n) t pointer is = absurd (let f : is_pointer kinds.Int ≡ true = ap is_pointer (sym is) ∙ pointer in cc)
+  in_slots k NullPointer t pointer is = subst (λ (x : Kind). IsInSlots (is_thin x) (operands.Word 0)) (sym is) tt
+  in_slots k HeapRegion t pointer is = absurd (let f : is_pointer kinds.Handle ≡ true = ap is_pointer (sym is) ∙ pointer in cc)
+  in_slots k (Copy (Local p n) ty) t pointer is = slot_any (is_thin k) (slot_of (starts_of types) n)
+  in_slots k (Move p n ty) t pointer is = slot_any (is_thin k) (slot_of (starts_of types) n)
+  in_slots k (Peek p n ty) t pointer is = slot_any (is_thin k) (slot_of (starts_of types) n)
+  in_slots k (Counter l) t pointer is = counter_in_slot (is_thin k) (slice_get types.counters l) t
+  in_slots k a t pointer is = slot_any (is_thin k) (value_slot (starts_of types) a t)
+
+  tested_stands : (to : Kind) (o : Operand) (p q : ℕ) → p + length (tested_code (starts_of types) to o) ≡ q → HasAt code p (tested_code (starts_of types) to o) → TestedAt code b types to o p q
+  tested_stands kinds.NonNull o p q end has = check_stands null_exception o p q (omega arith) (omega arith) end has
+  tested_stands to o p q end has = omega (arith, end)
+
+  -- what changes its words is in slot t, or is null, which becomes a fat pointer
+  abbrev IsBrought : (to : Kind) → Operand → (t : ℕ) → Type 0
+  IsBrought to (operands.Slot n) t = n ≡ t
+  IsBrought kinds.Fat (operands.Word w) t = w ≡ 0
+  IsBrought to (operands.Word w) t = ⊥
+
+  null_brought : (from to : Kind) (a : Expression) (t : ℕ) → from ≡ given b.functions a → are_as_wide from to ≡ false → IsBrought to (operand_or (null_of a) t) t
+  null_brought from to NullPointer t kind narrow = by to (ap (λ (k : Kind). are_as_wide k to) (sym kind) ∙ narrow)
+    where
+      by : (k : Kind) → are_as_wide kinds.Nullable k ≡ false → IsBrought k (operands.Word 0) t
+      by kinds.Fat wider = refl
+      by kinds.Int wider = absurd (let f : true ≡ false = wider in cc)
+      by kinds.Nullable wider = absurd (let f : true ≡ false = wider in cc)
+      by kinds.NonNull wider = absurd (let f : true ≡ false = wider in cc)
+      by kinds.Handle wider = absurd (let f : true ≡ false = wider in cc)
+      by kinds.Key wider = absurd (let f : true ≡ false = wider in cc)
+  null_brought from to a t kind narrow = refl
+
+  pub source_brought : (from to : Kind) (a : Expression) (t : ℕ) → from ≡ given b.functions a → are_as_wide from to ≡ false → IsBrought to (converted_operand (starts_of types) (Convert from to a) t) t
+  source_brought from to a t kind narrow =
+      subst (λ (same : Bool). IsBrought to (operand_or (if same then operand_of (starts_of types) a else null_of a) (if same then value_slot (starts_of types) a t else t)) t) (sym narrow) (null_brought from to a t kind narrow)
+
+  returned_null : (a : Expression) (t : ℕ) → slot_or (null_of a) t ≡ t
+  returned_null NullPointer t = refl
+  returned_null a t = refl
+
+  pub returned_brought : (from to : Kind) (a : Expression) (t : ℕ) → are_as_wide from to ≡ false → slot_or (source_of (starts_of types) (Convert from to a)) t ≡ t
+  returned_brought from to a t narrow = subst (λ (same : Bool). slot_or (if same then operand_of (starts_of types) a else null_of a) t ≡ t) (sym narrow) (returned_null a t)
+
+  widened_stands : (o : Operand) (t p q : ℕ) → IsBrought kinds.Fat o t → p + length (widened_code o) ≡ q → HasAt code p (widened_code o) → WidenedAt code b types o t p q
+  widened_stands (operands.Slot n) t p q brought end (first, (second, none)) = (brought, first, second, end)
+  widened_stands (operands.Word w) t p q brought end has = (brought, omega (arith, end))
+
+  thinned_stands : (to : Kind) (span : Option ℕ) (o : Operand) (t p q : ℕ) → is_thin to ≡ true → IsBrought to o t
+      → p + length (thinned_code (starts_of types) to span o p) ≡ q → HasAt code p (thinned_code (starts_of types) to span o p) → ThinnedAt code b types to span o t p q
+  thinned_stands kinds.NonNull span (operands.Slot n) t p q thin brought end has = (brought, reached_stands span n (n + 2) n p q end has)
+  thinned_stands kinds.Nullable span (operands.Slot n) t p q thin brought end (jump, has) =
+      let (s, bounds, stepped) = bounded_stands span n (n + 2) n (p + 1) q (omega (arith, end)) has in
+      (brought, (p + 1, s, (p + past_bounded span, jump, omega (arith, end, past_long (starts_of types) span n (n + 2) n), refl), bounds, stepped))
+  thinned_stands kinds.NonNull span (operands.Word w) t p q thin brought end has = absurd brought
+  thinned_stands kinds.Nullable span (operands.Word w) t p q thin brought end has = absurd brought
+  thinned_stands kinds.Int span o t p q thin brought end has = absurd (let f : false ≡ true = thin in cc)
+  thinned_stands kinds.Fat span o t p q thin brought end has = absurd (let f : false ≡ true = thin in cc)
+  thinned_stands kinds.Handle span o t p q thin brought end has = absurd (let f : false ≡ true = thin in cc)
+  thinned_stands kinds.Key span o t p q thin brought end has = absurd (let f : false ≡ true = thin in cc)
+
+  conversion_by_stands : (wide : Bool) (to : Kind) (span : Option ℕ) (o : Operand) (t p q : ℕ) → (if wide then true else is_pointer to) ≡ true → (wide ≡ false → IsBrought to o t)
+      → p + length (conversion_by (starts_of types) wide to span o p) ≡ q → HasAt code p (conversion_by (starts_of types) wide to span o p) → ConversionBy code b types wide to span o t p q
+  conversion_by_stands true to span o t p q known brought end has = tested_stands to o p q end has
+  conversion_by_stands false kinds.Fat span o t p q known brought end has = widened_stands o t p q (brought refl) end has
+  conversion_by_stands false kinds.NonNull span o t p q known brought end has = thinned_stands kinds.NonNull span o t p q refl (brought refl) end has
+  conversion_by_stands false kinds.Nullable span o t p q known brought end has = thinned_stands kinds.Nullable span o t p q refl (brought refl) end has
+  conversion_by_stands false kinds.Int span o t p q known brought end has = absurd (let f : false ≡ true = known in cc)
+  conversion_by_stands false kinds.Handle span o t p q known brought end has = absurd (let f : false ≡ true = known in cc)
+  conversion_by_stands false kinds.Key span o t p q known brought end has = absurd (let f : false ≡ true = known in cc)
+
+  pub conversion_stands : (from to : Kind) (span : Option ℕ) (o : Operand) (t p q : ℕ) → is_converted from to ≡ true → (are_as_wide from to ≡ false → IsBrought to o t)
+      → p + length (conversion_code (starts_of types) from to span o p) ≡ q → HasAt code p (conversion_code (starts_of types) from to span o p) → ConversionAt code b types from to span o t p q
+  conversion_stands from to span o t p q known brought end has = conversion_by_stands (are_as_wide from to) to span o t p q known brought end has
+
+  divisor_stands : (o : Operand) (p q : ℕ) → p + length (divisor_code (starts_of types) o) ≡ q → HasAt code p (divisor_code (starts_of types) o) → DivisorAt code b types o p q
+  divisor_stands (operands.Word (suc n)) p q end has = omega (arith, end)
+  divisor_stands (operands.Word zero) p q end has = check_stands division_by_zero (operands.Word zero) p q (omega arith) (omega arith) end has
+  divisor_stands (operands.Slot n) p q end has = check_stands division_by_zero (operands.Slot n) p q (omega arith) (omega arith) end has
+
+  checked_stands : (o : Operator) (l r : Operand) (d p q : ℕ) → p + length (checked_code (starts_of types) o l r d) ≡ q → HasAt code p (checked_code (starts_of types) o l r d) → CheckedAt code b types o d l r p q
+  checked_stands o l r d p q end has =
+      let front = divisor_code (starts_of types) r in
+      let (here, none) = has_back code p front _ has in
+      (p + length front, divisor_stands r p (p + length front) refl (has_front code p front _ has), here, cut p q front _ end)
+
+  pub operator_stands : (o : Operator) (l r : Operand) (d p q : ℕ) → p + length (operator_code (starts_of types) o l r d) ≡ q → HasAt code p (operator_code (starts_of types) o l r d) → OperatorAt code b types o d l r p q
+  operator_stands operators.Divide l r d p q end has = checked_stands operators.Divide l r d p q end has
+  operator_stands operators.Remainder l r d p q end has = checked_stands operators.Remainder l r d p q end has
+  operator_stands o l r d p q end (here, none) = (here, end)
+
+  -- an operator on pointers whose left operand is in slot t
+  first_two_by : (there : Bool) (t d p q : ℕ) → p + length (if there then [] else instructions.MoveWords d t 2 ∷ []) ≡ q → HasAt code p (if there then [] else instructions.MoveWords d t 2 ∷ []) → FirstTwoAt code b types there t d p q
+  first_two_by true t d p q end has = omega (arith, end)
+  first_two_by false t d p q end (here, none) = (here, end)
+
+  index_stands : (o : PointerOperator) (r : Operand) (t d p q : ℕ) → p + length (index_code (pointer_operator o) (operands.Slot t) r d) ≡ q → HasAt code p (index_code (pointer_operator o) (operands.Slot t) r d) → IndexAt code b types o r t d p q
+  index_stands o r t d p q end (here, rest) = (here, first_two_by (t == d) t d (p + 1) q (omega (arith, end)) rest)
+
+  slot_stands : (o : PointerOperator) (r : Operand) (t d p q : ℕ) → p + length (pointer_instructions o (operands.Slot t) r d) ≡ q → HasAt code p (pointer_instructions o (operands.Slot t) r d) → PointerAt code b types o r t d p q
+  slot_stands pointers.AddFat r t d p q end has = index_stands pointers.AddFat r t d p q end has
+  slot_stands pointers.SubtractFat r t d p q end has = index_stands pointers.SubtractFat r t d p q end has
+  slot_stands pointers.ThinIsNull r t d p q end (here, none) = (here, end)
+  slot_stands pointers.ThinIsNotNull r t d p q end (here, none) = (here, end)
+  slot_stands pointers.FatIsNull r t d p q end (here, none) = (here, end)
+  slot_stands pointers.FatIsNotNull r t d p q end (here, none) = (here, end)
+  slot_stands pointers.NullIs r t d p q end (here, none) = (here, end)
+  slot_stands pointers.NullIsNot r t d p q end (here, none) = (here, end)
+  slot_stands pointers.EqualThin r t d p q end (here, none) = (here, end)
+  slot_stands pointers.NotEqualThin r t d p q end (here, none) = (here, end)
+
+  pub pointer_stands : (o : PointerOperator) (l r : Operand) (t d p q : ℕ) → l ≡ operands.Slot t → p + length (pointer_instructions o l r d) ≡ q → HasAt code p (pointer_instructions o l r d) → PointerAt code b types o r t d p q
+  pointer_stands o l r t d p q left end has =
+      slot_stands o r t d p q (subst (λ x. p + length (pointer_instructions o x r d) ≡ q) left end) (subst (λ x. HasAt code p (pointer_instructions o x r d)) left has)
+
+  pub each_stands : (each : (global slot : ℕ) → Instruction) (words first slot p q : ℕ) → p + length (word_by_word each words first slot) ≡ q → HasAt code p (word_by_word each words first slot)
+      → EachAt code each words first slot p q
+  each_stands each zero first slot p q end has = omega (arith, end)
+  each_stands each (suc words) first slot p q end (here, rest) = (here, each_stands each words (suc first) (suc slot) (p + 1) q (omega (arith, end)) rest)
+
+  pub global_stands : (words first : ℕ) (o : Operand) (p q : ℕ) → p + length (global_code words first o) ≡ q → HasAt code p (global_code words first o) → GlobalAt code words first o p q
+  global_stands words first (operands.Slot n) p q end has = each_stands store_word words first n p q end has
+  global_stands words first (operands.Word n) p q end (here, none) = (here, end)
+
+  -- the fourth of five instructions jumps behind them
+  pub count_stands : (o : Operand) (d p q : ℕ) → p + length (count_code o p d) ≡ q → HasAt code p (count_code o p d) → CountAt code b types o d p q
+  count_stands (operands.Word n) d p q end (move, none) = (move, end)
+  count_stands (operands.Slot n) d p q end (null, (past, (subtract, (jump, (move, none))))) = (
+    null,
+    past,
+    further 2 (instructions.Binary plain_binary.Subtract d (operands.Slot (n + 1)) (operands.Slot (n + 2))) (omega arith) subtract,
+    further 3 (instructions.Jump q) (omega arith) (subst (λ m. At code (p + 1 + 1 + 1) (instructions.Jump m)) end jump),
+    further 4 (instructions.Move d (operands.Word 0)) (omega arith) move,
+    end,
+  )
+    where
+      further : (n : ℕ) (i : Instruction) {m : ℕ} → m ≡ p + n → At code m i → At code (p + n) i
+      further n i same at = subst (λ x. At code x i) same at
+
+  pub load_stands : (l : Lvalue) (kind : Kind) (words d p q : ℕ) → FitsPlace b types l kind → p + length (load_code (starts_of types) words l d) ≡ q → HasAt code p (load_code (starts_of types) words l d)
+      → LoadAt code b types words l d p q
+  load_stands (Local w n) kind words d p q few end (here, none) = (here, end)
+  load_stands (Global n) kind words d p q room end has = (global-inside types n kind room, each_stands load_word words (global_of (starts_of types) n) d p q end has)
+
+  pub stores_stand : (many address offset slot p q : ℕ) → p + length (stores_code many address offset slot) ≡ q → HasAt code p (stores_code many address offset slot) → StoresAt code b types many address offset slot p q
+  stores_stand zero address offset slot p q end has = omega (arith, end)
+  stores_stand (suc many) address offset slot p q end (here, rest) = (here, stores_stand many address (offset + 4) (suc slot) (p + 1) q (omega (arith, end)) rest)
+
+  pub saved_stands : (words address : ℕ) (o : Operand) (p q : ℕ) → IsApart types words address o → p + length (saved_code words address o) ≡ q → HasAt code p (saved_code words address o) → SavedAt code b types words address o p q
+  saved_stands words address (operands.Slot n) p q apart end has = (stores_stand words address 0 n p q end has, apart)
+  saved_stands words address (operands.Word n) p q apart end (here, none) = (here, end)
+
+  -- each value that is passed has a word or more
+  pub passed_least : (cs : Arguments) → argument_count cs ≤ all_passed cs
+  passed_least NoArguments = omega arith
+  passed_least (MoreArguments (Convert from to a) cs) = omega (arith, passed_least cs, kind_positive to)
+
+  pub object_stands : (handle : Operand) (cells words d t p q : ℕ) → cells ≤ words → 1 ≤ words → words ≤ MOST_BLOCK_WORDS → p + length (object_code handle words d t) ≡ q → HasAt code p (object_code handle words d t)
+      → ObjectAt code b types handle cells words t d p q
+  object_stands handle cells words d t p q least some few end (ask, rest) =
+      let stores = stores_code words (t + words) 0 t in
+      let move = instructions.Move d (operands.Slot (t + words)) ∷ [] in
+      let m = p + 1 + length stores in
+      let (here, none) = has_back code (p + 1) stores move rest in
+      (m, least, some, few, ask, stores_stand words (t + words) 0 t (p + 1) m refl (has_front code (p + 1) stores move rest), here, omega (arith, end, length-append stores move))
+
+  pub begun_stands : (handle : Operand) (words t p q : ℕ) → p + 7 ≡ q → HasAt code p (begun_code (starts_of types) handle words t) → BegunAt code b types handle words t p q
+  begun_stands handle words t p q end (guard, (count, (index, (all, (none, (size, (ask, rest))))))) =
+      (p + 1, guard_stands array_size comparisons.GreaterOrEqualUnsigned (operands.Slot t) (operands.Word (most_elements words + 1)) p (p + 1) (omega arith) (omega arith) refl (guard, tt), count, index, all, none, size, ask, omega (arith, end))
+
+  pub filled_stands : (words t head p q : ℕ) → p + length (filled_code words head t) ≡ q → HasAt code p (filled_code words head t) → FilledAt code b types words t head p q
+  filled_stands words t head p q end (scaled, (address, rest)) =
+      let stores = stores_code words (t + 3 + words) 0 (t + 3) in
+      let up = instructions.Binary plain_binary.Add (t + 2) (operands.Slot (t + 2)) (operands.Word 1) ∷ instructions.Jump head ∷ [] in
+      let m = p + 1 + 1 + length stores in
+      let (next, (again, none)) = has_back code (p + 1 + 1) stores up rest in
+      (m, scaled, address, stores_stand words (t + 3 + words) 0 (t + 3) (p + 1 + 1) m refl (has_front code (p + 1 + 1) stores up rest), next, again, omega (arith, end, length-append stores up))
+
+  pub copy_by : (is : Bool) (words : ℕ) (o : Operand) (d p q : ℕ) → p + length (if is then [] else move_of words d o ∷ []) ≡ q → HasAt code p (if is then [] else move_of words d o ∷ []) → CopyBy code is words o d p q
+  copy_by true words o d p q end has = omega (arith, end)
+  copy_by false words o d p q end (here, none) = (here, end)
+
+  pub address_stands : (o : Operand) (bytes d p q : ℕ) → p + length (address_code o bytes d) ≡ q → HasAt code p (address_code o bytes d) → AddressAt code o bytes d p q
+  address_stands o zero d p q end has = copy_by (is_in o d) 1 o d p q end has
+  address_stands o (suc bytes) d p q end (here, none) = (here, end)
+
+  pub loaded_stands : (narrow : Bool) (o : Operand) (bytes d t p q : ℕ)
+      → p + length (if narrow then instructions.Load d o bytes ∷ [] else address_code o bytes t ++ (instructions.Load (d + 2) (operands.Slot t) 8 ∷ instructions.Load (d + 1) (operands.Slot t) 4 ∷ instructions.Load d (operands.Slot t) 0 ∷ [])) ≡ q
+      → HasAt code p (if narrow then instructions.Load d o bytes ∷ [] else address_code o bytes t ++ (instructions.Load (d + 2) (operands.Slot t) 8 ∷ instructions.Load (d + 1) (operands.Slot t) 4 ∷ instructions.Load d (operands.Slot t) 0 ∷ []))
+      → LoadedBy code narrow o bytes d t p q
+  loaded_stands true o bytes d t p q end (here, none) = (here, end)
+  loaded_stands false o bytes d t p q end has =
+      let front = address_code o bytes t in
+      let back = instructions.Load (d + 2) (operands.Slot t) 8 ∷ instructions.Load (d + 1) (operands.Slot t) 4 ∷ instructions.Load d (operands.Slot t) 0 ∷ [] in
+      let r = p + length front in
+      let (first, (second, (third, none))) = has_back code p front back has in
+      (r, address_stands o bytes t p r refl (has_front code p front back has), first, second, third, omega (arith, cut p q front back end))
+
+  words_kept : (from to : Kind) (a : Expression) → from ≡ given b.functions a → converts_there from to ≡ true → words_of_kind (given b.functions a) ≡ words_of_kind to
+  words_kept from to a kind lands = ap words_of_kind (sym kind) ∙ as_wide from to lands
+
+  pub initial_by : (there : Bool) (from to : Kind) (a : Expression) (d t p q : ℕ) → from ≡ given b.functions a → is_converted from to ≡ true → converts_there from to ≡ there
+      → ((slot r : ℕ) → p + length (expression_code (starts_of types) a p slot t) ≡ r → HasAt code p (expression_code (starts_of types) a p slot t) → ExpressionAt code b types a slot t p r)
+      → p + length (if there then expression_code (starts_of types) a p d t else moved_by (starts_of types) (source_of (starts_of types) (Convert from to a)) (expression_code (starts_of types) a p (source_slot (starts_of types) (Convert from to a) t) t) from to (span_of a) (converted_operand (starts_of types) (Convert from to a) t) p d) ≡ q
+      → HasAt code p (if there then expression_code (starts_of types) a p d t else moved_by (starts_of types) (source_of (starts_of types) (Convert from to a)) (expression_code (starts_of types) a p (source_slot (starts_of types) (Convert from to a) t) t) from to (span_of a) (converted_operand (starts_of types) (Convert from to a) t) p d)
+      → InitialBy code b types there from to a d t p q
+  initial_by true from to a d t p q kind wide lands stands end has = (words_kept from to a kind lands, stands d q end has)
+  initial_by false from to a d t p q kind wide lands stands end has =
+      let known = source_of (starts_of types) (Convert from to a) in
+      let slot = source_slot (starts_of types) (Convert from to a) t in
+      let o = converted_operand (starts_of types) (Convert from to a) t in
+      let inner = expression_code (starts_of types) a p slot t in
+      let front = code_unless known inner in
+      let m = p + length front in
+      let conversion = conversion_code (starts_of types) from to (span_of a) o m in
+      let both = front ++ conversion in
+      let r = p + length both in
+      let has_both = has_front code p both _ has in
+      let (here, none) = has_back code p both _ has in
+      (o, m, r, operand_by known _ inner slot p m refl (has_front code p front conversion has_both) (λ e h. stands slot m e h), conversion_stands from to (span_of a) o t m r wide (λ narrow. source_brought from to a t kind narrow) (cut p r front conversion refl) (has_back code p front conversion has_both), here, cut p q both _ end)

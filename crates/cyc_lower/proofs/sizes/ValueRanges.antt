@@ -1,0 +1,571 @@
+-- The code of values, pointers, places and objects names what is there.
+use Rattle.std.proofs.Common.{◌≡◌, ℕ, zero, suc, ◌+◌, ◌-◌, ◌≤◌, ◌<◌, Bool, true, false, List, [], ◌∷◌, ◌++◌, length, Option, None, Some, slice_get, refl, sym, ap, subst, ◌∙◌, arith, length-append}
+use Rattle.std.specs.List.{AllByRecursion}
+use Rattle.cyc_types.specs.declared.typed.Kind.{Kind}
+use Rattle.cyc_types.specs.declared.typed.Kind.TheVariants as kinds
+use Rattle.cyc_types.specs.declared.typed.Callee.TheVariants as callees
+use Rattle.cyc_types.specs.declared.typed.Operator.{Operator}
+use Rattle.cyc_types.specs.declared.typed.Operator.TheVariants as operators
+use Rattle.cyc_types.specs.declared.typed.PointerOperator.{PointerOperator}
+use Rattle.cyc_types.specs.declared.typed.PointerOperator.TheVariants as pointers
+use Rattle.cyc_types.specs.declared.typed.LogicalOperator.{LogicalOperator}
+use Rattle.cyc_types.specs.declared.typed.LogicalOperator.TheVariants as logical
+use Rattle.cyc_types.specs.Types.{Ty, words_of, ValueType}
+use Rattle.cyc_types.specs.TypedTrees.{Counter, Load, New, OnHeap, AsUnique, ByHandle, Plain, Fields, Array, Dereference, Target, Lvalue, Local, Global, Expression, Number, NullPointer, Copy, Call, Unary, Binary, Assign, Converted, Convert, Arguments, NoArguments, MoreArguments, Operations, NoOperations, ThenCompute, ThenTest, ThenPointer, type_of, Signature, Function, Move, Peek, ThenPointerPeek, AddressOfCell, Store, Member, FreeUnique, NumberOfElements, Element, HeapRegion, FreeKey, AddressOf}
+use Rattle.cyc_types.specs.Numbered.{Numbering}
+use Rattle.cyc_plain.specs.declared.instruction.Comparison.{Comparison}
+use Rattle.cyc_plain.specs.declared.instruction.Comparison.TheVariants as comparisons
+use Rattle.cyc_plain.specs.declared.instruction.BinaryOperator.{BinaryOperator as PlainBinary}
+use Rattle.cyc_plain.specs.declared.instruction.BinaryOperator.TheVariants as plain_binary
+use Rattle.cyc_plain.specs.declared.instruction.Operand.{Operand}
+use Rattle.cyc_plain.specs.declared.instruction.Operand.TheVariants as operands
+use Rattle.cyc_plain.specs.declared.instruction.Instruction.{Instruction}
+use Rattle.cyc_plain.specs.declared.instruction.Instruction.TheVariants as instructions
+use Rattle.cyc_plain.specs.Program.{Routine, Program as PlainProgram}
+use Rattle.cyc_plain.specs.WellFormed.{IsOperand}
+use Rattle.std.specs.Prelude.{◌==◌, max, if◌then◌else◌}
+use Rattle.std.proofs.lemmas.Bool.{eqb-true}
+use Rattle.cyc_words.proofs.Lists.{all_append}
+use Rattle.cyc_meaning.specs.Operators.{null_exception, division_by_zero, array_bounds}
+use Rattle.cyc_meaning.specs.Values.{kind_of, words_of_kind, is_thin, is_kind}
+use Rattle.cyc_meaning.specs.FrameCount.{operand_words, converted_words, argument_words, expression_need, dereference_need, operations_need, place_words}
+use Rattle.cyc_meaning.specs.Pointers.{result_kind as operator_kind}
+use Rattle.cyc_lower.specs.Slots.{starts_of, slot_of, Types, global_of}
+use Rattle.cyc_lower.specs.ValueCode.{are_as_wide, converts_there, passed_words, moved_by, move_of, binary_operator, operand_or, code_unless, slot_or, code_unless_slot, left_with, next_slot, check_code, conversion_code, divisor_code, checked_code, operator_code, truth_code, test_code, copy_code, pointer_operator, left_kind, behind_left, pointer_code, index_code, pointer_instructions, address_code, addressed_by, guard_code, count_code, span_of, null_of, tested_code, widened_code, conversion_by, bounds_code, stepped_code, bounded_code, thinned_code, reached_code, followed_code, followed_operand, span_in, reached_operand, word_by_word, load_word, store_word, global_code}
+use Rattle.cyc_lower.specs.ObjectCode.{stores_code, object_code, free_code, saved_code}
+use Rattle.cyc_lower.specs.ControlCode.{counter_operand}
+use Rattle.cyc_lower.specs.ExpressionCode.{source_of, source_slot, operand_of, left_of, value_slot, slot_with, left_slot, value_operand, converted_operand, printed_operand, load_code, expression_code, converted_operand_code, place_operand, place_offset, place_code, pointer_slot}
+use Rattle.cyc_lower.specs.Lowering.{results_of, store_address_code, store_code}
+use Rattle.cyc_lower.proofs.slots.Widths.{kind_positive, kind_few, type_words, result_kind, given, passed_kind, words_in, chain_kind, wide_kind, same_kind, more_words, HasGlobal}
+use Rattle.cyc_lower.proofs.relation.Fitting.{FitsPlace, FitsCell, Fits, FitsConverted, FitArguments, FitOperations}
+use Rattle.cyc_lower.specs.Lowerable.{is_converted, is_pointer}
+use Rattle.cyc_lower.proofs.emission.Lengths.{past_long}
+use Rattle.cyc_lower.proofs.value_steps.ValueWords.{as_wide}
+use Rattle.cyc_lower.proofs.slots.Slots.{words_positive, global-room, global-inside}
+use Rattle.cyc_lower.proofs.sizes.RangeLemmas.{operand_positive, passed_is, result_least, IsKnown, AreGlobals, IsIn}
+
+module _ (program : PlainProgram) (r : Routine) (b : Numbering) (types : Types) (locals : (n : ℕ) → n < b.locals → slot_of (starts_of types) n + words_in types.locals n ≤ r.slots) (levels : (l slot : ℕ) → slice_get types.counters l ≡ Some slot → slot < r.slots) (globals : AreGlobals program types.globals) (called : (n : ℕ) (s : Signature) → slice_get b.functions n ≡ Some s → IsKnown program n s) (results : r.results ≡ results_of b.result) (behind : types.raises + 4 < length r.code) where
+  abbrev pub AreIn : List Instruction → Type 0
+  AreIn code = AllByRecursion (IsIn program r types.locals) code
+
+  pub append : (x y : List Instruction) → AreIn x → AreIn y → AreIn (x ++ y)
+  append x y first rest = all_append (IsIn program r types.locals) x y first rest
+
+  -- code that is left out where an operand is known
+  pub unless_in : (known : Option Operand) (x : List Instruction) (p : ℕ) → p + length (code_unless known x) < length r.code → (p + length x < length r.code → AreIn x) → AreIn (code_unless known x)
+  unless_in (Some o) x p short inside = tt
+  unless_in None x p short inside = inside short
+
+  pub unless_slot_in : (known : Option Operand) (x : List Instruction) (p : ℕ) → p + length (code_unless_slot known x) < length r.code → (p + length x < length r.code → AreIn x) → AreIn (code_unless_slot known x)
+  unless_slot_in (Some (operands.Slot n)) x p short inside = tt
+  unless_slot_in (Some (operands.Word n)) x p short inside = inside short
+  unless_slot_in None x p short inside = inside short
+
+  -- the kind of what an expression gives
+  abbrev pub kind_at : Expression → Kind
+  kind_at a = given b.functions a
+
+  -- a value of so many words stands in slots of the function, where it does not stand in one word
+  abbrev pub HasOperand : Operand → (words : ℕ) → Type 0
+  HasOperand (operands.Slot n) words = n + words ≤ r.slots
+  HasOperand (operands.Word w) words = Unit {0}
+
+  operand_in : (o : Operand) (kind : Kind) → HasOperand o (words_of_kind kind) → IsOperand r o
+  operand_in (operands.Slot n) kind inside = omega (arith, inside, kind_positive kind)
+  operand_in (operands.Word w) kind inside = tt
+
+  pub assigned_kind : (l : Lvalue) (c : Converted) (ty : ValueType) → kind_at (Assign l c ty) ≡ passed_kind c
+  assigned_kind l (Convert from to a) ty = refl
+
+  -- what a chain gives has as many as its left operand, or as its operators need
+  pub operator_few : (o : PointerOperator) → words_of_kind (operator_kind o) ≤ words_of_kind (left_kind o)
+  operator_few pointers.AddFat = omega arith
+  operator_few pointers.SubtractFat = omega arith
+  operator_few pointers.ThinIsNull = omega arith
+  operator_few pointers.ThinIsNotNull = omega arith
+  operator_few pointers.FatIsNull = omega arith
+  operator_few pointers.FatIsNotNull = omega arith
+  operator_few pointers.NullIs = omega arith
+  operator_few pointers.NullIsNot = omega arith
+  operator_few pointers.EqualThin = omega arith
+  operator_few pointers.NotEqualThin = omega arith
+
+  chain_needs : (os : Operations) (kind : Kind) (t : Ty) (left : ℕ) → FitOperations b types left t os → words_of_kind (chain_kind kind os) ≤ max (words_of_kind kind) (max 1 (operations_need os t left))
+  chain_needs NoOperations kind t left numbered = omega arith
+  chain_needs (ThenCompute o a os) kind t left (numbered, rest) = omega (arith, chain_needs os kinds.Int t (words_of t) rest)
+  chain_needs (ThenTest o a os) kind t left (numbered, rest) = omega (arith, chain_needs os kinds.Int t (words_of t) rest)
+  chain_needs (ThenPointer o a os) kind t left (wide, numbered, rest) = omega (arith, chain_needs os (operator_kind o) t (words_of t) rest, operator_few o, wide)
+  chain_needs (ThenPointerPeek n o a os) kind t left (wide, numbered, rest) = omega (arith, chain_needs os (operator_kind o) t (words_of t) rest, operator_few o, wide)
+
+  pub stored_kind : (x : Dereference) (c : Converted) (ty : ValueType) → kind_at (Store x c ty) ≡ passed_kind c
+  stored_kind x (Convert from to a) ty = refl
+
+  -- what is given has as many words as are needed for it, or one
+  pub given_needs : (a : Expression) → Fits b types a → words_of_kind (kind_at a) ≤ max 1 (expression_need a)
+  given_needs (Number n) numbered = omega arith
+  given_needs NullPointer numbered = omega arith
+  given_needs (Counter l) numbered = omega arith
+  given_needs (Copy l t) numbered = omega (arith, type_words t)
+  given_needs (Move p n t) numbered = omega (arith, type_words t)
+  given_needs (Peek p n t) numbered = omega (arith, type_words t)
+  given_needs (Call callees.Putchar cs t) numbered = omega arith
+  given_needs (Call callees.Getchar cs t) numbered = omega arith
+  given_needs (Call (callees.Function n) cs t) (s, signature, many, passed, result, numbered) =
+      omega (arith, ap (λ (o : Option Signature). words_of_kind (result_kind o)) signature, (result_least s.result).1, result)
+  given_needs (NumberOfElements a) numbered = omega arith
+  given_needs (Unary o a) numbered = omega arith
+  given_needs (Binary a os t) (numbered, rest) = omega (arith, given_needs a numbered, chain_needs os (kind_at a) t (operand_words (type_of a)) rest)
+  given_needs (Assign l (Convert from to a) t) numbered = omega arith
+  given_needs (Load (Target k a t)) numbered = omega (arith, type_words t)
+  given_needs (Load (Element a i t)) numbered = omega (arith, type_words t)
+  given_needs (Load (Member k a s f t)) numbered = omega (arith, type_words t)
+  given_needs (FreeUnique a) numbered = omega (arith, operand_positive (type_of a))
+  given_needs (New OnHeap (Plain kind a) t) numbered = omega arith
+  given_needs (New OnHeap (Fields cs) t) numbered = omega arith
+  given_needs (New OnHeap (Array p level n kind a) t) numbered = omega arith
+  given_needs (New AsUnique (Plain kind a) t) numbered = omega arith
+  given_needs (New AsUnique (Fields cs) t) numbered = omega arith
+  given_needs (New AsUnique (Array p level n kind a) t) numbered = omega arith
+  given_needs (New (ByHandle h) (Plain kind a) t) numbered = omega arith
+  given_needs (New (ByHandle h) (Fields cs) t) numbered = omega arith
+  given_needs (New (ByHandle h) (Array p level n kind a) t) numbered = omega arith
+  given_needs HeapRegion numbered = omega arith
+  given_needs (FreeKey a) numbered = omega arith
+  given_needs (AddressOf l t) numbered = omega arith
+  given_needs (AddressOfCell x t) numbered = omega arith
+  given_needs (Store x (Convert from to a) t) numbered = omega arith
+
+  pub slot_fits : (a : Expression) (t : ℕ) → Fits b types a → t + words_of_kind (kind_at a) ≤ r.slots → value_slot (starts_of types) a t + words_of_kind (kind_at a) ≤ r.slots
+  slot_fits (Assign (Local w n) (Convert from to a) ty) t ((within, room), numbered) few = omega (arith, locals n within, room)
+  slot_fits a t numbered few = few
+
+  pub value_room : (a : Expression) (t : ℕ) → Fits b types a → t + words_of_kind (kind_at a) ≤ r.slots → HasOperand (value_operand (starts_of types) a t) (words_of_kind (kind_at a))
+  value_room (Number n) t numbered few = tt
+  value_room NullPointer t numbered few = tt
+  value_room HeapRegion t numbered few = tt
+  value_room (Copy (Local w n) ty) t (within, room) few = omega (arith, locals n within, room)
+  value_room (Move w n ty) t (within, room) few = omega (arith, locals n within, room)
+  value_room (Peek w n ty) t (within, room) few = omega (arith, locals n within, room)
+  value_room (Assign (Local w n) (Convert from to a) ty) t ((within, room), numbered) few = omega (arith, locals n within, room)
+  value_room (Counter l) t numbered few = by (slice_get types.counters l) refl
+    where
+      by : (s : Option ℕ) → slice_get types.counters l ≡ s → HasOperand (operand_or (counter_operand s) t) 1
+      by (Some n) there = omega (arith, levels l n there)
+      by None none = few
+  value_room a t numbered few = few
+
+  pub value_in : (a : Expression) (t : ℕ) → Fits b types a → t + words_of_kind (kind_at a) ≤ r.slots → IsOperand r (value_operand (starts_of types) a t)
+  value_in a t numbered few = operand_in (value_operand (starts_of types) a t) (kind_at a) (value_room a t numbered few)
+
+  -- a value that is converted has room before and after
+  pub source_fits : (from to : Kind) (a : Expression) (t : ℕ) → FitsConverted b types (Convert from to a) → t + converted_words (Convert from to a) ≤ r.slots
+      → source_slot (starts_of types) (Convert from to a) t + words_of_kind (kind_at a) ≤ r.slots
+  source_fits from to a t (kind, wide, numbered) few = by (are_as_wide from to)
+    where
+      by : (same : Bool) → (if same then value_slot (starts_of types) a t else t) + words_of_kind (kind_at a) ≤ r.slots
+      by true = slot_fits a t numbered (omega (arith, few, ap words_of_kind kind))
+      by false = omega (arith, few, ap words_of_kind kind)
+
+  null_room : (a : Expression) (t words : ℕ) → t + words ≤ r.slots → HasOperand (operand_or (null_of a) t) words
+  null_room NullPointer t words few = tt
+  null_room a t words few = few
+
+  less_operand : (o : Operand) (words fewer : ℕ) → fewer ≤ words → HasOperand o words → HasOperand o fewer
+  less_operand (operands.Slot n) words fewer less inside = omega (arith, less, inside)
+  less_operand (operands.Word w) words fewer less inside = tt
+
+  pub brought_room : (c : Converted) (t : ℕ) → FitsConverted b types c → t + converted_words c ≤ r.slots → HasOperand (converted_operand (starts_of types) c t) (converted_words c)
+  brought_room (Convert from to a) t (kind, wide, numbered) few = by (are_as_wide from to) refl
+    where
+      by : (same : Bool) → are_as_wide from to ≡ same
+          → HasOperand (operand_or (if same then operand_of (starts_of types) a else null_of a) (if same then value_slot (starts_of types) a t else t)) (converted_words (Convert from to a))
+      by true wide =
+          subst (HasOperand (value_operand (starts_of types) a t))
+          (let same : words_of_kind (kind_at a) ≡ converted_words (Convert from to a) = omega (arith, ap words_of_kind kind, eqb-true (words_of_kind from) (words_of_kind to) wide) in same)
+          (value_room a t numbered (omega (arith, few, ap words_of_kind kind)))
+      by false wide = null_room a t (converted_words (Convert from to a)) few
+
+  pub converted_room : (c : Converted) (t : ℕ) → FitsConverted b types c → t + converted_words c ≤ r.slots → HasOperand (converted_operand (starts_of types) c t) (words_of_kind (passed_kind c))
+  converted_room (Convert from to a) t numbered few =
+      less_operand (converted_operand (starts_of types) (Convert from to a) t) (converted_words (Convert from to a)) (words_of_kind to) (omega arith) (brought_room (Convert from to a) t numbered few)
+
+  converted_value_in : (c : Converted) (t : ℕ) → FitsConverted b types c → t + converted_words c ≤ r.slots → IsOperand r (converted_operand (starts_of types) c t)
+  converted_value_in c t numbered few = operand_in (converted_operand (starts_of types) c t) (passed_kind c) (converted_room c t numbered few)
+
+  pub printed_value_in : (cs : Arguments) (o : Operand) (t : ℕ) → FitArguments b types cs → IsOperand r o → t + argument_words cs ≤ r.slots → IsOperand r (printed_operand (starts_of types) cs o t)
+  printed_value_in NoArguments o t numbered inside few = inside
+  printed_value_in (MoreArguments c cs) o t (first, rest) inside few =
+      printed_value_in cs (converted_operand (starts_of types) c t) t rest (converted_value_in c t first (omega (arith, few))) (omega (arith, few))
+
+  -- a value is moved
+  pub move_in : (kind : Kind) (d : ℕ) (o : Operand) → d + words_of_kind kind ≤ r.slots → HasOperand o (words_of_kind kind) → IsIn program r types.locals (move_of (words_of_kind kind) d o)
+  move_in kind d (operands.Word w) room inside = (omega (arith, room, kind_positive kind), tt)
+  move_in kind d (operands.Slot n) room inside = by (words_of_kind kind == 1)
+    where
+      by : (one : Bool) → IsIn program r types.locals (if one then instructions.Move d (operands.Slot n) else instructions.MoveWords d n (words_of_kind kind))
+      by true = (omega (arith, room, kind_positive kind), omega (arith, inside, kind_positive kind))
+      by false = record { some = kind_positive kind; few = kind_few kind; destination_in_range = room; source_in_range = inside }
+
+  -- the slot for what an operator gives has room for it
+  pub next_in : (os : Operations) (kind : Kind) (d t : ℕ) → d + words_of_kind (chain_kind kind os) ≤ r.slots → t + words_of_kind kind ≤ r.slots → next_slot os d t + words_of_kind kind ≤ r.slots
+  next_in NoOperations kind d t few room = few
+  next_in (ThenCompute o a os) kind d t few room = room
+  next_in (ThenTest o a os) kind d t few room = room
+  next_in (ThenPointer o a os) kind d t few room = room
+  next_in (ThenPointerPeek n o a os) kind d t few room = room
+
+  -- a left operand of an operator on pointers has its words
+  abbrev pub LeftIn : Operations → Operand → Type 0
+  LeftIn (ThenPointer o a os) l = HasOperand l (words_of_kind (left_kind o))
+  LeftIn (ThenPointerPeek n o a os) l = HasOperand l (words_of_kind (left_kind o))
+  LeftIn os l = Unit {0}
+
+  pub next_left_in : (os : Operations) (ty : Ty) (d t left : ℕ) → FitOperations b types left ty os → t + operations_need os ty left ≤ r.slots → LeftIn os (operands.Slot (next_slot os d t))
+  next_left_in NoOperations ty d t left numbered few = tt
+  next_left_in (ThenCompute o a os) ty d t left numbered few = tt
+  next_left_in (ThenTest o a os) ty d t left numbered few = tt
+  next_left_in (ThenPointer o a os) ty d t left (wide, numbered, rest) few = omega (arith, few, wide)
+  next_left_in (ThenPointerPeek n o a os) ty d t left (wide, numbered, rest) few = omega (arith, few, wide)
+
+  pub first_left_in : (a : Expression) (os : Operations) (ty : Ty) (d t left : ℕ) → FitOperations b types left ty os → t + operations_need os ty left ≤ r.slots
+      → LeftIn os (operand_or (left_of (starts_of types) a os) (left_slot (starts_of types) a os d t))
+  first_left_in a NoOperations ty d t left numbered few = tt
+  first_left_in a (ThenCompute o c os) ty d t left numbered few = tt
+  first_left_in a (ThenTest o c os) ty d t left numbered few = tt
+  first_left_in a (ThenPointer o c os) ty d t left (wide, numbered, rest) few = omega (arith, few, wide)
+  first_left_in a (ThenPointerPeek n o c os) ty d t left (wide, numbered, rest) few = omega (arith, few, wide)
+
+  -- where operators follow, there is room for a value
+  abbrev RoomFor : Operations → ℕ → Type 0
+  RoomFor NoOperations t = Unit {0}
+  RoomFor os t = t < r.slots
+
+  pub has_room : (os : Operations) (ty : Ty) (t left : ℕ) → FitOperations b types left ty os → 1 ≤ left → t + operations_need os ty left ≤ r.slots → RoomFor os t
+  has_room NoOperations ty t left numbered some few = tt
+  has_room (ThenCompute o a os) ty t left numbered some few = omega (arith, few, some)
+  has_room (ThenTest o a os) ty t left numbered some few = omega (arith, few, some)
+  has_room (ThenPointer o a os) ty t left numbered some few = omega (arith, few, some)
+  has_room (ThenPointerPeek n o a os) ty t left numbered some few = omega (arith, few, some)
+
+  pub slot_with_in : (known : Option Operand) (a : Expression) (t : ℕ) → Fits b types a → t + words_of_kind (kind_at a) ≤ r.slots → slot_with (starts_of types) known a t + words_of_kind (kind_at a) ≤ r.slots
+  slot_with_in (Some o) a t numbered few = slot_fits a t numbered few
+  slot_with_in None a t numbered few = few
+
+  pub left_with_in : (known : Option Operand) (a : Expression) (t : ℕ) → Fits b types a → t + words_of_kind (kind_at a) ≤ r.slots → IsOperand r (operand_or (left_with known (operand_of (starts_of types) a)) (slot_with (starts_of types) known a t))
+  left_with_in (Some o) a t numbered few = value_in a t numbered few
+  left_with_in None a t numbered few = omega (arith, few, kind_positive (kind_at a))
+
+  -- and for what they begin with
+  abbrev LeftRoom : Operations → Expression → ℕ → Type 0
+  LeftRoom NoOperations a t = Unit {0}
+  LeftRoom os a t = t + words_of_kind (kind_at a) ≤ r.slots
+
+  pub left_room : (os : Operations) (a : Expression) (t : ℕ) → Fits b types a → t + expression_need a ≤ r.slots → RoomFor os t → LeftRoom os a t
+  left_room NoOperations a t numbered few room = tt
+  left_room os a t numbered few room = omega (arith, few, room, given_needs a numbered)
+
+  pub left_slot_in : (a : Expression) (os : Operations) (ty : Ty) (d t : ℕ) → Fits b types a → d + words_of_kind (kind_at (Binary a os ty)) ≤ r.slots → LeftRoom os a t
+      → left_slot (starts_of types) a os d t + words_of_kind (kind_at a) ≤ r.slots
+  left_slot_in a NoOperations ty d t numbered few room = few
+  left_slot_in a (ThenCompute o c os) ty d t numbered few room = slot_with_in (operand_of (starts_of types) c) a t numbered room
+  left_slot_in a os ty d t numbered few room = room
+
+  pub left_in : (a : Expression) (os : Operations) (ty : Ty) (d t : ℕ) → Fits b types a → d + words_of_kind (kind_at (Binary a os ty)) ≤ r.slots → LeftRoom os a t
+      → IsOperand r (operand_or (left_of (starts_of types) a os) (left_slot (starts_of types) a os d t))
+  left_in a NoOperations ty d t numbered few room = omega (arith, few, kind_positive (kind_at a))
+  left_in a (ThenCompute o c os) ty d t numbered few room = left_with_in (operand_of (starts_of types) c) a t numbered room
+  left_in a os ty d t numbered few room = omega (arith, room, kind_positive (kind_at a))
+
+  guard_in : (tag : ℕ) (failing : Comparison) (o m : Operand) → tag ≤ 4 → IsOperand r o → IsOperand r m → AreIn (guard_code (starts_of types) tag failing o m)
+  guard_in tag failing o m few left right = ((left, right, omega (arith, few, behind)), tt)
+
+  pub free_in : (o : Operand) (p : ℕ) → IsOperand r o → p + 2 < length r.code → AreIn (free_code o p)
+  free_in o p inside short = ((inside, tt, short), (record { answer_in_range = omega arith; first_in_range = inside; second_in_range = tt }, tt))
+
+  pub check_in : (tag : ℕ) (o : Operand) → tag ≤ 4 → IsOperand r o → AreIn (check_code (starts_of types) tag o)
+  check_in tag o few inside = guard_in tag comparisons.Equal o (operands.Word 0) few inside tt
+
+  bounds_in : (index bound : Operand) → IsOperand r index → IsOperand r bound → AreIn (bounds_code (starts_of types) index bound)
+  bounds_in index bound first second = guard_in array_bounds comparisons.GreaterOrEqualUnsigned index bound (omega arith) first second
+
+  stepped_in : (span : Option ℕ) (n m t : ℕ) → n < r.slots → m < r.slots → t + 3 ≤ r.slots → AreIn (stepped_code span n m t)
+  stepped_in None n m t first index room = tt
+  stepped_in (Some words) n m t first index room = (by (words == 1), ((omega (arith, room), first, omega (arith, room)), tt))
+    where
+      by : (narrow : Bool) → IsIn program r types.locals (if narrow then instructions.Binary plain_binary.ShiftLeft (t + 2) (operands.Slot m) (operands.Word 2) else instructions.Binary plain_binary.Multiply (t + 2) (operands.Slot m) (operands.Word 12))
+      by true = (omega (arith, room), index, tt)
+      by false = (omega (arith, room), index, tt)
+
+  bounded_in : (span : Option ℕ) (n m t : ℕ) → n + 2 ≤ r.slots → m < r.slots → t + 3 ≤ r.slots → AreIn (bounded_code (starts_of types) span n m t)
+  bounded_in span n m t first index room =
+      append (bounds_code (starts_of types) (operands.Slot m) (operands.Slot (n + 1))) (stepped_code span n m t) (bounds_in (operands.Slot m) (operands.Slot (n + 1)) index (omega (arith, first))) (stepped_in span n m t (omega (arith, first)) index room)
+
+  pub reached_in : (span : Option ℕ) (n m t : ℕ) → n + 2 ≤ r.slots → m < r.slots → t + 3 ≤ r.slots → AreIn (reached_code (starts_of types) span n m t)
+  reached_in span n m t first index room =
+      append (check_code (starts_of types) null_exception (operands.Slot n)) (bounded_code (starts_of types) span n m t) (check_in null_exception (operands.Slot n) (omega arith) (omega (arith, first))) (bounded_in span n m t first index room)
+
+  pub followed_in : (k : Kind) (thin : Bool) (span : Option ℕ) (o : Operand) (t : ℕ) → is_thin k ≡ thin → is_pointer k ≡ true → HasOperand o (words_of_kind k) → t + words_of_kind k ≤ r.slots → AreIn (followed_code (starts_of types) thin span o t)
+  followed_in k true span o t is pointer inside room = check_in null_exception o (omega arith) (operand_in o k inside)
+  followed_in k false span (operands.Word w) t is pointer inside room = check_in null_exception (operands.Word w) (omega arith) tt
+  followed_in k false span (operands.Slot n) t is pointer inside room =
+      let fat : k ≡ kinds.Fat = same_kind k kinds.Fat (ap (λ (b : Bool). if b then true else is_kind k kinds.Fat) (sym is) ∙ pointer) in
+      let three = ap words_of_kind fat in
+      reached_in span n (n + 2) t (omega (arith, inside, three)) (omega (arith, inside, three)) (omega (arith, room, three))
+
+  followed_operand_in : (thin : Bool) (span : Option ℕ) (o : Operand) (t : ℕ) → IsOperand r o → t < r.slots → IsOperand r (followed_operand thin span o t)
+  followed_operand_in true span o t inside room = inside
+  followed_operand_in false None (operands.Slot n) t inside room = inside
+  followed_operand_in false (Some words) (operands.Slot n) t inside room = room
+  followed_operand_in false span (operands.Word w) t inside room = inside
+
+  tested_in : (to : Kind) (o : Operand) → IsOperand r o → AreIn (tested_code (starts_of types) to o)
+  tested_in kinds.NonNull o inside = check_in null_exception o (omega arith) inside
+  tested_in to o inside = tt
+
+  widened_in : (o : Operand) → HasOperand o 3 → AreIn (widened_code o)
+  widened_in (operands.Slot n) inside = ((omega (arith, inside), tt), ((omega (arith, inside), tt), tt))
+  widened_in (operands.Word w) inside = tt
+
+  thinned_in : (to : Kind) (span : Option ℕ) (o : Operand) (p : ℕ) → HasOperand o 3 → p + length (thinned_code (starts_of types) to span o p) < length r.code → AreIn (thinned_code (starts_of types) to span o p)
+  thinned_in kinds.NonNull span (operands.Slot n) p inside short = reached_in span n (n + 2) n (omega (arith, inside)) (omega (arith, inside)) inside
+  thinned_in kinds.Nullable span (operands.Slot n) p inside short = ((omega (arith, inside), tt, omega (arith, short, past_long (starts_of types) span n (n + 2) n)), bounded_in span n (n + 2) n (omega (arith, inside)) (omega (arith, inside)) inside)
+  thinned_in to span o p inside short = tt
+
+  conversion_by_in : (wide : Bool) (to : Kind) (span : Option ℕ) (o : Operand) (p words : ℕ) → words_of_kind to ≤ words → (wide ≡ false → 3 ≤ words) → HasOperand o words
+      → p + length (conversion_by (starts_of types) wide to span o p) < length r.code → AreIn (conversion_by (starts_of types) wide to span o p)
+  conversion_by_in true to span o p words least three inside short = tested_in to o (operand_in o to (less_operand o words (words_of_kind to) least inside))
+  conversion_by_in false kinds.Fat span o p words least three inside short = widened_in o (less_operand o words 3 (three refl) inside)
+  conversion_by_in false to span o p words least three inside short = thinned_in to span o p (less_operand o words 3 (three refl) inside) short
+
+  pub conversion_in : (from to : Kind) (span : Option ℕ) (o : Operand) (p : ℕ) → HasOperand o (max (words_of_kind from) (words_of_kind to)) → p + length (conversion_code (starts_of types) from to span o p) < length r.code → AreIn (conversion_code (starts_of types) from to span o p)
+  conversion_in from to span o p inside short = conversion_by_in (are_as_wide from to) to span o p (max (words_of_kind from) (words_of_kind to)) (omega arith) (more_words from to) inside short
+
+  divisor_in : (o : Operand) → IsOperand r o → AreIn (divisor_code (starts_of types) o)
+  divisor_in (operands.Word (suc n)) inside = tt
+  divisor_in (operands.Word zero) inside = check_in division_by_zero (operands.Word zero) (omega arith) inside
+  divisor_in (operands.Slot n) inside = check_in division_by_zero (operands.Slot n) (omega arith) inside
+
+  checked_in : (o : Operator) (l m : Operand) (d : ℕ) → d < r.slots → IsOperand r l → IsOperand r m → AreIn (checked_code (starts_of types) o l m d)
+  checked_in o l m d few left right =
+      let front = divisor_code (starts_of types) m in
+      append front (instructions.Binary (binary_operator o) d l m ∷ []) (divisor_in m right) ((few, left, right), tt)
+
+  pub operator_in : (o : Operator) (l m : Operand) (d : ℕ) → d < r.slots → IsOperand r l → IsOperand r m → AreIn (operator_code (starts_of types) o l m d)
+  operator_in operators.Divide l m d few left right = checked_in operators.Divide l m d few left right
+  operator_in operators.Remainder l m d few left right = checked_in operators.Remainder l m d few left right
+  operator_in o l m d few left right = ((few, left, right), tt)
+
+  -- words of globals come to slots, and from slots
+  pub loads_in : (words first d : ℕ) → first + words ≤ length program.globals → d + words ≤ r.slots → AreIn (word_by_word load_word words first d)
+  loads_in zero first d inside few = tt
+  loads_in (suc words) first d inside few = ((omega (arith, few), omega (arith, inside)), loads_in words (suc first) (suc d) (omega (arith, inside)) (omega (arith, few)))
+
+  saves_in : (words first n : ℕ) → first + words ≤ length program.globals → n + words ≤ r.slots → AreIn (word_by_word store_word words first n)
+  saves_in zero first n inside few = tt
+  saves_in (suc words) first n inside few = ((omega (arith, inside), omega (arith, few)), saves_in words (suc first) (suc n) (omega (arith, inside)) (omega (arith, few)))
+
+  pub global_in : (words first : ℕ) (o : Operand) → 1 ≤ words → first + words ≤ length program.globals → HasOperand o words → AreIn (global_code words first o)
+  global_in words first (operands.Slot n) some inside few = saves_in words first n inside few
+  global_in words first (operands.Word n) some inside few = ((omega (arith, some, inside), few), tt)
+
+  -- all words of a value have room in a global
+  pub assigned_in : (n : ℕ) (c : Converted) (o : Operand) → HasGlobal types n (passed_kind c) → HasOperand o (words_of_kind (passed_kind c)) → AreIn (global_code (passed_words c) (global_of (starts_of types) n) o)
+  assigned_in n c o room few =
+      subst (λ words. AreIn (global_code words (global_of (starts_of types) n) o)) (sym (passed_is c))
+      (global_in (words_of_kind (passed_kind c)) (global_of (starts_of types) n) o (kind_positive (passed_kind c)) (omega (arith, room, global-room types n (global-inside types n (passed_kind c) room), globals.room)) few)
+
+  pub load_in : (l : Lvalue) (t : Ty) (d : ℕ) → FitsPlace b types l (kind_of t) → d + words_of_kind (kind_of t) ≤ r.slots → AreIn (load_code (starts_of types) (words_of t) l d)
+  load_in (Local w n) t d (within, room) few =
+      (subst (λ words. IsIn program r types.locals (move_of words d (operands.Slot (slot_of (starts_of types) n)))) (type_words t) (move_in (kind_of t) d (operands.Slot (slot_of (starts_of types) n)) few (omega (arith, locals n within, room))), tt)
+  load_in (Global n) t d room few = loads_in (words_of t) (global_of (starts_of types) n) d (omega (arith, room, type_words t, global-room types n (global-inside types n (kind_of t) room), globals.room)) (omega (arith, few, type_words t))
+
+  pub copy_in : (is : Bool) (c : Converted) (o : Operand) (d : ℕ) → HasOperand o (words_of_kind (passed_kind c)) → d + words_of_kind (passed_kind c) ≤ r.slots → AreIn (if is then [] else move_of (passed_words c) d o ∷ [])
+  copy_in true c o d inside few = tt
+  copy_in false c o d inside few = (subst (λ words. IsIn program r types.locals (move_of words d o)) (sym (passed_is c)) (move_in (passed_kind c) d o few inside), tt)
+
+  -- a fat pointer comes to another slot
+  pub pointer_copied : (d t : ℕ) → d + 3 ≤ r.slots → t + 3 ≤ r.slots → AreIn (copy_code 3 (operands.Slot t) d)
+  pointer_copied d t few inside = by (t == d)
+    where
+      by : (is : Bool) → AreIn (if is then [] else instructions.MoveWords d t 3 ∷ [])
+      by true = tt
+      by false = (record { some = omega arith; few = omega arith; destination_in_range = few; source_in_range = inside }, tt)
+
+  index_in : (o : PlainBinary) (l m : Operand) (d : ℕ) → d + 3 ≤ r.slots → HasOperand l 3 → IsOperand r m → AreIn (index_code o l m d)
+  index_in o (operands.Word n) m d few left right = ((omega (arith, few), tt, right), tt)
+  index_in o (operands.Slot n) m d few left right = ((omega (arith, few), omega (arith, left), right), by (n == d))
+    where
+      by : (there : Bool) → AreIn (if there then [] else instructions.MoveWords d n 2 ∷ [])
+      by true = tt
+      by false = (record { some = omega arith; few = omega arith; destination_in_range = omega (arith, few); source_in_range = omega (arith, left) }, tt)
+
+  pointer_in : (o : PointerOperator) (l m : Operand) (d : ℕ) → d + words_of_kind (operator_kind o) ≤ r.slots → HasOperand l (words_of_kind (left_kind o)) → IsOperand r l → IsOperand r m → AreIn (pointer_instructions o l m d)
+  pointer_in pointers.AddFat l m d few wide left right = index_in (pointer_operator pointers.AddFat) l m d few wide right
+  pointer_in pointers.SubtractFat l m d few wide left right = index_in (pointer_operator pointers.SubtractFat) l m d few wide right
+  pointer_in pointers.ThinIsNull l m d few wide left right = ((omega (arith, few), left, right), tt)
+  pointer_in pointers.ThinIsNotNull l m d few wide left right = ((omega (arith, few), left, right), tt)
+  pointer_in pointers.FatIsNull l m d few wide left right = ((omega (arith, few), left, right), tt)
+  pointer_in pointers.FatIsNotNull l m d few wide left right = ((omega (arith, few), left, right), tt)
+  pointer_in pointers.NullIs l m d few wide left right = ((omega (arith, few), left, right), tt)
+  pointer_in pointers.NullIsNot l m d few wide left right = ((omega (arith, few), left, right), tt)
+  pointer_in pointers.EqualThin l m d few wide left right = ((omega (arith, few), left, right), tt)
+  pointer_in pointers.NotEqualThin l m d few wide left right = ((omega (arith, few), left, right), tt)
+
+  pub count_in : (o : Operand) (p d : ℕ) → HasOperand o 3 → d < r.slots → p + length (count_code o p d) < length r.code → AreIn (count_code o p d)
+  count_in (operands.Word n) p d inside few short = ((few, tt), tt)
+  count_in (operands.Slot n) p d inside few short =
+      let first : n < r.slots = omega (arith, inside) in
+      let second : n + 1 < r.slots = omega (arith, inside) in
+      let third : n + 2 < r.slots = omega (arith, inside) in
+      ((first, tt, omega (arith, short)), ((second, third, omega (arith, short)), ((few, second, third), (omega (arith, short), ((few, tt), tt)))))
+
+  pub test_in : (o : LogicalOperator) (operand : List Instruction) (p d t : ℕ) → d < r.slots → t < r.slots → p + length (test_code o operand p d t) < length r.code → AreIn operand → AreIn (test_code o operand p d t)
+  test_in logical.AndThen operand p d t few room short inside =
+      let long = length-append operand (truth_code t d) in
+      ((room, tt, omega (arith, short, long)), append operand (truth_code t d) inside ((room, room), ((few, room), tt)))
+  test_in logical.OrElse operand p d t few room short inside =
+      let long = length-append operand (truth_code t d) in
+      ((room, tt, omega (arith, short, long)), append operand (truth_code t d) inside ((room, room), ((few, room), tt)))
+
+  pub stores_in : (many address offset slot : ℕ) → address < r.slots → slot + many ≤ r.slots → AreIn (stores_code many address offset slot)
+  stores_in zero address offset slot room few = tt
+  stores_in (suc many) address offset slot room few = ((room, omega (arith, few)), stores_in many address (offset + 4) (suc slot) room (omega (arith, few)))
+
+  -- an element of an array comes to its cell
+  pub filled_in : (narrow : Bool) (words head t : ℕ) → t + 3 + words < r.slots → head < length r.code
+      → AreIn ((if narrow then instructions.Binary plain_binary.ShiftLeft (t + 3 + words) (operands.Slot (t + 2)) (operands.Word 2) else instructions.Binary plain_binary.Multiply (t + 3 + words) (operands.Slot (t + 2)) (operands.Word 12))
+      ∷ instructions.Binary plain_binary.Add (t + 3 + words) (operands.Slot t) (operands.Slot (t + 3 + words))
+      ∷ (stores_code words (t + 3 + words) 0 (t + 3) ++ (instructions.Binary plain_binary.Add (t + 2) (operands.Slot (t + 2)) (operands.Word 1) ∷ instructions.Jump head ∷ [])))
+  filled_in narrow words head t few short = (
+    scaled narrow,
+    (
+      (few, omega (arith, few), few),
+      append (stores_code words (t + 3 + words) 0 (t + 3)) _ (stores_in words (t + 3 + words) 0 (t + 3) few (omega (arith, few))) ((omega (arith, few), omega (arith, few), tt), (short, tt)),
+    ),
+  )
+    where
+      scaled : (narrow : Bool) → IsIn program r types.locals (if narrow then instructions.Binary plain_binary.ShiftLeft (t + 3 + words) (operands.Slot (t + 2)) (operands.Word 2) else instructions.Binary plain_binary.Multiply (t + 3 + words) (operands.Slot (t + 2)) (operands.Word 12))
+      scaled true = (few, omega (arith, few), tt)
+      scaled false = (few, omega (arith, few), tt)
+
+  saved_in : (words address : ℕ) (o : Operand) → address < r.slots → HasOperand o words → AreIn (saved_code words address o)
+  saved_in words address (operands.Slot n) room inside = stores_in words address 0 n room inside
+  saved_in words address (operands.Word n) room inside = ((room, tt), tt)
+
+  pub object_in : (handle : Operand) (words d t : ℕ) → IsOperand r handle → d < r.slots → t + words + 1 ≤ r.slots → AreIn (object_code handle words d t)
+  object_in handle words d t inside room few = (
+    record { answer_in_range = few; first_in_range = inside; second_in_range = tt },
+    append (stores_code words (t + words) 0 t) (instructions.Move d (operands.Slot (t + words)) ∷ []) (stores_in words (t + words) 0 t (omega (arith, few)) (omega (arith, few))) ((room, omega (arith, few)), tt),
+  )
+
+  address_in : (o : Operand) (bytes d : ℕ) → IsOperand r o → d < r.slots → AreIn (address_code o bytes d)
+  address_in o (suc bytes) d inside few = ((few, inside, tt), tt)
+  address_in (operands.Word n) zero d inside few = ((few, inside), tt)
+  address_in (operands.Slot n) zero d inside few = by (n == d)
+    where
+      by : (is : Bool) → AreIn (if is then [] else instructions.Move d (operands.Slot n) ∷ [])
+      by true = tt
+      by false = ((few, inside), tt)
+
+  pub loaded_in : (ty : Ty) (narrow : Bool) (o : Operand) (bytes d t : ℕ) → (words_of ty == 1) ≡ narrow → IsOperand r o → d + words_of_kind (kind_of ty) ≤ r.slots → t < r.slots
+      → AreIn (if narrow then instructions.Load d o bytes ∷ [] else address_code o bytes t ++ (instructions.Load (d + 2) (operands.Slot t) 8 ∷ instructions.Load (d + 1) (operands.Slot t) 4 ∷ instructions.Load d (operands.Slot t) 0 ∷ []))
+  loaded_in ty true o bytes d t narrow inside room free = ((omega (arith, room, kind_positive (kind_of ty)), inside), tt)
+  loaded_in ty false o bytes d t wide inside room free =
+      let three : words_of_kind (kind_of ty) ≡ 3 = ap words_of_kind (wide_kind (kind_of ty) (ap (λ (n : ℕ). n == 1) (type_words ty) ∙ wide)) in
+      append (address_code o bytes t) _ (address_in o bytes t inside free) ((omega (arith, room, three), free), ((omega (arith, room, three), free), ((omega (arith, room, three), free), tt)))
+
+  -- a place needs its own words
+  pub own_needed : (x : Dereference) (own : ℕ) → own ≤ dereference_need x own
+  own_needed (Target k a ty) own = omega arith
+  own_needed (Member k a s f ty) own = omega arith
+  own_needed (Element a i ty) own = omega arith
+
+  -- a fat pointer whose index is computed has room where it stands
+  pub pointer_room : (a i : Expression) (t : ℕ) → kind_at a ≡ kinds.Fat → Fits b types a → t + 3 ≤ r.slots → pointer_slot (starts_of types) a i t + 3 ≤ r.slots
+  pointer_room a i t fat numbered room = by (operand_of (starts_of types) i)
+    where
+      inside : (known : Option Operand) → operand_of (starts_of types) a ≡ known → slot_or known t + 3 ≤ r.slots
+      inside (Some (operands.Slot n)) is =
+          subst (HasOperand (operands.Slot n)) (ap words_of_kind fat)
+          (subst (λ (x : Option Operand). HasOperand (operand_or x (value_slot (starts_of types) a t)) (words_of_kind (kind_at a))) is (value_room a t numbered (omega (arith, room, ap words_of_kind fat))))
+      inside (Some (operands.Word w)) is = room
+      inside None is = room
+
+      by : (index : Option Operand) → slot_or (left_with index (operand_of (starts_of types) a)) t + 3 ≤ r.slots
+      by (Some o) = inside (operand_of (starts_of types) a) refl
+      by None = room
+
+  reached_operand_in : (span : Option ℕ) (n t : ℕ) → n < r.slots → t < r.slots → IsOperand r (reached_operand span n t)
+  reached_operand_in None n t inside room = inside
+  reached_operand_in (Some words) n t inside room = room
+
+  pub place_operand_in : (x : Dereference) (own t : ℕ) → FitsCell b types x → 1 ≤ own → t + dereference_need x own ≤ r.slots → IsOperand r (place_operand (starts_of types) x t)
+  place_operand_in (Target k a ty) own t (pointer, kind_is, numbered) some few =
+      followed_operand_in (is_thin k) (span_in ty) (value_operand (starts_of types) a t) t (value_in a t numbered (omega (arith, few, given_needs a numbered, some))) (omega (arith, few, some))
+  place_operand_in (Member k a s f ty) own t (thin, there, numbered) some few = value_in a t numbered (omega (arith, few, given_needs a numbered, some))
+  place_operand_in (Element a i ty) own t (fat, three, first, second) some few =
+      let inside : pointer_slot (starts_of types) a i t + 3 ≤ r.slots = pointer_room a i t fat first (omega (arith, few, some, three, given_needs a first, ap words_of_kind fat)) in
+      reached_operand_in (span_in ty) (pointer_slot (starts_of types) a i t) t (omega (arith, inside)) (omega (arith, few, some))
+
+  pub addressed_in : (x : Dereference) (p d t : ℕ) → FitsCell b types x → d < r.slots → t + dereference_need x place_words ≤ r.slots
+      → p + length (addressed_by (place_code (starts_of types) x p t) (place_operand (starts_of types) x t) (place_offset (starts_of types) x) d) < length r.code
+      → (p + length (place_code (starts_of types) x p t) < length r.code → AreIn (place_code (starts_of types) x p t))
+      → AreIn (addressed_by (place_code (starts_of types) x p t) (place_operand (starts_of types) x t) (place_offset (starts_of types) x) d)
+  addressed_in x p d t numbered room few short inside =
+      let front = place_code (starts_of types) x p t in
+      let back = address_code (place_operand (starts_of types) x t) (place_offset (starts_of types) x) d in
+      append front back (inside (omega (arith, short, length-append front back))) (address_in (place_operand (starts_of types) x t) (place_offset (starts_of types) x) d (place_operand_in x place_words t numbered (omega arith) few) room)
+
+  pub stored_in : (x : Dereference) (c : Converted) (p t : ℕ) → FitsConverted b types c → t + 1 + converted_words c ≤ r.slots → p + length (store_code (starts_of types) x c p t) < length r.code
+      → (p + length (store_address_code (starts_of types) x p t) < length r.code → AreIn (store_address_code (starts_of types) x p t))
+      → ((q : ℕ) → q + length (converted_operand_code (starts_of types) c q (t + 1)) < length r.code → AreIn (converted_operand_code (starts_of types) c q (t + 1)))
+      → AreIn (store_code (starts_of types) x c p t)
+  stored_in x c p t numbered room short address_inside value_inside =
+      let address = store_address_code (starts_of types) x p t in
+      let q = p + length address in
+      let value = converted_operand_code (starts_of types) c q (t + 1) in
+      let write = saved_code (passed_words c) t (converted_operand (starts_of types) c (t + 1)) in
+      let long = length-append address (value ++ write) in
+      let behind = length-append value write in
+      append address (value ++ write) (address_inside (omega (arith, short, long)))
+      (append value write (value_inside q (omega (arith, short, long, behind))) (saved_in (passed_words c) t (converted_operand (starts_of types) c (t + 1)) (omega (arith, room)) (subst (HasOperand (converted_operand (starts_of types) c (t + 1))) (sym (passed_is c)) (converted_room c (t + 1) numbered room))))
+
+  -- ---- expressions
+
+  -- an operator on pointers with its right operand, which stands behind the left one
+  pub right_in : (o : PointerOperator) (a : Expression) (ty : Ty) (p : ℕ) (l : Operand) (d t left : ℕ) → Fits b types a → words_of_kind (left_kind o) ≤ left → d + words_of_kind (operator_kind o) ≤ r.slots → HasOperand l (words_of_kind (left_kind o)) → IsOperand r l
+      → t + max (left + operand_words (type_of a) + words_of ty) (left + expression_need a) ≤ r.slots
+      → p + length (pointer_code o l (value_operand (starts_of types) a (behind_left o t)) (code_unless (operand_of (starts_of types) a) (expression_code (starts_of types) a p (value_slot (starts_of types) a (behind_left o t)) (behind_left o t))) d) < length r.code
+      → ((slot : ℕ) → slot + words_of_kind (kind_at a) ≤ r.slots → p + length (expression_code (starts_of types) a p slot (behind_left o t)) < length r.code → AreIn (expression_code (starts_of types) a p slot (behind_left o t)))
+      → AreIn (pointer_code o l (value_operand (starts_of types) a (behind_left o t)) (code_unless (operand_of (starts_of types) a) (expression_code (starts_of types) a p (value_slot (starts_of types) a (behind_left o t)) (behind_left o t))) d)
+  right_in o a ty p l d t left numbered wide room all inside few short computed =
+      let u = behind_left o t in
+      let slot = value_slot (starts_of types) a u in
+      let inner = expression_code (starts_of types) a p slot u in
+      let operand = code_unless (operand_of (starts_of types) a) inner in
+      let m = value_operand (starts_of types) a u in
+      let back = pointer_instructions o l m d in
+      let free : u + words_of_kind (kind_at a) ≤ r.slots = omega (arith, few, wide, operand_positive (type_of a), words_positive ty, given_needs a numbered) in
+      append operand back
+      (unless_in (operand_of (starts_of types) a) inner p (omega (arith, short, length-append operand back)) (λ less. computed slot (slot_fits a u numbered free) less))
+      (pointer_in o l m d room all inside (value_in a u numbered free))
+
+  pub initial_by : (there : Bool) (from to : Kind) (a : Expression) (p d t : ℕ) → from ≡ kind_at a → is_converted from to ≡ true → Fits b types a → d + words_of_kind to ≤ r.slots → t + converted_words (Convert from to a) ≤ r.slots → converts_there from to ≡ there
+      → ((slot : ℕ) → slot + words_of_kind (kind_at a) ≤ r.slots → p + length (expression_code (starts_of types) a p slot t) < length r.code → AreIn (expression_code (starts_of types) a p slot t))
+      → p + length (if there then expression_code (starts_of types) a p d t else moved_by (starts_of types) (source_of (starts_of types) (Convert from to a)) (expression_code (starts_of types) a p (source_slot (starts_of types) (Convert from to a) t) t) from to (span_of a) (converted_operand (starts_of types) (Convert from to a) t) p d) < length r.code
+      → AreIn (if there then expression_code (starts_of types) a p d t else moved_by (starts_of types) (source_of (starts_of types) (Convert from to a)) (expression_code (starts_of types) a p (source_slot (starts_of types) (Convert from to a) t) t) from to (span_of a) (converted_operand (starts_of types) (Convert from to a) t) p d)
+  initial_by true from to a p d t kind wide numbered room free lands inside short = inside d (omega (arith, room, ap words_of_kind kind, as_wide from to lands)) short
+  initial_by false from to a p d t kind wide numbered room free lands inside short =
+      let c = Convert from to a in
+      let known = source_of (starts_of types) c in
+      let slot = source_slot (starts_of types) c t in
+      let inner = expression_code (starts_of types) a p slot t in
+      let o = converted_operand (starts_of types) c t in
+      let front = code_unless known inner in
+      let conversion = conversion_code (starts_of types) from to (span_of a) o (p + length front) in
+      let move = move_of (words_of_kind to) d o ∷ [] in
+      let long = length-append (front ++ conversion) move in
+      let long_front = length-append front conversion in
+      append (front ++ conversion) move
+      (append front conversion (unless_in known inner p (omega (arith, short, long, long_front)) (λ less. inside slot (source_fits from to a t (kind, wide, numbered) free) less))
+      (conversion_in from to (span_of a) o (p + length front) (brought_room c t (kind, wide, numbered) free) (omega (arith, short, long, long_front)))) (move_in to d o room (converted_room c t (kind, wide, numbered) free), tt)

@@ -1,0 +1,204 @@
+-- The code of conditions, branches, loops, regions, ways out of a statement, and handlers.
+use Rattle.std.specs.Prelude.{ℕ, ◌+◌, List, [], ◌∷◌, ◌++◌, length, ◌-◌, Option, None, Some, ◌%◌, ◌^◌}
+use Rattle.cyc_types.specs.declared.typed.UnaryOperator.TheVariants as unary
+use Rattle.cyc_types.specs.TypedTrees.{Expression, Number, Unary, Binary, NoOperations, ThenCompute, Word, Move, Throw, Try}
+use Rattle.cyc_plain.specs.declared.instruction.Comparison.{Comparison}
+use Rattle.cyc_plain.specs.declared.instruction.Comparison.TheVariants as comparisons
+use Rattle.cyc_plain.specs.declared.instruction.Operand.{Operand}
+use Rattle.cyc_plain.specs.declared.instruction.Operand.TheVariants as operands
+use Rattle.cyc_plain.specs.declared.instruction.Request.TheVariants as requests
+use Rattle.cyc_plain.specs.declared.instruction.Instruction.{Instruction}
+use Rattle.cyc_plain.specs.declared.instruction.Instruction.TheVariants as instructions
+use Rattle.cyc_plain.specs.declared.limits.TheConstants.{RECORD_WORDS}
+use Rattle.cyc_lower.specs.Slots.{Starts, slot_of}
+use Rattle.cyc_lower.specs.declared.operands.Condition.{Condition}
+use Rattle.cyc_lower.specs.declared.statements.Exits.{Exits}
+use Rattle.cyc_lower.specs.declared.statements.Opened.{Opened}
+use Rattle.cyc_lower.specs.ValueCode.{failing_comparison, move_of}
+
+-- ---- conditions, branches and loops
+
+-- A condition compares two expressions, and this comparison of them holds where it fails.
+pub record Compared : Type 0 where
+  pub failing : Comparison
+  pub left : Expression
+  pub right : Expression
+
+-- a condition that compares nothing fails where its value is 0
+abbrev pub with_zero : Comparison → Expression → Compared
+with_zero failing a = record { failing = failing; left = a; right = Number 0 }
+
+abbrev pub compared_or : Option Comparison → (left right whole : Expression) → Compared
+compared_or (Some failing) left right whole = record { failing = failing; left = left; right = right }
+compared_or None left right whole = with_zero comparisons.Equal whole
+
+abbrev pub compared_of : Expression → Compared
+compared_of (Unary unary.Not a) = with_zero comparisons.NotEqual a
+compared_of (Binary a (ThenCompute o b NoOperations) ty) =
+    compared_or (failing_comparison o) a b (Binary a (ThenCompute o b NoOperations) ty)
+compared_of a = with_zero comparisons.Equal a
+
+abbrev pub failing_jump : Condition → (target : ℕ) → Instruction
+failing_jump c target = instructions.Branch c.failing c.left c.right target
+
+-- A branch whose condition stands at place p, the first statement behind the jump over it, and the other behind the jump
+-- to the end.
+abbrev pub if_code : (condition : List Instruction) → (jump : ℕ → Instruction) → (first second : List Instruction) → (p : ℕ) → List Instruction
+if_code condition jump first second p =
+    condition
+    ++ jump (p + length condition + 1 + length first + 1)
+    ∷ first
+    ++ instructions.Jump (p + length condition + 1 + length first + 1 + length second)
+    ∷ second
+
+-- A loop begins with two jumps: one over the other, to its condition, and one to its end. So a break, which jumps to the
+-- second, and a continue, which jumps to the condition, have targets that are known before the body's code is made.
+abbrev pub break_target : (head : ℕ) → ℕ
+break_target head = head + 1
+
+abbrev pub continue_target : (head : ℕ) → ℕ
+continue_target head = head + 2
+
+abbrev pub while_code : (condition : List Instruction) → (jump : ℕ → Instruction) → (body : List Instruction) → (p : ℕ) → List Instruction
+while_code condition jump body p =
+    instructions.Jump (continue_target p)
+    ∷ instructions.Jump (p + 2 + length condition + 1 + length body + 1)
+    ∷ condition
+    ++ jump (break_target p)
+    ∷ body
+    ++ instructions.Jump (continue_target p)
+    ∷ []
+
+-- ---- regions
+
+-- a local that is declared gets a value of so many words, which stands in an operand
+abbrev pub named_code : Starts → (words number : ℕ) → Operand → List Instruction
+named_code starts words n o = move_of words (slot_of starts n) o ∷ []
+
+-- A lexical region is opened, and a local becomes its handle. Its mark comes to slot t, where it stays until the region is closed.
+abbrev pub opened_code : Starts → (number t : ℕ) → List Instruction
+opened_code starts n t =
+    instructions.Ask (requests.OpenLexical (t + 1))
+    ∷ instructions.Move t (operands.Slot (t + 2))
+    ∷ named_code starts 1 n (operands.Slot (t + 1))
+
+-- the newest lexical regions are closed, down to the mark in slot m
+abbrev pub closed_code : (m : ℕ) → List Instruction
+closed_code m = instructions.Ask (requests.CloseTo (operands.Slot m)) ∷ []
+
+-- a dynamic region is opened, and a local becomes its key
+abbrev pub dynamic_code : Starts → (number t : ℕ) → List Instruction
+dynamic_code starts n t = instructions.Ask (requests.OpenDynamic t) ∷ named_code starts 1 n (operands.Slot t)
+
+-- the dynamic region of a key is closed
+abbrev pub closing_code : (handle : Operand) → List Instruction
+closing_code o = instructions.Ask (requests.CloseDynamic o) ∷ []
+
+-- ---- ways out
+
+-- What was opened round a statement since a loop began, or its function: the first slot of the outermost handler's record, and that of the
+-- mark of the outermost lexical region.
+abbrev pub nothing_opened : Opened
+nothing_opened = record { handler = None; mark = None }
+
+abbrev pub outermost : Option ℕ → (slot : ℕ) → Option ℕ
+outermost (Some first) slot = Some first
+outermost None slot = Some slot
+
+abbrev pub with_handler : Opened → (slot : ℕ) → Opened
+with_handler opened slot = record { handler = outermost opened.handler slot; mark = opened.mark }
+
+abbrev pub with_mark : Opened → (slot : ℕ) → Opened
+with_mark opened slot = record { handler = opened.handler; mark = outermost opened.mark slot }
+
+-- all handlers are closed, from the outermost on
+abbrev pub handlers_code : Option ℕ → List Instruction
+handlers_code None = []
+handlers_code (Some first) = instructions.Leave first ∷ []
+
+-- all lexical regions are closed, down to the outermost one's mark
+abbrev pub marks_code : Option ℕ → List Instruction
+marks_code None = []
+marks_code (Some m) = closed_code m
+
+abbrev pub leave_code : Opened → List Instruction
+leave_code opened = handlers_code opened.handler ++ marks_code opened.mark
+
+-- ---- handlers
+
+-- A `try` has the record of its handler in the slots from t on. Behind it it keeps how many lexical regions are open, where a program may
+-- open some.
+abbrev pub behind_record_in : Option ℕ → (t : ℕ) → ℕ
+behind_record_in None t = t + RECORD_WORDS
+behind_record_in (Some place) t = t + RECORD_WORDS + 1
+
+abbrev pub behind_record : Starts → (t : ℕ) → ℕ
+behind_record starts t = behind_record_in starts.scopes t
+
+abbrev pub kept_code_in : Option ℕ → (t : ℕ) → List Instruction
+kept_code_in None t = []
+kept_code_in (Some place) t = instructions.CountLexical (t + RECORD_WORDS) ∷ []
+
+abbrev pub kept_code : Starts → (t : ℕ) → List Instruction
+kept_code starts t = kept_code_in starts.scopes t
+
+-- where an exception comes to it, the lexical regions are closed that were opened in it
+abbrev pub restored_code_in : Option ℕ → (t : ℕ) → List Instruction
+restored_code_in None t = []
+restored_code_in (Some place) t = closed_code (t + RECORD_WORDS)
+
+abbrev pub restored_code : Starts → (t : ℕ) → List Instruction
+restored_code starts t = restored_code_in starts.scopes t
+
+-- the word of an exception's number, which is less than 2 ^ 32 in every text
+abbrev pub tag_operand : (tag : ℕ) → Operand
+tag_operand tag = operands.Word (tag % 2 ^ 32)
+
+-- A `try` at place p with its record in slot t. Behind its body stands the jump over its clauses, to which an exception comes.
+abbrev pub try_code : (t : ℕ) → (body clauses : List Instruction) → (p : ℕ) → List Instruction
+try_code t body clauses p =
+    instructions.Try t (p + 1 + length body + 1)
+    ∷ body
+    ++ instructions.Jump (p + 1 + length body + 1 + length clauses)
+    ∷ clauses
+
+-- The rest of a `try` at place p, with its record in slot t. The code of its body is made for its place, and that of its clauses for theirs
+-- and for the place of the jump over them.
+abbrev pub handled_code : Starts → (body : ℕ → List Instruction) → (clauses : (p out : ℕ) → List Instruction) → (p t : ℕ) → List Instruction
+handled_code starts body clauses p t =
+    try_code t (body (p + 1) ++ instructions.Leave t ∷ [])
+    (restored_code starts t
+    ++ clauses (p + 1 + length (body (p + 1) ++ instructions.Leave t ∷ []) + 1 + length (restored_code starts t)) (p + 1 + length (body (p + 1) ++ instructions.Leave t ∷ [])))
+    p
+
+-- the jump over a clause, where the number of the exception in slot t is another
+abbrev pub other_jump : (tag t target : ℕ) → Instruction
+other_jump tag t target = instructions.Branch comparisons.NotEqual (operands.Slot t) (tag_operand tag) target
+
+-- A clause at place p. Behind it is a jump to that over all clauses.
+abbrev pub clause_code : (tag t : ℕ) → (items : List Instruction) → (p out : ℕ) → List Instruction
+clause_code tag t items p out = other_jump tag t (p + 1 + length items + 1) ∷ items ++ instructions.Jump out ∷ []
+
+-- an exception that no clause catches goes on
+abbrev pub goes_on : (t : ℕ) → Instruction
+goes_on t = instructions.Throw (operands.Slot t) (operands.Slot (t + 1))
+
+-- The ways out of a statement: what is known of the loop and the function round it. Here they are outside any loop.
+abbrev pub outside_loops : Exits
+outside_loops = record { head = 0; in_loop = nothing_opened; in_function = nothing_opened }
+
+-- in a loop that begins at this place
+abbrev pub inside_loop : (head : ℕ) → Exits → Exits
+inside_loop head exits = record { head = head; in_loop = nothing_opened; in_function = exits.in_function }
+
+-- in the body of a `try`, whose handler's record begins with this slot, and behind a region, whose mark is in this slot
+abbrev pub inside_try : Exits → (slot : ℕ) → Exits
+inside_try exits slot = record { head = exits.head; in_loop = with_handler exits.in_loop slot; in_function = with_handler exits.in_function slot }
+
+abbrev pub inside_region : Exits → (slot : ℕ) → Exits
+inside_region exits slot = record { head = exits.head; in_loop = with_mark exits.in_loop slot; in_function = with_mark exits.in_function slot }
+
+-- a counter that has a slot is in it
+abbrev pub counter_operand : Option ℕ → Option Operand
+counter_operand (Some slot) = Some (operands.Slot slot)
+counter_operand None = None

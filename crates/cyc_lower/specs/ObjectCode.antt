@@ -1,0 +1,120 @@
+-- The code that makes objects and arrays, frees them, and swaps what they hold.
+use Rattle.std.specs.Prelude.{ℕ, zero, suc, ◌+◌, max, ◌==◌, if◌then◌else◌, List, [], ◌∷◌, ◌++◌, length, ◌-◌, ◌*◌}
+use Rattle.cyc_types.specs.TypedTrees.{Load, Unary, Binary, Word, Move, Store, Side, VariableSide, CellSide}
+use Rattle.cyc_plain.specs.declared.instruction.UnaryOperator.TheVariants as plain_unary
+use Rattle.cyc_plain.specs.declared.instruction.BinaryOperator.TheVariants as plain_binary
+use Rattle.cyc_plain.specs.declared.instruction.Comparison.TheVariants as comparisons
+use Rattle.cyc_plain.specs.declared.instruction.Operand.{Operand}
+use Rattle.cyc_plain.specs.declared.instruction.Operand.TheVariants as operands
+use Rattle.cyc_plain.specs.declared.instruction.Request.TheVariants as requests
+use Rattle.cyc_plain.specs.declared.instruction.Instruction.{Instruction}
+use Rattle.cyc_plain.specs.declared.instruction.Instruction.TheVariants as instructions
+use Rattle.cyc_meaning.specs.Operators.{array_size}
+use Rattle.cyc_lower.specs.Slots.{Starts}
+use Rattle.cyc_lower.specs.declared.operands.Condition.{Condition}
+use Rattle.cyc_lower.specs.ValueCode.{jump_if_zero, guard_code, scale_of, copy_code}
+
+-- ---- new objects
+
+-- so many words, which stand in slots, come to memory behind an address
+abbrev pub stores_code : (many address offset slot : ℕ) → List Instruction
+stores_code zero address offset slot = []
+stores_code (suc many) address offset slot =
+    instructions.Store (operands.Slot address) offset (operands.Slot slot) ∷ stores_code many address (offset + 4) (suc slot)
+
+-- A value of so many words comes to the cell whose address is in a slot. Of null the first word tells.
+abbrev pub saved_code : (words address : ℕ) → Operand → List Instruction
+saved_code words address (operands.Slot n) = stores_code words address 0 n
+saved_code words address (operands.Word n) = instructions.Store (operands.Slot address) 0 (operands.Word n) ∷ []
+
+-- a value is stored in a cell, whose address waits in a slot
+abbrev pub stored_by : (address value : List Instruction) → (words slot : ℕ) → Operand → List Instruction
+stored_by address value words slot o = address ++ (value ++ saved_code words slot o)
+
+-- A block is asked for in the region of this handle, and gets so many words, which stand in the slots from t on. Its address comes to the
+-- slot behind them, and then to slot d.
+abbrev pub object_code : (handle : Operand) → (words d t : ℕ) → List Instruction
+object_code handle words d t =
+    instructions.Ask (requests.Allocate (t + words) handle (operands.Word (max 1 words)))
+    ∷ stores_code words (t + words) 0 t
+    ++ instructions.Move d (operands.Slot (t + words))
+    ∷ []
+
+-- ---- arrays
+
+-- the most elements that an array may have, of one word each or of three: those of 1000 words
+abbrev pub most_elements : (words : ℕ) → ℕ
+most_elements words = if words == 1 then 1000 else 333
+
+-- The length of an array in slot t, whose elements have so many words, is tested, and comes to slot x, and 0, as the index, to slot y.
+abbrev pub measured_code : Starts → (words x y t : ℕ) → List Instruction
+measured_code starts words x y t =
+    guard_code starts array_size comparisons.GreaterOrEqualUnsigned (operands.Slot t) (operands.Word (most_elements words + 1))
+    ++ instructions.Move x (operands.Slot t)
+    ∷ instructions.Move y (operands.Word 0)
+    ∷ []
+
+-- A block is asked for of so many words for each element that slot t counts, or of one where that is 0: their number comes to slot s, and
+-- the address to t.
+abbrev pub asked_code : (handle : Operand) → (words s t : ℕ) → List Instruction
+asked_code handle words s t =
+    instructions.Binary plain_binary.Multiply t (operands.Slot t) (operands.Word words)
+    ∷ instructions.Unary plain_unary.Not s (operands.Slot t)
+    ∷ instructions.Binary plain_binary.Add s (operands.Slot s) (operands.Slot t)
+    ∷ instructions.Ask (requests.Allocate t handle (operands.Slot s))
+    ∷ []
+
+-- a new array, whose length is in slot t: its address comes there, and its length and the index behind it
+abbrev pub begun_code : Starts → (handle : Operand) → (words t : ℕ) → List Instruction
+begun_code starts handle words t = measured_code starts words (t + 1) (t + 2) t ++ asked_code handle words (t + 3) t
+
+-- The element in slot s and those behind it comes to its cell of the array at the address in slot t, by the index in slot y, which goes to
+-- the next one. The address of the cell comes to slot z.
+abbrev pub written_code : (words head y s z t : ℕ) → List Instruction
+written_code words head y s z t =
+    scale_of words z y
+    ∷ instructions.Binary plain_binary.Add z (operands.Slot t) (operands.Slot z)
+    ∷ stores_code words z 0 s
+    ++ instructions.Binary plain_binary.Add y (operands.Slot y) (operands.Word 1)
+    ∷ instructions.Jump head
+    ∷ []
+
+abbrev pub filled_code : (words head t : ℕ) → List Instruction
+filled_code words head t = written_code words head (t + 2) (t + 3) (t + 3 + words) t
+
+-- behind the last element the index in slot y is 0, and the pointer comes from slot t to slot d
+abbrev pub restarted_code : (d y t : ℕ) → List Instruction
+restarted_code d y t = instructions.Move y (operands.Word 0) ∷ copy_code 3 (operands.Slot t) d
+
+abbrev pub ended_code : (d t : ℕ) → List Instruction
+ended_code d t = restarted_code d (t + 2) t
+
+-- the index in slot y is behind the last element, by the length in slot x
+abbrev pub last_element : (x y : ℕ) → Condition
+last_element x y = record { failing = comparisons.Equal; left = operands.Slot y; right = operands.Slot x }
+
+-- the elements of an array, of which the code of each one stands behind the head
+abbrev pub elements_code : (words : ℕ) → (element : List Instruction) → (head d t : ℕ) → List Instruction
+elements_code words element head d t =
+    instructions.Branch comparisons.Equal (operands.Slot (t + 2)) (operands.Slot (t + 1)) (head + 1 + length (element ++ filled_code words head t))
+    ∷ ((element ++ filled_code words head t) ++ ended_code d t)
+
+-- the code of the length stands at place p, and that of an element is made for its place
+abbrev pub array_code : Starts → (words : ℕ) → (count : List Instruction) → (element : ℕ → List Instruction) → (handle : Operand) → (p d t : ℕ) → List Instruction
+array_code starts words count element handle p d t =
+    count ++ (begun_code starts handle words t ++ elements_code words (element (p + length count + 7 + 1)) (p + length count + 7) d t)
+
+-- the unique block at an address is freed, where that is not 0
+abbrev pub free_code : Operand → (p : ℕ) → List Instruction
+free_code o p = jump_if_zero o (p + 2) ∷ instructions.Ask (requests.Free o) ∷ []
+
+-- ---- swaps
+
+-- a word of a cell, by its number in the cell, comes to a slot from the address in a slot
+abbrev pub load_at : (address : ℕ) → (index slot : ℕ) → Instruction
+load_at address index slot = instructions.Load slot (operands.Slot address) (4 * index)
+
+-- the slot for the address of the right side of a swap, behind that of the left one
+abbrev pub right_slot : (left : Side) → (t : ℕ) → ℕ
+right_slot (VariableSide l ty) t = t
+right_slot (CellSide x) t = t + 1

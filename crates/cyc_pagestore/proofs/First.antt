@@ -1,0 +1,81 @@
+-- The first page of a pool is taken: what the pool gives before it goes back.
+use Rattle.std.proofs.Common.{◌≡◌, ℕ, zero, suc, ◌<◌, Bool, true, false, List, [], ◌∷◌, length, length-set, set, refl, sym, ap, subst, ◌∙◌, inl, inr, arith, get_or-set_same, get_or-set_other}
+use Rattle.std.specs.Prelude.{slice_index_or}
+use Rattle.std.proofs.lemmas.Bool.{cases_eq}
+use Rattle.cyc_rawpages.specs.Lists.{chain_at, freed}
+use Rattle.cyc_rawpages.specs.Pool.{PoolState, IsFree, IsHead}
+use Rattle.cyc_pagestore.specs.Table.{AreAlone}
+
+-- how many are true
+abbrev pub true_count : List Bool → ℕ
+true_count [] = 0
+true_count (true ∷ xs) = suc (true_count xs)
+true_count (false ∷ xs) = true_count xs
+
+pub count-less : (xs : List Bool) (i : ℕ) → slice_index_or xs i false ≡ true → true_count (set xs i false) < true_count xs
+count-less [] i e = cc
+count-less (true ∷ xs) zero e = omega arith
+count-less (false ∷ xs) zero e = cc
+count-less (true ∷ xs) (suc i) e = let less = count-less xs i e in omega (arith, less)
+count-less (false ∷ xs) (suc i) e = count-less xs i e
+
+-- an element that was written gets its old value
+pub set-again : {A : Type 0} (xs : List A) (i : ℕ) (x z d : A) → i < length xs → slice_index_or xs i d ≡ z → set (set xs i x) i z ≡ xs
+set-again [] i x z d there is = absurd (omega (arith, there))
+set-again (a ∷ xs) zero x z d there is = ap (λ y. y ∷ xs) (sym is)
+set-again (a ∷ xs) (suc i) x z d there is = ap (λ ys. a ∷ ys) (set-again xs i x z d (omega (arith, there)) is)
+
+pub set-back : {A : Type 0} (xs : List A) (i j : ℕ) (x y z d : A) → (i ≡ j → ⊥) → i < length xs → slice_index_or xs i d ≡ z → set (set (set xs i x) j y) i z ≡ set xs j y
+set-back [] i j x y z d other there is = absurd (omega (arith, there))
+set-back (a ∷ xs) zero zero x y z d other there is = absurd (other refl)
+set-back (a ∷ xs) zero (suc j) x y z d other there is = ap (λ b. b ∷ set xs j y) (sym is)
+set-back (a ∷ xs) (suc i) zero x y z d other there is = ap (λ ys. y ∷ ys) (set-again xs i x z d (omega (arith, there)) is)
+set-back (a ∷ xs) (suc i) (suc j) x y z d other there is = ap (λ ys. a ∷ ys) (set-back xs i j x y z d (λ e. other (ap suc e)) (omega (arith, there)) is)
+
+-- another page was taken before
+module _ (p : PoolState) (is : AreAlone p) (page : ℕ) (there : page < p.pages) (free : IsFree p.free page) (other : page ≡ 0 → ⊥) where
+  abbrev pub taken : PoolState
+  taken = record p { free = set p.free page false; chains = set p.chains page (page ∷ []) }
+
+  abbrev pub both : PoolState
+  both = record taken { free = set taken.free 0 false; chains = set taken.chains 0 (0 ∷ []) }
+
+  in_free : page < length p.free
+  in_free = subst (λ n. page < n) (sym is.free) there
+
+  in_chains : page < length p.chains
+  in_chains = subst (λ n. page < n) (sym is.chains) there
+
+  away : 0 ≡ page → ⊥
+  away e = other (sym e)
+
+  pub still-free : IsFree p.free 0 → IsFree taken.free 0
+  still-free first = get_or-set_other p.free page 0 false false away ∙ first
+
+  pub still-alone : AreAlone taken
+  still-alone = record {
+    free = length-set p.free page false ∙ is.free;
+    chains = length-set p.chains page (page ∷ []) ∙ is.chains;
+    alone = λ q now. elim (cases_eq q page) [
+      | inl same ↦ absurd (not-now q same now)
+      | inr apart ↦ get_or-set_other p.chains page q (page ∷ []) [] apart ∙ is.alone q (sym (get_or-set_other p.free page q false false apart) ∙ now)
+    ];
+  }
+    where
+      not-now : (q : ℕ) → q ≡ page → IsFree taken.free q → ⊥
+      not-now q same now = let e : true ≡ false = sym now ∙ ap (λ n. slice_index_or taken.free n false) same ∙ get_or-set_same p.free page false false in_free in cc
+
+  pub both-chain : chain_at both.chains page ≡ page ∷ []
+  both-chain = get_or-set_other taken.chains 0 page (0 ∷ []) [] other ∙ get_or-set_same p.chains page (page ∷ []) [] in_chains
+
+  pub both-head : IsHead both.chains page
+  both-head = ([], both-chain)
+
+  pub back-is : record both { free = freed both.free (chain_at both.chains page); chains = set both.chains page [] }
+      ≡ record p { free = set p.free 0 false; chains = set p.chains 0 (0 ∷ []) }
+  back-is =
+      ap (λ xs. record both { free = freed both.free xs; chains = set both.chains page [] }) both-chain
+      ∙ (λ j. record p {
+        free = set-back p.free page 0 false false true false other in_free free j;
+        chains = set-back p.chains page 0 (page ∷ []) (0 ∷ []) [] [] other in_chains (is.alone page free) j;
+      })

@@ -1,0 +1,14 @@
+pub mod Rows
+pub mod Reaching
+pub mod Backing
+pub mod Closing
+pub mod Pooled
+pub mod Calls
+pub mod Blank
+pub mod Taking
+pub mod Storing
+pub mod Making
+pub mod Cutting
+pub mod First
+pub mod Beginning
+pub mod Finding

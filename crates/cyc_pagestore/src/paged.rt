@@ -1,0 +1,444 @@
+//! A store on a pool of pages.
+
+ghost use Rattle.std.specs.Prelude.{◌≡◌, ◌≢◌, ◌+◌, ◌*◌, ◌%◌, ◌^◌, ◌<◌, ◌≤◌, ◌⊎◌, IfErr, IfOk, IsTrue, MatchOption, OnErr, OnOk, true, false, None, Some, Err, length, is_some};
+ghost use Rattle.cyc_words.specs.Demand.{class_of};
+ghost use Rattle.cyc_store.specs.Answers.{Responds, allocated};
+ghost use Rattle.cyc_store.specs.Ledger.{Unwinds, held_of, memory_of};
+ghost use Rattle.cyc_store.specs.Lookup.{lookup};
+ghost use Rattle.cyc_store.specs.Services.{Allocate, Free, Done, Serves};
+ghost use Rattle.cyc_store.specs.Kept.{next_slot_of};
+ghost use Rattle.cyc_store.specs.Ordered.{IsOrdered};
+ghost use Rattle.cyc_store.specs.Slots.{HasSlot, IsSpent, Stocks, Fills};
+ghost use Rattle.cyc_store.specs.State.{AreWords, start, homes, holder, address_of, handle_of, lexical_count, word_at};
+
+use super::table::PoolTable;
+use cyc_store::{
+    BadHandle, BadMark, Change, ClassSlots, LEAST_PAGES, Ledger, MOST_BLOCK_WORDS, MOST_PAGES,
+    NONE, No, NotABlock, PAGE_WORDS, Role, STORE_BASE, Store, UNIQUE,
+};
+use std::alloc::{AllocError, Global};
+use std::marker::Model;
+
+/// A store on a pool of pages. All of its memory is taken when it is made, and a region of any size is closed in the same
+/// time.
+#[derive(Drop)]
+pub struct PageStore {
+    table: PoolTable,
+    /// The handles of the open lexical regions, oldest first.
+    lexicals: Vec<u32>,
+    classes: [ClassSlots; 11],
+    ledger: Ledger,
+}
+
+impl Model for PageStore {
+    ghost use Rattle.cyc_store.specs.Ledger.{Stored};
+    ghost use Rattle.cyc_pagestore.specs.Stored.{IsPagedStore};
+
+    ghost Value = { Stored };
+
+    ghost view = { λ s. record { pages = s.table.most; words = s.table.words; blocks = s.ledger.blocks; room = s.table.most } };
+
+    ghost invariant = { λ s. IsPagedStore s.table s.lexicals s.classes s.ledger.blocks };
+}
+
+/// The words of a block of a class.
+#[inline]
+fn size_of(class: u32) -> u32
+    requires { class ≤ 10 }
+    ensures { result ≡ 2 ^ class }
+{
+    1 << class
+}
+
+/// The class of a block: the exponent of the least power of two that holds it.
+fn class_of(words: u32) -> u32
+    requires { words ≤ 1024 }
+    ensures { result ≡ class_of words }
+{
+    for class in 0..10 {
+        if words <= size_of(class) {
+            return class;
+        }
+    }
+    10
+}
+
+/// Whether a block may be asked for with so many words.
+#[inline]
+fn is_size(words: u32) -> bool
+    ensures yes { IsTrue result → (1 ≤ words) × (words ≤ MOST_BLOCK_WORDS) }
+    ensures no { result ≡ false → (words ≡ 0) ⊎ (MOST_BLOCK_WORDS < words) }
+{
+    1 <= words && words <= MOST_BLOCK_WORDS
+}
+
+/// The address of a word, by its number among the words of all pages.
+#[inline]
+fn address_at(word: u32) -> u32
+    requires { word < 0x400_0000 }
+    ensures { result ≡ STORE_BASE + 4 * word }
+{
+    STORE_BASE + 4 * word
+}
+
+/// The number of a word among the words of all pages, by its address.
+#[inline]
+fn number_at(address: u32) -> Option<u32>
+    ensures { MatchOption result ((address < STORE_BASE) ⊎ (address % 4 ≢ 0)) (λ number. address ≡ STORE_BASE + 4 * number) }
+{
+    if address < STORE_BASE {
+        return None;
+    }
+    if address % 4 != 0 {
+        return None;
+    }
+    Some((address - STORE_BASE) / 4)
+}
+
+/// The number of the word at an address, where it is one of so many of the store's first.
+#[inline]
+fn number_below(count: u32, address: u32) -> Option<u32>
+    requires { count ≤ 0x400_0000 }
+    ensures { MatchOption result ((address < STORE_BASE) ⊎ (address % 4 ≢ 0) ⊎ (STORE_BASE + 4 * count ≤ address))
+        (λ word. (word < count) × (address ≡ STORE_BASE + 4 * word)) }
+{
+    let word = address.wrapping_sub(STORE_BASE) / 4;
+    if count <= word {
+        return None;
+    }
+    if address % 4 != 0 {
+        return None;
+    }
+    Some(word)
+}
+
+/// The first slot of those that no block is in, and the others.
+#[inline]
+fn next_slot(slots: ClassSlots, table: &PoolTable, class: u32) -> (u32, ClassSlots)
+    requires class { class ≤ 10 }
+    requires dead { slots.dead ≢ NONE → slots.dead < 1024 * table.now.most }
+    requires fresh { slots.dead ≡ NONE → (1 ≤ slots.left) × (slots.fresh < 0x400_0000) }
+    ensures { result ≡ next_slot_of slots table.now.words class }
+{
+    if slots.dead != NONE {
+        let rest = ClassSlots {
+            dead: table.word(slots.dead),
+            fresh: slots.fresh,
+            left: slots.left,
+        };
+        (slots.dead, rest)
+    } else {
+        let rest = ClassSlots {
+            dead: NONE,
+            fresh: slots.fresh + size_of(class),
+            left: slots.left - 1,
+        };
+        (slots.fresh, rest)
+    }
+}
+
+impl PageStore {
+    /// A new store of so many pages, in which the heap is open.
+    pub fn new(alloc: Global, pages: u32) -> Result<PageStore, AllocError>
+        requires least { LEAST_PAGES ≤ pages }
+        requires most { pages ≤ MOST_PAGES }
+        ensures held { IfOk result (λ s. held_of s ≡ start pages (memory_of s.words)) }
+        ensures words { IfOk result (λ s. AreWords (memory_of s.words)) }
+    {
+        let lexicals = Vec::with_capacity(alloc, pages as usize)?;
+        let table = PoolTable::new(alloc, pages)?;
+        let none = ClassSlots {
+            dead: NONE,
+            fresh: 0,
+            left: 0,
+        };
+        Ok(PageStore {
+            table,
+            lexicals,
+            classes: [none; 11],
+            ledger: Ledger::new(),
+        })
+    }
+
+    /// Its blocks lie page by page, so there is a place for each call that demand allows, as [`choices_exist`] says.
+    ///
+    /// [`choices_exist`]: cyc_store::runs::choices_exist
+    pub fn lies_in_pages(&self)
+        ensures { IsOrdered (held_of self.now) }
+    {
+        let _table = &self.table;
+    }
+
+    /// Leaves one serial before the last.
+    #[cfg(test)]
+    pub(crate) fn come_to_last_serial(&mut self)
+        ensures { self.new ≡ self.old }
+    {
+        self.table.come_to_last_serial();
+    }
+
+    /// Whether a word is one of a live block.
+    #[inline]
+    fn is_live(&self, word: u32) -> bool
+        requires { word < length self.now.words }
+        ensures { result ≡ is_some (holder (homes (held_of self.now)) (STORE_BASE + 4 * word)) }
+    {
+        if word % 1024 < self.table.filled(word / 1024) {
+            return true;
+        }
+        self.table.is_marked(word)
+    }
+
+    /// The number of the word with this address, where it is one of a live block.
+    #[inline]
+    fn word_of(&self, address: u32) -> Option<u32>
+        ensures { MatchOption result (word_at (held_of self.now) address ≡ None)
+            (λ word. (word < length self.now.words) × (address ≡ STORE_BASE + 4 * word) × (is_some (word_at (held_of self.now) address) ≡ true)) }
+    {
+        let Some(word) = number_below(1024 * self.table.most(), address) else {
+            return None;
+        };
+        if self.is_live(word) { Some(word) } else { None }
+    }
+
+    /// The first page of the open region with this handle.
+    fn root_of(&self, handle: u32) -> Option<u32>
+        ensures { MatchOption result (lookup handle_of self.now.blocks.regions handle ≡ None)
+            (λ root. (handle ≡ 2 * root + 1) × (is_some (lookup handle_of self.now.blocks.regions handle) ≡ true)) }
+    {
+        let count = self.table.most();
+        let page = handle / 2;
+        if handle % 2 == 0 {
+            return None;
+        }
+        if count <= page {
+            return None;
+        }
+        match self.table.role(page) {
+            Role::Heap | Role::Lexical | Role::Dynamic => Some(page),
+            _ => None,
+        }
+    }
+
+    /// How many lexical regions are open.
+    fn lexicals_open(&self) -> u32
+        ensures { result ≡ lexical_count self.now.blocks.regions }
+    {
+        self.lexicals.len() as u32
+    }
+
+    /// Closes the newest lexical region.
+    fn close_newest(&mut self)
+        requires { 0 < lexical_count self.old.blocks.regions }
+        ensures { Unwinds self.old self.new }
+    {
+        let Some(handle) = self.lexicals.pop() else {
+            return;
+        };
+        self.table.close(handle / 2);
+        self.ledger = Ledger::with(&self.ledger, &Change::Closed(handle));
+    }
+
+    /// Makes a block of so many words in the region with this first page.
+    fn alloc_in(&mut self, root: u32, words: u32) -> Result<u32, No>
+        requires named { is_some (lookup handle_of self.old.blocks.regions (2 * root + 1)) ≡ true }
+        requires least { 1 ≤ words }
+        requires most { words ≤ MOST_BLOCK_WORDS }
+        ensures { Responds false (held_of self.old) (Allocate (2 * root + 1) words) (allocated result) (held_of self.new) }
+    {
+        let last = self.table.newest(root);
+        let used = self.table.filled(last);
+        if used + words <= PAGE_WORDS {
+            self.table.fill(root, used + words);
+            let address = address_at(1024 * last + used);
+            self.ledger = Ledger::with(&self.ledger, &Change::Made(2 * root + 1, address, words));
+            return Ok(address);
+        }
+        let Some(page) = self.table.add(root, words) else {
+            return Err(No::Full);
+        };
+        let address = address_at(1024 * page);
+        self.ledger = Ledger::with(&self.ledger, &Change::Made(2 * root + 1, address, words));
+        Ok(address)
+    }
+
+    /// Cuts a page that is free into slots of the class.
+    fn stock(&mut self, class: u32) -> Result<(), No>
+        requires class { class ≤ 10 }
+        requires none { ¬ HasSlot (held_of self.old) class }
+        ensures ok { OnOk result (Stocks (held_of self.old) class (held_of self.new)) }
+        ensures full { result ≡ Err No.Full → IsSpent (held_of self.old) }
+        ensures few { IfErr result (λ why. why ≡ No.Full) }
+        ensures same { OnErr result (held_of self.new ≡ held_of self.old) }
+    {
+        let Some(page) = self.table.cut(class) else {
+            return Err(No::Full);
+        };
+        self.classes[class as usize] = ClassSlots {
+            dead: NONE,
+            fresh: 1024 * page,
+            left: 1024 >> class,
+        };
+        self.ledger = Ledger::with(&self.ledger, &Change::Stocked(class));
+        Ok(())
+    }
+
+    /// Makes a unique block in a slot of the class, and gives its address.
+    fn fill(&mut self, class: u32) -> u32
+        requires class { class ≤ 10 }
+        requires some { HasSlot (held_of self.old) class }
+        ensures { Fills (held_of self.old) class result (held_of self.new) }
+    {
+        let (word, rest) = next_slot(self.classes[class as usize], &self.table, class);
+        self.classes[class as usize] = rest;
+        let size = size_of(class);
+        self.table.mark(word, size, true);
+        let address = address_at(word);
+        self.ledger = Ledger::with(&self.ledger, &Change::MadeUnique(address, size));
+        address
+    }
+
+    /// Makes a unique block of so many words.
+    fn alloc_unique(&mut self, words: u32) -> Result<u32, No>
+        requires least { 1 ≤ words }
+        requires most { words ≤ MOST_BLOCK_WORDS }
+        ensures { Responds false (held_of self.old) (Allocate UNIQUE words) (allocated result) (held_of self.new) }
+    {
+        let class = class_of(words);
+        let slots = self.classes[class as usize];
+        if slots.dead == NONE && slots.left == 0 {
+            self.stock(class)?;
+        }
+        Ok(self.fill(class))
+    }
+
+    /// The first word and the class of the live unique block that begins at this address.
+    fn slot_of(&self, address: u32) -> Option<(u32, u32)>
+        ensures { MatchOption result (lookup address_of self.now.blocks.unique address ≡ None)
+            (λ slot. (address ≡ STORE_BASE + 4 * slot.0) × (lookup address_of self.now.blocks.unique address ≡ Some (record { address = address; size = 2 ^ slot.1 }))) }
+    {
+        let count = self.table.most();
+        let Some(word) = number_at(address) else {
+            return None;
+        };
+        if count <= word / 1024 {
+            return None;
+        }
+        let Role::Slots(class) = self.table.role(word / 1024) else {
+            return None;
+        };
+        let number = (word % 1024) >> class;
+        if number * size_of(class) != word % 1024 {
+            return None;
+        }
+        if self.table.is_marked(word) {
+            Some((word, class))
+        } else {
+            None
+        }
+    }
+
+    /// Frees the live unique block of this class that begins at this word.
+    fn empty(&mut self, word: u32, class: u32)
+        requires { lookup address_of self.old.blocks.unique (STORE_BASE + 4 * word) ≡ Some (record { address = STORE_BASE + 4 * word; size = 2 ^ class }) }
+        ensures { Serves (held_of self.old) (Free (STORE_BASE + 4 * word)) Done (held_of self.new) }
+    {
+        self.table.set_word(word, self.classes[class as usize].dead);
+        self.classes[class as usize].dead = word;
+        self.table.mark(word, size_of(class), false);
+        self.ledger = Ledger::with(&self.ledger, &Change::Freed(address_at(word)));
+    }
+}
+
+impl Store for PageStore {
+    ghost use Rattle.std.specs.Prelude.{false};
+    ghost use Rattle.cyc_store.specs.Ledger.{held_of};
+
+    ghost held = { held_of };
+
+    const GROWS: bool = false;
+
+    ghost GROWS = { false };
+
+    fn open_lexical(&mut self) -> Result<(u32, u32), No> {
+        let Some(page) = self.table.open(Role::Lexical) else {
+            return Err(No::Full);
+        };
+        let handle = 2 * page + 1;
+        let mark = self.lexicals.len() as u32;
+        self.lexicals.push_reserved(handle);
+        self.ledger = Ledger::with(&self.ledger, &Change::OpenedLexical(handle));
+        Ok((handle, mark))
+    }
+
+    fn close_to(&mut self, mark: u32) -> Result<(), BadMark> {
+        if self.lexicals.len() < mark as usize {
+            return Err(BadMark);
+        }
+        while mark < self.lexicals_open() {
+            self.close_newest();
+        }
+        Ok(())
+    }
+
+    fn open_dynamic(&mut self) -> Result<u32, No> {
+        let Some(page) = self.table.open(Role::Dynamic) else {
+            return Err(No::Full);
+        };
+        let handle = 2 * page + 1;
+        self.ledger = Ledger::with(&self.ledger, &Change::OpenedDynamic(handle));
+        Ok(handle)
+    }
+
+    fn close_dynamic(&mut self, handle: u32) -> Result<(), BadHandle> {
+        let Some(root) = self.root_of(handle) else {
+            return Err(BadHandle);
+        };
+        let Role::Dynamic = self.table.role(root) else {
+            return Err(BadHandle);
+        };
+        self.table.close(root);
+        self.ledger = Ledger::with(&self.ledger, &Change::Closed(handle));
+        Ok(())
+    }
+
+    fn alloc(&mut self, handle: u32, words: u32) -> Result<u32, No> {
+        if handle == UNIQUE {
+            if is_size(words) {
+                return self.alloc_unique(words);
+            }
+            return Err(No::BadSize);
+        }
+        let Some(root) = self.root_of(handle) else {
+            return Err(No::BadHandle);
+        };
+        if is_size(words) {
+            self.alloc_in(root, words)
+        } else {
+            Err(No::BadSize)
+        }
+    }
+
+    fn free(&mut self, address: u32) -> Result<(), NotABlock> {
+        let Some((word, class)) = self.slot_of(address) else {
+            return Err(NotABlock);
+        };
+        self.empty(word, class);
+        Ok(())
+    }
+
+    fn load(&self, address: u32) -> Option<u32> {
+        let Some(word) = self.word_of(address) else {
+            return None;
+        };
+        Some(self.table.word(word))
+    }
+
+    fn save(&mut self, address: u32, word: u32) -> bool {
+        let Some(at) = self.word_of(address) else {
+            return false;
+        };
+        self.table.set_word(at, word);
+        true
+    }
+}

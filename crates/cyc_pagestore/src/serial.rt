@@ -1,0 +1,61 @@
+//! The serials of pages: each opening and each closing of a region draws a new one for the region's first page.
+
+ghost use Rattle.std.specs.Prelude.{◌≡◌, ◌≤◌, ◌<◌, ℕ};
+ghost use Rattle.cyc_rawpages.specs.Pool.{PoolState};
+ghost use Rattle.cyc_pagestore.specs.Live.{IsWhole, AreNewer, AreOne, Readies, reach, Renumbers};
+
+use cyc_rawpages::{PageNo, Pool};
+
+/// How many words of a page are live by its fill mark: all up to it, if the page has the serial of its owner, else none.
+#[inline]
+pub(crate) fn reach(pool: &Pool, page: u32) -> u32
+    requires whole { IsWhole pool.now }
+    requires there { page < pool.now.pages }
+    ensures { result ≡ reach pool.now page }
+{
+    let page = PageNo { number: page };
+    let fill = pool.fill(page);
+    if fill == 0 {
+        return 0;
+    }
+    let owner = PageNo {
+        number: pool.owner(page),
+    };
+    if pool.serial(page) == pool.serial(owner) {
+        fill
+    } else {
+        0
+    }
+}
+
+/// Numbers all pages anew: each has the number of its owner and one as its serial, and a page that has none of its words
+/// live has no word filled.
+fn renumber(pool: &mut Pool, pages: u32)
+    requires whole { IsWhole pool.old }
+    requires pages { pages ≡ pool.old.pages }
+    ensures { Renumbers pool.old pool.new }
+{
+    for number in 0..pages {
+        let fill = reach(pool, number);
+        pool.set_fill(PageNo { number }, fill);
+    }
+    for number in 0..pages {
+        let owner = pool.owner(PageNo { number });
+        pool.set_serial(PageNo { number }, owner as u64 + 1);
+    }
+}
+
+/// A serial that is above those of all pages, and below the last one.
+pub(crate) fn next_serial(pool: &mut Pool, pages: u32, next: u64) -> u64
+    requires whole { IsWhole pool.old }
+    requires pages { pages ≡ pool.old.pages }
+    requires newer { AreNewer pool.old next }
+    requires one { AreOne pool.old }
+    ensures { Readies pool.old pool.new result }
+{
+    if next == u64::MAX {
+        renumber(pool, pages);
+        return 65_537;
+    }
+    next
+}

@@ -1,0 +1,291 @@
+//! A table of pages over a pool.
+
+ghost use Rattle.std.specs.Prelude.{◌≡◌, [], ◌∷◌, ◌+◌, ◌*◌, ◌^◌, ◌<◌, ◌≤◌, IfOk, MatchOption, false, length, set, slice_index, slice_index_or};
+ghost use Rattle.cyc_rawpages.specs.Pool.{IsFree};
+ghost use Rattle.cyc_pagestore.specs.Table.{AreAlone, blank_table, IsFull, IsRoot, Opens, Adds, Cuts, Fills, Closes, Marks, row_of};
+
+use super::links::Roster;
+use super::serial::{next_serial, reach};
+use super::step::Step;
+use cyc_rawpages::{Chain, PageNo, Pool};
+use cyc_store::{NONE, Role};
+use std::alloc::{AllocError, Global};
+use std::marker::Model;
+
+/// What is kept of a page beside the pool.
+#[derive(Clone, Copy)]
+pub(crate) struct Spot {
+    role: Role,
+    /// Of a region's first page, the region's newest page.
+    newest: u32,
+}
+
+/// The pages of a store, each with its words, and with a mark for each word that is one of a live unique block.
+#[derive(Drop)]
+pub(crate) struct PoolTable {
+    pool: Pool,
+    pages: u32,
+    spots: Vec<Spot>,
+    /// Above the serial of each page.
+    next: u64,
+    roster: Roster,
+}
+
+impl Model for PoolTable {
+    ghost use Rattle.cyc_pagestore.specs.Table.{TableState, IsBacked};
+
+    ghost Value = { TableState };
+
+    ghost view = { λ t. record { most = t.pool.pages; words = t.pool.words; live = t.pool.bits; rows = t.roster.links.rows; free = t.roster.links.free } };
+
+    ghost invariant = { λ t. IsBacked t.pool t.pages t.spots.items t.next t.roster.links };
+}
+
+/// Takes the first page, which is free. The pool promises no order, so what it gives before that goes back.
+fn take_first(pool: &mut Pool)
+    requires first { IsFree pool.old.free 0 }
+    requires alone { AreAlone pool.old }
+    ensures { pool.new ≡ record pool.old { free = set pool.old.free 0 false; chains = set pool.old.chains 0 (0 ∷ []) } }
+{
+    let Some(page) = pool.take() else {
+        return;
+    };
+    if page.number == 0 {
+        return;
+    }
+    take_first(pool);
+    pool.give_chain(Chain { head: page });
+}
+
+impl PoolTable {
+    /// A table of so many pages, in the first of which the heap is open.
+    pub(crate) fn new(alloc: Global, pages: u32) -> Result<PoolTable, AllocError>
+        requires least { 1 ≤ pages }
+        requires most { pages ≤ 65536 }
+        ensures { IfOk result (λ t. Opens (blank_table pages) t 0 Role.Heap) }
+    {
+        let blank = Spot {
+            role: Role::Rest,
+            newest: NONE,
+        };
+        let mut spots = vec![in alloc; blank; pages as usize]?;
+        let mut pool = Pool::new(alloc, pages)?;
+        take_first(&mut pool);
+        let first = PageNo { number: 0 };
+        pool.set_owner(first, 0);
+        pool.set_fill(first, 0);
+        pool.set_serial(first, 1);
+        spots[0] = Spot {
+            role: Role::Heap,
+            newest: 0,
+        };
+        let made = Roster::with(&Roster::new(), &Step::Made(pages));
+        let taken = Roster::with(&made, &Step::Taken(0));
+        Ok(PoolTable {
+            pool,
+            pages,
+            spots,
+            next: 2,
+            roster: Roster::with(&taken, &Step::Began(0, Role::Heap)),
+        })
+    }
+
+    /// A word, by its number among the words of all pages.
+    #[inline]
+    pub(crate) fn word(&self, word: u32) -> u32
+        requires { word < 1024 * self.now.most }
+        ensures { result ≡ slice_index self.now.words word }
+    {
+        self.pool.load(
+            PageNo {
+                number: word / 1024,
+            },
+            word % 1024,
+        )
+    }
+
+    /// Writes a word.
+    #[inline]
+    pub(crate) fn set_word(&mut self, word: u32, value: u32)
+        requires { word < 1024 * self.old.most }
+        ensures { self.new ≡ record self.old { words = set self.old.words word value } }
+    {
+        self.pool.save(
+            PageNo {
+                number: word / 1024,
+            },
+            word % 1024,
+            value,
+        )
+    }
+
+    /// Whether a word has the mark of a live unique block.
+    #[inline]
+    pub(crate) fn is_marked(&self, word: u32) -> bool
+        requires { word < 1024 * self.now.most }
+        ensures { result ≡ slice_index_or self.now.live word result }
+    {
+        self.pool.bit(
+            PageNo {
+                number: word / 1024,
+            },
+            word % 1024,
+        )
+    }
+
+    /// Marks so many words from one on as those of a live unique block, or as those of none.
+    pub(crate) fn mark(&mut self, first: u32, count: u32, mark: bool)
+        requires { first + count ≤ 1024 * self.old.most }
+        ensures { Marks self.old self.new first count mark }
+    {
+        for number in 0..count {
+            let word = first + number;
+            self.pool.set_bit(
+                PageNo {
+                    number: word / 1024,
+                },
+                word % 1024,
+                mark,
+            );
+        }
+    }
+
+    /// How many words of a page are live by its fill mark.
+    #[inline]
+    pub(crate) fn filled(&self, page: u32) -> u32
+        requires { page < self.now.most }
+        ensures { result ≡ (row_of self.now page).filled }
+    {
+        reach(&self.pool, page)
+    }
+
+    /// What a page is used for.
+    pub(crate) fn role(&self, page: u32) -> Role
+        requires { page < self.now.most }
+        ensures { result ≡ (row_of self.now page).role }
+    {
+        self.spots[page as usize].role
+    }
+
+    /// The newest page of the region with this first page.
+    pub(crate) fn newest(&self, root: u32) -> u32
+        requires { root < self.now.most }
+        ensures { result ≡ (row_of self.now root).newest }
+    {
+        self.spots[root as usize].newest
+    }
+
+    /// How many pages there are.
+    #[inline]
+    pub(crate) fn most(&self) -> u32
+        ensures { result ≡ self.now.most }
+    {
+        self.pages
+    }
+
+    /// Takes a free page, and begins a region in it.
+    pub(crate) fn open(&mut self, role: Role) -> Option<u32>
+        requires { IsRoot role }
+        ensures { MatchOption result (IsFull self.old × (self.new ≡ self.old)) (λ page. Opens self.old self.new page role) }
+    {
+        let Some(page) = self.pool.take() else {
+            return None;
+        };
+        let serial = next_serial(&mut self.pool, self.pages, self.next);
+        self.next = serial + 1;
+        self.pool.set_owner(page, page.number);
+        self.pool.set_fill(page, 0);
+        self.pool.set_serial(page, serial);
+        self.spots[page.number as usize] = Spot {
+            role,
+            newest: page.number,
+        };
+        let taken = Roster::with(&self.roster, &Step::Taken(page.number));
+        self.roster = Roster::with(&taken, &Step::Began(page.number, role));
+        Some(page.number)
+    }
+
+    /// Takes a free page, and adds it to the region with this first page, with so many words filled.
+    pub(crate) fn add(&mut self, root: u32, words: u32) -> Option<u32>
+        requires there { root < self.old.most }
+        requires root { IsRoot (row_of self.old root).role }
+        requires few { words ≤ 1024 }
+        ensures { MatchOption result (IsFull self.old × (self.new ≡ self.old)) (λ page. Adds self.old self.new root page words) }
+    {
+        let Some(page) = self.pool.take() else {
+            return None;
+        };
+        let head = PageNo { number: root };
+        let serial = self.pool.serial(head);
+        self.pool.set_owner(page, root);
+        self.pool.set_fill(page, words);
+        self.pool.set_serial(page, serial);
+        self.pool.chain_push(head, page);
+        let role = self.spots[root as usize].role;
+        self.spots[root as usize] = Spot {
+            role,
+            newest: page.number,
+        };
+        let taken = Roster::with(&self.roster, &Step::Taken(page.number));
+        self.roster = Roster::with(&taken, &Step::Added(root, page.number, words));
+        Some(page.number)
+    }
+
+    /// Takes a free page, and cuts it into slots of the class.
+    pub(crate) fn cut(&mut self, class: u32) -> Option<u32>
+        ensures { MatchOption result (IsFull self.old × (self.new ≡ self.old)) (λ page. Cuts self.old self.new page class) }
+    {
+        let Some(page) = self.pool.take() else {
+            return None;
+        };
+        self.pool.set_fill(page, 0);
+        self.spots[page.number as usize] = Spot {
+            role: Role::Slots(class),
+            newest: NONE,
+        };
+        let taken = Roster::with(&self.roster, &Step::Taken(page.number));
+        self.roster = Roster::with(&taken, &Step::Cut(page.number, class));
+        Some(page.number)
+    }
+
+    /// Fills the newest page of the region with this first page so far.
+    pub(crate) fn fill(&mut self, root: u32, filled: u32)
+        requires there { root < self.old.most }
+        requires root { IsRoot (row_of self.old root).role }
+        ensures { Fills self.old self.new (row_of self.old root).newest filled }
+    {
+        let page = self.spots[root as usize].newest;
+        self.pool.set_fill(PageNo { number: page }, filled);
+        self.roster = Roster::with(&self.roster, &Step::Filled(page, filled));
+    }
+
+    /// Gives all pages of the region with this first page back, in the same time for any number of them.
+    pub(crate) fn close(&mut self, root: u32)
+        requires there { root < self.old.most }
+        requires root { IsRoot (row_of self.old root).role }
+        ensures { Closes self.old self.new root }
+    {
+        let head = PageNo { number: root };
+        let serial = next_serial(&mut self.pool, self.pages, self.next);
+        self.next = serial + 1;
+        self.pool.set_fill(head, 0);
+        self.pool.set_serial(head, serial);
+        self.pool.give_chain(Chain { head });
+        self.spots[root as usize] = Spot {
+            role: Role::Rest,
+            newest: NONE,
+        };
+        self.roster = Roster::with(&self.roster, &Step::Closed(root));
+    }
+
+    /// Leaves one serial before the last, as if so many regions had been opened and closed.
+    #[cfg(test)]
+    #[tactic(auto, using(crate::proofs::Calls::later_backed))]
+    pub(crate) fn come_to_last_serial(&mut self)
+        ensures { self.new ≡ self.old }
+    {
+        if self.next < u64::MAX - 1 {
+            self.next = u64::MAX - 1;
+        }
+    }
+}

@@ -1,0 +1,10 @@
+use Rattle.std.proofs.Common.{◌≡◌, ◌+◌, ◌++◌, drop}
+use Rattle.cyc_select.specs.Selection.{ordinary, load_words}
+use Rattle.cyc_select.proofs.emitter.Emitter.load_words.Given as goal
+
+-- the lines so far, with those of the other registers, are all of them
+abbrev pub invariant-loop-target : goal.invariant-loop-target
+invariant-loop-target l =
+    (l.next ≡ l.slot + l.target-index)
+    × (l.self.lines.items ++ ordinary (load_words l.frame l.next (drop l.target-index l.targets))
+    ≡ l.fn.self.lines.items ++ ordinary (load_words l.frame l.slot l.targets))

@@ -1,0 +1,9 @@
+use Rattle.std.proofs.Common.{◌≡◌, ◌++◌, drop}
+use Rattle.cyc_select.specs.Selection.{ordinary, reloads_from, reloads}
+use Rattle.cyc_select.proofs.emitter.Emitter.reloads.Given as goal
+
+-- the lines so far, with those of the other slots, are all of them
+abbrev pub invariant-loop-slot : goal.invariant-loop-slot
+invariant-loop-slot l =
+    l.self.lines.items ++ ordinary (reloads_from l.frame l.slot (drop l.slot l.frame.homes))
+    ≡ l.fn.self.lines.items ++ ordinary (reloads l.frame)

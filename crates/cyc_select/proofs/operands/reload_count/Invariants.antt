@@ -1,0 +1,9 @@
+use Rattle.std.proofs.Common.{◌≡◌, ◌+◌, drop}
+use Rattle.std.specs.Prelude.{sum_by}
+use Rattle.cyc_frame.specs.Homes.{both_count}
+use Rattle.cyc_select.specs.Selection.{reload_count}
+use Rattle.cyc_select.proofs.operands.reload_count.Given as goal
+
+-- those so far, with those of the other slots, are all of them
+abbrev pub invariant-loop-slot : goal.invariant-loop-slot
+invariant-loop-slot l = l.count + sum_by both_count (drop l.slot l.frame.homes) ≡ reload_count l.frame

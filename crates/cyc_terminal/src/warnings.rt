@@ -1,0 +1,62 @@
+//! What is accepted and means something else than in C, as far as the tokens tell it.
+use crate::excerpt::{Shown, excerpt_at};
+use cyc_syntax::{Keyword, Sign, Token, TokenKind};
+use std::fmt;
+
+/// How many bits an int has: a shift takes its count modulo this.
+const WIDTH: u32 = 32;
+
+/// Whether an `=` stands in no brackets of its own before the bracket that closes those which the tokens begin in.
+fn assigns(tokens: &[Token]) -> bool {
+    let mut depth = 0_usize;
+    for token in tokens {
+        match token.kind {
+            TokenKind::Sign(Sign::LeftParen) => depth = depth.saturating_add(1),
+            TokenKind::Sign(Sign::RightParen) if depth == 0 => return false,
+            TokenKind::Sign(Sign::RightParen) => depth -= 1,
+            TokenKind::Sign(Sign::Assign) => return depth == 0,
+            _ => {}
+        }
+    }
+    false
+}
+
+/// What is to be said of the first of the tokens, by those behind it.
+fn warning(tokens: &[Token]) -> Option<&'static str> {
+    let (first, rest) = tokens.split_first()?;
+    let (second, behind) = rest.split_first()?;
+    match (first.kind, second.kind) {
+        (TokenKind::Sign(Sign::Minus), TokenKind::Sign(Sign::Minus)) if first.end == second.start =>
+            { Some("`--` is two minus signs and changes nothing: to count down write i = i - 1") }
+        (TokenKind::Keyword(Keyword::If | Keyword::While), _) if assigns(behind) => {
+            Some("the condition assigns: to compare write ==, and else put brackets round it")
+        }
+        (TokenKind::Sign(Sign::ShiftLeft | Sign::ShiftRight), TokenKind::Number(count))
+            if count >= WIDTH => { Some("the count of a shift is taken modulo 32") }
+        _ => None,
+    }
+}
+
+/// The warnings about a text that is accepted, in its order. Its `Display` is for each its place, what is to be said, and the
+/// line with a mark under the place; nothing where there is none.
+#[derive(Drop)]
+pub struct Warnings<'a> {
+    /// The name of the file.
+    pub name: &'a str,
+    pub text: &'a [u8],
+    pub tokens: &'a [Token],
+}
+
+impl fmt::Display for Warnings<'_> {
+    fn fmt<W: fmt::Write>(&self, f: &mut fmt::Formatter<W>) -> fmt::Result {
+        let name = self.name.as_bytes();
+        for (n, token) in self.tokens.iter().enumerate() {
+            if let Some(words) = warning(&self.tokens[n..]) {
+                let (line, column) = (token.span.line, token.span.column);
+                write!(f, "{}:{line}:{column}: warning: {words}\n", Shown(name))?;
+                write!(f, "{}", excerpt_at(self.text, line, column))?;
+            }
+        }
+        Ok(())
+    }
+}
