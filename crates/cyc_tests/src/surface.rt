@@ -1,7 +1,7 @@
 //! The calls that the crates give to those who use them, each once, with its name and with the types that it takes and answers. Where a
 //! call asks something, so does the function that calls it, and nothing else.
 
-ghost use Rattle.std.specs.Prelude.{◌≡◌, ◌≢◌, ◌<◌, ◌≤◌, ◌×◌, [], ◌∷◌, length};
+ghost use Rattle.std.specs.Prelude.{◌≡◌, ◌≢◌, ◌<◌, ◌≤◌, [], ◌∷◌, length};
 ghost use Rattle.cyc_syntax.specs.TokenRule.{AreTokensOf, max_bytes, max_tokens};
 ghost use Rattle.cyc_types.specs.TypedTreeView.{view_program};
 ghost use Rattle.cyc_types.specs.Weight.{program_weight};
@@ -18,17 +18,20 @@ use cyc_check::check;
 use cyc_elf::{ElfFault, Image, Segment, read_image, write_image};
 use cyc_flow::{Flowed, flow};
 use cyc_frame::{Frames, layout};
-use cyc_isa::{Instr, decode, encode, write_text};
+use cyc_isa::{Instr, decode, encode, reads, write_text, writes};
 use cyc_lex::lex;
 use cyc_lower::lower;
 use cyc_machine::{Cause, End, Event, Limits, LoadFault, Machine};
+use cyc_pagestore::PageStore;
 use cyc_parse::parse;
 use cyc_plain::{Plain, well_formed};
 use cyc_rawpages::{Chain, PageNo, Pool};
 use cyc_select::{Code, select};
 use cyc_store::{BadHandle, BadMark, No, NotABlock, PlainStore, Store};
 use cyc_syntax::{Name, Names, Span, Token, Tree};
-use cyc_system::{Report, RunFault, Stop, compile, disassemble, run, run_with};
+use cyc_system::{
+    Report, RunFault, Stop, compile, compile_with, disassemble, note_of, run, run_with,
+};
 use cyc_types::{Kind, Outlives, Region, TypedTree};
 use cyc_words::{
     ByteIn, ByteOut, Failed, Fault, Reader, Writer, add, bytes_of, div, mul, rem, sar, shl, shr,
@@ -169,12 +172,22 @@ pub fn decoded(word: u32) -> Option<Instr> {
     decode(word)
 }
 
+pub fn registers(instr: Instr, register: u8) -> (bool, bool)
+    requires { register < 32 }
+{
+    (reads(instr, register), writes(instr, register))
+}
+
 pub fn listed<W: ByteOut>(instr: Instr, address: u32, writer: &mut W) -> Result<(), Failed> {
     write_text(instr, address, writer)
 }
 
-pub fn image(entry: u32, segments: Vec<Segment>) -> Image {
-    Image { entry, segments }
+pub fn image(entry: u32, segments: Vec<Segment>, note: Option<(u32, u32)>) -> Image {
+    Image {
+        entry,
+        segments,
+        note,
+    }
 }
 
 pub fn segment(vaddr: u32, flags: u32, bytes: Vec<u8>, size: u32) -> Segment {
@@ -246,6 +259,10 @@ pub fn set_fields(pool: &mut Pool, page: PageNo, word: u32, serial: u64, bit: bo
 
 pub fn new_store(alloc: Global) -> Result<PlainStore, AllocError> {
     PlainStore::new(alloc, 3)
+}
+
+pub fn new_page_store(alloc: Global) -> Result<PageStore, AllocError> {
+    PageStore::new(alloc, 3)
 }
 
 pub fn grows<S: Store>() -> bool {
@@ -351,6 +368,14 @@ pub fn faults(elf: ElfFault, load: LoadFault) -> [RunFault; 5] {
 
 pub fn compiled(alloc: Global, text: &[u8]) -> Result<Vec<u8>, Fault> {
     compile(alloc, text)
+}
+
+pub fn compiled_with(alloc: Global, text: &[u8]) -> Result<Vec<u8>, Fault> {
+    compile_with(alloc, text, Some((3, 1)))
+}
+
+pub fn carried(alloc: Global, image: &[u8]) -> Result<Option<(u32, u32)>, ElfFault> {
+    note_of(alloc, image)
 }
 
 pub fn ran<R: ByteIn, W: ByteOut>(
