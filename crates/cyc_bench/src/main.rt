@@ -153,26 +153,32 @@ fn paged_of(alloc: Global, pages: u32) -> Option<PageStore> {
     PageStore::new(alloc, pages).ok()
 }
 
+/// A machine over a store in memory that has loaded the image of a file.
+fn machine_plain(alloc: Global, file: &[u8], limits: Limits) -> Option<Machine<PlainStore>> {
+    let store = PlainStore::new(alloc, limits.pages()).ok()?;
+    let image = read_image(alloc, file).ok()?;
+    Machine::load(alloc, &image, limits, store).ok()
+}
+
+/// A machine over a store on a pool that has loaded the image of a file.
+fn machine_paged(alloc: Global, file: &[u8], limits: Limits) -> Option<Machine<PageStore>> {
+    let store = PageStore::new(alloc, limits.pages()).ok()?;
+    let image = read_image(alloc, file).ok()?;
+    Machine::load(alloc, &image, limits, store).ok()
+}
+
 /// The nanoseconds that the image takes over a store in memory, with its block in the region with this handle.
 fn run_plain(rt: &HostRuntime, handle: u32) -> Option<u64> {
+    let file = file_of(rt.alloc(), handle == UNIQUE)?;
     let limits = Limits::new(1024, 4096)?;
-    let image = read_image(rt.alloc(), &file_of(rt.alloc(), handle == UNIQUE)?).ok()?;
-    let store = PlainStore::new(rt.alloc(), limits.pages()).ok()?;
-    run(
-        rt,
-        &mut Machine::load(rt.alloc(), &image, limits, store).ok()?,
-    )
+    run(rt, &mut machine_plain(rt.alloc(), &file, limits)?)
 }
 
 /// The nanoseconds that the image takes over a store on a pool, with its block in the region with this handle.
 fn run_paged(rt: &HostRuntime, handle: u32) -> Option<u64> {
+    let file = file_of(rt.alloc(), handle == UNIQUE)?;
     let limits = Limits::new(1024, 4096)?;
-    let image = read_image(rt.alloc(), &file_of(rt.alloc(), handle == UNIQUE)?).ok()?;
-    let store = PageStore::new(rt.alloc(), limits.pages()).ok()?;
-    run(
-        rt,
-        &mut Machine::load(rt.alloc(), &image, limits, store).ok()?,
-    )
+    run(rt, &mut machine_paged(rt.alloc(), &file, limits)?)
 }
 
 /// The nanoseconds of one kind of call over a store in memory.
