@@ -1,115 +1,161 @@
-//! Words for the types that declarations write, and for the values of globals.
-use crate::position::is_fault;
-use crate::words::{Named, mark_of, say};
+//! Words for the heads of declarations, and for the values of globals.
+use crate::names::explain_twice;
+use crate::teller::{Part, Teller};
+use crate::written::{explain_region, explain_written};
 use cyc_heads::members;
-use cyc_syntax::{BaseType, Declaration, GlobalValue, Ident, Member, PointerKind, WrittenType};
-use cyc_words::{Code, Fault, Span};
-use std::alloc::AllocError;
+use cyc_syntax::{
+    BaseType, Constructor, Declaration, GlobalValue, Ident, Member, Parameters, WrittenType,
+};
+use cyc_words::{Code, Span};
 
-// ---- types as they are written
+const UNKNOWN: &str = "the parameters name no region `%: write it into the type of one";
 
-/// How many region parameters the struct of this name has.
-fn region_count(declarations: &[Declaration], name: Ident) -> Option<usize> {
-    for declaration in declarations {
-        if let Declaration::Struct {
-            name: own,
-            regions,
+/// The words for a fault in the head of a declaration, behind these ones.
+pub(crate) fn explain_head(
+    teller: &mut Teller<'_>,
+    before: &[Declaration],
+    declaration: &Declaration,
+) {
+    teller.function = None;
+    match declaration {
+        Declaration::Struct { name, fields, .. } => {
+            explain_twice(teller, *name, first_declared(before, *name, true));
+            explain_fields(teller, fields);
+        }
+        Declaration::Exceptions { constructors } => explain_constructors(teller, constructors),
+        Declaration::Global {
+            of_type,
+            name,
+            value,
+        } => {
+            explain_global(teller, of_type, *value);
+            explain_named(teller, before, *name);
+            let text = "main is a variable, and no function";
+            teller.say_of(Code::BadMain, name.span, text, &[]);
+        }
+        Declaration::Function {
+            result,
+            name,
+            parameters,
             ..
-        } = declaration
-        {
-            if own.name == name.name {
-                return Some(regions.len());
+        } => {
+            explain_main(teller, *name, result, parameters);
+            explain_named(teller, before, *name);
+            if let Some(written) = result {
+                explain_written(teller, written, UNKNOWN);
+            }
+            teller.function = Some(*name);
+            explain_members(teller, members(parameters));
+            explain_asked(teller, parameters);
+        }
+    }
+}
+
+// ---- names
+
+/// Where a struct of this name is first declared, or else a global or a function.
+fn first_declared(before: &[Declaration], name: Ident, is_struct: bool) -> Option<Span> {
+    for declaration in before {
+        let other = match declaration {
+            Declaration::Struct { name, .. } if is_struct => *name,
+            Declaration::Global { name, .. } | Declaration::Function { name, .. } if !is_struct => {
+                *name
+            }
+            _ => continue,
+        };
+        if other.name == name.name {
+            return Some(other.span);
+        }
+    }
+    None
+}
+
+/// The words for a global or a function whose name is there already.
+fn explain_named(teller: &mut Teller<'_>, before: &[Declaration], name: Ident) {
+    explain_twice(teller, name, first_declared(before, name, false));
+    let text = "`%` is there in each program";
+    teller.say_of(Code::DeclaredTwice, name.span, text, &[Part::Name(name)]);
+}
+
+fn explain_constructors(teller: &mut Teller<'_>, constructors: &[Constructor]) {
+    for i in 0..constructors.len() {
+        let name = constructors[i].name;
+        for j in 0..i {
+            if constructors[j].name.name == name.name {
+                explain_twice(teller, name, Some(constructors[j].name.span));
             }
         }
     }
-    None
 }
 
-/// What a type is that nothing has.
-fn explain_shape(named: Named<'_>, written: &WrittenType) -> Option<Vec<u8>> {
-    match &written.base {
-        BaseType::Int | BaseType::Handle { .. } => None,
-        BaseType::Key { .. } if written.marks.is_empty() => None,
-        BaseType::Key { .. } => named.text("no pointer leads to a key"),
-        BaseType::Struct { name, .. } => match written.marks.first() {
-            Some(mark) if mark.kind != PointerKind::Fat => None,
-            _ => named.about(*name, " is a struct: only a * or @ pointer to it is a type"),
-        },
-    }
-}
-
-/// The words for a written type that is none, where that is the fault.
-pub(crate) fn explain_type(
-    named: Named<'_>,
-    written: &WrittenType,
-    fault: Fault,
-) -> Option<Vec<u8>> {
-    if !is_fault(fault, Code::TypeMismatch, written.span) {
-        return None;
-    }
-    if let BaseType::Struct { name, regions } = &written.base {
-        let count = region_count(&named.tree.declarations, *name)?;
-        if !regions.is_empty() && regions.len() != count {
-            return named.counted(count, regions.len(), "region", "regions");
+/// The words for the types and names of members.
+fn explain_members(teller: &mut Teller<'_>, members: &[Member]) {
+    for i in 0..members.len() {
+        let name = members[i].name;
+        explain_written(teller, &members[i].of_type, UNKNOWN);
+        for j in 0..i {
+            if members[j].name.name == name.name {
+                explain_twice(teller, name, Some(members[j].name.span));
+            }
         }
     }
-    explain_shape(named, written)
 }
 
-/// The same for the first of the types of these members.
-fn explain_members(named: Named<'_>, members: &[Member], fault: Fault) -> Option<Vec<u8>> {
-    for member in members {
-        if let Some(words) = explain_type(named, &member.of_type, fault) {
-            return Some(words);
+/// The words for the fields of a struct.
+fn explain_fields(teller: &mut Teller<'_>, fields: &[Member]) {
+    for field in fields {
+        if let BaseType::Key { .. } = &field.of_type.base {
+            let text =
+                "a key is a variable, a parameter or a result, and no field\nhint: pass the key beside the struct";
+            teller.say_of(Code::RegionOrKeyMisused, field.of_type.span, text, &[]);
+        }
+        let unknown = "`% is no region parameter of the struct: write it behind the struct's name";
+        explain_written(teller, &field.of_type, unknown);
+    }
+    explain_members(teller, fields);
+}
+
+// ---- functions
+
+/// The words for what a function's effect and its constraints name.
+fn explain_asked(teller: &mut Teller<'_>, parameters: &Parameters) {
+    let unique = "`% is no region of a constraint";
+    for constraint in &parameters.constraints {
+        explain_region(teller, constraint.longer, UNKNOWN, unique);
+        explain_region(teller, constraint.shorter, UNKNOWN, unique);
+    }
+    if let Some(effect) = &parameters.effect {
+        let misused =
+            "`% has a key in this head, or is `U: so no effect names it\nhint: leave it out of the effect";
+        for region in effect {
+            explain_region(teller, *region, UNKNOWN, misused);
         }
     }
-    None
+}
+
+/// The words for a `main` with a head that it may not have.
+fn explain_main(
+    teller: &mut Teller<'_>,
+    name: Ident,
+    returned: &Option<WrittenType>,
+    parameters: &Parameters,
+) {
+    if !teller.is_fault(Code::BadMain, name.span) {
+        return;
+    }
+    let text = if !members(parameters).is_empty() {
+        "main has parameters"
+    } else if parameters.effect.is_some() {
+        "main has an effect"
+    } else if returned.is_none() {
+        "main returns no value"
+    } else {
+        "main returns another type than int"
+    };
+    teller.say(text, &[]);
 }
 
 // ---- globals
-
-fn say_region(named: Named<'_>, words: &mut Vec<u8>, region: Ident) -> Result<(), AllocError> {
-    say(words, "`")?;
-    named.say_name(words, region.name.number)
-}
-
-fn say_base(named: Named<'_>, words: &mut Vec<u8>, base: &BaseType) -> Result<(), AllocError> {
-    match base {
-        BaseType::Int => say(words, "int"),
-        BaseType::Struct { name, .. } => {
-            say(words, "struct ")?;
-            named.say_name(words, name.name.number)
-        }
-        BaseType::Handle { region } => {
-            say(words, "region_t<")?;
-            say_region(named, words, *region)?;
-            say(words, ">")
-        }
-        BaseType::Key { region } => {
-            say(words, "uregion_key_t<")?;
-            say_region(named, words, *region)?;
-            say(words, ">")
-        }
-    }
-}
-
-/// A type as it is written, in which what is left out is the heap.
-fn say_written(
-    named: Named<'_>,
-    words: &mut Vec<u8>,
-    written: &WrittenType,
-) -> Result<(), AllocError> {
-    say_base(named, words, &written.base)?;
-    for mark in &written.marks {
-        say(words, " ")?;
-        say(words, mark_of(mark.kind))?;
-        match mark.region {
-            Some(region) => say_region(named, words, region)?,
-            None => say(words, "`H")?,
-        }
-    }
-    Ok(())
-}
 
 /// What a global begins with, and its place.
 fn initial(written: &WrittenType, value: Option<GlobalValue>) -> (Span, &'static str) {
@@ -124,63 +170,15 @@ fn initial(written: &WrittenType, value: Option<GlobalValue>) -> (Span, &'static
     }
 }
 
-fn say_initial(
-    named: Named<'_>,
-    words: &mut Vec<u8>,
-    written: &WrittenType,
-    found: &str,
-) -> Result<(), AllocError> {
-    say(words, "expected ")?;
-    say_written(named, words, written)?;
-    say(words, ", found ")?;
-    say(words, found)
-}
-
-/// The words for a global of a type that none has, or that does not begin with a value of its type, where that is
-/// the fault.
-fn explain_global(
-    named: Named<'_>,
-    written: &WrittenType,
-    value: Option<GlobalValue>,
-    fault: Fault,
-) -> Option<Vec<u8>> {
-    if is_fault(fault, Code::TypeMismatch, written.span) {
-        return match explain_type(named, written, fault) {
-            Some(words) => Some(words),
-            None => named.text("a global is an int or a pointer"),
-        };
-    }
+/// The words for a global of a type that none has, or that does not begin with a value of its type.
+fn explain_global(teller: &mut Teller<'_>, written: &WrittenType, value: Option<GlobalValue>) {
+    let unknown = "no region `% is in scope here: only `H and `U are";
+    explain_written(teller, written, unknown);
+    let text = "a global is an int or a pointer";
+    teller.say_of(Code::TypeMismatch, written.span, text, &[]);
     let (span, found) = initial(written, value);
-    if !is_fault(fault, Code::TypeMismatch, span) && !is_fault(fault, Code::NullForNonNull, span) {
-        return None;
-    }
-    let mut words = named.words();
-    say_initial(named, &mut words, written, found).ok()?;
-    Some(words)
-}
-
-/// The words for a fault in the head of a declaration.
-pub(crate) fn explain_head(
-    named: Named<'_>,
-    declaration: &Declaration,
-    fault: Fault,
-) -> Option<Vec<u8>> {
-    match declaration {
-        Declaration::Global { of_type, value, .. } => {
-            explain_global(named, of_type, *value, fault)
-        }
-        Declaration::Struct { fields, .. } => explain_members(named, fields, fault),
-        Declaration::Function {
-            result: Some(written),
-            parameters,
-            ..
-        } => match explain_type(named, written, fault) {
-            Some(words) => Some(words),
-            None => explain_members(named, members(parameters), fault),
-        },
-        Declaration::Function { parameters, .. } => {
-            explain_members(named, members(parameters), fault)
-        }
-        Declaration::Exceptions { .. } => None,
-    }
+    let parts = [Part::Written(written), Part::Text(found)];
+    let text = "expected %, found %";
+    teller.say_of(Code::TypeMismatch, span, text, &parts);
+    teller.say_of(Code::NullForNonNull, span, text, &parts);
 }

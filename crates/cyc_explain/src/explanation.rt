@@ -4,27 +4,23 @@ ghost use Rattle.cyc_words.specs.Fault.{memory_fault};
 ghost use Rattle.cyc_syntax.specs.TreeView.{view_declaration};
 ghost use Rattle.cyc_types.specs.typing.Programs.{IsRefusedProgram};
 
+use crate::bodies::words_in_body;
 use crate::declarations::explain_head;
-use crate::demands::Walk;
-use crate::homes::{Home, Origin, parameter_homes};
-use crate::position::is_from;
-use crate::statements::explain_items;
-use crate::words::Named;
+use crate::teller::Teller;
 use cyc_check::check;
-use cyc_heads::{heads, members, signature_of};
-use cyc_scope::{Scope, Tables};
-use cyc_syntax::{Block, Declaration, Ident, Parameters, Tree, WrittenType};
-use cyc_words::Fault;
+use cyc_syntax::{Declaration, Tree};
+use cyc_words::{Code, Fault, Span};
 use std::alloc::Global;
 
-/// A refusal, and the words for it, if there are any: lines without the last line feed.
+/// A refusal, and the words for it, if there are any: lines without the last line feed. A last line that begins with `hint: ` says what to
+/// do, in place of what is said of the fault's code.
 #[derive(Drop)]
 pub struct Explained {
     pub fault: Fault,
     pub words: Option<Vec<u8>>,
 }
 
-/// The fault that `check` refuses a tree with, explained: with the two types or regions at hand.
+/// The fault that `check` refuses a tree with, explained: by the rule that is broken, with the names, types or regions at hand.
 pub fn explain(alloc: Global, tree: &Tree) -> Option<Explained>
     // Only what is refused is explained, and by its own fault, unless memory ran out.
     ensures { IfSome result (λ e. (e.fault ≡ memory_fault)
@@ -46,74 +42,31 @@ fn refusal(alloc: Global, tree: &Tree) -> Option<Explained>
     Some(Explained { fault, words: None })
 }
 
-/// The words for a fault in a declaration.
-fn words_at(
-    alloc: Global,
-    tree: &Tree,
-    declaration: &Declaration,
-    fault: Fault,
-) -> Option<Vec<u8>> {
-    if let Declaration::Function {
-        result,
-        name,
-        parameters,
-        body,
-    } = declaration
-    {
-        if is_from(fault, body.span) && !is_from(fault, body.end) {
-            return words_in(alloc, tree, result, *name, parameters, body, fault);
-        }
-    }
-    let named = Named {
-        alloc,
-        tree,
-        homes: &[],
-    };
-    explain_head(named, declaration, fault)
-}
-
+/// The words for a fault in a head, or else in the body that it stands in.
 fn words_for(alloc: Global, tree: &Tree, fault: Fault) -> Option<Vec<u8>> {
+    let mut teller = Teller::new(alloc, tree, fault);
+    let start = Span { line: 1, column: 1 };
+    teller.say_of(
+        Code::BadMain,
+        start,
+        "the program has no function main",
+        &[],
+    );
+    for i in 0..tree.declarations.len() {
+        explain_head(&mut teller, &tree.declarations[..i], &tree.declarations[i]);
+    }
     for declaration in &tree.declarations {
-        if let Some(words) = words_at(alloc, tree, declaration, fault) {
-            return Some(words);
+        if let Declaration::Function {
+            result,
+            name,
+            parameters,
+            body,
+        } = declaration
+        {
+            if teller.is_from(body.span) && !teller.is_from(body.end) {
+                return words_in_body(alloc, tree, fault, result, *name, parameters, body);
+            }
         }
     }
-    None
-}
-
-/// The words for a fault in the body of this function.
-fn words_in(
-    alloc: Global,
-    tree: &Tree,
-    returned: &Option<WrittenType>,
-    name: Ident,
-    parameters: &Parameters,
-    body: &Block,
-    fault: Fault,
-) -> Option<Vec<u8>> {
-    let program = heads(alloc, tree).ok()?;
-    let mut tables = Tables::new(alloc);
-    let known = program.known();
-    let signature = signature_of(alloc, known, &mut tables.names, returned, parameters).ok()?;
-    let members = members(parameters);
-    let mut homes = parameter_homes(alloc, &tables.names, members, &signature.parameters).ok()?;
-    homes
-        .push(Home {
-            region: 0,
-            name: Some(name.name.number),
-            span: name.span,
-            origin: Origin::Block,
-        })
-        .ok()?;
-    let scope = Scope::of_body(alloc, &program, tables, &signature, name, members).ok()?;
-    let mut walk = Walk {
-        tree,
-        function: name,
-        body,
-        program: &program,
-        scope,
-        homes,
-        fault,
-    };
-    explain_items(&mut walk, &body.items)
+    teller.into_words()
 }

@@ -1,19 +1,21 @@
-//! What a person reads of a refusal by types or regions, beside its code: the two types or regions at hand. It is
-//! worked out only once a program is refused, so that one that is accepted pays nothing for it.
+//! What a person reads of a refusal by names, types or regions, beside its code: the rule that is broken, with the two types or regions at
+//! hand, and what to write. It is worked out only once a program is refused, so that one that is accepted pays nothing for it.
 #![tactic(auto)]
 
 pub use explanation::{Explained, explain};
 
-mod callees;
+mod bodies;
+mod calls;
+mod conversions;
 mod declarations;
-mod demands;
 mod explanation;
 mod expressions;
-mod forms;
 mod homes;
-mod instance;
-mod position;
+mod names;
+mod outline;
+mod scopes;
 mod statements;
+mod teller;
 mod values;
 mod wanted;
-mod words;
+mod written;

@@ -1,14 +1,21 @@
 //! What is asked of one value, and how that is said.
-use cyc_forms::Given;
-use cyc_forms::types::is_struct;
-use cyc_syntax::{BinaryOperator, PointerKind};
+use crate::conversions::explain_closed;
+use crate::teller::{Part, Teller};
+use crate::values::{given, value_type};
+use cyc_forms::types::{is_key, is_struct, is_unique};
+use cyc_forms::{Given, span_of};
+use cyc_scope::Scope;
+use cyc_syntax::{BinaryOperator, Expr, PointerKind};
 use cyc_types::Ty;
+use cyc_words::{Code, Span};
 
 #[derive(Clone, Copy)]
 pub(crate) enum Wanted {
     /// A value with a type, to be put into a new object.
     Content,
     Int,
+    /// What is compared by size, or subtracted.
+    Measured,
     /// What is tested against zero or null.
     Tested,
     /// What is compared for equality.
@@ -44,10 +51,10 @@ fn has_members(given: Given<'_>) -> bool {
 }
 
 impl Wanted {
-    pub(crate) fn text(self) -> &'static str {
+    fn text(self) -> &'static str {
         match self {
             Wanted::Content => "a value with a type",
-            Wanted::Int => "int",
+            Wanted::Int | Wanted::Measured => "int",
             Wanted::Tested | Wanted::Compared => "int or a pointer",
             Wanted::Moved => "int or a ? pointer",
             Wanted::Pointer => "a pointer",
@@ -58,21 +65,42 @@ impl Wanted {
         }
     }
 
-    /// Whether an operand of which this is asked is only looked at, so that a unique pointer stays where it is.
-    pub(crate) fn is_looked_at(self) -> bool {
-        match self {
-            Wanted::Tested | Wanted::Compared | Wanted::Pointer | Wanted::Fat | Wanted::Members => {
-                true
+    /// What to do about a value of another type, if there is anything to say.
+    fn advice(self, given: Given<'_>) -> &'static str {
+        match (self, given) {
+            (_, Given::Void) => "a function that returns no value is called by itself",
+            (Wanted::Content, Given::Null) => "put NULL into a variable of the type first",
+            (Wanted::Tested, Given::Null) => "compare the pointer with NULL by == or !=",
+            (Wanted::Fat, Given::Value(Ty::Pointer { .. })) => {
+                "only a ? pointer has elements: declare it with ?, or write *p for what p leads to"
             }
-            Wanted::Content | Wanted::Int | Wanted::Moved | Wanted::Freed | Wanted::Handle => false,
+            (Wanted::Moved, Given::Value(Ty::Pointer { .. })) => {
+                "only a ? pointer that is not unique moves on: declare it with ?"
+            }
+            (Wanted::Measured, Given::Value(Ty::Pointer { .. })) => {
+                "pointers have no order and no distance: keep the number of the element in an int"
+            }
+            (Wanted::Int, Given::Value(Ty::Pointer { .. })) => "write *p for what p leads to",
+            (Wanted::Members, Given::Value(Ty::Pointer { .. })) if is_fat(given) => {
+                "take an element first: p[0]->f"
+            }
+            _ => "",
         }
     }
 
+    /// Whether an operand of which this is asked is only looked at, so that a unique pointer stays where it is.
+    pub(crate) fn is_looked_at(self) -> bool {
+        matches!(
+            self,
+            Wanted::Tested | Wanted::Compared | Wanted::Pointer | Wanted::Fat | Wanted::Members
+        )
+    }
+
     /// Whether a value of this type will do.
-    pub(crate) fn allows(self, given: Given<'_>) -> bool {
+    fn allows(self, given: Given<'_>) -> bool {
         match self {
             Wanted::Content => given.is_value(),
-            Wanted::Int => given.is_int(),
+            Wanted::Int | Wanted::Measured => given.is_int(),
             Wanted::Tested => given.is_tested(),
             Wanted::Compared => given.is_tested() || matches!(given, Given::Null),
             Wanted::Moved => given.is_int() || is_fat(given) && !given.is_unique(),
@@ -90,7 +118,74 @@ pub(crate) fn wanted_by(operator: BinaryOperator) -> (Wanted, Wanted) {
     match operator {
         BinaryOperator::OrElse | BinaryOperator::AndThen => (Wanted::Tested, Wanted::Tested),
         BinaryOperator::Equal | BinaryOperator::NotEqual => (Wanted::Compared, Wanted::Compared),
-        BinaryOperator::Add | BinaryOperator::Subtract => (Wanted::Moved, Wanted::Int),
+        BinaryOperator::Add => (Wanted::Moved, Wanted::Int),
+        BinaryOperator::Subtract => (Wanted::Moved, Wanted::Measured),
+        BinaryOperator::Less
+        | BinaryOperator::LessOrEqual
+        | BinaryOperator::Greater
+        | BinaryOperator::GreaterOrEqual => (Wanted::Measured, Wanted::Measured),
         _ => (Wanted::Int, Wanted::Int),
+    }
+}
+
+/// The words where a value at this place is not what is wanted, or its region is not live.
+pub(crate) fn explain_given(
+    teller: &mut Teller<'_>,
+    scope: &Scope<'_>,
+    wanted: Wanted,
+    value: Given<'_>,
+    span: Span,
+) {
+    if teller.is_fault(Code::TypeMismatch, span) && !wanted.allows(value) {
+        teller.say(
+            "expected %, found %",
+            &[Part::Text(wanted.text()), Part::Given(value)],
+        );
+        teller.hint(wanted.advice(value), &[]);
+    }
+    let parts = [Part::Given(value)];
+    let text = match wanted {
+        Wanted::Freed => {
+            "ufree takes a unique pointer (`U), found %\nhint: make the object by rnew(unique_region) if it is to be given back"
+        }
+        _ => {
+            "no object holds a key, found %\nhint: keep the key in a variable, a parameter or a result"
+        }
+    };
+    teller.say_of(Code::RegionOrKeyMisused, span, text, &parts);
+    explain_closed(teller, scope, value, span);
+}
+
+/// The words where an operand is not what is wanted.
+pub(crate) fn explain_value(
+    teller: &mut Teller<'_>,
+    scope: &mut Scope<'_>,
+    expression: &Expr,
+    wanted: Wanted,
+) {
+    let span = span_of(expression);
+    if !teller.is_at(span) {
+        return;
+    }
+    if let Some(value) = value_type(scope, expression, wanted.is_looked_at()) {
+        explain_given(teller, scope, wanted, given(&value), span);
+    }
+}
+
+/// The words for a cell of this type that is read at this place, where it is a struct or a unique pointer.
+pub(crate) fn explain_content(teller: &mut Teller<'_>, of_type: &Ty, span: Span) {
+    if is_struct(of_type) {
+        let parts = [Part::Given(Given::Value(of_type))];
+        teller.say_of(
+            Code::TypeMismatch,
+            span,
+            "expected a value, found %",
+            &parts,
+        );
+    }
+    if is_unique(of_type) || is_key(of_type) {
+        let parts = [Part::Given(Given::Value(of_type))];
+        let text = "found %, which stays where it is: no second pointer leads to a unique object";
+        teller.say_of(Code::UniqueShared, span, text, &parts);
     }
 }

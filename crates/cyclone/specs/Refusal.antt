@@ -1,7 +1,7 @@
--- Which refusals are explained by types or regions, and the tree that they are of.
+-- Which refusals are explained by names, types or regions, and the tree that they are of.
 use Rattle.std.specs.Prelude.{◌≡◌, ℕ, Bool, true, false, List}
 use Rattle.cyc_words.specs.declared.fault.Code.{Code}
-use Rattle.cyc_words.specs.declared.fault.Code.TheVariants.{TypeMismatch, NullForNonNull, RegionNotLive, NotOutlived, EffectNotCovered}
+use Rattle.cyc_words.specs.declared.fault.Code.TheVariants.{UnknownName, DeclaredTwice, TypeMismatch, NullForNonNull, RegionNotLive, NotOutlived, EffectNotCovered, UniqueShared, NotAPlace, RegionOrKeyMisused, BadMain}
 use Rattle.cyc_syntax.specs.Tokens.{Token}
 use Rattle.cyc_syntax.specs.declared.tree.Tree.{Tree}
 use Rattle.cyc_lex.specs.Refusals as lexer
@@ -9,9 +9,9 @@ use Rattle.cyc_parse.specs.Acceptance as parser
 use Rattle.cyc_parse.specs.Acceptance.{declarations_of}
 use Rattle.cyc_system.specs.Front.{names_in}
 
--- two types or two regions are at hand
+-- it is the checker's, of names, types or regions
 abbrev pub is_explained : Code → Bool
-is_explained code = elim code [ TypeMismatch ↦ true | NullForNonNull ↦ true | RegionNotLive ↦ true | NotOutlived ↦ true | EffectNotCovered ↦ true | _ ↦ false ]
+is_explained code = elim code [ UnknownName ↦ true | DeclaredTwice ↦ true | TypeMismatch ↦ true | NullForNonNull ↦ true | RegionNotLive ↦ true | NotOutlived ↦ true | EffectNotCovered ↦ true | UniqueShared ↦ true | NotAPlace ↦ true | RegionOrKeyMisused ↦ true | BadMain ↦ true | _ ↦ false ]
 
 -- the text's tokens have this tree, with the names of the text
 abbrev pub HasTree : List ℕ → Tree → Type 0

@@ -6,16 +6,26 @@ use cyc_words::Fault;
 use std::fmt;
 
 /// Why the text in the file `name` was refused: the place and what is wrong there, the line with a
-/// mark under the place, the types or regions at hand, and what to do. Where a variable is empty or
-/// locked, where it came to be so.
+/// mark under the place, the rule that is broken with the names, types or regions at hand, and what to
+/// do. Where a variable is empty or locked, where it came to be so.
 #[derive(Drop)]
 pub struct Message<'a> {
     pub name: &'a str,
     pub text: &'a [u8],
     pub fault: Fault,
-    /// The types or regions at hand, in lines.
+    /// The rule that is broken, in lines; where the last one is a hint, it stands in place of that of the
+    /// fault's code.
     pub words: Option<Vec<u8>>,
     pub cause: Option<Cause>,
+}
+
+/// Whether there is a hint among lines.
+fn has_hint(lines: &[u8]) -> bool {
+    let mut is_hinted = false;
+    for line in lines.split(|byte| *byte == b'\n') {
+        is_hinted = line.starts_with(b"hint: ");
+    }
+    is_hinted
 }
 
 impl fmt::Display for Message<'_> {
@@ -27,6 +37,9 @@ impl fmt::Display for Message<'_> {
         if let Some(words) = &self.words {
             for line in words.split(|byte| *byte == b'\n') {
                 write!(f, "    {}\n", Shown(line))?;
+            }
+            if has_hint(words) {
+                return Ok(());
             }
         }
         if let Some(cause) = self.cause {

@@ -1,4 +1,4 @@
-//! What a person reads of a refusal by types or regions, beside what its code says.
+//! What a person reads of a refusal by names, types or regions, beside what its code says.
 ghost use Rattle.std.specs.Prelude.{◌≡◌, IfOk, IfSome};
 ghost use Rattle.cyc_system.specs.Front.{IsRefusedText};
 ghost use Rattle.cyclone.specs.Refusal.{HasTree, is_explained};
@@ -10,16 +10,22 @@ use cyc_syntax::Tree;
 use cyc_words::{Code, Fault};
 use std::alloc::Global;
 
-/// Whether a refusal is of two types or regions.
+/// Whether a refusal is the checker's, of names, types or regions.
 fn is_explained(code: Code) -> bool
     ensures { result ≡ is_explained code }
 {
     match code {
-        Code::TypeMismatch
+        Code::UnknownName
+        | Code::DeclaredTwice
+        | Code::TypeMismatch
         | Code::NullForNonNull
         | Code::RegionNotLive
         | Code::NotOutlived
-        | Code::EffectNotCovered => true,
+        | Code::EffectNotCovered
+        | Code::UniqueShared
+        | Code::NotAPlace
+        | Code::RegionOrKeyMisused
+        | Code::BadMain => true,
         _ => false,
     }
 }
@@ -32,8 +38,8 @@ pub fn tree_of(alloc: Global, text: &[u8]) -> Result<Tree, Fault>
     parse(alloc, &tokens, text)
 }
 
-/// The types or regions at hand where a text is refused with this fault, in lines. Where memory runs
-/// out there is nothing to say.
+/// The rule that is broken where a text is refused with this fault, with the names, types or regions at
+/// hand, in lines; the last one may be a hint. Where memory runs out there is nothing to say.
 pub fn words_for(alloc: Global, text: &[u8], fault: Fault) -> Option<Vec<u8>>
     // There are words only for what the text is refused for.
     ensures { IfSome result (λ words. IsRefusedText text.now fault) }

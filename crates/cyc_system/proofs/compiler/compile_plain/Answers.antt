@@ -1,7 +1,8 @@
 use Rattle.std.proofs.Common.{ℕ, ◌<◌, List, length, refl, sym, ap, subst, arith}
 use Rattle.cyc_asm.specs.Layout.{addresses_of}
 use Rattle.cyc_system.specs.ProgramImage.{program_image}
-use Rattle.cyc_system.proofs.Chains.{text_has_words, image_made}
+use Rattle.cyc_asm.proofs.Stretches.{text_has_words}
+use Rattle.cyc_system.proofs.Chains.{image_made}
 use Rattle.cyc_system.proofs.compiler.compile_plain.Goals as goal
 
 pub returns-clause-image : goal.returns-clause-image

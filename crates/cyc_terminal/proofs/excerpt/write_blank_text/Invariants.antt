@@ -1,6 +1,6 @@
 -- The characters so far are written, and what is left is UTF-8.
 use Rattle.std.proofs.Common.{◌≡◌, ℕ, List, ◌++◌, IsUtf8, chars, flat_map}
-use Rattle.core.specs.Str.Iter.{chars_rest}
+use Rattle.std.specs.Str.Iter.{chars_rest}
 use Rattle.std.specs.Fmt.{HasWritten, IsPlainFormatter}
 use Rattle.cyc_terminal.specs.Excerpt.{blank_char}
 use Rattle.cyc_terminal.proofs.excerpt.write_blank_text.Given as goal

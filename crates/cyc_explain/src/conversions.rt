@@ -1,0 +1,226 @@
+//! Words for values that are converted to a type, and for regions: that are not live, or do not outlive each other.
+use crate::homes::{Home, Origin, find_home};
+use crate::teller::{Part, Teller};
+use cyc_forms::{Given, convert};
+use cyc_scope::{Scope, Settled};
+use cyc_types::{Region, Ty};
+use cyc_words::{Code, Span};
+
+// ---- regions that are not live
+
+/// The last end, before the fault, of a block that opens the dynamic region of this name.
+fn last_end(teller: &Teller<'_>, name: usize) -> Option<Span> {
+    let mut last = None;
+    for ending in &teller.endings {
+        if ending.name == name && teller.is_from(ending.span) {
+            last = Some(ending.span);
+        }
+    }
+    last
+}
+
+/// Says why a region is not live.
+pub(crate) fn say_closed(teller: &mut Teller<'_>, region: Region) {
+    let own = Part::Region(region);
+    match find_home(&teller.homes, region) {
+        Some(
+            Home {
+                origin: Origin::Caller,
+                ..
+            },
+        ) => {
+            if let Some(function) = teller.function {
+                teller.say("% is not in the effect of %", &[own, Part::Name(function)]);
+            }
+        }
+        Some(
+            Home {
+                origin: Origin::Dynamic,
+                name: Some(name),
+                span,
+                ..
+            },
+        ) => {
+            let parts = [own, Part::Place(span)];
+            teller.say(
+                "%, the dynamic region declared at %, is not open here",
+                &parts,
+            );
+            if let Some(end) = last_end(teller, name) {
+                teller.say(": the block that opened it ended at %", &[Part::Place(end)]);
+            }
+        }
+        _ => teller.say("% is not live here", &[own]),
+    }
+}
+
+/// The words for a pointer or a handle at this place whose region is not live.
+pub(crate) fn explain_closed(
+    teller: &mut Teller<'_>,
+    scope: &Scope<'_>,
+    given: Given<'_>,
+    span: Span,
+) {
+    let region = given.region();
+    if teller.is_fault(Code::RegionNotLive, span) && !scope.is_live(region) {
+        teller.say("found %\n", &[Part::Given(given)]);
+        say_closed(teller, region);
+    }
+}
+
+// ---- regions that do not outlive others
+
+/// Where a region begins that has this home, if there is more to say of that than what it is called.
+fn beginning_of(region: Region, home: Option<Home>) -> &'static str {
+    match (region, home) {
+        (_, Some(Home { name: None, .. })) => "",
+        (Region::Heap, _) => "% lives for the whole run",
+        (Region::Unique, _) => "% stands apart from all regions",
+        (_, Some(home)) => match home.origin {
+            Origin::Caller => "% comes from the caller",
+            Origin::Block | Origin::Item => "% begins at %",
+            Origin::Dynamic => "% is a dynamic region, declared at %",
+        },
+        (_, None) => "",
+    }
+}
+
+/// Says where a region begins behind a mark, if there is anything to say.
+fn say_beginning(teller: &mut Teller<'_>, mark: &str, region: Region) -> bool {
+    let home = find_home(&teller.homes, region);
+    let text = beginning_of(region, home);
+    if text.is_empty() {
+        return false;
+    }
+    let span = match home {
+        Some(home) => home.span,
+        None => Span { line: 0, column: 0 },
+    };
+    teller.say(mark, &[]);
+    teller.say(text, &[Part::Region(region), Part::Place(span)]);
+    true
+}
+
+/// Says in a line of its own which region does not outlive which, and where each begins, and then what to do.
+pub(crate) fn say_shorter(teller: &mut Teller<'_>, region: Region, other: Region) {
+    let parts = [Part::Region(region), Part::Region(other)];
+    teller.say("\n% does not outlive %", &parts);
+    let is_begun = say_beginning(teller, ": ", region);
+    if region != other {
+        say_beginning(teller, if is_begun { ", " } else { ": " }, other);
+    }
+    if let Some(home) = find_home(&teller.homes, region) {
+        let other_home = find_home(&teller.homes, other);
+        teller.hint(advice_on_regions(home, other, other_home), &parts);
+    }
+}
+
+/// What to do about a region of the function at hand that does not outlive another.
+fn advice_on_regions(home: Home, other: Region, other_home: Option<Home>) -> &'static str {
+    match (home.origin, other, other_home) {
+        (_, Region::Unique, _) => "",
+        (Origin::Caller, Region::Heap, _) => {
+            "a parameter's pointer may lead anywhere: write `H behind its mark to take heap pointers alone, or name one region on both sides, as in int *`r same(int *`r p)"
+        }
+        (Origin::Block, Region::Heap, _) => {
+            "a variable is gone when its block ends: make the object by new"
+        }
+        (_, Region::Heap, _) => {
+            "what is in % is gone when its region ends: make the object by new, or write the region into the type"
+        }
+        (
+            _,
+            _,
+            Some(
+                Home {
+                    origin: Origin::Dynamic,
+                    ..
+                },
+            ),
+        ) => {
+            "a dynamic region ends where its key is given back: only the heap is known to outlive it"
+        }
+        (Origin::Caller, _, Some(Home { name: Some(_), .. })) if home.name.is_some() => {
+            "if it does at each call, declare so behind the parameters: % > %"
+        }
+        (Origin::Caller, _, _) => {
+            "name the regions of both types, as one, or as two with a constraint: `a > `b"
+        }
+        (Origin::Block, _, _) => {
+            "a variable is gone when its block ends: make an object by new, or by rnew in the other region"
+        }
+        (_, _, _) => "what is in % is gone when its block ends: make the object in %",
+    }
+}
+
+// ---- conversions
+
+/// Whether two types are the same but for regions.
+fn has_shape(of_type: &Ty, wanted: &Ty) -> bool {
+    match (of_type, wanted) {
+        (Ty::Int, Ty::Int)
+        | (Ty::Handle { .. }, Ty::Handle { .. })
+        | (Ty::Key { .. }, Ty::Key { .. }) => true,
+        (
+            Ty::Pointer { kind, target, .. },
+            Ty::Pointer {
+                kind: wanted_kind,
+                target: wanted_target,
+                ..
+            },
+        ) => *kind == *wanted_kind && has_shape(target, wanted_target),
+        (
+            Ty::Struct { number, .. },
+            Ty::Struct {
+                number: wanted_number,
+                ..
+            },
+        ) => *number == *wanted_number,
+        _ => false,
+    }
+}
+
+/// What to do about a value of another type than this, if there is anything to say.
+fn advice(given: Given<'_>, wanted: &Ty) -> &'static str {
+    match (given, wanted) {
+        (Given::Void, _) => "a function that returns no value is called by itself",
+        (Given::Int | Given::Value(Ty::Int), Ty::Pointer { .. }) => "write NULL for a null pointer",
+        (Given::Value(Ty::Pointer { target, .. }), Ty::Pointer { .. })
+            if !matches!(**target, Ty::Int) => {
+            "what a pointer leads to is not converted: put a value of that very type there"
+        }
+        (Given::Value(Ty::Pointer { .. }), Ty::Int) => "write *p for what p leads to",
+        _ => "",
+    }
+}
+
+/// The words for a value at this place that is not converted to a type.
+pub(crate) fn explain_conversion(
+    teller: &mut Teller<'_>,
+    scope: &Scope<'_>,
+    given: Given<'_>,
+    wanted: &Ty,
+    span: Span,
+) {
+    let mut settled = Settled::new();
+    convert(&mut settled, scope, given, wanted, span);
+    let Some(broken) = settled.known else {
+        return;
+    };
+    if !teller.is_fault(broken.code, span) {
+        return;
+    }
+    let parts = [Part::Given(Given::Value(wanted)), Part::Given(given)];
+    teller.say("expected %, found %", &parts);
+    match (broken.code, given, wanted) {
+        (Code::TypeMismatch, Given::Value(of_type), Ty::Pointer { .. })
+            if has_shape(of_type, wanted) => {
+            teller.say(", with other regions inside", &[]);
+        }
+        (Code::TypeMismatch, _, _) => teller.hint(advice(given, wanted), &[]),
+        (Code::NotOutlived, _, Ty::Pointer { region, .. }) => {
+            say_shorter(teller, given.region(), *region);
+        }
+        _ => {}
+    }
+}

@@ -1,0 +1,125 @@
+//! Words for names: that are not declared, where another one is near, and that are declared twice.
+use crate::teller::{Part, Teller};
+use cyc_scope::{Meaning, Scope};
+use cyc_syntax::{Ident, Name, Names};
+use cyc_words::{Code, Span};
+
+/// What a name is wanted for.
+#[derive(Clone, Copy)]
+pub(crate) enum Sort {
+    Value,
+    Struct,
+    Exception,
+    /// A field of the struct of this number.
+    Field(usize),
+}
+
+/// Whether a name that stands here is declared.
+fn is_known(scope: &Scope<'_>, sort: Sort, name: Ident) -> bool {
+    let number = name.name.number;
+    match sort {
+        Sort::Value => !matches!(scope.meaning(name), Meaning::Unknown),
+        Sort::Struct => scope.structs().parameters(number).is_some(),
+        Sort::Exception => scope.exception(number).is_some(),
+        Sort::Field(of_struct) => {
+            for field in scope.fields(of_struct) {
+                if field.name == number {
+                    return true;
+                }
+            }
+            false
+        }
+    }
+}
+
+/// Whether texts of at least three bytes differ in one place: by a byte that is another, is missing or is too many, or by two
+/// that stand the other way round.
+fn is_near(a: &[u8], b: &[u8]) -> bool {
+    let shortest = a.len().min(b.len());
+    let mut from_start = 0usize;
+    let mut from_end = 0usize;
+    for i in 0..shortest {
+        if from_start == i && a[i] == b[i] {
+            from_start = i + 1;
+        }
+        if from_end == i && a[a.len() - 1 - i] == b[b.len() - 1 - i] {
+            from_end = i + 1;
+        }
+    }
+    let alike = from_start.saturating_add(from_end);
+    let most = if a.len() == b.len() && shortest > 3 {
+        2
+    } else {
+        1
+    };
+    shortest > 2 && alike.saturating_add(most) >= a.len().max(b.len())
+}
+
+/// A declared name that is near to this one.
+fn near(names: &Names, scope: &Scope<'_>, sort: Sort, name: Ident) -> Option<Ident> {
+    let number = name.name.number;
+    if number >= names.len() {
+        return None;
+    }
+    let text = names.text(name.name);
+    for other in 0..names.len() {
+        let candidate = Ident {
+            name: Name { number: other },
+            span: name.span,
+        };
+        if other != number && is_near(text, names.text(candidate.name)) {
+            if is_known(scope, sort, candidate) {
+                return Some(candidate);
+            }
+        }
+    }
+    None
+}
+
+/// The words for a name that is not declared.
+pub(crate) fn explain_unknown(teller: &mut Teller<'_>, scope: &Scope<'_>, sort: Sort, name: Ident) {
+    if !teller.is_fault(Code::UnknownName, name.span) {
+        return;
+    }
+    if let Some(other) = near(&teller.tree.names, scope, sort, name) {
+        teller.hint("did you mean `%`?", &[Part::Name(other)]);
+    }
+}
+
+/// The words for a name that is declared twice, and first at this place.
+pub(crate) fn explain_twice(teller: &mut Teller<'_>, name: Ident, first: Option<Span>) {
+    if let Some(first) = first {
+        let parts = [Part::Name(name), Part::Place(first)];
+        teller.say_of(
+            Code::DeclaredTwice,
+            name.span,
+            "`%` is first declared at %",
+            &parts,
+        );
+    }
+}
+
+/// The words for a region that is declared in a function which has one of this name.
+pub(crate) fn explain_region_twice(teller: &mut Teller<'_>, name: Ident) {
+    let number = name.name.number;
+    if let Some(function) = teller.function {
+        if function.name.number == number {
+            let text = "`% is the region of the variables of %";
+            let parts = [Part::Name(name), Part::Name(function)];
+            teller.say_of(Code::DeclaredTwice, name.span, text, &parts);
+        }
+    }
+    let mut first = None;
+    for home in &teller.homes {
+        if home.name == Some(number) && first.is_none() {
+            first = Some(home.span);
+        }
+    }
+    if let Some(span) = first {
+        let text = "`% is first declared at %: a function declares a region's name once";
+        let parts = [Part::Name(name), Part::Place(span)];
+        teller.say_of(Code::DeclaredTwice, name.span, text, &parts);
+    }
+    let text = "`% is there in each function";
+    teller.say_of(Code::DeclaredTwice, name.span, text, &[Part::Name(name)]);
+}

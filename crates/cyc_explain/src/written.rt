@@ -1,0 +1,109 @@
+//! Words for types as they are written.
+use crate::teller::{Part, Teller};
+use cyc_syntax::{BaseType, Declaration, Ident, PointerKind, WrittenType};
+use cyc_words::Code;
+
+/// How many region parameters the struct of this name has.
+fn region_count(declarations: &[Declaration], name: Ident) -> Option<usize> {
+    for declaration in declarations {
+        if let Declaration::Struct {
+            name: own,
+            regions,
+            ..
+        } = declaration
+        {
+            if own.name == name.name {
+                return Some(regions.len());
+            }
+        }
+    }
+    None
+}
+
+/// The words for another number of things at the fault than is wanted.
+pub(crate) fn say_count(teller: &mut Teller<'_>, wanted: usize, found: usize, thing: &str) {
+    let parts = [
+        Part::Number(wanted),
+        Part::Text(thing),
+        Part::Text(if wanted == 1 { "" } else { "s" }),
+        Part::Number(found),
+    ];
+    teller.say(
+        "expected % %%, found %\nhint: give as many as are wanted",
+        &parts,
+    );
+}
+
+/// What a type is that nothing has.
+fn explain_shape(teller: &mut Teller<'_>, written: &WrittenType) {
+    match &written.base {
+        BaseType::Int | BaseType::Handle { .. } => {}
+        BaseType::Key { .. } => {
+            if !written.marks.is_empty() {
+                teller.say("no pointer leads to a key", &[]);
+            }
+        }
+        BaseType::Struct { name, regions } => {
+            if let Some(count) = region_count(&teller.tree.declarations, *name) {
+                if !regions.is_empty() && regions.len() != count {
+                    say_count(teller, count, regions.len(), "region");
+                    return;
+                }
+            }
+            if !matches!(written.marks.first(), Some(mark) if mark.kind != PointerKind::Fat) {
+                let text = "% is a struct: only a * or @ pointer to it is a type";
+                teller.say(text, &[Part::Name(*name)]);
+            }
+        }
+    }
+}
+
+/// The words for a region in a type. `unknown` says what one is that is not in scope there, and `misused` one that may not stand there.
+pub(crate) fn explain_region(teller: &mut Teller<'_>, name: Ident, unknown: &str, misused: &str) {
+    let parts = [Part::Name(name)];
+    teller.say_of(Code::UnknownName, name.span, unknown, &parts);
+    teller.say_of(Code::RegionOrKeyMisused, name.span, misused, &parts);
+    if let Some(function) = teller.function {
+        let parts = [Part::Name(name), Part::Name(function)];
+        let text = "`% is the region of the variables of %";
+        teller.say_of(Code::DeclaredTwice, name.span, text, &parts);
+    }
+}
+
+/// The words for a written type that is none.
+pub(crate) fn explain_written(teller: &mut Teller<'_>, written: &WrittenType, unknown: &str) {
+    match &written.base {
+        BaseType::Int => {}
+        BaseType::Struct { regions, .. } => {
+            for region in regions {
+                explain_region(
+                    teller,
+                    *region,
+                    unknown,
+                    "no struct has `% as a region argument",
+                );
+            }
+        }
+        BaseType::Handle { region } => {
+            let misused =
+                "`% has no handle but the name unique_region\nhint: write rnew(unique_region) where the object is made";
+            explain_region(teller, *region, unknown, misused);
+        }
+        BaseType::Key { region } => {
+            explain_region(
+                teller,
+                *region,
+                unknown,
+                "`% is always open, and has no key\nhint: name a dynamic region",
+            );
+        }
+    }
+    for mark in &written.marks {
+        if let Some(region) = mark.region {
+            explain_region(teller, region, unknown, "");
+        }
+    }
+    if teller.is_fault(Code::TypeMismatch, written.span) {
+        explain_shape(teller, written);
+    }
+}
