@@ -1,13 +1,16 @@
 #!/usr/bin/env python3
-"""How fast the store answers, beside malloc and free of the C library. Not a test: it prints figures.
+"""How fast both stores answer, beside malloc and free of the C library. Not a test: it prints figures.
 
     make bench
 
-crates/cyc_bench makes calls of a store with 1, 1,000 and 60,000 pages in use: a unique block of 16 words is made and freed, a
-region is opened and closed, and blocks of 16 words are made in regions of 64. store.c does the same with blocks of 64 bytes
-and of 4,096. Each is run three times, in turn, and the least time counts.
+crates/cyc_bench makes calls of a store in memory and of one on a pool of pages, each of 65,536 pages. With 1, 1,000 and 60,000
+pages in use a unique block of 16 words is made and freed, a region is opened and closed, blocks of 16 words are made in regions
+of 64, and words of the pages are loaded and saved. Then an image runs that loads and stores words of one block, the region with
+all pages in use is closed, and stores are made. store.c does the first three with malloc and free, of blocks of 64 bytes and of
+4,096. Each is run five times, in turn, and the median counts.
 """
 import os
+import statistics
 import subprocess
 import sys
 import tempfile
@@ -16,34 +19,69 @@ HERE = os.path.dirname(os.path.abspath(__file__))
 CRATE = os.path.join(HERE, "..", "crates", "cyc_bench")
 PROGRAM = os.path.join(CRATE, "out", "cyc_bench")
 CALLS = 2_000_000
-KINDS = {"free": "blocks made and freed", "close": "regions opened and closed", "make": "blocks made in regions"}
+RUNS = 5
+STORES = ("plain", "paged")
+IN_USE = (1, 1_000, 60_000)
+# of each kind of call, what it is, and whether store.c makes such calls too
+KINDS = {
+    "free": ("blocks made and freed", True),
+    "open": ("regions opened and closed", True),
+    "make": ("blocks made in regions", True),
+    "load": ("words loaded", False),
+    "save": ("words saved", False),
+}
+# of each other kind, what it is, and for which numbers it is asked, each with its words
+TIMES = {
+    "run": ("a run of 220 million instructions", {1: "on a block of the heap", 2: "on a unique block"}),
+    "close": ("a region closed", {1: "of 1 page", 60_000: "of 60,000 pages"}),
+    "new": ("a store made", {1_024: "of 1,024 pages", 65_536: "of 65,536 pages"}),
+}
 
 
-def times(command):
-    """The microseconds that a program prints, by kind and pages in use."""
-    lines = subprocess.run(command, check=True, capture_output=True, text=True).stdout.split("\n")
-    return {tuple(line.split()[:2]): float(line.split()[2]) for line in lines if line}
+def milliseconds(store, kind, number):
+    """How long the program says that calls of a kind took."""
+    command = [PROGRAM, store, kind, str(number)]
+    return int(subprocess.run(command, check=True, capture_output=True, text=True).stdout) / 1e6
 
 
-def least(commands):
-    """Of each program the least times of three runs."""
-    all_times = [{} for _ in commands]
-    for _ in range(3):
-        for so_far, command in zip(all_times, commands):
-            for key, time in times(command).items():
-                so_far[key] = min(time, so_far.get(key, time))
-    return all_times
+def in_c(program):
+    """The milliseconds that store.c prints, by kind and pages in use; it calls regions that are opened and closed `close`."""
+    lines = subprocess.run([program], check=True, capture_output=True, text=True).stdout.split("\n")
+    found = [line.split() for line in lines if line]
+    return {("open" if kind == "close" else kind, int(pages)): float(time) / 1e3 for kind, pages, time in found}
+
+
+def medians(program):
+    """The medians of all times, by store, kind and number; of store.c the store is `c`."""
+    asked = [(kind, number) for kind in KINDS for number in IN_USE]
+    asked += [(kind, number) for kind, (_, numbers) in TIMES.items() for number in numbers]
+    times = {}
+    for _ in range(RUNS):
+        for kind, number in asked:
+            for store in STORES:
+                times.setdefault((store, kind, number), []).append(milliseconds(store, kind, number))
+        for (kind, number), time in in_c(program).items():
+            times.setdefault(("c", kind, number), []).append(time)
+    return {key: statistics.median(them) for key, them in times.items()}
 
 
 def main():
     subprocess.run(["rt", "run"], cwd=CRATE, check=True, stdout=subprocess.DEVNULL)
     with tempfile.TemporaryDirectory() as folder:
-        other = os.path.join(folder, "store")
-        subprocess.run(["gcc", "-O2", "-o", other, os.path.join(HERE, "store.c")], check=True)
-        ours, theirs = least([[PROGRAM, "time"], [other]])
-    print("store: millions of calls a second, the store beside malloc and free")
-    for (kind, pages), time in ours.items():
-        print(f"  {KINDS[kind]:26} {int(pages):6,} pages in use: {CALLS / time:6.1f} {CALLS / theirs[kind, pages]:6.1f}")
+        program = os.path.join(folder, "store")
+        subprocess.run(["gcc", "-O2", "-o", program, os.path.join(HERE, "store.c")], check=True)
+        times = medians(program)
+    print("stores: millions of calls a second, the store in memory, that on a pool, and malloc and free")
+    for kind, (what, has_other) in KINDS.items():
+        for pages in IN_USE:
+            stores = STORES + ("c",) * has_other
+            speeds = "".join(f" {CALLS / times[store, kind, pages] / 1e3:6.1f}" for store in stores)
+            print(f"  {what:26} {pages:6,} pages in use:{speeds}")
+    print("stores: milliseconds, the store in memory, that on a pool, and the second to the first")
+    for kind, (what, numbers) in TIMES.items():
+        for number, more in numbers.items():
+            plain, paged = (times[store, kind, number] for store in STORES)
+            print(f"  {f'{what} {more}':58} {plain:10.4f} {paged:10.4f} {paged / plain:8.2f}")
 
 
 if __name__ == "__main__":

@@ -56,6 +56,7 @@ add "documents" python3 tests/runners/documents.py
 add "examples" python3 tests/runners/examples.py
 add "editors" python3 tests/runners/editors.py
 add "refused allocations" python3 tests/runners/refused.py
+add "limits of memory" python3 tests/runners/memory.py
 add "random programs" python3 tests/runners/differential.py
 add "images" python3 tests/runners/images.py
 echo "== costs"

@@ -1,6 +1,8 @@
-//! The store: worked calls with their answers, handles and addresses past their end, and many calls beside a plain list.
+//! Both stores: worked calls with their answers, handles and addresses past their end, many calls beside plain lists, and pages
+//! that are given back.
 
 use crate::rows::{decimal, expect, expect_number, expect_text};
+use cyc_pagestore::PageStore;
 use cyc_store::{HEAP, No, PlainStore, STORE_BASE, Store, UNIQUE};
 use std::alloc::Global;
 use std::process::Abort;
@@ -148,26 +150,46 @@ fn told<S: Store>(alloc: Global, store: &mut S, names: &mut Names, call: &str) -
     format!(in alloc; "{told}").ok()
 }
 
-/// A new store of so many pages, from 3 to 65,536.
-fn store_of(alloc: Global, pages: u32) -> Option<PlainStore> {
+/// A new store in memory of so many pages, from 3 to 65,536.
+fn plain_of(alloc: Global, pages: u32) -> Option<PlainStore> {
     if pages < 3 || 65_536 < pages {
         return None;
     }
     PlainStore::new(alloc, pages).ok()
 }
 
+/// A new store on a pool of so many pages, from 3 to 65,536.
+fn paged_of(alloc: Global, pages: u32) -> Option<PageStore> {
+    if pages < 3 || 65_536 < pages {
+        return None;
+    }
+    PageStore::new(alloc, pages).ok()
+}
+
 /// A new store answers calls as their row says.
-fn expect_calls<A: Abort>(rt: &A, alloc: Global, row: &str) -> Option<()> {
-    let (_, rest) = row.split_once('|')?;
-    let (pages, calls) = rest.split_once('|')?;
-    let mut store = store_of(alloc, decimal(pages)?)?;
+fn expect_answers<A: Abort, S: Store>(
+    rt: &A,
+    alloc: Global,
+    store: &mut S,
+    calls: &str,
+    row: &str,
+) -> Option<()> {
     let mut names = [0; 26];
     for call in calls.split("; ") {
         let (call, want) = call.split_once(": ")?;
-        let told = told(alloc, &mut store, &mut names, call)?;
+        let told = told(alloc, store, &mut names, call)?;
         expect_text(rt, &told, want, row);
     }
     Some(())
+}
+
+/// A new store of each kind answers calls as their row says.
+fn expect_calls<A: Abort>(rt: &A, alloc: Global, row: &str) -> Option<()> {
+    let (_, rest) = row.split_once('|')?;
+    let (pages, calls) = rest.split_once('|')?;
+    let pages = decimal(pages)?;
+    expect_answers(rt, alloc, &mut plain_of(alloc, pages)?, calls, row)?;
+    expect_answers(rt, alloc, &mut paged_of(alloc, pages)?, calls, row)
 }
 
 #[test]
@@ -178,7 +200,7 @@ fn calls(rt: HostRuntime) {
     }
 }
 
-// ---- many calls beside a plain list
+// ---- many calls, the same of both stores, beside plain lists
 
 /// Numbers that look random, the same in each run.
 #[derive(Drop)]
@@ -313,7 +335,7 @@ impl Lists {
         self.pages < self.demand.wrapping_add(more)
     }
 
-    /// Whether a store may refuse a call so.
+    /// Whether a store may refuse so to open a region, or to make a block of a size that blocks have.
     fn may_refuse(&mut self, no: No, full: bool) -> bool {
         match no {
             No::Full => full,
@@ -323,6 +345,15 @@ impl Lists {
             }
             No::BadHandle | No::BadSize => false,
         }
+    }
+
+    /// Whether a store that has answered the same but for handles and addresses leads to the same lists but for these.
+    fn is_like(&self, other: &Lists) -> bool {
+        self.demand == other.demand
+            && self.lexicals == other.lexicals
+            && self.regions.len() == other.regions.len()
+            && self.unique.len() == other.unique.len()
+            && self.refused == other.refused
     }
 
     /// The place of a region that is chosen at random, one of the newest mostly.
@@ -432,7 +463,7 @@ impl Lists {
         let address = match store.alloc(region.handle, size) {
             Ok(address) => address,
             Err(No::BadSize) => return Some(!is_size(size)),
-            Err(no) => return Some(self.may_refuse(no, full)),
+            Err(no) => return Some(is_size(size) && self.may_refuse(no, full)),
         };
         let Some(block) = marked(store, random, address, size) else {
             return Some(false);
@@ -468,7 +499,7 @@ impl Lists {
         let address = match store.alloc(UNIQUE, size) {
             Ok(address) => address,
             Err(No::BadSize) => return Some(!is_size(size)),
-            Err(no) => return Some(self.may_refuse(no, full)),
+            Err(no) => return Some(is_size(size) && self.may_refuse(no, full)),
         };
         let Some(block) = marked(store, random, address, size) else {
             return Some(false);
@@ -541,22 +572,61 @@ fn count_free<S: Store>(store: &mut S) -> u32 {
     count
 }
 
-/// A hundred thousand calls have the answers, the words and the demand of lists.
-fn expect_lists<A: Abort>(rt: &A, alloc: Global, pages: u32, name: &str) -> Option<()> {
-    let mut store = store_of(alloc, pages)?;
-    let mut lists = Lists::new(alloc, pages)?;
-    let mut random = Random { state: 20_261 };
-    for call in 0..100_000_u32 {
-        let right = lists.step(alloc, &mut store, &mut random)?;
-        expect(rt, right, name);
-        if call.checked_rem(10_000) == Some(0) {
-            expect(rt, lists.has_all(&store), name);
-        }
-    }
-    expect(rt, lists.has_all(&store) && lists.refused <= 1, name);
-    let free = count_free(&mut store);
-    expect_number(rt, free, pages.wrapping_sub(lists.demand), name);
+/// A store is full as lists say: so many regions can be opened as pages are free.
+fn expect_free<A: Abort, S: Store>(rt: &A, store: &mut S, lists: &Lists, name: &str) {
+    expect_number(
+        rt,
+        count_free(store),
+        lists.pages.wrapping_sub(lists.demand),
+        name,
+    );
+}
+
+/// Makes a call of a store that is chosen at random, whose answer is right, and now and then looks at all words.
+fn expect_step<A: Abort, S: Store>(
+    rt: &A,
+    alloc: Global,
+    store: &mut S,
+    lists: &mut Lists,
+    random: &mut Random,
+    look: bool,
+    name: &str,
+) -> Option<()> {
+    let right = lists.step(alloc, store, random)?;
+    expect(rt, right && (!look || lists.has_all(store)), name);
     Some(())
+}
+
+/// A hundred thousand calls, the same of two new stores, have the answers, the words and the demand of lists.
+fn expect_lists<A: Abort, S: Store, T: Store>(
+    rt: &A,
+    alloc: Global,
+    first: &mut S,
+    second: &mut T,
+    pages: u32,
+    name: &str,
+) -> Option<()> {
+    let mut lists = Lists::new(alloc, pages)?;
+    let mut others = Lists::new(alloc, pages)?;
+    let mut random = Random { state: 20_261 };
+    let mut again = Random { state: 20_261 };
+    for call in 1..=100_000_u32 {
+        let look = call.checked_rem(10_000) == Some(0);
+        expect_step(rt, alloc, first, &mut lists, &mut random, look, name)?;
+        expect_step(rt, alloc, second, &mut others, &mut again, look, name)?;
+        let same = random.state == again.state && lists.is_like(&others);
+        expect(rt, same && lists.refused == 0, name);
+    }
+    expect_free(rt, first, &lists, name);
+    expect_free(rt, second, &others, name);
+    Some(())
+}
+
+/// Many calls of a new store of each kind.
+fn expect_many<A: Abort>(rt: &A, alloc: Global, pages: u32, name: &str) -> Option<()> {
+    let mut plain = plain_of(alloc, pages)?;
+    let mut paged = paged_of(alloc, pages)?;
+    expect_lists(rt, alloc, &mut plain, &mut paged, pages, name)
 }
 
 #[test]
@@ -567,7 +637,76 @@ fn many_calls(rt: HostRuntime) {
         (64, "64 pages"),
         (65_536, "65,536 pages"),
     ] {
-        let made = expect_lists(&rt, rt.alloc(), pages, name);
+        let made = expect_many(&rt, rt.alloc(), pages, name);
         expect(&rt, made.is_some(), name);
+    }
+}
+
+// ---- pages that are given back
+
+/// A region with a block, which has the region's handle in its first word.
+#[derive(Clone, Copy)]
+struct Leaf {
+    handle: u32,
+    address: u32,
+}
+
+/// Opens a region of one page, which then has no room for another block as large.
+fn open_leaf<S: Store>(store: &mut S) -> Option<Leaf> {
+    let handle = store.open_dynamic().ok()?;
+    let address = store.alloc(handle, 1000).ok()?;
+    if store.save(address, handle) {
+        return Some(Leaf { handle, address });
+    }
+    None
+}
+
+/// Whether a region's block has its word.
+fn is_kept<S: Store>(store: &S, leaf: Leaf) -> bool {
+    store.load(leaf.address) == Some(leaf.handle)
+}
+
+/// Closes a region while every page is in use, and opens another, which gets the one page that is free. True if the closed
+/// region's word was gone, and every other page is in use.
+fn turned<S: Store>(store: &mut S, leaf: &mut Leaf) -> Option<bool> {
+    store.close_dynamic(leaf.handle).ok()?;
+    let gone = store.load(leaf.address).is_none();
+    *leaf = open_leaf(store)?;
+    Some(gone && store.open_dynamic().is_err())
+}
+
+/// Takes every page of a new store but the heap's by a region.
+fn all_leaves<S: Store>(alloc: Global, store: &mut S, pages: u32) -> Option<Vec<Leaf>> {
+    let mut leaves = Vec::new(alloc);
+    for _ in 1..pages {
+        leaves.push(open_leaf(store)?).ok()?;
+    }
+    Some(leaves)
+}
+
+/// Takes every page of a new store, and gives each back in turn while all others are in use.
+fn gives_each_back<S: Store>(alloc: Global, store: &mut S, pages: u32) -> Option<bool> {
+    let mut leaves = all_leaves(alloc, store, pages)?;
+    for place in 0..leaves.len() {
+        let leaf = leaves.get_mut(place)?;
+        if !turned(store, leaf)? {
+            return Some(false);
+        }
+    }
+    Some(leaves.iter().all(|leaf| is_kept(store, *leaf)))
+}
+
+/// Every page of a new store of each kind is given back in turn.
+fn gives_back(alloc: Global, pages: u32) -> Option<bool> {
+    let plain = gives_each_back(alloc, &mut plain_of(alloc, pages)?, pages)?;
+    let paged = gives_each_back(alloc, &mut paged_of(alloc, pages)?, pages)?;
+    Some(plain && paged)
+}
+
+#[test]
+fn each_page(rt: HostRuntime) {
+    for &(pages, name) in &[(3, "3 pages"), (64, "64 pages"), (65_536, "65,536 pages")] {
+        let right = gives_back(rt.alloc(), pages);
+        expect(&rt, right == Some(true), name);
     }
 }

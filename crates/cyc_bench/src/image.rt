@@ -1,0 +1,37 @@
+//! An image that loads and saves words of one block, for machines over each store.
+
+use cyc_words::bytes_of;
+use std::alloc::Global;
+
+/// How many instructions a run of the image executes.
+pub(crate) const INSTRUCTIONS: u64 = 10 + 11 * 20_000_000;
+
+/// The headers: one segment with the text, which begins at the entry.
+const HEADERS: &str = "7f454c46 01020100 0 0 00020008 1 00400000 34 0 0 00340020 00010000 0 \
+    1 54 00400000 00400000 54 54 5 4";
+
+/// Register 8 counts 20 million turns, and register 9 points to a block of 4 words. Register 4 holds the handle of its region.
+const START: &str = "3c080131 35082d00 24050004 24020009 0000000c 00404821";
+
+/// A turn: four loads and four stores, and a count. Behind the turns the program returns 7.
+const TURNS: &str = "8d2a0000 8d2b0004 ad2a0008 ad2b000c 8d2c0008 ad2c0000 8d2d000c ad2d0004 \
+    2508ffff 1500fff6 00000000 24040007 24020003 0000000c";
+
+/// Appends the bytes of words in hexadecimal.
+fn put(file: &mut Vec<u8>, words: &str) -> Option<()> {
+    for word in words.split_whitespace() {
+        let word = u32::from_str_radix(word, 16).ok()?;
+        file.extend_from_slice(&bytes_of(word)).ok()?;
+    }
+    Some(())
+}
+
+/// The file of the image, whose block is unique or else in the heap.
+pub(crate) fn file_of(alloc: Global, is_unique: bool) -> Option<Vec<u8>> {
+    let mut file = Vec::new(alloc);
+    put(&mut file, HEADERS)?;
+    put(&mut file, if is_unique { "24040002" } else { "24040001" })?;
+    put(&mut file, START)?;
+    put(&mut file, TURNS)?;
+    Some(file)
+}
