@@ -7,10 +7,9 @@ crates/cyc_bench makes calls of a store in memory and of one on a pool of pages,
 pages in use a unique block of 16 words is made and freed, a region is opened and closed, blocks of 16 words are made in regions
 of 64, and words of the pages are loaded and saved. Then an image runs that loads and stores words of one block, the region with
 all pages in use is closed, and stores are made. store.c does the first three with malloc and free, of blocks of 64 bytes and of
-4,096. Each is run five times, in turn, and the median counts.
+4,096. Each is run five times, in turn, and the least time counts.
 """
 import os
-import statistics
 import subprocess
 import sys
 import tempfile
@@ -51,8 +50,8 @@ def in_c(program):
     return {("open" if kind == "close" else kind, int(pages)): float(time) / 1e3 for kind, pages, time in found}
 
 
-def medians(program):
-    """The medians of all times, by store, kind and number; of store.c the store is `c`."""
+def least(program):
+    """The least of all times, by store, kind and number; of store.c the store is `c`."""
     asked = [(kind, number) for kind in KINDS for number in IN_USE]
     asked += [(kind, number) for kind, (_, numbers) in TIMES.items() for number in numbers]
     times = {}
@@ -62,7 +61,7 @@ def medians(program):
                 times.setdefault((store, kind, number), []).append(milliseconds(store, kind, number))
         for (kind, number), time in in_c(program).items():
             times.setdefault(("c", kind, number), []).append(time)
-    return {key: statistics.median(them) for key, them in times.items()}
+    return {key: min(them) for key, them in times.items()}
 
 
 def main():
@@ -70,7 +69,7 @@ def main():
     with tempfile.TemporaryDirectory() as folder:
         program = os.path.join(folder, "store")
         subprocess.run(["gcc", "-O2", "-o", program, os.path.join(HERE, "store.c")], check=True)
-        times = medians(program)
+        times = least(program)
     print("stores: millions of calls a second, the store in memory, that on a pool, and malloc and free")
     for kind, (what, has_other) in KINDS.items():
         for pages in IN_USE:
