@@ -6,11 +6,13 @@ code; the same of the habits of C programmers with docs/habits.txt, and of the t
 
 The docstrings of crates/cyc_words/src/fault.rt, the messages and hints of crates/cyc_terminal/src/advice.rt and the
 table of codes in docs/LANGUAGE.md have to say what docs/codes.txt says. --write makes the table in docs/LANGUAGE.md of it, and
-tries nothing. The table in crates/cyc_terminal/src/habits.rt has to be that of docs/habits.txt, row by row. The last line is
-`N passed, M failed`, of the four files, the codes and the habits.
+tries nothing. The table in crates/cyc_terminal/src/habits.rt has to be that of docs/habits.txt, row by row. `cyclone --version`
+has to name the toolchain as `rt --version` does. The last line is `N passed, M failed`, of the four files, the version, the codes and
+the habits.
 """
 import os
 import re
+import subprocess
 import sys
 import tempfile
 
@@ -216,6 +218,13 @@ def faults_of_code(code, program, folder):
     return [suite.difference(what, wanted, got) for what, wanted, got in expected if wanted != got]
 
 
+def faults_of_version(program):
+    """What the program says otherwise of the toolchain that proved and built it."""
+    wanted = subprocess.run(["rt", "--version"], check=True, capture_output=True, text=True).stdout.strip()
+    got = subprocess.run([program, "--version"], capture_output=True, text=True).stdout
+    return [] if wanted in got.split("\n")[0] else [suite.difference("the toolchain", wanted, got)]
+
+
 def main():
     parser = suite.command_line(__doc__)
     parser.add_argument("--write", action="store_true")
@@ -228,10 +237,11 @@ def main():
         return
     usual = habits()
     files = [(FAULTS, faults_of_docstrings), (ADVICE, faults_of_advice), (LANGUAGE, faults_of_language)]
-    program = suite.program_of(options, len(files) + 1 + len(found) + len(usual))
+    program = suite.program_of(options, len(files) + 2 + len(found) + len(usual))
     with tempfile.TemporaryDirectory(prefix="cyclone-codes-") as folder:
         things = [(os.path.relpath(path), lambda compare=compare: compare(found)) for path, compare in files]
         things += [(os.path.relpath(HABITS_CODE), lambda: faults_of_habits(usual, found))]
+        things += [("the toolchain that --version names", lambda: faults_of_version(program))]
         things += [(f"code {code.number}", lambda code=code: faults_of_code(code, program, folder)) for code in found]
         things += [(habit.name, lambda habit=habit: faults_of_habit(habit, program, folder)) for habit in usual]
         suite.try_each(things, lambda thing: thing[0], lambda thing: thing[1]())
