@@ -1,5 +1,5 @@
 -- What a call of a device does to the bytes that it tells. `None` tells nothing, and nothing is claimed then.
-use Rattle.std.specs.Prelude.{ℕ, List, [], ◌∷◌, Option, None, Some, Result, Ok, Err}
+use Rattle.std.specs.Prelude.{ℕ, List, [], ◌∷◌, Bool, true, false, Option, None, Some, Result, Ok, Err}
 use Rattle.std.specs.Io.KnownBytes.{Consumes, Appends, Keeps, IsAtEnd}
 use Rattle.cyc_words.specs.Prefix.{IsPrefix}
 
@@ -9,6 +9,12 @@ abbrev pub Gives : {E : Type 0} → Option (List ℕ) → Result (Option ℕ) E 
 Gives old (Ok (Some byte)) new = Consumes old new (byte ∷ [])
 Gives old (Ok None) new = IsAtEnd old × Keeps old new
 Gives old (Err e) new = Keeps old new
+
+-- whether a call of `next` answered that the input is at its end
+abbrev pub is_end : {E : Type 0} → Result (Option ℕ) E → Bool
+is_end (Ok (Some byte)) = false
+is_end (Ok None) = true
+is_end (Err e) = false
 
 -- a call of `put`: the byte is appended, or on a failure nothing
 abbrev pub Takes : {A E : Type 0} → Option (List ℕ) → ℕ → Result A E → Option (List ℕ) → Type 0

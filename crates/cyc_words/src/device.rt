@@ -1,7 +1,7 @@
 //! Devices that give and take bytes one at a time.
 
-ghost use Rattle.std.specs.Prelude.{◌≡◌, ℕ, List, Bool, true, Option, is_err, IsTrue, IsErr, OnOk, OnErr, flat_map};
-ghost use Rattle.cyc_words.specs.Device.{Gives, Takes, TakesText};
+ghost use Rattle.std.specs.Prelude.{◌≡◌, ◌||◌, ℕ, List, Bool, true, Option, is_err, IsTrue, IsErr, OnOk, OnErr, flat_map};
+ghost use Rattle.cyc_words.specs.Device.{Gives, Takes, TakesText, is_end};
 
 /// A device's one answer when it could not give or take a byte.
 #[derive(Clone, Copy, Debug, PartialEq, Eq)]
@@ -16,13 +16,21 @@ pub trait ByteIn {
 
     ghost failed: { Self → Bool };
 
+    /// Whether a call of `next` has answered that the input is at its end.
+    ghost ended: { Self → Bool };
+
+    /// Whether a byte was asked for behind such an answer.
+    ghost asked_past_end: { Self → Bool };
+
     /// The next byte, or `None` at the end.
     ///
     /// `Failed` may come at any call, and from then on it is the only answer. It leaves the told bytes.
     fn next(&mut self) -> Result<Option<u8>, Failed>
         ensures bytes { Gives (remaining self.old) result (remaining self.new) }
         ensures fails { failed self.new ≡ is_err result }
-        ensures stays { IsTrue (failed self.old) → IsErr result };
+        ensures stays { IsTrue (failed self.old) → IsErr result }
+        ensures ends { ended self.new ≡ (is_end result || ended self.old) }
+        ensures asks { asked_past_end self.new ≡ (ended self.old || asked_past_end self.old) };
 }
 
 /// A device that takes bytes.

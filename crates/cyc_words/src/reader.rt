@@ -13,20 +13,38 @@ use std::io::Read;
 pub struct Reader<R> {
     inner: R,
     has_failed: bool,
+    has_ended: bool,
+    was_asked_past_end: bool,
 }
 
 impl<R> Reader<R> {
-    ghost use Rattle.cyc_words.specs.Reader.{reader_inner, reader_has_failed};
+    ghost use Rattle.cyc_words.specs.Reader.{
+      reader_inner,
+      reader_has_failed,
+      reader_has_ended,
+      reader_was_asked_past_end,
+    };
 
-    /// A device over `inner` that has not failed.
+    /// A device over `inner` that has not failed, has not met the end, and was not asked for a byte behind it.
     pub fn new(inner: R) -> Self
         ensures inner { reader_inner result ≡ inner }
         ensures works { reader_has_failed result ≡ false }
+        ensures begins { reader_has_ended result ≡ false }
+        ensures unasked { reader_was_asked_past_end result ≡ false }
     {
         Reader {
             inner,
             has_failed: false,
+            has_ended: false,
+            was_asked_past_end: false,
         }
+    }
+
+    /// Whether a byte was asked for behind the end of the input.
+    pub fn was_asked_past_end(&self) -> bool
+        ensures { result ≡ reader_was_asked_past_end self }
+    {
+        self.was_asked_past_end
     }
 }
 
@@ -35,13 +53,21 @@ impl<R: Read> ByteIn for Reader<R> {
 
     ghost failed = { λ s. s.has_failed };
 
+    ghost ended = { λ s. s.has_ended };
+
+    ghost asked_past_end = { λ s. s.was_asked_past_end };
+
     fn next(&mut self) -> Result<Option<u8>, Failed> {
+        self.was_asked_past_end = self.has_ended || self.was_asked_past_end;
         if self.has_failed {
             return Err(Failed);
         }
         let mut byte = [0];
         match self.inner.read(&mut byte) {
-            Ok(0) => Ok(None),
+            Ok(0) => {
+                self.has_ended = true;
+                Ok(None)
+            }
             Ok(_) => Ok(Some(byte[0])),
             Err(_) => {
                 self.has_failed = true;
