@@ -14,7 +14,8 @@ ghost use Rattle.cyc_store.specs.State.{AreWords, start, homes, holder, address_
 use super::table::PoolTable;
 use cyc_store::{
     BadHandle, BadMark, Change, ClassSlots, LEAST_PAGES, Ledger, MOST_BLOCK_WORDS, MOST_PAGES,
-    NONE, No, NotABlock, PAGE_WORDS, Role, STORE_BASE, Store, UNIQUE,
+    NONE, No, NotABlock, PAGE_WORDS, Role, STORE_BASE, Store, UNIQUE, address_at, class_of,
+    is_size, number_at, size_of,
 };
 use std::alloc::{AllocError, Global};
 use std::marker::Model;
@@ -39,60 +40,6 @@ impl Model for PageStore {
     ghost view = { λ s. record { pages = s.table.most; words = s.table.words; blocks = s.ledger.blocks; room = s.table.most } };
 
     ghost invariant = { λ s. IsPagedStore s.table s.lexicals s.classes s.ledger.blocks };
-}
-
-/// The words of a block of a class.
-#[inline]
-fn size_of(class: u32) -> u32
-    requires { class ≤ 10 }
-    ensures { result ≡ 2 ^ class }
-{
-    1 << class
-}
-
-/// The class of a block: the exponent of the least power of two that holds it.
-fn class_of(words: u32) -> u32
-    requires { words ≤ 1024 }
-    ensures { result ≡ class_of words }
-{
-    for class in 0..10 {
-        if words <= size_of(class) {
-            return class;
-        }
-    }
-    10
-}
-
-/// Whether a block may be asked for with so many words.
-#[inline]
-fn is_size(words: u32) -> bool
-    ensures yes { IsTrue result → (1 ≤ words) × (words ≤ MOST_BLOCK_WORDS) }
-    ensures no { result ≡ false → (words ≡ 0) ⊎ (MOST_BLOCK_WORDS < words) }
-{
-    1 <= words && words <= MOST_BLOCK_WORDS
-}
-
-/// The address of a word, by its number among the words of all pages.
-#[inline]
-fn address_at(word: u32) -> u32
-    requires { word < 0x400_0000 }
-    ensures { result ≡ STORE_BASE + 4 * word }
-{
-    STORE_BASE + 4 * word
-}
-
-/// The number of a word among the words of all pages, by its address.
-#[inline]
-fn number_at(address: u32) -> Option<u32>
-    ensures { MatchOption result ((address < STORE_BASE) ⊎ (address % 4 ≢ 0)) (λ number. address ≡ STORE_BASE + 4 * number) }
-{
-    if address < STORE_BASE {
-        return None;
-    }
-    if address % 4 != 0 {
-        return None;
-    }
-    Some((address - STORE_BASE) / 4)
 }
 
 /// The number of the word at an address, where it is one of so many of the store's first.

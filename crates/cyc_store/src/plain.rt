@@ -14,6 +14,7 @@ ghost use Rattle.cyc_store.specs.State.{AreWords, start, homes, holder, address_
 use super::answer::{BadHandle, BadMark, No, NotABlock};
 use super::change::Change;
 use super::ledger::Ledger;
+use super::numbers::{address_at, class_of, is_size, number_at, size_of};
 use super::range::{LEAST_PAGES, MOST_BLOCK_WORDS, MOST_PAGES, PAGE_WORDS, STORE_BASE, UNIQUE};
 use super::row::{BLANK, ClassSlots, NONE, PageTable, Role, Row};
 use super::store::Store;
@@ -41,60 +42,6 @@ impl Model for PlainStore {
     ghost view = { λ s. record { pages = s.table.most; words = s.table.words.items; blocks = s.ledger.blocks; room = vec_capacity s.lexicals } };
 
     ghost invariant = { λ s. IsKept s.table s.lexicals.items s.classes s.ledger.blocks };
-}
-
-/// The words of a block of a class.
-#[inline]
-fn size_of(class: u32) -> u32
-    requires { class ≤ 10 }
-    ensures { result ≡ 2 ^ class }
-{
-    1 << class
-}
-
-/// The class of a block: the exponent of the least power of two that holds it.
-fn class_of(words: u32) -> u32
-    requires { words ≤ 1024 }
-    ensures { result ≡ class_of words }
-{
-    for class in 0..10 {
-        if words <= size_of(class) {
-            return class;
-        }
-    }
-    10
-}
-
-/// Whether a block may be asked for with so many words.
-#[inline]
-fn is_size(words: u32) -> bool
-    ensures yes { IsTrue result → (1 ≤ words) × (words ≤ MOST_BLOCK_WORDS) }
-    ensures no { result ≡ false → (words ≡ 0) ⊎ (MOST_BLOCK_WORDS < words) }
-{
-    1 <= words && words <= MOST_BLOCK_WORDS
-}
-
-/// The address of a word, by its number among the words of all pages.
-#[inline]
-fn address_at(word: u32) -> u32
-    requires { word < 0x400_0000 }
-    ensures { result ≡ STORE_BASE + 4 * word }
-{
-    STORE_BASE + 4 * word
-}
-
-/// The number of a word among the words of all pages, by its address.
-#[inline]
-fn number_at(address: u32) -> Option<u32>
-    ensures { MatchOption result ((address < STORE_BASE) ⊎ (address % 4 ≢ 0)) (λ number. address ≡ STORE_BASE + 4 * number) }
-{
-    if address < STORE_BASE {
-        return None;
-    }
-    if address % 4 != 0 {
-        return None;
-    }
-    Some((address - STORE_BASE) / 4)
 }
 
 /// The number of the word at an address, where it is one of so many of the store's first.

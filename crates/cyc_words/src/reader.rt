@@ -42,7 +42,7 @@ impl<R> Reader<R> {
 
     /// Whether a byte was asked for behind the end of the input.
     pub fn was_asked_past_end(&self) -> bool
-        ensures { result ≡ reader_was_asked_past_end self }
+        ensures { result ≡ reader_was_asked_past_end self.now }
     {
         self.was_asked_past_end
     }
