@@ -1,6 +1,6 @@
 use Rattle.std.proofs.Common.{◌^◌, ◌≤◌, ◌%◌, ap, ◌∙◌, arith}
 use Rattle.std.proofs.Math.Nat.{pow-le-pow_right, mod-eq_of_lt, one-mul}
-use Rattle.cyc_store.proofs.plain.size_of.Goals as goal
+use Rattle.cyc_store.proofs.numbers.size_of.Goals as goal
 
 pub returns : goal.returns
 returns c =
