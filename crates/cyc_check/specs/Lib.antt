@@ -2,5 +2,4 @@
 -- other.
 pub mod Inside
 pub mod Walks
-pub mod Aliases
 pub mod FunctionParts

@@ -1,19 +1,10 @@
 -- What the functions of the walk promise each other: where it leaves the scope, and its nodes.
-use Rattle.std.specs.Prelude.{◌≡◌, suc, ◌+◌, [], ◌∷◌, ◌++◌, Option, option_map}
-use Rattle.std.specs.declared.boxed.Box.{Box}
-use Rattle.std.specs.declared.alloc.Global.{Global}
+use Rattle.std.specs.Prelude.{◌≡◌, suc, ◌+◌, [], ◌∷◌, ◌++◌}
 use Rattle.cyc_syntax.specs.Trees.{Named, Items, Clauses}
-use Rattle.cyc_types.specs.declared.typed.Expr.{Expr}
 use Rattle.cyc_types.specs.declared.typed.Clause.{Clause as ClauseCode}
-use Rattle.cyc_types.specs.declared.typed.Stmt.{Stmt}
-use Rattle.cyc_types.specs.Types.{Ty}
-use Rattle.cyc_types.specs.TypeView.{view_ty}
 use Rattle.cyc_types.specs.TypedTrees as typed
 use Rattle.cyc_types.specs.TypedTreeView as view
 use Rattle.cyc_types.specs.typing.Scopes.{Scope, item_locals, item_regions, item_names, clause_locals, clause_regions, clause_names}
-use Rattle.cyc_types.specs.typing.Expressions.{converted}
-use Rattle.cyc_forms.specs.Forms.{view_boxed}
-use Rattle.cyc_check.specs.declared.items.Initialised.{Initialised}
 use Rattle.cyc_check.specs.Inside.{Inside}
 
 -- behind items whose block is still open
@@ -37,14 +28,6 @@ behind_clauses g cs = record g { next_local = g.next_local + clause_locals cs; n
 
 -- ---- nodes
 
--- in a box
-abbrev pub view_boxed_statement : Box Stmt Global → typed.Statement
-view_boxed_statement b = view.view_statement b.value
-
 -- a clause without those behind it
 abbrev pub view_clause : ClauseCode → typed.Clauses
 view_clause c = view.clauses_of (c ∷ []) typed.NoClauses
-
--- the type of a local, and its initial value, where there is one
-abbrev pub view_initialised : Initialised → Ty × Option typed.Converted
-view_initialised i = (view_ty i.of_type, option_map (λ (b : Box Expr Global). converted (view_boxed b) (view_ty i.of_type)) i.value)

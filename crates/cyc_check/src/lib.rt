@@ -5,8 +5,5 @@ pub use tree::check;
 
 mod declared_types;
 mod functions;
-mod items;
-mod statement_forms;
-mod statement_nodes;
 mod statements;
 mod tree;

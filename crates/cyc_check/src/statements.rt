@@ -8,17 +8,18 @@ ghost use Rattle.cyc_types.specs.Rules.{and_then, demands, run};
 ghost use Rattle.cyc_types.specs.typing.Scopes.{in_block, in_labelled, in_body, behind};
 ghost use Rattle.cyc_types.specs.typing.Statements.{new_name_demanded, behind_item, rule_statement, rule_items, rule_item, rule_clauses};
 ghost use Rattle.cyc_scope.specs.Code.{Gives};
-ghost use Rattle.cyc_check.specs.Walks.{IsBehindItems, behind_block, behind_labelled, behind_clauses, view_boxed_statement, view_clause};
+ghost use Rattle.cyc_check.specs.Walks.{IsBehindItems, behind_block, behind_labelled, behind_clauses, view_clause};
+ghost use Rattle.cyc_statements.specs.Nodes.{view_boxed_statement};
 
-use crate::items::{
+use cyc_scope::{Scope, Stop};
+use cyc_statements::forms::{
+    caught, check_condition, check_evaluation, check_return, check_swap, check_throw, leaves_loop,
+};
+use cyc_statements::items::{
     declare_alias, declare_caught, declare_dynamic, declare_local, is_region_new, open_dynamic,
     open_lexical,
 };
-use crate::statement_forms::{
-    caught, check_condition, check_evaluation, check_return, check_swap, check_throw, leaves_loop,
-};
-use crate::statement_nodes::{block_of, choice, empty, execution, repetition, try_of};
-use cyc_scope::{Scope, Stop};
+use cyc_statements::nodes::{block_of, choice, empty, execution, repetition, try_of};
 use cyc_syntax::{Clause, Ident, Item, Stmt};
 use cyc_types::{NameSet, typed};
 

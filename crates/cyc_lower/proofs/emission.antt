@@ -3,7 +3,6 @@ pub mod Emitting
 pub mod Branching
 pub mod Conditions
 pub mod Handlers
-pub mod NeedsFound
 pub mod Lengths
 pub mod OperandBridge
 pub mod ExpressionBridge

@@ -15,6 +15,7 @@ use Rattle.cyc_plain.specs.declared.instruction.Operand.{Operand}
 use Rattle.cyc_plain.specs.declared.instruction.Operand.TheVariants.{Slot, Word}
 use Rattle.cyc_plain.specs.declared.instruction.Instruction.{Instruction}
 use Rattle.cyc_plain.specs.declared.instruction.Instruction.TheVariants.{WriteByte, Throw}
+use Rattle.cyc_frame_count.specs.Needs.{most_frame_count}
 use Rattle.cyc_lower.specs.Slots.{Starts, slot_of}
 use Rattle.cyc_lower.specs.ValueCode.{code_unless, slot_or, code_unless_slot, conversion_code, compute_code, test_code, behind_left, pointer_code, span_of}
 use Rattle.cyc_lower.specs.ControlCode.{failing_jump, while_code, inside_loop, tag_operand, clause_code, opened_code, named_code, dynamic_code, inside_region}
@@ -150,37 +151,6 @@ exits_behind i exits t = exits
 abbrev pub free_behind : Item → (t : ℕ) → ℕ
 free_behind (item.Region r n) t = t + 1
 free_behind i t = t
-
--- So many words a frame has at most, where its function is one of a program that is short enough to be read.
-abbrev pub most_frame_count : ℕ
-most_frame_count = 2 ^ 32
-
--- the need of operands behind so many words, where what is made of them has so many itself
-abbrev pub operands_need : Arguments → (before own : ℕ) → ℕ
-operands_need cs before own = max (before + argument_words cs + own) (arguments_need cs before)
-
--- the need of one operator of a chain of this type with its right operand, where the left one has so many words
-abbrev pub operation_need : Operation → Ty → (left : ℕ) → ℕ
-operation_need (operation.Compute o e) t left =
-    max (left + operand_words (type_of (view_expression e)) + words_of t) (left + expression_need (view_expression e))
-operation_need (operation.Test o e) t left =
-    max (left + operand_words (type_of (view_expression e)) + words_of t) (left + expression_need (view_expression e))
-operation_need (operation.Pointer o e) t left =
-    max (left + operand_words (type_of (view_expression e)) + words_of t) (left + expression_need (view_expression e))
-operation_need (operation.PointerPeek n o e) t left =
-    max (left + operand_words (type_of (view_expression e)) + words_of t) (left + expression_need (view_expression e))
-
--- the need of one item of a block
-abbrev pub item_need : Item → ℕ
-item_need (item.Execute s) = statement_need (view_statement s)
-item_need (item.Local n t v) = initial_need (option_map view_converted v)
-item_need i = 0
-
--- what one item of a block keeps beside the variables
-abbrev pub kept_by_item : Item → ℕ
-kept_by_item (item.Execute s) = kept_by (view_statement s)
-kept_by_item (item.Region r n) = 1
-kept_by_item i = 0
 
 -- ---- programs
 

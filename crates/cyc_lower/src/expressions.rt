@@ -16,7 +16,6 @@ ghost use Rattle.cyc_lower.specs.Emission.{Appends, Gives, HasRoom, HasRoomFor, 
 
 use crate::checks::{DIVISION_BY_ZERO, NULL_EXCEPTION};
 use crate::emitter::Emitter;
-use crate::frame_count::{words_at, words_of, words_of_kind};
 use crate::globals::global_of;
 use crate::locals::{counter_of, field_of, slot_of, with_counter};
 use crate::objects::last_element;
@@ -29,6 +28,7 @@ use crate::operators::{
     unary_operator,
 };
 use crate::starts::Starts;
+use cyc_frame_count::{words_at, words_of, words_of_kind};
 use cyc_plain::{BinaryOperator, Comparison, Instruction, Operand, UnaryOperator};
 use cyc_store::{HEAP, UNIQUE};
 use cyc_types::typed;

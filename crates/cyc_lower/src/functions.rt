@@ -10,15 +10,16 @@ ghost use Rattle.cyc_plain.specs.Program.{routine_of};
 ghost use Rattle.cyc_meaning.specs.FrameCount.{frame_count, kept_by_items};
 ghost use Rattle.cyc_lower.specs.ControlCode.{outside_loops};
 ghost use Rattle.cyc_lower.specs.Lowering.{items_code, results_of, lower_function, lower_program, is_handle, may_open, scopes_if};
-ghost use Rattle.cyc_lower.specs.Emission.{most_frame_count, most_locals, view_starts, HaveFewWords};
+ghost use Rattle.cyc_frame_count.specs.Needs.{most_frame_count};
+ghost use Rattle.cyc_lower.specs.Emission.{most_locals, view_starts, HaveFewWords};
 ghost use Rattle.cyc_lower.specs.Lowered.{CanBeLowered};
 
 use crate::emitter::Emitter;
-use crate::frame_count::{frame_count, items_need, kept_by_items, words_of, words_of_all};
 use crate::globals::{starts_of_globals, words_of_globals};
 use crate::locals::slots_of_locals;
 use crate::starts::Starts;
 use crate::statements::{Exits, nothing_opened};
+use cyc_frame_count::{frame_count, items_need, kept_by_items, words_of, words_of_all};
 use cyc_plain::{Function, Instruction, Plain, RECORD_WORDS};
 use cyc_types::typed::{self, StructType};
 use cyc_types::{Ty, TypedTree};

@@ -9,9 +9,9 @@ ghost use Rattle.cyc_lower.specs.Lowering.{initial_word, lower_global, lower_glo
 ghost use Rattle.cyc_lower.specs.Emission.{Appends, view_starts};
 
 use crate::emitter::Emitter;
-use crate::frame_count::words_of;
 use crate::operands::MOST_SLOTS;
 use crate::starts::Starts;
+use cyc_frame_count::words_of;
 use cyc_plain::{Instruction, Operand};
 use cyc_types::typed::{self, Constant};
 use std::alloc::{AllocError, Global};

@@ -7,7 +7,6 @@ pub use program::lower;
 mod checks;
 mod emitter;
 mod expressions;
-mod frame_count;
 mod functions;
 mod globals;
 pub mod laws;

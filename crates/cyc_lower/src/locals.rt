@@ -6,10 +6,11 @@ ghost use Rattle.cyc_types.specs.TypedTreeView.{view_function};
 ghost use Rattle.cyc_meaning.specs.FrameCount.{words_of_all, frame_count};
 ghost use Rattle.cyc_lower.specs.Slots.{starts_from, bytes_from, field_of, slot_of, counter_of};
 ghost use Rattle.cyc_lower.specs.ValueCode.{slot_types, first_temporary};
-ghost use Rattle.cyc_lower.specs.Emission.{most_frame_count, view_starts};
+ghost use Rattle.cyc_frame_count.specs.Needs.{most_frame_count};
+ghost use Rattle.cyc_lower.specs.Emission.{view_starts};
 
-use crate::frame_count::words_of;
 use crate::starts::Starts;
+use cyc_frame_count::words_of;
 use cyc_types::Ty;
 use cyc_types::typed::{Function, StructType};
 use std::alloc::{AllocError, Global};

@@ -6,10 +6,10 @@ ghost use Rattle.cyc_lower.specs.Emission.{Appends, most_locals, view_starts};
 
 use crate::checks::ARRAY_SIZE;
 use crate::emitter::Emitter;
-use crate::frame_count::words_of_kind;
 use crate::operands::{Condition, slot_behind};
 use crate::operators::{jump_if_zero, scale_of};
 use crate::starts::Starts;
+use cyc_frame_count::words_of_kind;
 use cyc_plain::{BinaryOperator, Comparison, Instruction, Operand, Request, UnaryOperator};
 use cyc_store::MOST_BLOCK_WORDS;
 use cyc_types::typed::Kind;

@@ -10,9 +10,9 @@ ghost use Rattle.cyc_lower.specs.ValueCode.{null_of, words_behind, reached_opera
 ghost use Rattle.cyc_lower.specs.ExpressionCode.{operand_of, pointer_of, value_slot};
 ghost use Rattle.cyc_lower.specs.Emission.{most_locals, takes_operand, view_starts};
 
-use crate::frame_count::words_of_kind;
 use crate::locals::slot_of;
 use crate::starts::Starts;
+use cyc_frame_count::words_of_kind;
 use cyc_plain::{Comparison, Operand};
 use cyc_store::HEAP;
 use cyc_syntax::PointerKind;

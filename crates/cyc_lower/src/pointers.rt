@@ -13,12 +13,12 @@ ghost use Rattle.cyc_lower.specs.Emission.{Appends, Gives, view_starts};
 
 use crate::checks::{ARRAY_BOUNDS, NULL_EXCEPTION};
 use crate::emitter::Emitter;
-use crate::frame_count::words_of_kind;
 use crate::globals::global_of;
 use crate::locals::slot_of;
 use crate::operands::{is_thin, reached_operand, slot_behind};
 use crate::operators::{jump_if_zero, scale_of};
 use crate::starts::Starts;
+use cyc_frame_count::words_of_kind;
 use cyc_plain::{BinaryOperator, Comparison, GLOBALS_BASE, Instruction, Operand};
 use cyc_types::typed::{Kind, Lvalue};
 use std::alloc::AllocError;

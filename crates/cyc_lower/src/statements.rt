@@ -5,13 +5,14 @@ ghost use Rattle.cyc_types.specs.TypedTreeView.{view_converted, view_expression,
 ghost use Rattle.cyc_meaning.specs.FrameCount.{kept_by, kept_by_items, kept_by_clauses};
 ghost use Rattle.cyc_lower.specs.ControlCode.{nothing_opened, outermost, with_handler, with_mark, inside_try, inside_region, leave_code, other_jump, goes_on, break_target, continue_target, inside_loop};
 ghost use Rattle.cyc_lower.specs.Lowering.{clauses_code, caught_code, return_code, declaration_code, statement_code, items_code};
-ghost use Rattle.cyc_lower.specs.Emission.{Appends, most_locals, throw_code, case_code, BeginClauses, item_code, exits_behind, free_behind, kept_by_item, loop_code, view_starts};
+ghost use Rattle.cyc_frame_count.specs.Needs.{kept_by_item};
+ghost use Rattle.cyc_lower.specs.Emission.{Appends, most_locals, throw_code, case_code, BeginClauses, item_code, exits_behind, free_behind, loop_code, view_starts};
 
 use crate::emitter::Emitter;
-use crate::frame_count::words_of;
 use crate::locals::slot_of;
 use crate::operators::{failing_jump, goes_on, other_jump, tag_operand};
 use crate::starts::Starts;
+use cyc_frame_count::words_of;
 use cyc_plain::{Instruction, Operand};
 use cyc_types::typed::{Body, Clause, Converted, Expr, Item, Stmt};
 use std::alloc::AllocError;

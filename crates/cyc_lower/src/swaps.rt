@@ -9,11 +9,11 @@ ghost use Rattle.cyc_lower.specs.Lowering.{side_code, read_side, write_side, exc
 ghost use Rattle.cyc_lower.specs.Emission.{Appends, most_locals, view_starts};
 
 use crate::emitter::Emitter;
-use crate::frame_count::{words_at, words_of};
 use crate::globals::global_of;
 use crate::locals::slot_of;
 use crate::operators::move_of;
 use crate::starts::Starts;
+use cyc_frame_count::{words_at, words_of};
 use cyc_plain::{Instruction, Operand};
 use cyc_store::MOST_BLOCK_WORDS;
 use cyc_types::typed::{Lvalue, Side};

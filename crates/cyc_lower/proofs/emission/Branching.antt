@@ -20,7 +20,8 @@ use Rattle.cyc_lower.specs.declared.statements.Exits.{Exits}
 use Rattle.cyc_lower.specs.Slots.{Starts}
 use Rattle.cyc_lower.specs.ControlCode.{failing_jump, break_target, continue_target, inside_loop, inside_region, opened_code, closed_code}
 use Rattle.cyc_lower.specs.Lowering.{condition_code, condition_of, statement_code, items_code}
-use Rattle.cyc_lower.specs.Emission.{most_locals, loop_code, item_code, exits_behind, free_behind, kept_by_item}
+use Rattle.cyc_frame_count.specs.Needs.{kept_by_item}
+use Rattle.cyc_lower.specs.Emission.{most_locals, loop_code, item_code, exits_behind, free_behind}
 use Rattle.cyc_lower.proofs.emission.Emitting.{Remains, goes_on_by, no_shorter_than, written_back}
 
 -- ---- blocks

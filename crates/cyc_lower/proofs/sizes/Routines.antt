@@ -16,7 +16,8 @@ use Rattle.cyc_lower.specs.ControlCode.{outside_loops}
 use Rattle.cyc_lower.specs.Lowering.{items_code, function_code, raises_of, body_code, starts_with}
 use Rattle.cyc_lower.specs.declared.limits.TheConstants.{MOST_FUNCTIONS}
 use Rattle.cyc_lower.specs.Lowered.{HasTooMany}
-use Rattle.cyc_lower.specs.Emission.{most_frame_count, most_locals}
+use Rattle.cyc_frame_count.specs.Needs.{most_frame_count}
+use Rattle.cyc_lower.specs.Emission.{most_locals}
 use Rattle.cyc_lower.proofs.slots.Slots.{slots-few}
 
 -- the element with a number, in a list that is mapped

@@ -16,7 +16,8 @@ use Rattle.cyc_types.specs.Rules.{and_then, demands, run}
 use Rattle.cyc_types.specs.typing.Scopes.{in_block, in_labelled, behind}
 use Rattle.cyc_types.specs.typing.Statements.{new_name_demanded, rule_statement, rule_items, rule_item, rule_clauses}
 use Rattle.cyc_scope.specs.Code.{Gives, Stops}
-use Rattle.cyc_check.specs.Walks.{behind_block, behind_labelled, behind_clauses, view_boxed_statement}
+use Rattle.cyc_check.specs.Walks.{behind_block, behind_labelled, behind_clauses}
+use Rattle.cyc_statements.specs.Nodes.{view_boxed_statement}
 use Rattle.cyc_check.proofs.Blocks.{Walked, walk_starts, walk_goes_on, walk_stops, walk_gives, block_is_left, labelled_is_left, if_behind, on_ok}
 use Rattle.cyc_check.proofs.Clauses.{CaughtSoFar, catch_goes_on, catch_stops, default_gives, default_stops, try_behind, default_behind, clause_is_left, clause_in_order}
 use Rattle.cyc_check.proofs.Catches.{try_gives, try_stops, clauses_stop_before}

@@ -17,7 +17,7 @@ use Rattle.cyc_lower.specs.Emission.{view_starts}
 use Rattle.cyc_lower.proofs.emission.Branching.{made_block, made_if, made_loop, item_room, more_items, closes_begin, closes_next, closes_end}
 use Rattle.cyc_lower.proofs.emission.Handlers.{kept_of_clause, made_clause, made_clauses, more_clauses, made_handler, record_room, clauses_longer, body_longer}
 use Rattle.cyc_lower.proofs.emission.Emitting.{no_shorter_than}
-use Rattle.cyc_lower.proofs.emission.NeedsFound.{block_keeps, try_keeps}
+use Rattle.cyc_frame_count.proofs.NeedsFound.{block_keeps, try_keeps}
 use Rattle.cyc_lower.proofs.emitter.Emitter.+statement.Goals as goal
 
 pub lower_loop-returns : goal.lower_loop-returns

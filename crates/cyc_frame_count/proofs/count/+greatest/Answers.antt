@@ -2,8 +2,8 @@ use Rattle.std.proofs.Common.{refl, sym, ◌∙◌, arith}
 use borrow.Author.Rules.{rules, get_or_read}
 use Rattle.cyc_types.specs.declared.ty.Ty.TheFolds as types
 use Rattle.cyc_types.specs.declared.typed.Item.TheFolds as statements
-use Rattle.cyc_lower.proofs.emission.NeedsFound.{block_needs, try_needs}
-use Rattle.cyc_lower.proofs.frame_count.+greatest.Goals as goal
+use Rattle.cyc_frame_count.proofs.NeedsFound.{block_needs, try_needs}
+use Rattle.cyc_frame_count.proofs.count.+greatest.Goals as goal
 
 pub statement_need-items_need-requires : goal.statement_need-items_need-requires
 statement_need-items_need-requires t c =

@@ -12,9 +12,9 @@ ghost use Rattle.cyc_types.specs.typing.Expressions.{type_of_side, conversion};
 ghost use Rattle.cyc_types.specs.typing.Statements.{rule_condition, returned, rule_returned, in_loop_alone, swapped, exception_among, rule_thrown, thrown_demanded, thrown, caught, rule_statement};
 ghost use Rattle.cyc_scope.specs.Code.{Gives, Ends};
 ghost use Rattle.cyc_forms.specs.Forms.{view_given, view_boxed, view_found};
-ghost use Rattle.cyc_check.specs.Walks.{view_boxed_statement};
+ghost use Rattle.cyc_statements.specs.Nodes.{view_boxed_statement};
 
-use crate::statement_nodes::{boxed, evaluation, return_of, throw_of};
+use crate::nodes::{boxed, evaluation, return_of, throw_of};
 use cyc_expressions::{check_expression, check_looked, check_place};
 use cyc_forms::types::{is_struct, same_type};
 use cyc_forms::{Found, Given, convert, converted, span_of, test_wanted, type_of_side};
@@ -126,7 +126,7 @@ fn thrown(
 }
 
 /// The number of the exception that a clause is for, behind clauses for these, with its int or without.
-pub(crate) fn caught(
+pub fn caught(
     scope: &Scope<'_>,
     before: &NameSet,
     exception: Ident,
@@ -153,7 +153,7 @@ pub(crate) fn caught(
 }
 
 /// Whether `break` or `continue` at this place stands in a loop.
-pub(crate) fn leaves_loop(
+pub fn leaves_loop(
     scope: &Scope<'_>,
     span: Span,
     statement: typed::Stmt,
@@ -170,10 +170,7 @@ pub(crate) fn leaves_loop(
 // ---- the walk
 
 /// The condition of an `if` or a `while`.
-pub(crate) fn check_condition(
-    scope: &mut Scope<'_>,
-    condition: &Expr,
-) -> Result<Box<typed::Expr>, Stop>
+pub fn check_condition(scope: &mut Scope<'_>, condition: &Expr) -> Result<Box<typed::Expr>, Stop>
     ensures gives { Gives view_boxed result (run (rule_condition scope.old (view_expression condition.now))) }
     ensures same { OnOk result (scope.new ≡ scope.old) }
 {
@@ -182,10 +179,7 @@ pub(crate) fn check_condition(
     Ok(value)
 }
 
-pub(crate) fn check_evaluation(
-    scope: &mut Scope<'_>,
-    expression: &Expr,
-) -> Result<Box<typed::Stmt>, Stop>
+pub fn check_evaluation(scope: &mut Scope<'_>, expression: &Expr) -> Result<Box<typed::Stmt>, Stop>
     ensures gives { Gives view_boxed_statement result (run (rule_statement scope.old (Evaluate (view_expression expression.now)))) }
     ensures same { OnOk result (scope.new ≡ scope.old) }
 {
@@ -193,7 +187,7 @@ pub(crate) fn check_evaluation(
     evaluation(scope.alloc(), value)
 }
 
-pub(crate) fn check_swap(
+pub fn check_swap(
     scope: &mut Scope<'_>,
     left: &Expr,
     right: &Expr,
@@ -228,7 +222,7 @@ fn check_returned(
     }
 }
 
-pub(crate) fn check_return(
+pub fn check_return(
     scope: &mut Scope<'_>,
     span: Span,
     value: &Option<Expr>,
@@ -257,7 +251,7 @@ fn check_thrown(
     }
 }
 
-pub(crate) fn check_throw(
+pub fn check_throw(
     scope: &mut Scope<'_>,
     span: Span,
     exception: Ident,

@@ -1,6 +1,6 @@
 use Rattle.std.proofs.Common.{arith}
-use Rattle.cyc_lower.proofs.emission.NeedsFound.{words_left}
-use Rattle.cyc_lower.proofs.frame_count.words_of_all.Goals as goal
+use Rattle.cyc_frame_count.proofs.NeedsFound.{words_left}
+use Rattle.cyc_frame_count.proofs.count.words_of_all.Goals as goal
 
 pub overflow_add-words : goal.overflow_add-words
 overflow_add-words c =

@@ -1,5 +1,5 @@
-use Rattle.cyc_lower.proofs.emission.NeedsFound.{ItemsKeptLeft, ClausesKeptLeft}
-use Rattle.cyc_lower.proofs.frame_count.+kept.Given as goal
+use Rattle.cyc_frame_count.proofs.NeedsFound.{ItemsKeptLeft, ClausesKeptLeft}
+use Rattle.cyc_frame_count.proofs.count.+kept.Given as goal
 
 abbrev pub invariant-kept_by_items-loop-item : goal.invariant-kept_by_items-loop-item
 invariant-kept_by_items-loop-item l = ItemsKeptLeft l.items l.item-index l.words

@@ -6,9 +6,9 @@ use Rattle.cyc_types.specs.declared.typed.Expr.{Expr}
 use Rattle.cyc_types.specs.TypeView.{view_ty}
 use Rattle.cyc_types.specs.TypedTreeView.{view_expression, arguments_of, operations_of}
 use Rattle.cyc_meaning.specs.FrameCount.{expression_need, operations_need}
-use Rattle.cyc_lower.specs.Emission.{operands_need}
-use Rattle.cyc_lower.proofs.emission.NeedsFound.{call_needs, fields_need, binary_needs}
-use Rattle.cyc_lower.proofs.frame_count.+need.Goals as goal
+use Rattle.cyc_frame_count.specs.Needs.{operands_need}
+use Rattle.cyc_frame_count.proofs.NeedsFound.{call_needs, fields_need, binary_needs}
+use Rattle.cyc_frame_count.proofs.count.+need.Goals as goal
 
 pub expression_need-operands_need-requires : goal.expression_need-operands_need-requires
 expression_need-operands_need-requires t c =

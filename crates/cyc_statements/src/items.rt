@@ -20,8 +20,8 @@ ghost use Rattle.cyc_types.specs.typing.Statements.{new_demanded, new_name_deman
 ghost use Rattle.cyc_scope.specs.declared.stop.Stop.TheVariants as stops;
 ghost use Rattle.cyc_scope.specs.Code.{Gives, Ends};
 ghost use Rattle.cyc_forms.specs.Forms.{view_given, view_boxed};
-ghost use Rattle.cyc_check.specs.Aliases.{alias_asked, alias_of};
-ghost use Rattle.cyc_check.specs.Walks.{view_initialised};
+ghost use Rattle.cyc_statements.specs.Aliases.{alias_asked, alias_of};
+ghost use Rattle.cyc_statements.specs.Nodes.{view_initialised};
 
 use cyc_expressions::check_expression;
 use cyc_forms::types::{is_key, is_unique, region_of as region_of_type, same_type};
@@ -38,7 +38,7 @@ use std::alloc::AllocError;
 // ---- what is asked
 
 /// Whether this name of a region is new in its function.
-pub(crate) fn is_region_new(scope: &Scope<'_>, name: Ident) -> Result<(), Stop>
+pub fn is_region_new(scope: &Scope<'_>, name: Ident) -> Result<(), Stop>
     ensures { Ends result (settled None (new_name_demanded scope.now (view_name name) ∷ [])) }
 {
     let mut settled = Settled::new();
@@ -142,7 +142,7 @@ fn left_out_of(value: Given<'_>) -> Region
 
 /// The type of a local, and its initial value, where there is one.
 #[derive(Drop)]
-pub(crate) struct Initialised {
+pub struct Initialised {
     of_type: Ty,
     value: Option<Box<typed::Expr>>,
 }
@@ -224,7 +224,7 @@ fn declaration(number: usize, local: Initialised) -> typed::Item
     }
 }
 
-pub(crate) fn declare_local(
+pub fn declare_local(
     scope: &mut Scope<'_>,
     written: &WrittenType,
     name: Ident,
@@ -241,10 +241,7 @@ pub(crate) fn declare_local(
 }
 
 /// The local that gets the int of an exception, if one does.
-pub(crate) fn declare_caught(
-    scope: &mut Scope<'_>,
-    variable: Option<Ident>,
-) -> Result<Option<usize>, Stop>
+pub fn declare_caught(scope: &mut Scope<'_>, variable: Option<Ident>) -> Result<Option<usize>, Stop>
     ensures number { IfOk result (λ n. n ≡ option_map (λ (y : Named). scope.old.next_local) (option_map view_name variable)) }
     ensures caught { OnOk result (scope.new ≡ with_caught (option_map view_name variable) scope.old) }
     ensures memory { IfErr result (λ e. e ≡ stops.Memory) }
@@ -260,7 +257,7 @@ pub(crate) fn declare_caught(
 // ---- regions
 
 /// A lexical region, and its handle.
-pub(crate) fn open_lexical(
+pub fn open_lexical(
     scope: &mut Scope<'_>,
     region: Ident,
     handle: Ident,
@@ -283,7 +280,7 @@ pub(crate) fn open_lexical(
 }
 
 /// A dynamic region, and its key.
-pub(crate) fn declare_dynamic(
+pub fn declare_dynamic(
     scope: &mut Scope<'_>,
     region: Ident,
     key: Ident,
@@ -365,7 +362,7 @@ fn opened(scope: &Scope<'_>, region: Ident, handle: Ident, key: Ident) -> Result
     }
 }
 
-pub(crate) fn open_dynamic(
+pub fn open_dynamic(
     scope: &mut Scope<'_>,
     region: Ident,
     handle: Ident,
@@ -536,7 +533,7 @@ fn declared_type(item: &typed::Item) -> Result<Ty, AllocError>
 }
 
 /// The same of a local that shares the unique object of another.
-pub(crate) fn declare_alias(
+pub fn declare_alias(
     scope: &mut Scope<'_>,
     region: Ident,
     written: &WrittenType,

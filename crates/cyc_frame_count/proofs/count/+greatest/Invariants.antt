@@ -1,5 +1,5 @@
-use Rattle.cyc_lower.proofs.emission.NeedsFound.{ItemsLeft, ClausesLeft}
-use Rattle.cyc_lower.proofs.frame_count.+greatest.Given as goal
+use Rattle.cyc_frame_count.proofs.NeedsFound.{ItemsLeft, ClausesLeft}
+use Rattle.cyc_frame_count.proofs.count.+greatest.Given as goal
 
 abbrev pub invariant-items_need-loop-item : goal.invariant-items_need-loop-item
 invariant-items_need-loop-item l = ItemsLeft l.items l.item-index l.need

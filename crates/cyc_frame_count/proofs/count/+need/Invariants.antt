@@ -1,6 +1,6 @@
 use Rattle.cyc_types.specs.TypeView.{view_ty}
-use Rattle.cyc_lower.proofs.emission.NeedsFound.{ArgumentsLeft, OperationsLeft}
-use Rattle.cyc_lower.proofs.frame_count.+need.Given as goal
+use Rattle.cyc_frame_count.proofs.NeedsFound.{ArgumentsLeft, OperationsLeft}
+use Rattle.cyc_frame_count.proofs.count.+need.Given as goal
 
 abbrev pub invariant-operands_need-loop-operand : goal.invariant-operands_need-loop-operand
 invariant-operands_need-loop-operand l = ArgumentsLeft l.operands l.first l.operand-index l.need l.before

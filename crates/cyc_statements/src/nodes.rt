@@ -6,7 +6,7 @@ ghost use Rattle.cyc_types.specs.TypedTrees as nodes;
 ghost use Rattle.cyc_types.specs.TypedTreeView as typed_view;
 ghost use Rattle.cyc_scope.specs.Code.{Gives};
 ghost use Rattle.cyc_forms.specs.Forms.{view_boxed};
-ghost use Rattle.cyc_check.specs.Walks.{view_boxed_statement};
+ghost use Rattle.cyc_statements.specs.Nodes.{view_boxed_statement};
 
 use cyc_scope::Stop;
 use cyc_types::typed;
@@ -16,21 +16,21 @@ use std::alloc::Global;
 
 /// The node in a box.
 #[inline(never)]
-pub(crate) fn boxed(alloc: Global, statement: typed::Stmt) -> Result<Box<typed::Stmt>, Stop>
+pub fn boxed(alloc: Global, statement: typed::Stmt) -> Result<Box<typed::Stmt>, Stop>
     ensures { Gives view_boxed_statement result (Ok (typed_view.view_statement statement)) }
 {
     Ok(Box::new(alloc, statement)?)
 }
 
 #[inline(never)]
-pub(crate) fn empty(alloc: Global) -> Result<Box<typed::Stmt>, Stop>
+pub fn empty(alloc: Global) -> Result<Box<typed::Stmt>, Stop>
     ensures { Gives view_boxed_statement result (Ok nodes.Empty) }
 {
     boxed(alloc, typed::Stmt::Empty)
 }
 
 #[inline(never)]
-pub(crate) fn evaluation(alloc: Global, value: Box<typed::Expr>) -> Result<Box<typed::Stmt>, Stop>
+pub fn evaluation(alloc: Global, value: Box<typed::Expr>) -> Result<Box<typed::Stmt>, Stop>
     ensures { Gives view_boxed_statement result (Ok (nodes.Evaluate (view_boxed value))) }
 {
     let value = Box::into_inner(value);
@@ -38,7 +38,7 @@ pub(crate) fn evaluation(alloc: Global, value: Box<typed::Expr>) -> Result<Box<t
 }
 
 #[inline(never)]
-pub(crate) fn block_of(
+pub fn block_of(
     alloc: Global,
     region: usize,
     items: Vec<typed::Item>,
@@ -49,7 +49,7 @@ pub(crate) fn block_of(
 }
 
 #[inline(never)]
-pub(crate) fn choice(
+pub fn choice(
     alloc: Global,
     condition: Box<typed::Expr>,
     then: Box<typed::Stmt>,
@@ -69,7 +69,7 @@ pub(crate) fn choice(
 }
 
 #[inline(never)]
-pub(crate) fn repetition(
+pub fn repetition(
     alloc: Global,
     span: Span,
     condition: Box<typed::Expr>,
@@ -89,14 +89,14 @@ pub(crate) fn repetition(
 }
 
 #[inline(never)]
-pub(crate) fn return_of(alloc: Global, value: Option<Converted>) -> Result<Box<typed::Stmt>, Stop>
+pub fn return_of(alloc: Global, value: Option<Converted>) -> Result<Box<typed::Stmt>, Stop>
     ensures { Gives view_boxed_statement result (Ok (nodes.Return (option_map typed_view.view_converted value))) }
 {
     boxed(alloc, typed::Stmt::Return { value })
 }
 
 #[inline(never)]
-pub(crate) fn throw_of(
+pub fn throw_of(
     alloc: Global,
     tag: usize,
     value: Option<Box<typed::Expr>>,
@@ -111,7 +111,7 @@ pub(crate) fn throw_of(
 }
 
 #[inline(never)]
-pub(crate) fn try_of(
+pub fn try_of(
     alloc: Global,
     body: Box<typed::Stmt>,
     clauses: Vec<typed::Clause>,
@@ -129,7 +129,7 @@ pub(crate) fn try_of(
     )
 }
 
-pub(crate) fn execution(statement: Box<typed::Stmt>) -> typed::Item
+pub fn execution(statement: Box<typed::Stmt>) -> typed::Item
     ensures { typed_view.view_item result ≡ nodes.Execute (view_boxed_statement statement) }
 {
     let statement = Box::into_inner(statement);

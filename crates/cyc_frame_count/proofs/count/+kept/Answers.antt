@@ -2,8 +2,8 @@ use Rattle.std.proofs.Common.{refl, sym, ◌∙◌, arith}
 use borrow.Author.Rules.{rules, get_or_read}
 use Rattle.cyc_types.specs.declared.ty.Ty.TheFolds as types
 use Rattle.cyc_types.specs.declared.typed.Item.TheFolds as statements
-use Rattle.cyc_lower.proofs.emission.NeedsFound.{block_keeps, try_keeps}
-use Rattle.cyc_lower.proofs.frame_count.+kept.Goals as goal
+use Rattle.cyc_frame_count.proofs.NeedsFound.{block_keeps, try_keeps}
+use Rattle.cyc_frame_count.proofs.count.+kept.Goals as goal
 
 pub kept_by-kept_by_items-requires : goal.kept_by-kept_by_items-requires
 kept_by-kept_by_items-requires t c =

@@ -6,7 +6,7 @@ ghost use Rattle.cyc_types.specs.TypeView.{view_ty, view_value_type};
 ghost use Rattle.cyc_types.specs.TypedTreeView.{view_expression, view_dereference, view_placement, view_initial, view_converted, view_side, view_statement, view_function, arguments_of, operations_of, items_of, clauses_of, default_of};
 ghost use Rattle.cyc_meaning.specs.Values.{words_of_kind};
 ghost use Rattle.cyc_meaning.specs.FrameCount.{result_words, operand_words, converted_words, handle_words, expression_need, dereference_need, handle_need, initial_value_need, converted_need, operations_need, argument_words, initial_need, thrown_need, side_need, statement_need, items_need, clauses_need, kept_by, kept_by_items, kept_by_clauses, words_of_all, frame_count};
-ghost use Rattle.cyc_lower.specs.Emission.{most_frame_count, operands_need, operation_need, item_need, kept_by_item};
+ghost use Rattle.cyc_frame_count.specs.Needs.{most_frame_count, operands_need, operation_need, item_need, kept_by_item};
 
 use cyc_types::Ty;
 use cyc_types::typed::{
@@ -27,7 +27,7 @@ const KEPT_WORDS: usize = 24;
 const HANDLER_WORDS: usize = 6;
 
 /// The words of a value of a kind.
-pub(crate) fn words_of_kind(kind: Kind) -> usize
+pub fn words_of_kind(kind: Kind) -> usize
     ensures words { result ≡ words_of_kind kind }
     ensures few { result ≤ 3 }
 {
@@ -38,7 +38,7 @@ pub(crate) fn words_of_kind(kind: Kind) -> usize
 }
 
 /// The words of a value of a type.
-pub(crate) fn words_of(of_type: &Ty) -> usize
+pub fn words_of(of_type: &Ty) -> usize
     ensures { result ≡ words_of (view_ty of_type.now) }
 {
     of_type.words() as usize
@@ -56,7 +56,7 @@ fn result_words(of_type: &ValueType) -> usize
 }
 
 /// The words of what is at a place that a pointer leads to.
-pub(crate) fn words_at(place: &Dereference) -> usize
+pub fn words_at(place: &Dereference) -> usize
     ensures { result ≡ words_of (type_of_place (view_dereference place.now)) }
 {
     match place {
@@ -369,7 +369,7 @@ fn item_need(item: &Item) -> usize
 
 /// The greatest need of the expressions in a block.
 #[cycle(greatest)]
-pub(crate) fn items_need(items: &[Item]) -> usize
+pub fn items_need(items: &[Item]) -> usize
     requires { items_need (items_of items.now) ≤ most_frame_count }
     ensures { result ≡ items_need (items_of items.now) }
 {
@@ -443,7 +443,7 @@ fn kept_by_item(item: &Item) -> usize
 }
 
 #[cycle(kept)]
-pub(crate) fn kept_by_items(items: &[Item]) -> usize
+pub fn kept_by_items(items: &[Item]) -> usize
     requires { kept_by_items (items_of items.now) ≤ most_frame_count }
     ensures { result ≡ kept_by_items (items_of items.now) }
 {
@@ -478,7 +478,7 @@ fn kept_by_default(default: &Option<Body>) -> usize
 }
 
 /// The words of variables of these types.
-pub(crate) fn words_of_all(types: &[Ty]) -> usize
+pub fn words_of_all(types: &[Ty]) -> usize
     requires { words_of_all (map view_ty types.now) ≤ most_frame_count }
     ensures { result ≡ words_of_all (map view_ty types.now) }
 {
@@ -490,7 +490,7 @@ pub(crate) fn words_of_all(types: &[Ty]) -> usize
 }
 
 /// The frame count of a function.
-pub(crate) fn frame_count(function: &Function) -> usize
+pub fn frame_count(function: &Function) -> usize
     requires { frame_count (view_function function.now) ≤ most_frame_count }
     ensures { result ≡ frame_count (view_function function.now) }
 {
