@@ -99,7 +99,11 @@ impl HeadTypes {
 }
 
 /// The region variables of this number, but for those that have a key.
-fn without_keys(alloc: Global, keys: &Keys, variables: usize) -> Result<SmallVec<Region, 4>, AllocError>
+fn without_keys(
+    alloc: Global,
+    keys: &Keys,
+    variables: usize,
+) -> Result<SmallVec<Region, 4>, AllocError>
     ensures { IfOk result (λ rs. rs.items ≡ without keys.now variables 1) }
 {
     let mut all = SmallVec::new(alloc);
