@@ -1,4 +1,4 @@
-//! What the tests of several crates use: rows of tables, assertions with a message, and devices that fail.
+//! What the tests of several crates use: rows of tables, and devices that fail.
 #![tactic(auto)]
 
 pub mod devices;

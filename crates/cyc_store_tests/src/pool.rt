@@ -1,7 +1,7 @@
 //! Pools of pages: which pages are taken and given back, and the largest pool, with words of every page written.
 
+use crate::expect::expect;
 use cyc_rawpages::{Chain, PageNo, Pool};
-use cyc_rows::rows::expect;
 use std::alloc::Global;
 use std::marker::Model;
 

@@ -5,6 +5,8 @@
 #[cfg(test)]
 mod elf;
 #[cfg(test)]
+mod expect;
+#[cfg(test)]
 mod isa;
 #[cfg(test)]
 mod lex;

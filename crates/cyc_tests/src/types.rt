@@ -1,6 +1,6 @@
 //! Which region outlives which, worked out by hand, and types that are far deeper than any that a text can have.
 
-use cyc_rows::rows::expect;
+use crate::expect::expect;
 use cyc_syntax::PointerKind;
 use cyc_types::{Kind, Outlives, Region, Ty};
 use smallvec::SmallVec;
