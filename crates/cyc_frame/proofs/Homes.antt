@@ -138,6 +138,7 @@ module _ (program : Program) (r : Routine) (masks : List ℕ) where
     few = omega (arith, are.both, are.few);
     apart = λ index a c k has_a has_c wanted_a wanted_c. one_slot numbered hs are.each a c k has_a has_c;
     made = λ index next a d k i at written led has_d has_a wanted. one_slot numbered hs are.each a d k has_a has_d;
+    moved = λ index destination source count a d k at from to has_a has_d. one_slot numbered hs are.each a d k has_a has_d;
     alone = λ a c k both has_c. one_slot numbered hs are.each a c k (ap register_of both) has_c;
     entry = λ a k has wanted. (are.each a).entry k has wanted;
     parameters = λ a c k has_a has_c below wanted. one_slot numbered hs are.each a c k has_a has_c;

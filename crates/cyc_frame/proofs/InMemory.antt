@@ -26,6 +26,7 @@ memory_homes program r = record {
   few = omega (arith, none_both r.slots);
   apart = λ index a c k has_a has_c wanted_a wanted_c. absurd (no_register r.slots a k has_a);
   made = λ index next a d k i at written led has_d has_a wanted. absurd (no_register r.slots a k has_a);
+  moved = λ index destination source count a d k at from to has_a has_d. absurd (no_register r.slots a k has_a);
   alone = λ a c k both has_c. absurd (no_register r.slots c k has_c);
   entry = λ a k has wanted. absurd (no_register r.slots a k has);
   parameters = λ a c k has_a has_c below wanted. absurd (no_register r.slots a k has_a);

@@ -1,6 +1,6 @@
 -- What a table that was checked says of each chosen slot: it misses no place where the slot is wanted.
 use Rattle.std.proofs.Common.{◌≡◌, ℕ, zero, suc, ◌+◌, true, false, ◌||◌, ◌&&◌, List, sym, ap, subst, ◌∙◌, arith, inl, inr}
-use Rattle.std.specs.Prelude.{◌==◌, bit_and, bit_or, bit_xor}
+use Rattle.std.specs.Prelude.{◌==◌, Bool, if◌then◌else◌, bit_and, bit_or, bit_xor}
 use Rattle.std.specs.Int.{bit_at}
 use Rattle.std.proofs.lemmas.Nat.Bits.{bit_at-zero}
 use Rattle.std.proofs.lemmas.Bool.{and_parts, or_cases, eqb-true, eqb-false, false≢true}
@@ -13,7 +13,7 @@ use Rattle.cyc_plain.specs.declared.instruction.Request.TheVariants as requests
 use Rattle.cyc_plain.specs.declared.limits.TheConstants.{RECORD_WORDS}
 use Rattle.cyc_plain.specs.Program.{Routine, Program, routine_at}
 use Rattle.cyc_frame.specs.declared.live.TheConstants.{ALL_NUMBERS, MOST_CHOSEN}
-use Rattle.cyc_frame.specs.Uses.{is_slot, is_among, request_reads, request_writes, reads, writes, leads, bars, passes}
+use Rattle.cyc_frame.specs.Uses.{is_slot, is_among, is_crossing, request_reads, request_writes, reads, writes, leads, bars, passes}
 use Rattle.cyc_frame.specs.Homes.{At, WantedIn, Wanted}
 use Rattle.cyc_frame.specs.Masks.{mask_at, HasBit, AreMasks, operand_mask, range_mask, request_read_mask, read_mask, write_mask, request_bar_mask, bar_mask, pass_mask}
 use Rattle.cyc_frame.specs.Live.{behind_mask, needed_mask, lost_mask, kept_mask, is_within, is_sound_at, IsSound}
@@ -105,7 +105,10 @@ module _ (masks : List ℕ) (slot j : ℕ) (has : HasBit masks slot j) where
   request_bar_bit (requests.Free address) is = absurd (false≢true is)
 
   pub bar_bit : (i : Instruction) → bars i slot ≡ true → bit_at (bar_mask masks i) j ≡ 1
-  bar_bit (instructions.MoveWords destination source count) is = ranges_bit destination count source count is
+  bar_bit (instructions.MoveWords destination source count) is =
+      let parts = and_parts (is_crossing destination source count) (is_among destination count slot || is_among source count slot) is in
+      subst (λ (b : Bool). bit_at (if b then bit_or (range_mask masks destination count) (range_mask masks source count) else 0) j ≡ 1) (sym parts.0)
+      (ranges_bit destination count source count parts.1)
   bar_bit (instructions.AddressOf destination taken count) is = among_bit masks taken count slot j is has
   bar_bit (instructions.Ask request) is = request_bar_bit request is
   bar_bit (instructions.Try first handler) is = among_bit masks first RECORD_WORDS slot j is has
@@ -124,6 +127,7 @@ module _ (masks : List ℕ) (slot j : ℕ) (has : HasBit masks slot j) where
 
     pub unwritten_bit : (i : Instruction) → writes program i slot ≡ false → bit_at (write_mask masks program i) j ≡ 0
     unwritten_bit (instructions.Move destination source) apart = other_slot destination apart
+    unwritten_bit (instructions.MoveWords destination source count) apart = not_among_bit masks next are slot j has destination count apart
     unwritten_bit (instructions.Unary operator destination operand) apart = other_slot destination apart
     unwritten_bit (instructions.Binary operator destination left right) apart = other_slot destination apart
     unwritten_bit (instructions.Call function arguments count result) apart =

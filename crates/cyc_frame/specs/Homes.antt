@@ -7,7 +7,7 @@ use Rattle.cyc_plain.specs.Program.{Routine, Program}
 use Rattle.cyc_frame.specs.declared.home.Home.{Home}
 use Rattle.cyc_frame.specs.declared.home.Home.TheVariants as homes
 use Rattle.cyc_frame.specs.declared.home.TheConstants.{FIRST_REGISTER, REGISTERS_END, MOST_BOTH}
-use Rattle.cyc_frame.specs.Uses.{reads, writes, leads, bars, passes}
+use Rattle.cyc_frame.specs.Uses.{is_among, reads, writes, leads, bars, passes}
 
 -- this instruction stands in the code
 abbrev pub At : Routine → (index : ℕ) → Instruction → Type 0
@@ -68,6 +68,9 @@ pub record AreHomes (program : Program) (r : Routine) (hs : List Home) : Type 0 
   -- nor does one that gets a word with one that is wanted behind it
   pub made : (index next a d k : ℕ) (i : Instruction) → At r index i → writes program i d ≡ true → leads i index next ≡ true
       → HasRegister hs d k → HasRegister hs a k → Wanted program r a next → a ≡ d
+  -- nor, where several words are moved, one that gets a word with one that is moved
+  pub moved : (index destination source count a d k : ℕ) → At r index (instructions.MoveWords destination source count)
+      → is_among source count a ≡ true → is_among destination count d ≡ true → HasRegister hs a k → HasRegister hs d k → a ≡ d
   -- one with both shares its register with none: it may be read again at any time
   pub alone : (a c k : ℕ) → home_of hs a ≡ homes.Both k → HasRegister hs c k → a ≡ c
   -- where the function begins only parameters are wanted, and no two of them come to the register of one that is

@@ -1,6 +1,6 @@
 -- Sets of chosen slots as numbers: bit j stands for the slot that was chosen as number j. `masks` has for each slot the bit of
 -- its number, or 0, so that one pass over the code asks for all of them at once.
-use Rattle.std.specs.Prelude.{◌≡◌, ℕ, zero, suc, ◌+◌, ◌<◌, List, bit_or, slice_index_or}
+use Rattle.std.specs.Prelude.{◌≡◌, ℕ, zero, suc, ◌+◌, ◌<◌, if◌then◌else◌, List, bit_or, slice_index_or}
 use Rattle.std.specs.Int.{bit_at}
 use Rattle.cyc_plain.specs.declared.instruction.Instruction.{Instruction}
 use Rattle.cyc_plain.specs.declared.instruction.Instruction.TheVariants as instructions
@@ -10,6 +10,7 @@ use Rattle.cyc_plain.specs.declared.instruction.Request.{Request}
 use Rattle.cyc_plain.specs.declared.instruction.Request.TheVariants as requests
 use Rattle.cyc_plain.specs.declared.limits.TheConstants.{RECORD_WORDS}
 use Rattle.cyc_plain.specs.Program.{Program, routine_at}
+use Rattle.cyc_frame.specs.Uses.{is_crossing}
 
 -- the mask of a slot, or of a place in the code; where there is none, 0
 abbrev pub mask_at : List ℕ → (place : ℕ) → ℕ
@@ -67,6 +68,7 @@ read_mask masks results instruction = 0
 -- what it writes of the slots that it does not bar
 abbrev pub write_mask : List ℕ → Program → Instruction → ℕ
 write_mask masks program (instructions.Move destination source) = mask_at masks destination
+write_mask masks program (instructions.MoveWords destination source count) = range_mask masks destination count
 write_mask masks program (instructions.Unary operator destination operand) = mask_at masks destination
 write_mask masks program (instructions.Binary operator destination left right) = mask_at masks destination
 write_mask masks program (instructions.Call function arguments count result) =
@@ -87,7 +89,9 @@ request_bar_mask masks request = 0
 -- what it bars
 abbrev pub bar_mask : List ℕ → Instruction → ℕ
 bar_mask masks (instructions.MoveWords destination source count) =
-    bit_or (range_mask masks destination count) (range_mask masks source count)
+    if is_crossing destination source count
+    then bit_or (range_mask masks destination count) (range_mask masks source count)
+    else 0
 bar_mask masks (instructions.AddressOf destination taken count) = range_mask masks taken count
 bar_mask masks (instructions.Ask request) = request_bar_mask masks request
 bar_mask masks (instructions.Try first handler) = range_mask masks first RECORD_WORDS

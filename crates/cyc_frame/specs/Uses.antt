@@ -1,5 +1,5 @@
 -- What an instruction does with the slots of its function, one by one.
-use Rattle.std.specs.Prelude.{ℕ, suc, ◌+◌, Bool, false, ◌==◌, ◌||◌, ◌&&◌, nat_le, nat_lt}
+use Rattle.std.specs.Prelude.{ℕ, suc, ◌+◌, ◌-◌, Bool, false, ◌==◌, ◌||◌, ◌&&◌, nat_le, nat_lt}
 use Rattle.cyc_plain.specs.declared.instruction.Instruction.{Instruction}
 use Rattle.cyc_plain.specs.declared.instruction.Instruction.TheVariants as instructions
 use Rattle.cyc_plain.specs.declared.instruction.Operand.{Operand}
@@ -16,6 +16,10 @@ is_slot (operands.Word word) slot = false
 -- one of so many slots from this one on
 abbrev pub is_among : (first count slot : ℕ) → Bool
 is_among first count slot = nat_le first slot && nat_lt slot (first + count)
+
+-- words that are moved one by one, from the first on, get lost: some are still to be moved from slots that have got others
+abbrev pub is_crossing : (destination source count : ℕ) → Bool
+is_crossing destination source count = nat_lt source destination && nat_lt (destination - source) count
 
 abbrev pub request_reads : Request → (slot : ℕ) → Bool
 request_reads (requests.OpenLexical destination) slot = false
@@ -84,7 +88,7 @@ leads instruction index next = suc index == next
 -- it has the slot's word in memory, or needs it there beside others: no register for the slot
 abbrev pub bars : Instruction → (slot : ℕ) → Bool
 bars (instructions.MoveWords destination source count) slot =
-    is_among destination count slot || is_among source count slot
+    is_crossing destination source count && (is_among destination count slot || is_among source count slot)
 bars (instructions.AddressOf destination taken count) slot = is_among taken count slot
 bars (instructions.Ask request) slot = request_writes request slot
 bars (instructions.Try first handler) slot = is_among first RECORD_WORDS slot

@@ -79,6 +79,62 @@ fn loop_ends(alloc: Global, code: &[Instruction]) -> Result<Vec<usize>, AllocErr
     Ok(ends)
 }
 
+fn mark(marks: &mut Vec<bool>, place: usize) {
+    if let Some(is_marked) = marks.get_mut(place) {
+        *is_marked = true;
+    }
+}
+
+fn is_marked(marks: &[bool], place: usize) -> bool {
+    match marks.get(place) {
+        Some(is_marked) => *is_marked,
+        None => false,
+    }
+}
+
+/// Whether the code may go on behind an instruction.
+fn goes_on(instruction: Instruction) -> bool {
+    match instruction {
+        Instruction::Jump { .. }
+        | Instruction::Return { .. }
+        | Instruction::Throw { .. }
+        | Instruction::Finish { .. }
+        | Instruction::Uncaught { .. } => false,
+        _ => true,
+    }
+}
+
+fn mark_behind(marks: &mut Vec<bool>, instruction: Instruction, index: usize) {
+    if goes_on(instruction) {
+        mark(marks, index.saturating_add(1));
+    }
+    if let Some(target) = target_of(instruction) {
+        mark(marks, target);
+    }
+    if let Instruction::Try { handler, .. } = instruction {
+        mark(marks, handler);
+    }
+}
+
+/// Which places may be executed. To where the code jumps backward, a way is taken for granted.
+fn reached_places(
+    alloc: Global,
+    code: &[Instruction],
+    ends: &[usize],
+) -> Result<Vec<bool>, AllocError> {
+    let mut reached = vec![in alloc; false; code.len()]?;
+    mark(&mut reached, 0);
+    for index in 0..code.len() {
+        if number_at(ends, index) > 0 {
+            mark(&mut reached, index);
+        }
+        if is_marked(&reached, index) {
+            mark_behind(&mut reached, code[index], index);
+        }
+    }
+    Ok(reached)
+}
+
 fn weight_in(depth: u64) -> u64 {
     match depth {
         0 => 1,
@@ -90,9 +146,10 @@ fn weight_in(depth: u64) -> u64 {
     }
 }
 
-/// How often each place may be executed: ten times for each loop round it.
+/// How often each place may be executed: ten times for each loop round it, and never where no way leads.
 fn weights_of(alloc: Global, code: &[Instruction]) -> Result<Vec<u64>, AllocError> {
     let ends = loop_ends(alloc, code)?;
+    let reached = reached_places(alloc, code, &ends)?;
     let mut closing = vec![in alloc; 0u64; code.len()]?;
     let mut weights = Vec::new(alloc);
     let mut depth: u64 = 0;
@@ -103,7 +160,8 @@ fn weights_of(alloc: Global, code: &[Instruction]) -> Result<Vec<u64>, AllocErro
             depth = depth.saturating_add(1);
             add(&mut closing, end, 1);
         }
-        weights.push(weight_in(depth))?;
+        let is_reached = is_marked(&reached, index);
+        weights.push(if is_reached { weight_in(depth) } else { 0 })?;
     }
     Ok(weights)
 }
@@ -156,6 +214,13 @@ fn destination_of(instruction: Instruction) -> Option<usize> {
     }
 }
 
+/// So many slots from one on.
+fn add_range(weights: &mut Vec<u64>, first: usize, count: usize, weight: u64) {
+    for slot in first..first.saturating_add(count) {
+        add(weights, slot, weight);
+    }
+}
+
 fn calls_in(instruction: Instruction, weight: u64) -> u64 {
     match instruction {
         Instruction::Call { .. } => weight,
@@ -176,6 +241,17 @@ fn gains_of(alloc: Global, function: &Function) -> Result<Gains, AllocError> {
         add_operand(&mut reads, second, weight);
         if let Some(slot) = destination_of(instruction) {
             add(&mut writes, slot, weight);
+        }
+        match instruction {
+            Instruction::MoveWords {
+                destination,
+                source,
+                count,
+            } => {
+                add_range(&mut reads, source, count, weight);
+                add_range(&mut writes, destination, count, weight);
+            }
+            _ => {}
         }
         calls = calls.saturating_add(calls_in(instruction, weight));
     }

@@ -9,8 +9,10 @@ mod home;
 mod layouts;
 mod live;
 mod masks;
+mod moves;
 
 pub use frame::{Frame, MOST_FRAME_WORDS};
 pub use frames::Frames;
 pub use home::{FIRST_REGISTER, Home, MOST_BOTH, REGISTERS_END};
 pub use layouts::layout;
+pub use moves::is_crossing;

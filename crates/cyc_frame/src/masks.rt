@@ -4,6 +4,7 @@ ghost use Rattle.std.specs.Prelude.{◌≡◌, ◌+◌};
 ghost use Rattle.cyc_plain.specs.Program.{routine_at};
 ghost use Rattle.cyc_frame.specs.Masks as masks_of;
 
+use crate::moves::is_crossing;
 use cyc_plain::{Instruction, Operand, Plain, RECORD_WORDS, Request};
 
 /// The mask of a slot, or of a place in the code. Where there is none, 0.
@@ -113,6 +114,11 @@ pub(crate) fn write_mask(masks: &[u32], plain: &Plain, instruction: Instruction)
 {
     match instruction {
         Instruction::Move { destination, .. } => mask_at(masks, destination),
+        Instruction::MoveWords {
+            destination,
+            count,
+            ..
+        } => range_mask(masks, destination, count),
         Instruction::Unary { destination, .. } => mask_at(masks, destination),
         Instruction::Binary { destination, .. } => mask_at(masks, destination),
         Instruction::Call {
@@ -149,7 +155,13 @@ pub(crate) fn bar_mask(masks: &[u32], instruction: Instruction) -> u32
             destination,
             source,
             count,
-        } => { range_mask(masks, destination, count) | range_mask(masks, source, count) }
+        } => {
+            if is_crossing(destination, source, count) {
+                range_mask(masks, destination, count) | range_mask(masks, source, count)
+            } else {
+                0
+            }
+        }
         Instruction::AddressOf { slot, count, .. } => range_mask(masks, slot, count),
         Instruction::Ask { request } => request_bar_mask(masks, request),
         Instruction::Try { first, .. } | Instruction::Leave { first } => range_mask(

@@ -1,7 +1,7 @@
 -- The instructions that move several words, and that load and store words of memory.
 use Rattle.std.proofs.Common.{◌≡◌, ◌≢◌, ℕ, zero, suc, ◌+◌, ◌*◌, ◌%◌, ◌^◌, ◌<◌, ◌≤◌, Bool, true, false, List, [], ◌∷◌, ◌++◌, length, Option, None, Some, refl, sym, ap, subst, ◌∙◌, arith, inl, inr}
-use Rattle.std.specs.Prelude.{if◌then◌else◌}
-use Rattle.std.proofs.lemmas.Bool.{or_left, or_right, or_parts}
+use Rattle.std.specs.Prelude.{◌||◌, ◌&&◌, if◌then◌else◌}
+use Rattle.std.proofs.lemmas.Bool.{and_from, eqb-true, or_left, or_right, or_parts}
 use Rattle.cyc_words.specs.Word.{IsWord, add_of, sign_extended}
 use Rattle.cyc_words.proofs.WordLemmas.{sign_extended_low}
 use Rattle.cyc_isa.specs.Effect.{memory_address}
@@ -25,27 +25,28 @@ use Rattle.cyc_plain.proofs.SlotLaws.{put-same, put-other, copied-below, copied-
 use Rattle.cyc_plain.proofs.RunLaws.{zeros, zeros_at}
 use Rattle.cyc_frame.specs.Homes.{AreHomes}
 use Rattle.cyc_frame.specs.Layout.{AreFrames, frame_at}
-use Rattle.cyc_frame.specs.Uses.{is_among, is_slot, reads}
+use Rattle.cyc_frame.specs.Uses.{is_among, is_crossing, is_slot, reads}
 use Rattle.cyc_frame.specs.Frame.{Frame}
 use Rattle.cyc_select.specs.declared.constants.TheConstants.{FIRST, SECOND, ZERO, CALLS, FRAME, HANDLERS, REGIONS}
 use Rattle.cyc_select.specs.Labelled.{Labelled, IsFormed}
 use Rattle.cyc_select.specs.Machine as labelled
 use Rattle.cyc_select.specs.Machine.{State, Running}
 use Rattle.cyc_select.specs.Numbers.{fits_signed}
-use Rattle.cyc_select.specs.Selection.{value_register, is_kept, made_in, keep_code, keep_count, slot_offset, load_words, store_all, result_registers, operand_code, operand_register, operation_of, far_plan, address_code, address_register, near_half, at_address, address_count, operand_count, body, body_count, instruction_line}
+use Rattle.cyc_select.specs.Selection.{value_register, is_kept, made_in, keep_code, keep_count, slot_offset, load_words, store_all, result_registers, ordinary, all_moved, moves, moves_count, move_words_count, operand_code, operand_register, operation_of, far_plan, address_code, address_register, near_half, at_address, address_count, operand_count, body, body_count, instruction_line}
 use Rattle.cyc_select.proofs.Blocks.{ValuesSame, all_same, lasting_same, Keeps, puts_keeps}
 use Rattle.cyc_select.proofs.Cells.{IsCell}
 use Rattle.cyc_select.proofs.Computing.{IsHeld, operand_puts, operation_leaves, not_second, first_scratch, second_scratch, first_aside, second_aside, scratch_writable, made_scratch}
-use Rattle.cyc_select.proofs.Counts.{length_operand, length_address, length_words, length_stores, length_registers}
+use Rattle.cyc_select.proofs.Counts.{length_operand, length_address, length_words, length_stores, length_moves, moves_some, length_registers}
 use Rattle.cyc_select.proofs.Halves.{fits_is}
 use Rattle.cyc_select.proofs.Held.{operand_held, operand_is_word}
 use Rattle.cyc_select.proofs.Lines.{line_next}
 use Rattle.cyc_select.proofs.Matches.{At, Reached, reached, result_register, within}
-use Rattle.cyc_select.proofs.Returns.{stored}
+use Rattle.cyc_select.proofs.Moves.{is_ahead, moved, moved_copied, are_moved}
+use Rattle.cyc_select.proofs.Returns.{same_slots, stored}
 use Rattle.cyc_select.proofs.Simple.{Agrees, gets, gives_made}
 use Rattle.cyc_select.proofs.Standing.{Standing, slot_cell, slot_word_is, standing_registers, standing_at}
 use Rattle.cyc_select.proofs.Places.{IsWordAt, placed, walk_read, walk_write, is_found}
-use Rattle.cyc_select.proofs.Values.{Caches, caches_past, unbarred, barred_kept, among, not_among, next_led}
+use Rattle.cyc_select.proofs.Values.{Caches, caches_past, moved_caches, unbarred, barred_kept, among, not_among, next_led}
 use Rattle.cyc_select.proofs.Views.{Contents}
 use Rattle.cyc_select.proofs.Walks.{Stands, stands_first, stands_behind, after_r, after_w, Walk, now_at, now_is, walk_end, walk_few, walk_from, walk_block}
 
@@ -212,12 +213,14 @@ module _ (program : Program) (well : IsWellFormed program) (frames : List Frame)
 
   -- ---- several words
 
-  -- no slot that has a register gets one of them
-  moved_apart : (destination source count : ℕ) → IsAt (plain.MoveWords destination source count) → (slot k : ℕ) → value_register frame slot ≡ Some k
+  -- no slot that has a register gets one of them, where they go all together
+  moved_apart : (destination source count : ℕ) → IsAt (plain.MoveWords destination source count) → is_crossing destination source count ≡ true → (slot k : ℕ) → value_register frame slot ≡ Some k
       → (is_among destination count slot ≡ false) × (copied c.active.slots source count c.active.slots destination slot ≡ c.active.slots slot)
-  moved_apart destination source count at_i slot k has =
+  moved_apart destination source count at_i crossing slot k has =
       let none = unbarred program frames c.active.function homes_right c.active.next slot k (plain.MoveWords destination source count) at_i has in
-      let apart = (or_parts (is_among destination count slot) (is_among source count slot) none).0 in (
+      let both : (is_among destination count slot || is_among source count slot) ≡ false =
+      subst (λ (b : Bool). (b && (is_among destination count slot || is_among source count slot)) ≡ false) crossing none in
+      let apart = (or_parts (is_among destination count slot) (is_among source count slot) both).0 in (
         apart,
         elim (not_among destination count slot apart) [
           | inl below ↦ copied-below c.active.slots c.active.slots source count destination slot below
@@ -225,9 +228,14 @@ module _ (program : Program) (well : IsWellFormed program) (frames : List Frame)
         ],
       )
 
-  pub move_words_goes : (destination source count : ℕ) → IsAt (plain.MoveWords destination source count) → IsMoveInRange (routine_at program c.active.function) destination source count
-      → Stands code here (body program frames c.active.function here (plain.MoveWords destination source count)) → Goes 1 here (here + body_count program frames c.active.function (plain.MoveWords destination source count)) (Running run)
-  move_words_goes destination source count at_i in_range stands =
+  counted_by : (destination source count : ℕ) (b : Bool) → is_crossing destination source count ≡ b
+      → move_words_count frame destination source count ≡ (if b then 2 * length (result_registers count) else moves_count frame destination source count)
+  counted_by destination source count b is = ap (λ (a : Bool). if a then 2 * length (result_registers count) else moves_count frame destination source count) is
+
+  all_goes : (destination source count : ℕ) → IsAt (plain.MoveWords destination source count) → IsMoveInRange (routine_at program c.active.function) destination source count
+      → is_crossing destination source count ≡ true
+      → Stands code here (ordinary (all_moved frame destination source count)) → Goes 1 here (here + 2 * length (result_registers count)) (Running run)
+  all_goes destination source count at_i in_range crossing stands =
       let registers : List ℕ = result_registers count in
       let is : List Instr = load_words frame source (result_registers count) in
       let js : List Instr = store_all frame destination (result_registers count) in
@@ -238,7 +246,8 @@ module _ (program : Program) (well : IsWellFormed program) (frames : List Frame)
       let some = length_registers count in_range.few in
       let hi : ℕ = here + 2 * length registers in
       let take = are_taken globals_length (words_per_call * calls) frame r w c.active.slots source slots cell_at (λ slot. is_kept frame slot ≡ true) slot_is count in_range.few in_range.source_in_range
-      (λ slot from below. barred_kept program frames c.active.function homes_right c.active.next slot (plain.MoveWords destination source count) at_i (or_right (is_among destination count slot) (is_among source count slot) (among source count slot from below))) in
+      (λ slot from below. barred_kept program frames c.active.function homes_right c.active.next slot (plain.MoveWords destination source count) at_i
+      (and_from (is_crossing destination source count) (is_among destination count slot || is_among source count slot) crossing (or_right (is_among destination count slot) (is_among source count slot) (among source count slot from below)))) in
       let in_q = standing_registers program well frames fit addresses pages calls few c r w base (r RETURN_ADDRESS) (suc (length c.frames)) c.active.slots s q take.keeps.zero take.keeps.base take.keeps.left take.keeps.lasts in
       let in_v = subst (λ (x : Contents). Standing program frames addresses pages calls c q x base (r RETURN_ADDRESS) (suc (length c.frames)) c.active.slots) (sym take.keeps.memory) in_q in
       let puts = stored program well frames fit addresses pages calls few c q base (r RETURN_ADDRESS) (suc (length c.frames)) destination source c.active.slots c.active.slots count v in_range.few in_range.destination_in_range take.taken in_v in
@@ -247,7 +256,7 @@ module _ (program : Program) (well : IsWellFormed program) (frames : List Frame)
       let d : Configuration = record c { active = record c.active { next = c.active.next + 1; slots = copied c.active.slots source count c.active.slots destination } } in
       let at_d = standing_at program well frames fit addresses pages calls few c q m base (r RETURN_ADDRESS) (suc (length c.frames)) there puts.2 d refl refl refl refl refl refl s.input in
       let with_back = subst (λ (b : ℕ). Standing program frames addresses pages calls d q m base b (suc (length c.frames)) there) (sym take.keeps.back) at_d in
-      let line : here + length is + length js ≡ instruction_line program frames c.active.function (c.active.next + 1) = omega (arith, line_next program frames c.active.function c.active.next (plain.MoveWords destination source count) at_i, long, also) in
+      let line : here + length is + length js ≡ instruction_line program frames c.active.function (c.active.next + 1) = omega (arith, line_next program frames c.active.function c.active.next (plain.MoveWords destination source count) at_i, counted_by destination source count true crossing, long, also) in
       walk_few code formed addresses globals_length (words_per_call * calls) 1 (length is + (length js + 0)) here hi c.output _ (Running run) (omega (arith, long, also, some, in_range.some))
       (walk_block code formed addresses globals_length (words_per_call * calls) is (length js + 0) here here hi c.output c.input _ r w run now (stands_first code here is js stands) take.keeps.safe (omega arith)
       (λ e before.
@@ -267,8 +276,66 @@ module _ (program : Program) (well : IsWellFormed program) (frames : List Frame)
         standing = with_back;
         caches =
             caches_past program frames c.active.function homes_right c.active.next (c.active.next + 1) r q c.active.slots there (plain.MoveWords destination source count) at_i (next_led c.active.next)
-            (λ slot k has. (moved_apart destination source count at_i slot k has).0) (λ slot k has. (moved_apart destination source count at_i slot k has).1) (all_same q r take.keeps.values) caches;
+            (λ slot k has. (moved_apart destination source count at_i crossing slot k has).0) (λ slot k has. (moved_apart destination source count at_i crossing slot k has).1) (all_same q r take.keeps.values) caches;
       }))))))
+
+  -- one by one
+  each_goes : (destination source count : ℕ) → IsAt (plain.MoveWords destination source count) → IsMoveInRange (routine_at program c.active.function) destination source count
+      → is_crossing destination source count ≡ false
+      → Stands code here (ordinary (moves frame destination source count)) → Goes 1 here (here + moves_count frame destination source count) (Running run)
+  each_goes destination source count at_i in_range apart stands =
+      let is : List Instr = moves frame destination source count in
+      let q : Words = after_r is r w in
+      let m : Contents = after_w is r w in
+      let long : length is ≡ moves_count frame destination source count = length_moves frame destination source count in
+      let hi : ℕ = here + moves_count frame destination source count in
+      let ahead = is_ahead destination source count apart in
+      let moves_them = are_moved program well frames fit addresses pages calls few c base (r RETURN_ADDRESS) (suc (length c.frames)) homes_right destination source count r w c.active.slots s
+      in_range.destination_in_range in_range.source_in_range ahead
+      (λ i j k before below has there.
+      ahead i j before below
+      (homes_right.moved c.active.next destination source count (source + j) (destination + i) k at_i
+      (among source count (source + j) (omega arith) (omega (arith, below))) (among destination count (destination + i) (omega arith) (omega (arith, before, below))) there has))
+      (λ j k below has. caches (source + j) k has (0, (plain.MoveWords destination source count, at_i, among source count (source + j) (omega arith) (omega (arith, below)))))
+      (λ j below.
+      operand_is_word program well frames fit code formed addresses pages calls few c run r w base now s caches (operands.Slot (source + j))
+      (held (plain.MoveWords destination source count) at_i (operands.Slot (source + j))
+      (λ slot is. subst (λ (n : ℕ). is_among source count n ≡ true) (eqb-true (source + j) slot is) (among source count (source + j) (omega arith) (omega (arith, below))))
+      ((omega (arith, below, in_range.source_in_range)), tt))) in
+      let there : Words = copied c.active.slots source count c.active.slots destination in
+      let d : Configuration = record c { active = record c.active { next = c.active.next + 1; slots = copied c.active.slots source count c.active.slots destination } } in
+      let in_place = same_slots program well frames fit addresses pages calls few c q base (r RETURN_ADDRESS) (suc (length c.frames)) destination source c.active.slots c.active.slots m
+      (moved c.active.slots destination source count) there (moved_copied c.active.slots destination source count ahead) moves_them.standing in
+      let at_d = standing_at program well frames fit addresses pages calls few c q m base (r RETURN_ADDRESS) (suc (length c.frames)) there in_place d refl refl refl refl refl refl s.input in
+      let with_back = subst (λ (b : ℕ). Standing program frames addresses pages calls d q m base b (suc (length c.frames)) there) (sym moves_them.back_same) at_d in
+      let line : here + length is ≡ instruction_line program frames c.active.function (c.active.next + 1) =
+      omega (arith, line_next program frames c.active.function c.active.next (plain.MoveWords destination source count) at_i, counted_by destination source count false apart, long) in
+      walk_few code formed addresses globals_length (words_per_call * calls) 1 (length is + 0) here hi c.output _ (Running run) (omega (arith, long, moves_some frame destination source count in_range.some))
+      (walk_block code formed addresses globals_length (words_per_call * calls) is 0 here here hi c.output c.input _ r w run now stands moves_them.safe (omega arith)
+      (λ f later.
+      walk_end code formed addresses globals_length (words_per_call * calls) (here + length is) hi c.output _ (Running f) (omega (arith, long))
+      (reached program well frames fit code formed addresses pages calls few c zeros (plain.MoveWords destination source count) (states.Running d) (Running f) (zeros_at program c (plain.MoveWords destination source count) at_i refl) at_i refl
+      (within program well frames fit code formed addresses pages calls few d s.laid.paged s.deep)
+      (inl (record {
+        run = f;
+        r = q;
+        w = m;
+        base = base;
+        is = refl;
+        now = now_at code formed addresses globals_length (words_per_call * calls) (here + length is) (instruction_line program frames c.active.function (c.active.next + 1)) c.output c.input q m f line later;
+        standing = with_back;
+        caches = moved_caches program frames c.active.function homes_right c.active.next destination source count r q c.active.slots at_i moves_them.given moves_them.others caches;
+      })))))
+
+  pub move_words_goes : (destination source count : ℕ) → IsAt (plain.MoveWords destination source count) → IsMoveInRange (routine_at program c.active.function) destination source count
+      → Stands code here (body program frames c.active.function here (plain.MoveWords destination source count)) → Goes 1 here (here + body_count program frames c.active.function (plain.MoveWords destination source count)) (Running run)
+  move_words_goes destination source count at_i in_range stands = go (is_crossing destination source count) refl stands
+    where
+      go : (b : Bool) → is_crossing destination source count ≡ b
+          → Stands code here (ordinary (if b then all_moved frame destination source count else moves frame destination source count))
+          → Goes 1 here (here + (if b then 2 * length (result_registers count) else moves_count frame destination source count)) (Running run)
+      go true crossing stands_here = all_goes destination source count at_i in_range crossing stands_here
+      go false apart stands_here = each_goes destination source count at_i in_range apart stands_here
 
   -- ---- a load
 

@@ -1,5 +1,5 @@
 -- How many lines operands, plans and tests have, as they are counted: so many, and few.
-use Rattle.std.proofs.Common.{◌≡◌, ℕ, zero, suc, ◌+◌, ◌*◌, ◌%◌, ◌^◌, ◌<◌, ◌≤◌, Bool, true, false, List, [], ◌∷◌, length, Option, None, Some, refl, ap, ◌∙◌, arith, length-append}
+use Rattle.std.proofs.Common.{◌≡◌, ℕ, zero, suc, ◌+◌, ◌-◌, ◌*◌, ◌%◌, ◌^◌, ◌<◌, ◌≤◌, Bool, true, false, List, [], ◌∷◌, length, Option, None, Some, refl, ap, ◌∙◌, arith, length-append}
 use Rattle.std.specs.Prelude.{◌==◌, nat_lt, if◌then◌else◌}
 use Rattle.cyc_isa.specs.declared.instr.Instr.{Instr}
 use Rattle.cyc_isa.specs.declared.instr.ArithmeticOp.{ArithmeticOp}
@@ -15,6 +15,7 @@ use Rattle.cyc_plain.specs.declared.instruction.Request.{Request}
 use Rattle.cyc_plain.specs.declared.instruction.Request.TheVariants as requests
 use Rattle.cyc_plain.specs.Requests.{first_operand, answer_count, destination_of, operand_size}
 use Rattle.cyc_frame.specs.Frame.{Frame}
+use Rattle.cyc_frame.specs.Uses.{is_crossing}
 use Rattle.cyc_select.specs.declared.constants.TheConstants.{FIRST, SECOND, THIRD, ZERO}
 use Rattle.cyc_select.specs.declared.plan.Operation.{Operation}
 use Rattle.cyc_select.specs.declared.plan.Operation.TheVariants as operations
@@ -25,7 +26,7 @@ use Rattle.cyc_select.specs.declared.plan.Test.{Test}
 use Rattle.cyc_select.specs.declared.plan.Test.TheVariants as tests
 use Rattle.cyc_select.specs.Plans.{arithmetic_plan, immediate_plan, immediate_or, zero_plan, differs_plan, equal_plan, unary_plan, binary_plan}
 use Rattle.cyc_select.specs.Numbers.{fits_signed, negated_half, is_word, is_zero_word}
-use Rattle.cyc_select.specs.Selection.{value_register, is_kept, fetch_from, fetch_count, keep_code, keep_count, give_to, give_code, give_count_to, give_count, move_to, move_count_to, move_count, load_words, load_all, store_all, result_registers, argument_code, argument_count, service_number, answer_code, small, or_immediate, load_upper, constant, is_tested, word_code, load_code, operand_code, operand_register, made_in, operation_code, outcome_code, operands_code, operation_of, computed_code, plan_code, test_code, loads_code, divided_code, store_slot, add_immediate, minus, word_count, load_count, operand_count, far_plan, address_code, address_count, operation_count, outcome_count, count_of_operation, plan_count, test_count, divide_count, operator_count, regions_code, regions_count}
+use Rattle.cyc_select.specs.Selection.{value_register, is_kept, fetch_from, fetch_count, keep_code, keep_count, give_to, give_code, give_count_to, give_count, move_to, move_count_to, move_count, moves_count, move_words_count, load_words, load_all, store_all, moves, all_moved, moved_code, result_registers, argument_code, argument_count, service_number, answer_code, small, or_immediate, load_upper, constant, is_tested, word_code, load_code, operand_code, operand_register, made_in, operation_code, outcome_code, operands_code, operation_of, computed_code, plan_code, test_code, loads_code, divided_code, store_slot, add_immediate, minus, word_count, load_count, operand_count, far_plan, address_code, address_count, operation_count, outcome_count, count_of_operation, plan_count, test_count, divide_count, operator_count, regions_code, regions_count}
 
 -- ---- few
 
@@ -326,6 +327,31 @@ pub length_loads : (f : Frame) (slot : ℕ) (targets : List ℕ) → length (loa
 length_loads f slot [] = refl
 length_loads f slot (target ∷ targets) = ap suc (length_loads f (suc slot) targets)
 
+pub length_moves : (f : Frame) (destination source count : ℕ) → length (moves f destination source count) ≡ moves_count f destination source count
+length_moves f destination source zero = refl
+length_moves f destination source (suc count) =
+    omega (arith, length-append (move_to (value_register f destination) f destination (operands.Slot source)) (moves f (suc destination) (suc source) count), length_move f destination (operands.Slot source), length_moves f (suc destination) (suc source) count)
+
+moves_small : (f : Frame) (destination source count : ℕ) → moves_count f destination source count ≤ 3 * count
+moves_small f destination source zero = omega arith
+moves_small f destination source (suc count) = omega (arith, move_small f destination (operands.Slot source), moves_small f (suc destination) (suc source) count)
+
+pub moves_some : (f : Frame) (destination source count : ℕ) → 0 < count → 0 < moves_count f destination source count
+moves_some f destination source zero some = absurd (omega (arith, some))
+moves_some f destination source (suc count) some = omega (arith, move_some f destination (operands.Slot source))
+
+-- one word more
+pub moves_next : (f : Frame) (destination source count word : ℕ) → word < count
+    → moves_count f (destination + word) (source + word) (count - word)
+    ≡ move_count f (destination + word) (operands.Slot (source + word)) + moves_count f (destination + (word + 1)) (source + (word + 1)) (count - (word + 1))
+moves_next f destination source count word below =
+    let left : count - word ≡ suc (count - (word + 1)) = omega (arith, below) in
+    let to : suc (destination + word) ≡ destination + (word + 1) = omega arith in
+    let from : suc (source + word) ≡ source + (word + 1) = omega arith in
+    ap (moves_count f (destination + word) (source + word)) left
+    ∙ ap (λ (n : ℕ). move_count f (destination + word) (operands.Slot (source + word)) + moves_count f n (suc (source + word)) (count - (word + 1))) to
+    ∙ ap (λ (n : ℕ). move_count f (destination + word) (operands.Slot (source + word)) + moves_count f (destination + (word + 1)) n (count - (word + 1))) from
+
 -- no more registers than words
 pub registers_few : (count : ℕ) → length (result_registers count) ≤ count
 registers_few zero = omega arith
@@ -340,6 +366,29 @@ length_registers (suc zero) few_results = refl
 length_registers (suc (suc zero)) few_results = refl
 length_registers (suc (suc (suc zero))) few_results = refl
 length_registers (suc (suc (suc (suc count)))) few_results = absurd (omega (arith, few_results))
+
+-- several words
+pub length_moved : (f : Frame) (destination source count : ℕ) → length (moved_code f destination source count) ≡ move_words_count f destination source count
+length_moved f destination source count = go (is_crossing destination source count)
+  where
+    go : (b : Bool) → length (if b then all_moved f destination source count else moves f destination source count) ≡ (if b then 2 * length (result_registers count) else moves_count f destination source count)
+    go true =
+        omega (arith, length-append (load_words f source (result_registers count)) (store_all f destination (result_registers count)), length_words f source (result_registers count), length_stores f destination (result_registers count))
+    go false = length_moves f destination source count
+
+pub move_words_small : (f : Frame) (destination source count : ℕ) → move_words_count f destination source count ≤ 3 * count
+move_words_small f destination source count = go (is_crossing destination source count)
+  where
+    go : (b : Bool) → (if b then 2 * length (result_registers count) else moves_count f destination source count) ≤ 3 * count
+    go true = omega (arith, registers_few count)
+    go false = moves_small f destination source count
+
+pub move_words_some : (f : Frame) (destination source count : ℕ) → 0 < count → count ≤ 3 → 0 < move_words_count f destination source count
+move_words_some f destination source count some few = go (is_crossing destination source count)
+  where
+    go : (b : Bool) → 0 < (if b then 2 * length (result_registers count) else moves_count f destination source count)
+    go true = omega (arith, length_registers count few, some)
+    go false = moves_some f destination source count some
 
 -- ---- calls of the store
 

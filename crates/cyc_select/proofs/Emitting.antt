@@ -4,13 +4,14 @@ use Rattle.std.specs.Prelude.{sum_by}
 use Rattle.std.proofs.lemmas.List.{drop_more}
 use Rattle.std.proofs.lemmas.List.Sums.{sum_by-drop_more}
 use Rattle.cyc_isa.specs.declared.instr.Instr.{Instr}
+use Rattle.cyc_plain.specs.declared.instruction.Operand.TheVariants as operands
 use Rattle.cyc_frame.specs.Frame.{Frame}
 use Rattle.cyc_frame.specs.Homes.{home_of, both_count}
 use Rattle.cyc_frame.specs.declared.home.Home.{Home}
 use Rattle.cyc_frame.specs.declared.home.Home.TheVariants as homes
 use Rattle.cyc_select.specs.declared.code.Line.TheVariants as lines
 use Rattle.cyc_select.specs.declared.code.Line.{Line}
-use Rattle.cyc_select.specs.Selection.{made_in, load, store_slot, slot_offset, copies, reload, reloads_from, ordinary}
+use Rattle.cyc_select.specs.Selection.{made_in, value_register, load, store_slot, slot_offset, copies, move_to, moves, reload, reloads_from, ordinary}
 
 -- one argument more is copied
 pub copied : (caller callee : Frame) (source slot count : ℕ) (all old new : List Line) → slot < count
@@ -37,6 +38,24 @@ goes_on {A} all old new next rest whole is parts before =
 ordinary_append : (is js : List Instr) → ordinary (is ++ js) ≡ ordinary is ++ ordinary js
 ordinary_append [] js = refl
 ordinary_append (i ∷ is) js = ap (λ (l : List Line). lines.Ordinary i ∷ l) (ordinary_append is js)
+
+-- one word more is moved
+pub moved_next : (frame : Frame) (destination source count word : ℕ) (all old new : List Line) → word < count
+    → new ≡ old ++ ordinary (move_to (value_register frame (destination + word)) frame (destination + word) (operands.Slot (source + word)))
+    → old ++ ordinary (moves frame (destination + word) (source + word) (count - word)) ≡ all
+    → new ++ ordinary (moves frame (destination + (word + 1)) (source + (word + 1)) (count - (word + 1))) ≡ all
+moved_next frame destination source count word all old new below is before =
+    let one : List Instr = move_to (value_register frame (destination + word)) frame (destination + word) (operands.Slot (source + word)) in
+    let left : count - word ≡ suc (count - (word + 1)) = omega (arith, below) in
+    let to : suc (destination + word) ≡ destination + (word + 1) = omega arith in
+    let from : suc (source + word) ≡ source + (word + 1) = omega arith in
+    goes_on all old new (ordinary one) (ordinary (moves frame (destination + (word + 1)) (source + (word + 1)) (count - (word + 1))))
+    (ordinary (moves frame (destination + word) (source + word) (count - word))) is
+    (ap (λ (n : ℕ). ordinary (moves frame (destination + word) (source + word) n)) left
+    ∙ ordinary_append one (moves frame (suc (destination + word)) (suc (source + word)) (count - (word + 1)))
+    ∙ ap (λ (n : ℕ). ordinary one ++ ordinary (moves frame n (suc (source + word)) (count - (word + 1)))) to
+    ∙ ap (λ (n : ℕ). ordinary one ++ ordinary (moves frame (destination + (word + 1)) n (count - (word + 1)))) from)
+    before
 
 -- one register more is read again
 pub reload_next : (frame : Frame) (slot : ℕ) → slot < length frame.homes

@@ -28,6 +28,7 @@ use Rattle.cyc_plain.specs.WellFormed.{IsOperand, IsArgument, IsInRange, IsWellF
 use Rattle.cyc_plain.proofs.Placed.{holds_at, routine_in, below_of_get, has_code}
 use Rattle.cyc_plain.proofs.Steps.{function_known}
 use Rattle.cyc_frame.specs.Layout.{AreFrames, frame_at, slot_word}
+use Rattle.cyc_frame.specs.Uses.{is_crossing}
 use Rattle.cyc_frame.specs.Frame.{Frame}
 use Rattle.cyc_frame.specs.declared.home.Home.{Home}
 use Rattle.cyc_frame.specs.declared.home.Home.TheVariants as homes
@@ -45,10 +46,10 @@ use Rattle.cyc_select.specs.declared.plan.Test.TheVariants as tests
 use Rattle.cyc_select.specs.Plans.{unary_plan, binary_plan, test_of}
 use Rattle.cyc_select.specs.Labelled.{Labelled, IsFormed, IsFormedLine}
 use Rattle.cyc_select.specs.Numbers.{fits_signed, is_zero_word}
-use Rattle.cyc_select.specs.Selection.{value_register, is_kept, load_from, fetch_from, move_to, keep_code, give_to, give_code, load_words, reloads_from, reloads, opened_code, made_in, slot_offset, ordinary, result_registers, argument_code, service_number, answer_code, unwound_code, far_plan, address_code, near_half, at_address, copies, load_all, store_all, store_slot, pop_frame, load_upper, constant, or_immediate, is_tested, part_of, plan_count, small, syscall, add_immediate, minus, upper_of_global, at_global, word_code, load_code, load_count, operand_code, operand_register, operands_code, operation_code, outcome_code, operation_of, computed_code, plan_code, test_code, branch_line, quotient_code, loads_code, divided_code, divide_code, divide_count, ending_code, ending_count, operator_code, operator_count, body, behind, body_count, count_of, function_count, functions_count, function_line, instruction_line, code_lines, function_lines, start_lines, select_of, regions_code}
+use Rattle.cyc_select.specs.Selection.{value_register, is_kept, load_from, fetch_from, move_to, keep_code, give_to, give_code, load_words, reloads_from, reloads, opened_code, made_in, slot_offset, ordinary, result_registers, argument_code, service_number, answer_code, unwound_code, far_plan, address_code, near_half, at_address, copies, load_all, store_all, moves, all_moved, store_slot, pop_frame, load_upper, constant, or_immediate, is_tested, part_of, plan_count, small, syscall, add_immediate, minus, upper_of_global, at_global, word_code, load_code, load_count, operand_code, operand_register, operands_code, operation_code, outcome_code, operation_of, computed_code, plan_code, test_code, branch_line, quotient_code, loads_code, divided_code, divide_code, divide_count, ending_code, ending_count, operator_code, operator_count, body, behind, body_count, count_of, function_count, functions_count, function_line, instruction_line, code_lines, function_lines, start_lines, select_of, regions_code}
 use Rattle.cyc_select.proofs.Lines.{line_first}
 use Rattle.cyc_select.proofs.Plans.{AllOfTest, all_unary, all_binary, all_test}
-use Rattle.cyc_select.proofs.Counts.{operation_some, move_some, give_some, length_registers, answer_few, service_small}
+use Rattle.cyc_select.proofs.Counts.{operation_some, move_some, move_words_some, give_some, length_registers, answer_few, service_small}
 use Rattle.cyc_select.proofs.Returns.{loaded}
 use Rattle.cyc_select.proofs.Structure.{length_body, stand}
 use Rattle.cyc_select.proofs.Walks.{Stands}
@@ -130,7 +131,7 @@ count_some program frames function (plain.WriteByte source) in_range = omega ari
 count_some program frames function (plain.AddressOf destination slot count) in_range = omega arith
 count_some program frames function (plain.LoadGlobal destination global) in_range = omega arith
 count_some program frames function (plain.StoreGlobal global source) in_range = omega arith
-count_some program frames function (plain.MoveWords destination source count) in_range = omega (arith, length_registers count in_range.few, in_range.some)
+count_some program frames function (plain.MoveWords destination source count) in_range = move_words_some (frame_at frames function) destination source count in_range.some in_range.few
 count_some program frames function (plain.Load destination address offset) in_range = omega arith
 count_some program frames function (plain.Store address offset source) in_range = omega arith
 count_some program frames function (plain.Ask request) in_range = omega arith
@@ -392,13 +393,24 @@ module _ (program : Program) (well : IsWellFormed program) (words : HasWords pro
     upper_fits : (global : ℕ) → global < length program.globals → (data_base + 4 * global + 2 ^ 15) / 2 ^ 16 < 2 ^ 16
     upper_fits global below = omega (arith, below, well.globals)
 
-    body_formed : (i : Instruction) (n : ℕ) → IsInRange program (routine_at program function) i → HasWord i → n + body_count program frames function i ≤ length (select_of program frames).lines → Formed (body program frames function n i)
-    body_formed (plain.Move destination source) n (a, b) fits long = go (value_register frame destination)
+    move_formed : (destination : ℕ) (source : Operand) → destination < slots → IsOperand (routine_at program function) source × IsOfWord source
+        → Formed (ordinary (move_to (value_register frame destination) frame destination source))
+    move_formed destination source below there = go (value_register frame destination)
       where
         go : (o : Option ℕ) → Formed (ordinary (move_to o frame destination source))
         go None =
-            formed_append (operand_code frame FIRST source) (store_slot frame (operand_register frame FIRST source) destination ∷ []) (operand_formed FIRST source (b, fits)) ((refl, slot_fits destination a), tt)
-        go (Some register) = formed_append (load_code frame register source) (keep_code frame destination) (load_formed register source (b, fits)) (keep_formed destination a)
+            formed_append (operand_code frame FIRST source) (store_slot frame (operand_register frame FIRST source) destination ∷ []) (operand_formed FIRST source there) ((refl, slot_fits destination below), tt)
+        go (Some register) = formed_append (load_code frame register source) (keep_code frame destination) (load_formed register source there) (keep_formed destination below)
+
+    moves_formed : (destination source count : ℕ) → destination + count ≤ slots → source + count ≤ slots → Formed (ordinary (moves frame destination source count))
+    moves_formed destination source zero to from = tt
+    moves_formed destination source (suc count) to from =
+        formed_append (move_to (value_register frame destination) frame destination (operands.Slot source)) (moves frame (suc destination) (suc source) count)
+        (move_formed destination (operands.Slot source) (omega (arith, to)) ((omega (arith, from)), tt))
+        (moves_formed (suc destination) (suc source) count (omega (arith, to)) (omega (arith, from)))
+
+    body_formed : (i : Instruction) (n : ℕ) → IsInRange program (routine_at program function) i → HasWord i → n + body_count program frames function i ≤ length (select_of program frames).lines → Formed (body program frames function n i)
+    body_formed (plain.Move destination source) n (a, b) fits long = move_formed destination source a (b, fits)
     body_formed (plain.Unary operator destination operand) n (a, b) fits long =
         plan_formed (unary_plan operator operand) destination (unary_there operator operand (b, fits)) a
     body_formed (plain.Binary operator destination left right) n (a, b, e) (fits, also) long = operator_formed operator destination left right n a (b, fits) (e, also) long
@@ -458,10 +470,15 @@ module _ (program : Program) (well : IsWellFormed program) (words : HasWords pro
         formed_append (operand_code frame FIRST source) (upper_of_global global ∷ at_global StoreWord (operand_register frame FIRST source) global ∷ []) (operand_formed FIRST source (b, fits))
         ((refl, upper_fits global a), ((refl, low_fits (data_base + 4 * global)), tt))
     body_formed (plain.MoveWords destination source count) n in_range fits long =
-        let registers = length_registers count in_range.few in
-        formed_append (load_words frame source (result_registers count)) (store_all frame destination (result_registers count))
-        (words_formed source (result_registers count) (omega (arith, registers, in_range.source_in_range)))
-        (stores_formed destination (result_registers count) (omega (arith, registers, in_range.destination_in_range)))
+        go (is_crossing destination source count)
+      where
+        go : (b : Bool) → Formed (ordinary (if b then all_moved frame destination source count else moves frame destination source count))
+        go true =
+            let registers = length_registers count in_range.few in
+            formed_append (load_words frame source (result_registers count)) (store_all frame destination (result_registers count))
+            (words_formed source (result_registers count) (omega (arith, registers, in_range.source_in_range)))
+            (stores_formed destination (result_registers count) (omega (arith, registers, in_range.destination_in_range)))
+        go false = moves_formed destination source count in_range.destination_in_range in_range.source_in_range
     body_formed (plain.Load destination address offset) n (a, b) (fits, near) long =
         formed_append (address_code frame address offset) (at_address frame LoadWord (made_in frame destination) address offset ∷ keep_code frame destination) (address_formed address offset (b, fits) near)
         ((refl, near_fits offset), keep_formed destination a)

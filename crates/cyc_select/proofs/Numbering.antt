@@ -1,5 +1,5 @@
 -- Numbers of lines: sums over what stands before.
-use Rattle.std.proofs.Common.{◌≡◌, ℕ, zero, suc, ◌+◌, ◌*◌, ◌<◌, ◌≤◌, Bool, true, false, List, [], ◌∷◌, ◌++◌, length, drop, take, refl, sym, ap, subst, ◌∙◌, inl, inr, arith}
+use Rattle.std.proofs.Common.{◌≡◌, ℕ, zero, suc, ◌+◌, ◌<◌, ◌≤◌, Bool, true, false, List, [], ◌∷◌, ◌++◌, length, drop, take, refl, sym, ap, subst, ◌∙◌, inl, inr, arith}
 use Rattle.std.specs.Prelude.{sum_by, slice_index_or, if◌then◌else◌}
 use Rattle.std.proofs.lemmas.Bool.{cases_lt}
 use Rattle.std.proofs.lemmas.List.{drop_more, get_or_past}
@@ -17,10 +17,10 @@ use Rattle.cyc_frame.specs.Homes.{AreHomes}
 use Rattle.cyc_frame.specs.Layout.{IsFrame, AreFrames, frame_at}
 use Rattle.cyc_frame.specs.Frame.{Frame}
 use Rattle.cyc_select.specs.declared.constants.TheConstants.{START_LINES}
-use Rattle.cyc_select.specs.Selection.{reload_count, result_registers, ending_count, count_of, function_count, functions_count, function_line, instruction_line, code_lines, function_lines}
+use Rattle.cyc_select.specs.Selection.{reload_count, ending_count, count_of, function_count, functions_count, function_line, instruction_line, code_lines, function_lines}
 use Rattle.cyc_select.specs.Plans.{test_of}
 use Rattle.cyc_select.specs.Emission.{AreReached, AreFew, most_lines, instruction_lines, function_starts, AreReady, AreTables}
-use Rattle.cyc_select.proofs.Counts.{move_small, give_small, keep_few, length_registers, registers_few, argument_small, regions_small, word_small, load_small, operand_small, address_small, unary_small, test_small, operator_small}
+use Rattle.cyc_select.proofs.Counts.{move_small, move_words_small, give_small, keep_few, argument_small, regions_small, word_small, load_small, operand_small, address_small, unary_small, test_small, operator_small}
 
 abbrev no_frame : Frame
 no_frame = record { words = 0; return_address = 0; first_slot = 0; homes = [] }
@@ -57,7 +57,7 @@ count_small program frames function fit few (plain.WriteByte source) = omega (ar
 count_small program frames function fit few (plain.AddressOf destination slot count) = omega (arith, keep_few (frame_at frames function) destination)
 count_small program frames function fit few (plain.LoadGlobal destination global) = omega (arith, keep_few (frame_at frames function) destination)
 count_small program frames function fit few (plain.StoreGlobal global source) = omega (arith, operand_small (frame_at frames function) source)
-count_small program frames function fit few (plain.MoveWords destination source count) = omega (arith, registers_few count)
+count_small program frames function fit few (plain.MoveWords destination source count) = omega (arith, move_words_small (frame_at frames function) destination source count)
 count_small program frames function fit few (plain.Load destination address offset) = omega (arith, address_small (frame_at frames function) address offset, keep_few (frame_at frames function) destination)
 count_small program frames function fit few (plain.Store address offset source) = omega (arith, address_small (frame_at frames function) address offset, operand_small (frame_at frames function) source)
 count_small program frames function fit few (plain.Ask request) = omega (arith, regions_small request, argument_small (second_operand request))
@@ -78,10 +78,6 @@ reads_few program frames fit k = elim (cases_lt k (length program.functions)) [
 
 pub count_fits : (program : Program) (frames : List Frame) (function : ℕ) → AreFrames program frames → AreFew program → (i : Instruction) → count_of program frames function i ≤ instruction_size i
 count_fits program frames function fit few i = count_small program frames function (reads_few program frames fit function) few i
-
--- the lines of a move of several words
-pub moved_count : (r : Routine) (destination source count : ℕ) → IsMoveInRange r destination source count → 2 * count ≡ 2 * length (result_registers count)
-moved_count r destination source count in_range = ap (λ (n : ℕ). 2 * n) (sym (length_registers count in_range.few))
 
 code_small : (program : Program) (frames : List Frame) (function : ℕ) → ReadsFew frames function → AreFew program → (code : List Instruction) → sum_by (count_of program frames function) code ≤ sum_by instruction_size code
 code_small program frames function fit few [] = omega arith
@@ -135,6 +131,22 @@ homes_reached program r frame fit right = slots_below r frame fit (length frame.
 
 pub words_small : (r : Routine) (frame : Frame) → IsFrame r frame → frame.words ≤ MOST_FRAME_WORDS
 words_small r frame fit = omega (arith, fit.within, fit.small)
+
+-- the slots of a function are so few
+slots_end : (r : Routine) (frame : Frame) → IsFrame r frame → (past : ℕ) → past ≤ r.slots → past ≤ MOST_FRAME_WORDS
+slots_end r frame fit zero below = omega arith
+slots_end r frame fit (suc slot) below = omega (arith, fit.inside slot (omega (arith, below)), fit.within, fit.small)
+
+module _ (program : Program) (frames : List Frame) (function : ℕ) (fit : AreFrames program frames) (known : function < length program.functions)
+    (destination source count : ℕ) (in_range : IsMoveInRange (routine_at program function) destination source count) where
+  pub source_small : source + count ≤ MOST_FRAME_WORDS
+  source_small =
+      slots_end (routine_at program function) (frame_at frames function) (fit.each function known) (source + count) (omega (arith, in_range.source_in_range))
+
+  pub target_small : destination + count ≤ MOST_FRAME_WORDS
+  target_small =
+      slots_end (routine_at program function) (frame_at frames function) (fit.each function known) (destination + count)
+      (omega (arith, in_range.destination_in_range))
 
 -- ---- tables
 

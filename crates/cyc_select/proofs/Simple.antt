@@ -9,7 +9,6 @@ use Rattle.cyc_isa.specs.Effect.{branch_taken, branch_zero_taken, load_upper_res
 use Rattle.cyc_isa.specs.declared.instr.Instr.{Instr}
 use Rattle.cyc_isa.specs.declared.instr.BranchOp.TheVariants as branch
 use Rattle.cyc_isa.specs.declared.instr.MoveFromOp.{MoveFromOp}
-use Rattle.cyc_isa.specs.declared.instr.Instr.TheVariants as machine
 use Rattle.cyc_isa.specs.declared.instr.MultiplyDivideOp.TheVariants.{Divide}
 use Rattle.cyc_isa.specs.declared.instr.ArithmeticOp.TheVariants as arithmetic
 use Rattle.cyc_isa.specs.declared.instr.MemoryOp.TheVariants.{LoadWord, StoreWord}

@@ -29,11 +29,11 @@ use Rattle.cyc_select.specs.declared.plan.Test.TheVariants as tests
 use Rattle.cyc_select.specs.Plans.{unary_plan, binary_plan, test_of}
 use Rattle.cyc_select.specs.Labelled.{Labelled, words_of, all_words}
 use Rattle.cyc_select.specs.Selected.{words_at}
-use Rattle.cyc_select.specs.Selection.{arithmetic_of, multiply_divide_of, move_from_of, slot_offset, recorded_code, caught_code, reload_count, value_register, move_to, keep_code, give_code, load_words, reloads, opened_code, made_in, ordinary, argument_code, service_number, answer_code, unwound_code, address_code, at_address, copies, store_all, upper_of_global, at_global, word_code, load_code, load_count, operand_code, operand_register, plan_code, test_code, branch_line, branch_code, quotient_code, divided_code, divide_code, is_tested, part_of, result_registers, ending_code, operator_code, body, behind, count_of, function_count, function_line, instruction_line, code_lines, function_lines, small, syscall, store, add_immediate, minus, push_frame, load, regions_code}
+use Rattle.cyc_select.specs.Selection.{arithmetic_of, multiply_divide_of, move_from_of, slot_offset, recorded_code, caught_code, reload_count, value_register, move_to, keep_code, give_code, moved_code, reloads, opened_code, made_in, ordinary, argument_code, service_number, answer_code, unwound_code, address_code, at_address, copies, store_all, upper_of_global, at_global, word_code, load_code, load_count, operand_code, operand_register, plan_code, test_code, branch_line, branch_code, quotient_code, divided_code, divide_code, is_tested, part_of, result_registers, ending_code, operator_code, body, behind, count_of, function_count, function_line, instruction_line, code_lines, function_lines, small, syscall, store, add_immediate, minus, push_frame, load, regions_code}
 use Rattle.cyc_isa.specs.Decoding.{register_of}
 use Rattle.cyc_isa.specs.declared.instr.BranchOp.TheVariants as branch
 use Rattle.cyc_select.proofs.Calls.{length-copies}
-use Rattle.cyc_select.proofs.Counts.{length_keep, length_give, length_move, length_words, keep_few, give_small, move_small, argument_small, regions_small, length_argument, length_answer, length_regions, length_stores, length_registers, registers_few, word_small, load_small, operand_small, address_small, plan_small, unary_small, test_small, length_word, length_load, length_operand, length_address, length_plan, length_test, length_divided}
+use Rattle.cyc_select.proofs.Counts.{length_keep, length_give, length_move, length_moved, move_words_small, keep_few, give_small, move_small, argument_small, regions_small, length_argument, length_answer, length_regions, length_stores, length_registers, word_small, load_small, operand_small, address_small, plan_small, unary_small, test_small, length_word, length_load, length_operand, length_address, length_plan, length_test, length_divided}
 use Rattle.cyc_select.proofs.Returns.{loaded, length_loaded}
 use Rattle.cyc_select.proofs.Numbering.{ReadsFew}
 use Rattle.cyc_select.proofs.Values.{length_reloads}
@@ -133,9 +133,7 @@ module _ (program : Program) (frames : List Frame) (reads_few : (function : ℕ)
   body_words function here (plain.StoreGlobal global source) =
       omega (arith, words_ordinary (operand_code (frame_at frames function) FIRST source ++ upper_of_global global ∷ at_global StoreWord (operand_register (frame_at frames function) FIRST source) global ∷ []), length-append (operand_code (frame_at frames function) FIRST source) (upper_of_global global ∷ at_global StoreWord (operand_register (frame_at frames function) FIRST source) global ∷ []), length_operand (frame_at frames function) FIRST source, operand_small (frame_at frames function) source)
   body_words function here (plain.MoveWords destination source count) =
-      let loads : List Instr = load_words (frame_at frames function) source (result_registers count) in
-      let stores : List Instr = store_all (frame_at frames function) destination (result_registers count) in
-      omega (arith, words_ordinary (loads ++ stores), length-append loads stores, length_words (frame_at frames function) source (result_registers count), length_stores (frame_at frames function) destination (result_registers count), registers_few count)
+      omega (arith, words_ordinary (moved_code (frame_at frames function) destination source count), length_moved (frame_at frames function) destination source count, move_words_small (frame_at frames function) destination source count)
   body_words function here (plain.Load destination address offset) =
       let is : List Instr = address_code (frame_at frames function) address offset in
       let last : List Instr = at_address (frame_at frames function) LoadWord (made_in (frame_at frames function) destination) address offset ∷ keep_code (frame_at frames function) destination in

@@ -25,9 +25,9 @@ use Rattle.cyc_select.specs.declared.code.Line.TheVariants as lines
 use Rattle.cyc_select.specs.declared.plan.Plan.{Plan}
 use Rattle.cyc_select.specs.Labelled.{Labelled}
 use Rattle.cyc_select.specs.Plans.{unary_plan, binary_plan, test_of}
-use Rattle.cyc_select.specs.Selection.{value_register, move_to, keep_code, keep_count, give_code, give_count, load_words, reloads, reload_count, opened_code, made_in, ordinary, argument_code, service_number, answer_code, unwound_code, address_code, at_address, copies, store_all, small, syscall, upper_of_global, at_global, word_code, load_code, load_count, operand_code, operand_register, plan_code, plan_count, test_code, branch_line, quotient_code, divided_code, divide_code, divide_count, is_tested, part_of, result_registers, ending_code, ending_count, operator_code, operator_count, body, behind, body_count, behind_count, count_of, function_count, functions_count, function_line, instruction_line, code_lines, function_lines, start_lines, select_of, regions_code}
+use Rattle.cyc_select.specs.Selection.{value_register, move_to, keep_code, keep_count, give_code, give_count, moved_code, reloads, reload_count, opened_code, made_in, ordinary, argument_code, service_number, answer_code, unwound_code, address_code, at_address, copies, store_all, small, syscall, upper_of_global, at_global, word_code, load_code, load_count, operand_code, operand_register, plan_code, plan_count, test_code, branch_line, quotient_code, divided_code, divide_code, divide_count, is_tested, part_of, result_registers, ending_code, ending_count, operator_code, operator_count, body, behind, body_count, behind_count, count_of, function_count, functions_count, function_line, instruction_line, code_lines, function_lines, start_lines, select_of, regions_code}
 use Rattle.cyc_select.proofs.Calls.{length_ordinary, length-copies}
-use Rattle.cyc_select.proofs.Counts.{length_keep, length_give, length_move, length_words, length_argument, length_answer, length_regions, length_stores, length_registers, length_word, length_load, length_operand, length_address, length_plan, length_test, length_divided}
+use Rattle.cyc_select.proofs.Counts.{length_keep, length_give, length_move, length_moved, length_argument, length_answer, length_regions, length_stores, length_registers, length_word, length_load, length_operand, length_address, length_plan, length_test, length_divided}
 use Rattle.cyc_select.proofs.Returns.{loaded, length_loaded}
 use Rattle.cyc_select.proofs.Values.{length_reloads}
 use Rattle.cyc_select.proofs.Walks.{Stands, stands_front, stands_back}
@@ -105,9 +105,7 @@ module _ (program : Program) (frames : List Frame) (few_results : (function : �
       let last : List Instr = upper_of_global global ∷ at_global StoreWord (operand_register (frame_at frames function) FIRST source) global ∷ [] in
       omega (arith, length_ordinary (operand_code (frame_at frames function) FIRST source ++ last), length-append (operand_code (frame_at frames function) FIRST source) last, length_operand (frame_at frames function) FIRST source)
   length_body function here (plain.MoveWords destination source count) =
-      let loads : List Instr = load_words (frame_at frames function) source (result_registers count) in
-      let stores : List Instr = store_all (frame_at frames function) destination (result_registers count) in
-      omega (arith, length_ordinary (loads ++ stores), length-append loads stores, length_words (frame_at frames function) source (result_registers count), length_stores (frame_at frames function) destination (result_registers count))
+      length_ordinary (moved_code (frame_at frames function) destination source count) ∙ length_moved (frame_at frames function) destination source count
   length_body function here (plain.Load destination address offset) =
       let is : List Instr = address_code (frame_at frames function) address offset in
       let last : List Instr = at_address (frame_at frames function) LoadWord (made_in (frame_at frames function) destination) address offset ∷ keep_code (frame_at frames function) destination in

@@ -1,15 +1,16 @@
 -- Values in registers: a register has its slot's word wherever the slot is wanted.
-use Rattle.std.proofs.Common.{◌≡◌, ◌≢◌, ℕ, zero, suc, ◌+◌, ◌%◌, ◌<◌, ◌≤◌, Bool, true, false, List, [], ◌∷◌, length, Option, Some, None, refl, sym, ap, subst, ◌∙◌, arith, inl, inr}
+use Rattle.std.proofs.Common.{◌≡◌, ◌≢◌, ℕ, zero, suc, ◌+◌, ◌-◌, ◌%◌, ◌<◌, ◌≤◌, Bool, true, false, List, [], ◌∷◌, length, Option, Some, None, refl, sym, ap, subst, ◌∙◌, arith, inl, inr}
 use Rattle.std.specs.Prelude.{◌⊎◌, ◌==◌, nat_le, nat_lt, sum_by}
-use Rattle.std.proofs.lemmas.Bool.{cases_eq, cases_lt, eq-eqb, ne_eqb, le-leb, lt-ltb, leb-false, ltb-false, and_from, and_cases}
+use Rattle.std.proofs.lemmas.Bool.{cases_eq, cases_lt, eq-eqb, ne_eqb, le-leb, lt-ltb, leb-true, leb-false, ltb-true, ltb-false, and_parts, and_from, and_cases, false≢true}
 use Rattle.std.proofs.lemmas.List.{get_or_past}
 use Rattle.std.proofs.lemmas.List.Sums.{sum_by-cons}
 use Rattle.cyc_isa.specs.Effect.{memory_address}
 use Rattle.cyc_plain.specs.declared.instruction.Instruction.{Instruction}
+use Rattle.cyc_plain.specs.declared.instruction.Instruction.TheVariants as plain
 use Rattle.cyc_plain.specs.Program.{Program, routine_at}
-use Rattle.cyc_plain.specs.State.{Words, put}
+use Rattle.cyc_plain.specs.State.{Words, put, copied}
 use Rattle.cyc_plain.specs.Step.{instruction_at}
-use Rattle.cyc_plain.proofs.SlotLaws.{put-same, put-other}
+use Rattle.cyc_plain.proofs.SlotLaws.{put-same, put-other, copied-inside, copied-below, copied-above}
 use Rattle.cyc_frame.specs.Frame.{Frame}
 use Rattle.cyc_frame.specs.Homes as homing
 use Rattle.cyc_frame.specs.Homes.{AreHomes, Wanted}
@@ -21,7 +22,7 @@ use Rattle.cyc_select.specs.declared.constants.TheConstants.{FIRST, FRAME}
 use Rattle.cyc_select.specs.Selection.{slot_offset, value_register, or_else, is_kept, made_in, reloads_from, reloads, reload_count}
 use Rattle.cyc_select.proofs.Blocks.{ValuesSame}
 use Rattle.cyc_select.proofs.Cells.{IsCell}
-use Rattle.cyc_select.proofs.Views.{Contents, written}
+use Rattle.cyc_select.proofs.Views.{Contents}
 use Rattle.cyc_select.proofs.Walks.{after_r, after_w, AreSafe}
 
 -- ---- homes
@@ -103,6 +104,38 @@ module _ (program : Program) (frames : List Frame) (function : ℕ) (right : Are
         others k (right.low slot k has) (right.high slot k has) (λ shared. other (right.made index (index + 1) slot destination k i at gets led shared has wanted))
         ∙ (caches slot k has (wanted_before index (index + 1) slot i at led (unwritten slot other) wanted) ∙ sym (put-other slots destination slot word other))
   ]
+
+  -- behind one that moves several words, one by one
+  pub moved_caches : (index destination source count : ℕ) (r r' slots : Words) → IsAt index (plain.MoveWords destination source count)
+      → ((i k : ℕ) → i < count → value_register (frame_at frames function) (destination + i) ≡ Some k
+      → ((j : ℕ) → j < count → value_register (frame_at frames function) (destination + j) ≡ Some k → i ≡ j) → r' k ≡ slots (source + i))
+      → ((n : ℕ) → 8 ≤ n → n < 24 → ((i : ℕ) → i < count → value_register (frame_at frames function) (destination + i) ≡ Some n → ⊥) → r' n ≡ r n)
+      → Caches program frames function index r slots → Caches program frames function (index + 1) r' (copied slots source count slots destination)
+  moved_caches index destination source count r r' slots at given others caches slot k has wanted = go (is_among destination count slot) refl
+    where
+      -- of the slots that get words none but this one has its register
+      only : (j : ℕ) → j < count → value_register (frame_at frames function) (destination + j) ≡ Some k → slot ≡ destination + j
+      only j below there =
+          right.made index (index + 1) slot (destination + j) k (plain.MoveWords destination source count) at
+          (among destination count (destination + j) (omega arith) (omega (arith, below))) (next_led index) there has wanted
+
+      go : (b : Bool) → is_among destination count slot ≡ b → r' k ≡ copied slots source count slots destination slot
+      go true inside =
+          let parts = and_parts (nat_le destination slot) (nat_lt slot (destination + count)) inside in
+          let from = leb-true destination slot parts.0 in
+          let below = ltb-true slot (destination + count) parts.1 in
+          let is : slot ≡ destination + (slot - destination) = omega (arith, from) in
+          given (slot - destination) k (omega (arith, from, below)) (ap (value_register (frame_at frames function)) (sym is) ∙ has)
+          (λ j j_below there. let e = only j j_below there in omega (arith, e))
+          ∙ (sym (copied-inside slots slots source count destination (slot - destination) (omega (arith, from, below))) ∙ ap (copied slots source count slots destination) (sym is))
+      go false outside =
+          others k (right.low slot k has) (right.high slot k has)
+          (λ i below there. absurd (false≢true (sym outside ∙ ap (is_among destination count) (only i below there) ∙ among destination count (destination + i) (omega arith) (omega (arith, below)))))
+          ∙ (caches slot k has (wanted_before index (index + 1) slot (plain.MoveWords destination source count) at (next_led index) outside wanted)
+          ∙ sym (elim (not_among destination count slot outside) [
+            | inl below ↦ copied-below slots slots source count destination slot below
+            | inr above ↦ copied-above slots slots source count destination slot above
+          ]))
 
   -- a slot with a register is none that the instruction bars
   pub unbarred : (index slot k : ℕ) (i : Instruction) → IsAt index i → value_register (frame_at frames function) slot ≡ Some k → bars i slot ≡ false

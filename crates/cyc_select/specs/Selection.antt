@@ -37,6 +37,7 @@ use Rattle.cyc_frame.specs.Layout.{slot_word, frame_at}
 use Rattle.cyc_frame.specs.declared.home.Home.{Home}
 use Rattle.cyc_frame.specs.declared.home.Home.TheVariants as homes
 use Rattle.cyc_frame.specs.Homes as homing
+use Rattle.cyc_frame.specs.Uses.{is_crossing}
 use Rattle.cyc_frame.specs.Frame.{Frame}
 use Rattle.cyc_select.specs.declared.constants.TheConstants.{ZERO, FIRST_RESULT, SECOND_RESULT, THIRD_RESULT, FIRST, SECOND, THIRD, FRAME, CALLS, HANDLERS, REGIONS, START_LINES}
 use Rattle.cyc_select.specs.declared.code.Line.{Line}
@@ -342,6 +343,12 @@ move_count_to (Some register) frame destination source = load_count source + kee
 abbrev pub move_count : Frame → (destination : ℕ) → Operand → ℕ
 move_count frame destination source = move_count_to (value_register frame destination) frame destination source
 
+-- what copies words into slots, one by one
+abbrev pub moves_count : Frame → (destination source count : ℕ) → ℕ
+moves_count frame destination source zero = 0
+moves_count frame destination source (suc count) =
+    move_count frame destination (operands.Slot source) + moves_count frame (suc destination) (suc source) count
+
 abbrev pub operation_count : Operation → ℕ
 operation_count (operations.Arithmetic op) = 1
 operation_count (operations.Immediate op half) = 1
@@ -476,11 +483,19 @@ abbrev pub ask_count : Request → ℕ
 ask_count request =
     argument_count (first_operand request) + argument_count (second_operand request) + 2 + regions_count request + answer_count request
 
+-- the lines of a move of several words
+abbrev pub move_words_count : Frame → (destination source count : ℕ) → ℕ
+move_words_count frame destination source count =
+    if is_crossing destination source count
+    then 2 * length (result_registers count)
+    else moves_count frame destination source count
+
 -- the lines of an instruction up to what it does
 abbrev pub body_count : Program → List Frame → (function : ℕ) → Instruction → ℕ
 body_count program frames function (plain.Move destination source) =
     move_count (frame_at frames function) destination source
-body_count program frames function (plain.MoveWords destination source count) = 2 * length (result_registers count)
+body_count program frames function (plain.MoveWords destination source count) =
+    move_words_count (frame_at frames function) destination source count
 body_count program frames function (plain.Unary operator destination operand) =
     plan_count (frame_at frames function) (unary_plan operator operand) destination
 body_count program frames function (plain.Binary operator destination left right) =
@@ -572,12 +587,27 @@ store_global frame global source =
     operand_code frame FIRST source
     ++ upper_of_global global ∷ at_global StoreWord (operand_register frame FIRST source) global ∷ [])
 
--- Words from slots to slots. All of them are in registers before the first goes to its slot, so they may overlap.
+-- words from slots to slots, one by one
+abbrev pub moves : Frame → (destination source count : ℕ) → List Instr
+moves frame destination source zero = []
+moves frame destination source (suc count) =
+    move_to (value_register frame destination) frame destination (operands.Slot source)
+    ++ moves frame (suc destination) (suc source) count
+
+-- or all of them are in registers before the first goes to its slot
+abbrev pub all_moved : Frame → (destination source count : ℕ) → List Instr
+all_moved frame destination source count =
+    load_words frame source (result_registers count) ++ store_all frame destination (result_registers count)
+
+-- Where they get lost one by one, they go all together; their slots have no registers then.
+abbrev pub moved_code : Frame → (destination source count : ℕ) → List Instr
+moved_code frame destination source count =
+    if is_crossing destination source count
+    then all_moved frame destination source count
+    else moves frame destination source count
+
 abbrev pub move_words : Frame → (destination source count : ℕ) → List Line
-move_words frame destination source count =
-    ordinary (
-    load_words frame source (result_registers count)
-    ++ store_all frame destination (result_registers count))
+move_words frame destination source count = ordinary (moved_code frame destination source count)
 
 -- the address of a slot's word comes into a slot
 abbrev pub address_of : Frame → (destination slot : ℕ) → List Line

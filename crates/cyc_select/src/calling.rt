@@ -1,6 +1,6 @@
 //! The lines of calls and returns, and of moves of several words.
 ghost use Rattle.std.specs.Prelude.{◌≡◌, ◌+◌, ◌*◌, ◌<◌, ◌≤◌, [], ◌∷◌, ◌++◌, true, length, OnOk};
-ghost use Rattle.cyc_select.specs.Selection.{load, store_slot, made_in, slot_offset, copies, ordinary, load_all, load_words, store_all, move_words, calling_code, returned_code, ending_code, returning_code};
+ghost use Rattle.cyc_select.specs.Selection.{load, store_slot, made_in, slot_offset, copies, ordinary, load_all, load_words, store_all, moves, all_moved, move_words, calling_code, returned_code, ending_code, returning_code};
 ghost use Rattle.cyc_select.specs.Emission.{AddsLines, IsReached, AreReached, most_lines, enter_code};
 
 use crate::code::Line;
@@ -11,10 +11,10 @@ use crate::instructions::{
     store, store_slot, syscall,
 };
 use crate::operands::made_in;
-use cyc_frame::{Frame, MOST_FRAME_WORDS};
+use cyc_frame::{Frame, MOST_FRAME_WORDS, is_crossing};
 use cyc_isa::BranchOp;
 use cyc_machine::constants::{ARGUMENT, END_FULL, END_RETURNED, RETURN_ADDRESS, SERVICE};
-use cyc_plain::GREATEST_VALUE;
+use cyc_plain::{GREATEST_VALUE, Operand};
 use std::alloc::AllocError;
 
 /// The registers of what a function returns, and of what a service answers.
@@ -143,6 +143,44 @@ impl Emitter {
         Ok(())
     }
 
+    /// Words from slots to slots, one by one.
+    fn move_each(
+        &mut self,
+        frame: &Frame,
+        destination: usize,
+        source: usize,
+        count: usize,
+    ) -> Result<(), AllocError>
+        requires source { AreReached frame.now source count }
+        requires target { AreReached frame.now destination count }
+        ensures { AddsLines result self.old self.new (ordinary (moves frame.now destination source count)) }
+    {
+        for word in 0..count {
+            let from = Operand::Slot {
+                number: source + word,
+            };
+            self.copy(frame, destination + word, from)?;
+        }
+        Ok(())
+    }
+
+    /// Words from slots to slots, all of which are in registers before the first goes to its slot.
+    fn move_all(
+        &mut self,
+        frame: &Frame,
+        destination: usize,
+        source: usize,
+        count: usize,
+    ) -> Result<(), AllocError>
+        requires few { count ≤ GREATEST_VALUE }
+        requires source { AreReached frame.now source count }
+        requires target { AreReached frame.now destination count }
+        ensures { AddsLines result self.old self.new (ordinary (all_moved frame.now destination source count)) }
+    {
+        self.load_words(frame, source, &RESULTS[..count])?;
+        self.store_all(frame, destination, &RESULTS[..count])
+    }
+
     /// Words from slots to slots.
     pub(crate) fn move_words(
         &mut self,
@@ -156,8 +194,11 @@ impl Emitter {
         requires target { AreReached frame.now destination count }
         ensures { AddsLines result self.old self.new (move_words frame.now destination source count) }
     {
-        self.load_words(frame, source, &RESULTS[..count])?;
-        self.store_all(frame, destination, &RESULTS[..count])
+        if is_crossing(destination, source, count) {
+            self.move_all(frame, destination, source, count)
+        } else {
+            self.move_each(frame, destination, source, count)
+        }
     }
 
     /// Behind a call: the caller has its return address and the number of calls again, and gets what was returned.

@@ -4,7 +4,7 @@ ghost use Rattle.cyc_plain.specs.Program.{routine_of, routine_at, instruction_si
 ghost use Rattle.cyc_plain.specs.WellFormed.{IsPlain, IsInRange};
 ghost use Rattle.cyc_frame.specs.Layout.{AreFrames, frame_at};
 ghost use Rattle.cyc_frame.specs.declared.home.TheConstants.{MOST_BOTH};
-ghost use Rattle.cyc_select.specs.Selection.{reload_count, operator_count, ending_count, body_count, behind_count, count_of};
+ghost use Rattle.cyc_select.specs.Selection.{reload_count, moves_count, move_words_count, operator_count, ending_count, body_count, behind_count, count_of};
 ghost use Rattle.cyc_select.specs.Emission.{AreFew, most_lines, instruction_lines, function_starts};
 
 use crate::asking::ask_count;
@@ -15,8 +15,8 @@ use crate::operands::{
 };
 use crate::operators::{Parts, is_tested, plan_count, test_count};
 use crate::plan::{binary_plan, test_of, unary_plan};
-use cyc_frame::Frame;
-use cyc_plain::{BinaryOperator, GREATEST_VALUE, Instruction, MOST_SIZE, Plain};
+use cyc_frame::{Frame, MOST_FRAME_WORDS, is_crossing};
+use cyc_plain::{BinaryOperator, GREATEST_VALUE, Instruction, MOST_SIZE, Operand, Plain};
 use std::alloc::{AllocError, Global};
 
 /// How many words a function returns.
@@ -55,6 +55,39 @@ fn operator_count(frame: &Frame, operator: BinaryOperator, parts: Parts) -> usiz
     }
 }
 
+/// The lines of a move of several words, one by one.
+#[tactic(auto, using(crate::proofs::Counts::moves_next))]
+fn moves_count(frame: &Frame, destination: usize, source: usize, count: usize) -> usize
+    requires few { count ≤ GREATEST_VALUE }
+    requires source { source + count ≤ MOST_FRAME_WORDS }
+    requires target { destination + count ≤ MOST_FRAME_WORDS }
+    ensures { result ≡ moves_count frame.now destination source count }
+{
+    let mut lines = 0;
+    for word in 0..count {
+        let from = Operand::Slot {
+            number: source + word,
+        };
+        lines += move_count(frame, destination + word, from);
+    }
+    lines
+}
+
+/// The lines of a move of several words.
+#[tactic(auto, using(crate::proofs::Counts::length_registers))]
+fn move_words_count(frame: &Frame, destination: usize, source: usize, count: usize) -> usize
+    requires few { count ≤ GREATEST_VALUE }
+    requires source { source + count ≤ MOST_FRAME_WORDS }
+    requires target { destination + count ≤ MOST_FRAME_WORDS }
+    ensures { result ≡ move_words_count frame.now destination source count }
+{
+    if is_crossing(destination, source, count) {
+        2 * count
+    } else {
+        moves_count(frame, destination, source, count)
+    }
+}
+
 /// The lines of a return.
 fn return_count(plain: &Plain, function: usize) -> usize
     requires function { function < length plain.now.functions }
@@ -66,7 +99,7 @@ fn return_count(plain: &Plain, function: usize) -> usize
 }
 
 /// The lines of an instruction up to what it does.
-#[tactic(auto, using(crate::proofs::Numbering::moved_count))]
+#[tactic(auto, using(crate::proofs::Numbering::source_small, crate::proofs::Numbering::target_small))]
 fn body_count(plain: &Plain, frames: &[Frame], function: usize, instruction: Instruction) -> usize
     requires fit { AreFrames plain.now frames.now }
     requires function { function < length plain.now.functions }
@@ -101,7 +134,11 @@ fn body_count(plain: &Plain, frames: &[Frame], function: usize, instruction: Ins
             },
         ),
         Instruction::Jump { .. } => 1,
-        Instruction::MoveWords { count, .. } => 2 * count,
+        Instruction::MoveWords {
+            destination,
+            source,
+            count,
+        } => move_words_count(frame, destination, source, count),
         Instruction::Load {
             destination,
             address,

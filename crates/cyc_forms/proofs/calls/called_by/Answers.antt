@@ -1,8 +1,9 @@
 use Rattle.std.proofs.Common.{rules, ◌≡◌, map, None, subst}
 use Rattle.cyc_syntax.specs.TreeView.{place_of_span, expressions_of}
 use Rattle.cyc_types.specs.SignatureView.{view_signature}
-use Rattle.cyc_types.specs.Rules.{settled}
-use Rattle.cyc_types.specs.typing.Expressions.{instance_of, instantiated, call_demanded}
+use Rattle.cyc_types.specs.TypedTrees.{Signature}
+use Rattle.cyc_types.specs.Rules.{settled, run}
+use Rattle.cyc_types.specs.typing.Expressions.{instance_of, instantiated, call_demanded, called_by}
 use Rattle.cyc_scope.specs.Code.{Gives}
 use Rattle.cyc_forms.specs.Forms.{view_boxed, value_in}
 use Rattle.cyc_forms.proofs.PassedValues.{called_well}
@@ -21,4 +22,11 @@ returns c =
     subst (λ o. Gives view_boxed c.call_with.result o) (called_well g c.args.callee p es cs s called is kept) c.call_with.ensures
 
 pub returns-in_err-call_wanted : goal.returns-in_err-call_wanted
-returns-in_err-call_wanted c = ?
+returns-in_err-call_wanted c =
+    let g = c.args.scope.now in
+    let p = place_of_span c.args.span in
+    let es = expressions_of c.args.expressions.now in
+    let as' = map value_in c.args.values.items in
+    let s = view_signature c.args.signature.now in
+    let is : view_signature c.in_ok-at_call.at_call ≡ instantiated (instance_of s as') s = search rules in
+    subst (λ (t : Signature). Gives view_boxed c.from_residual-in_err-call_wanted.result (run (called_by g c.args.callee p es as' s t))) is (search rules)

@@ -1,0 +1,10 @@
+use Rattle.std.proofs.Common.{◌≡◌, ◌+◌, ◌-◌, ◌*◌, ◌≤◌}
+use Rattle.cyc_select.specs.Selection.{moves_count}
+use Rattle.cyc_select.proofs.counting.moves_count.Given as goal
+
+-- the lines so far, with those of the other words, are all of them
+abbrev pub invariant-loop-word : goal.invariant-loop-word
+invariant-loop-word l =
+    (l.lines + moves_count l.frame (l.destination + l.word) (l.source + l.word) (l.count - l.word)
+    ≡ moves_count l.frame l.destination l.source l.count)
+    × (l.lines ≤ 3 * l.word)

@@ -1,0 +1,9 @@
+use Rattle.std.proofs.Common.{◌≡◌, ◌+◌, ◌-◌, ◌++◌}
+use Rattle.cyc_select.specs.Selection.{ordinary, moves}
+use Rattle.cyc_select.proofs.emitter.Emitter.move_each.Given as goal
+
+-- the lines so far, with those of the other words, are all of them
+abbrev pub invariant-loop-word : goal.invariant-loop-word
+invariant-loop-word l =
+    l.self.lines.items ++ ordinary (moves l.frame (l.destination + l.word) (l.source + l.word) (l.count - l.word))
+    ≡ l.fn.self.lines.items ++ ordinary (moves l.frame l.destination l.source l.count)
