@@ -13,6 +13,15 @@ tab-read zero f i none lt = absurd (omega (arith, lt))
 tab-read (suc n) f zero none lt = refl
 tab-read (suc n) f (suc i) none lt = tab-read n (λ k. f (suc k)) i none (omega (arith, lt))
 
+pub tab-past : {A : Type 0} (n : ℕ) (f : ℕ → A) (i : ℕ) (none : A) → n ≤ i → slice_index_or (tabulate n f) i none ≡ none
+tab-past zero f i none past = refl
+tab-past (suc n) f zero none past = absurd (omega (arith, past))
+tab-past (suc n) f (suc i) none past = tab-past n (λ k. f (suc k)) i none (omega (arith, past))
+
+pub length-tab : {A : Type 0} (n : ℕ) (f : ℕ → A) → length (tabulate n f) ≡ n
+length-tab zero f = refl
+length-tab (suc n) f = ap suc (length-tab n (λ k. f (suc k)))
+
 pub tab-ext : {A : Type 0} (n : ℕ) (f g : ℕ → A) → ((i : ℕ) → i < n → f i ≡ g i) → tabulate n f ≡ tabulate n g
 tab-ext zero f g e = refl
 tab-ext (suc n) f g e = λ j. e 0 (omega arith) j ∷ tab-ext n (λ k. f (suc k)) (λ k. g (suc k)) (λ i lt. e (suc i) (omega (arith, lt))) j
@@ -134,6 +143,20 @@ module _ (pages : ℕ) (raw : Parts) (l : Lists) (whole : length raw.heads ≡ 4
                   ∙ ap (λ x. x == 1) (other (i % 32) (omega arith) (λ e. ne (omega (arith, at, e, low)))) ∙ (λ n. bit_at (slice_index raw.heads (sym at n)) (i % 32) == 1)
               | inr away ↦ ap (λ x. bit_at x (i % 32) == 1) (get_or-set_other raw.heads k (bits_at i) w 0 away)
             ]) j;
+        free = tabulate pages (is_among l.free);
+        chains = l.chains;
+      }
+
+  -- a word that bits are in was written
+  pub rewritten : (k w : ℕ) → k < 32 * pages → state_of pages (headed raw k w) l ≡ record (state_of pages raw l) { bits = tabulate (1024 * pages) (bit_of (headed raw k w)) }
+  rewritten k w low =
+      λ j. record {
+        pages = pages;
+        words = raw.words;
+        fills = column-kept pages raw k w FILL (λ p below e. omega (arith, e, low)) j;
+        owners = column-kept pages raw k w OWNER (λ p below e. omega (arith, e, low)) j;
+        serials = serials-kept pages raw k w (λ p below e. omega (arith, e, low)) (λ p below e. omega (arith, e, low)) j;
+        bits = tabulate (1024 * pages) (bit_of (headed raw k w));
         free = tabulate pages (is_among l.free);
         chains = l.chains;
       }

@@ -1,5 +1,5 @@
 -- What a pool holds, and how its block says it.
-use Rattle.std.specs.Prelude.{◌≡◌, ℕ, zero, suc, replicate, ◌+◌, ◌*◌, ◌/◌, ◌%◌, ◌^◌, ◌<◌, ◌≤◌, ◌==◌, Bool, true, false, if◌then◌else◌, List, [], ◌∷◌, length, slice_index, slice_index_or}
+use Rattle.std.specs.Prelude.{◌≡◌, ℕ, zero, suc, replicate, ◌+◌, ◌*◌, ◌/◌, ◌%◌, ◌^◌, ◌<◌, ◌≤◌, ◌==◌, ◌&&◌, nat_le, nat_lt, Bool, true, false, if◌then◌else◌, List, [], ◌∷◌, length, slice_index, slice_index_or}
 use Rattle.std.specs.List.{AllByRecursion}
 use Rattle.std.specs.Int.{bit_at}
 use Rattle.cyc_rawpages.specs.Lists.{Lists, chain_at, numbers_from, is_among}
@@ -37,6 +37,10 @@ new_pool pages = record {
   free = replicate pages true;
   chains = replicate pages [];
 }
+
+-- so many bits from one on are this value, and the others what they were
+abbrev pub between : (old : ℕ → Bool) → (first count : ℕ) → (value : Bool) → ℕ → Bool
+between old first count value number = if nat_le first number && nat_lt number (first + count) then value else old number
 
 -- ---- how the block says it
 

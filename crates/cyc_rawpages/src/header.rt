@@ -1,7 +1,7 @@
 //! The heads of a pool: the bits of all pages, and behind them a header of each page.
 
 ghost use Rattle.std.specs.Int.{bit_at};
-ghost use Rattle.std.specs.Prelude.{◌==◌, if◌then◌else◌, ◌≡◌, ◌≢◌, ℕ, ◌+◌, ◌*◌, ◌<◌, ◌≤◌};
+ghost use Rattle.std.specs.Prelude.{◌==◌, if◌then◌else◌, ◌≡◌, ◌≢◌, ℕ, ◌+◌, ◌*◌, ◌<◌, ◌≤◌, ◌⊎◌};
 ghost use Rattle.cyc_rawpages.specs.Pool.{header_at, bits_at};
 
 /// The words of a page, and its bits.
@@ -71,5 +71,20 @@ pub(crate) fn marked(word: u32, bit: u32, value: bool) -> u32
         word | 1 << bit
     } else {
         word & !(1 << bit)
+    }
+}
+
+/// A word with so many of its bits, from one on, set or cleared.
+#[inline]
+pub(crate) fn marked_from(word: u32, first: u32, count: u32, value: bool) -> u32
+    requires { first + count ≤ 32 }
+    ensures inside { (i : ℕ) → first ≤ i → i < first + count → (bit_at result i == 1) ≡ value }
+    ensures outside { (i : ℕ) → (i < first) ⊎ (first + count ≤ i) → bit_at result i ≡ bit_at word i }
+{
+    let mask = ((1u64 << (first + count)) - (1u64 << first)) as u32;
+    if value {
+        word | mask
+    } else {
+        word ^ (word & mask)
     }
 }

@@ -1,14 +1,14 @@
 //! A pool of pages over one block of memory.
 
-ghost use Rattle.std.specs.Prelude.{◌≡◌, ◌≢◌, [], ◌∷◌, ◌++◌, ◌+◌, ◌*◌, ◌<◌, ◌≤◌, IfOk, MatchOption, false, length, replicate, set, slice_index, slice_index_or};
+ghost use Rattle.std.specs.Prelude.{◌≡◌, ◌≢◌, ℕ, [], ◌∷◌, ◌++◌, ◌+◌, ◌*◌, ◌%◌, ◌<◌, ◌≤◌, IfOk, MatchOption, false, length, replicate, set, slice_index, slice_index_or};
 ghost use Rattle.cyc_rawpages.specs.Lists.{chain_at, freed};
-ghost use Rattle.cyc_rawpages.specs.Pool.{IsFree, IsHead, LinksAll, new_pool};
+ghost use Rattle.cyc_rawpages.specs.Pool.{IsFree, IsHead, LinksAll, between, new_pool};
 
 use super::block::Block;
 use super::change::Change;
 use super::header::{
     FILL, HEAD_WORDS, HIGH, LOW, MOST_PAGES, NEXT, NONE, OWNER, PAGE_WORDS, TAIL, bits_at,
-    header_at, marked,
+    header_at, marked, marked_from,
 };
 use super::roll::Roll;
 use std::alloc::{AllocError, Global};
@@ -235,6 +235,19 @@ impl Pool {
     {
         let at = bits_at(page.number, bit);
         let marks = marked(self.block.head(at), bit % 32, value);
+        self.block.set_head(at, marks);
+    }
+
+    /// Sets or clears so many bits of a page, from one on, at once: those of one word.
+    pub fn set_bits(&mut self, page: PageNo, bit: u32, count: u32, value: bool)
+        requires there { (page.number < self.old.pages) × (bit < PAGE_WORDS) }
+        requires few { bit % 32 + count ≤ 32 }
+        ensures same { self.new ≡ record self.old { bits = self.new.bits } }
+        ensures whole { length self.new.bits ≡ length self.old.bits }
+        ensures bits { (number : ℕ) → slice_index_or self.new.bits number false ≡ between (λ (other : ℕ). slice_index_or self.old.bits other false) (PAGE_WORDS * page.number + bit) count value number }
+    {
+        let at = bits_at(page.number, bit);
+        let marks = marked_from(self.block.head(at), bit % 32, count, value);
         self.block.set_head(at, marks);
     }
 }
