@@ -1,5 +1,6 @@
 pub mod Rows
 pub mod Reaching
+pub mod Marking
 pub mod Backing
 pub mod Closing
 pub mod Pooled

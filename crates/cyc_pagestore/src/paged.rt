@@ -125,19 +125,19 @@ impl PageStore {
     }
 
     /// Whether a word is one of a live block.
-    #[inline]
+    #[inline(always)]
     fn is_live(&self, word: u32) -> bool
         requires { word < length self.now.words }
         ensures { result ≡ is_some (holder (homes (held_of self.now)) (STORE_BASE + 4 * word)) }
     {
-        if word % 1024 < self.table.filled(word / 1024) {
+        if self.table.is_filled(word) {
             return true;
         }
         self.table.is_marked(word)
     }
 
     /// The number of the word with this address, where it is one of a live block.
-    #[inline]
+    #[inline(always)]
     fn word_of(&self, address: u32) -> Option<u32>
         ensures { MatchOption result (word_at (held_of self.now) address ≡ None)
             (λ word. (word < length self.now.words) × (address ≡ STORE_BASE + 4 * word) × (is_some (word_at (held_of self.now) address) ≡ true)) }
@@ -374,6 +374,7 @@ impl Store for PageStore {
         Ok(())
     }
 
+    #[inline(always)]
     fn load(&self, address: u32) -> Option<u32> {
         let Some(word) = self.word_of(address) else {
             return None;
@@ -381,6 +382,7 @@ impl Store for PageStore {
         Some(self.table.word(word))
     }
 
+    #[inline(always)]
     fn save(&mut self, address: u32, word: u32) -> bool {
         let Some(at) = self.word_of(address) else {
             return false;

@@ -1,6 +1,6 @@
 //! The serials of pages: each opening and each closing of a region draws a new one for the region's first page.
 
-ghost use Rattle.std.specs.Prelude.{◌≡◌, ◌≤◌, ◌<◌, ℕ};
+ghost use Rattle.std.specs.Prelude.{◌≡◌, ◌≤◌, ◌<◌, ℕ, nat_lt};
 ghost use Rattle.cyc_rawpages.specs.Pool.{PoolState};
 ghost use Rattle.cyc_pagestore.specs.Live.{IsWhole, AreNewer, AreOne, Readies, reach, Renumbers};
 
@@ -26,6 +26,23 @@ pub(crate) fn reach(pool: &Pool, page: u32) -> u32
     } else {
         0
     }
+}
+
+/// Whether a page has more of its words live by its fill mark than these.
+#[inline]
+pub(crate) fn is_within(pool: &Pool, page: u32, offset: u32) -> bool
+    requires whole { IsWhole pool.now }
+    requires there { page < pool.now.pages }
+    ensures { result ≡ nat_lt offset (reach pool.now page) }
+{
+    let page = PageNo { number: page };
+    if pool.fill(page) <= offset {
+        return false;
+    }
+    let owner = PageNo {
+        number: pool.owner(page),
+    };
+    pool.serial(page) == pool.serial(owner)
 }
 
 /// Numbers all pages anew: each has the number of its owner and one as its serial, and a page that has none of its words

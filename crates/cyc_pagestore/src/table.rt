@@ -1,11 +1,11 @@
 //! A table of pages over a pool.
 
-ghost use Rattle.std.specs.Prelude.{◌≡◌, [], ◌∷◌, ◌+◌, ◌*◌, ◌^◌, ◌<◌, ◌≤◌, IfOk, MatchOption, false, length, set, slice_index, slice_index_or};
+ghost use Rattle.std.specs.Prelude.{◌≡◌, [], ◌∷◌, ◌+◌, ◌*◌, ◌/◌, ◌%◌, ◌^◌, ◌<◌, ◌≤◌, IfOk, MatchOption, false, length, nat_lt, set, slice_index, slice_index_or};
 ghost use Rattle.cyc_rawpages.specs.Pool.{IsFree};
 ghost use Rattle.cyc_pagestore.specs.Table.{AreAlone, blank_table, IsFull, IsRoot, Opens, Adds, Cuts, Fills, Closes, Marks, row_of};
 
 use super::links::Roster;
-use super::serial::{next_serial, reach};
+use super::serial::{is_within, next_serial, reach};
 use super::step::Step;
 use cyc_rawpages::{Chain, PageNo, Pool};
 use cyc_store::{NONE, Role};
@@ -138,15 +138,19 @@ impl PoolTable {
         requires { first + count ≤ 1024 * self.old.most }
         ensures { Marks self.old self.new first count mark }
     {
-        for number in 0..count {
-            let word = first + number;
-            self.pool.set_bit(
+        let mut done = 0;
+        while done < count {
+            let word = first + done;
+            let some = (32 - word % 32).min(count - done);
+            self.pool.set_bits(
                 PageNo {
                     number: word / 1024,
                 },
                 word % 1024,
+                some,
                 mark,
             );
+            done += some;
         }
     }
 
@@ -157,6 +161,15 @@ impl PoolTable {
         ensures { result ≡ (row_of self.now page).filled }
     {
         reach(&self.pool, page)
+    }
+
+    /// Whether a word is live by the fill mark of its page.
+    #[inline]
+    pub(crate) fn is_filled(&self, word: u32) -> bool
+        requires { word < 1024 * self.now.most }
+        ensures { result ≡ nat_lt (word % 1024) (row_of self.now (word / 1024)).filled }
+    {
+        is_within(&self.pool, word / 1024, word % 1024)
     }
 
     /// What a page is used for.

@@ -1,16 +1,26 @@
 -- What a pool's words say after one of them was written.
-use Rattle.std.proofs.Common.{◌≡◌, ℕ, zero, suc, ◌+◌, ◌*◌, ◌/◌, ◌%◌, ◌^◌, ◌<◌, ◌≤◌, List, ◌∷◌, length, set, length-set, replicate, refl, ap, sym, ◌∙◌, inl, inr, arith, get_or-set_same, get_or-set_other}
+use Rattle.std.proofs.Common.{◌≡◌, ℕ, zero, suc, ◌+◌, ◌*◌, ◌%◌, ◌^◌, ◌<◌, ◌≤◌, ◌∷◌, length, set, length-set, replicate, refl, ap, sym, ◌∙◌, inl, inr, arith, get_or-set_same, get_or-set_other}
 use Rattle.std.specs.Prelude.{◌==◌, Bool, slice_index, slice_index_or}
 use Rattle.std.specs.Int.{bit_at}
 use Rattle.std.proofs.lemmas.Bool.{cases_eq}
 use Rattle.cyc_rawpages.specs.Lists.{Lists, is_among}
-use Rattle.cyc_rawpages.specs.Pool.{tabulate, header_at, field_of, serial_of, state_of, marks_at, bit_of}
+use Rattle.cyc_rawpages.specs.Words.{Parts, headed}
+use Rattle.cyc_rawpages.specs.Pool.{tabulate, header_at, field_of, serial_of, state_of, bits_at, bit_of}
 use Rattle.cyc_rawpages.specs.declared.header.TheConstants.{FILL, OWNER, LOW, HIGH}
 
 pub tab-read : {A : Type 0} (n : ℕ) (f : ℕ → A) (i : ℕ) (none : A) → i < n → slice_index_or (tabulate n f) i none ≡ f i
 tab-read zero f i none lt = absurd (omega (arith, lt))
 tab-read (suc n) f zero none lt = refl
 tab-read (suc n) f (suc i) none lt = tab-read n (λ k. f (suc k)) i none (omega (arith, lt))
+
+pub tab-past : {A : Type 0} (n : ℕ) (f : ℕ → A) (i : ℕ) (none : A) → n ≤ i → slice_index_or (tabulate n f) i none ≡ none
+tab-past zero f i none past = refl
+tab-past (suc n) f zero none past = absurd (omega (arith, past))
+tab-past (suc n) f (suc i) none past = tab-past n (λ k. f (suc k)) i none (omega (arith, past))
+
+pub length-tab : {A : Type 0} (n : ℕ) (f : ℕ → A) → length (tabulate n f) ≡ n
+length-tab zero f = refl
+length-tab (suc n) f = ap suc (length-tab n (λ k. f (suc k)))
 
 pub tab-ext : {A : Type 0} (n : ℕ) (f g : ℕ → A) → ((i : ℕ) → i < n → f i ≡ g i) → tabulate n f ≡ tabulate n g
 tab-ext zero f g e = refl
@@ -26,17 +36,13 @@ pub tab-all : {A : Type 0} (n : ℕ) (f : ℕ → A) (v : A) → ((i : ℕ) → 
 tab-all zero f v e = refl
 tab-all (suc n) f v e = λ j. e 0 (omega arith) j ∷ tab-all n (λ k. f (suc k)) v (λ i lt. e (suc i) (omega (arith, lt))) j
 
-module _ (pages : ℕ) (raw : List ℕ) (k v : ℕ) where
-  abbrev new : List ℕ
-  new = set raw k v
-
-  -- a word that is no payload
-  words-kept : 1024 * pages ≤ k → tabulate (1024 * pages) (slice_index new) ≡ tabulate (1024 * pages) (slice_index raw)
-  words-kept high = tab-ext (1024 * pages) (slice_index new) (slice_index raw) (λ i lt. get_or-set_other raw k i v 0 (λ e. omega (arith, e, lt, high)))
+module _ (pages : ℕ) (raw : Parts) (k v : ℕ) where
+  abbrev new : Parts
+  new = headed raw k v
 
   -- a word that is this field of no page
   pub field-kept : (field page : ℕ) → (header_at pages page field ≡ k → ⊥) → field_of pages new field page ≡ field_of pages raw field page
-  field-kept field page ne = get_or-set_other raw k (header_at pages page field) v 0 ne
+  field-kept field page ne = get_or-set_other raw.heads k (header_at pages page field) v 0 ne
 
   column-kept : (field : ℕ) → ((page : ℕ) → page < pages → header_at pages page field ≡ k → ⊥) → tabulate pages (field_of pages new field) ≡ tabulate pages (field_of pages raw field)
   column-kept field ne = tab-ext pages (field_of pages new field) (field_of pages raw field) (λ i lt. field-kept field i (ne i lt))
@@ -46,114 +52,111 @@ module _ (pages : ℕ) (raw : List ℕ) (k v : ℕ) where
   serials-kept low high = tab-ext pages (serial_of pages new) (serial_of pages raw) (λ i lt. λ j. field-kept LOW i (low i lt) j + 2 ^ 32 * field-kept HIGH i (high i lt) j)
 
   -- a word that has the bits of no page
-  bits-kept : ((page field : ℕ) → page < pages → 32 ≤ field → field < 64 → header_at pages page field ≡ k → ⊥) → tabulate (1024 * pages) (bit_of pages new) ≡ tabulate (1024 * pages) (bit_of pages raw)
-  bits-kept ne = tab-ext (1024 * pages) (bit_of pages new) (bit_of pages raw)
-      (λ i lt. ap (λ w. bit_at w (i % 32) == 1) (get_or-set_other raw k (marks_at pages i) v 0 (ne (i / 1024) (32 + i % 1024 / 32) (omega (arith, lt)) (omega arith) (omega arith))))
+  bits-kept : ((number : ℕ) → number < 1024 * pages → bits_at number ≡ k → ⊥) → tabulate (1024 * pages) (bit_of new) ≡ tabulate (1024 * pages) (bit_of raw)
+  bits-kept ne = tab-ext (1024 * pages) (bit_of new) (bit_of raw) (λ i lt. ap (λ w. bit_at w (i % 32) == 1) (get_or-set_other raw.heads k (bits_at i) v 0 (ne i lt)))
 
-module _ (pages : ℕ) (raw : List ℕ) (l : Lists) (whole : length raw ≡ 1088 * pages) where
-  -- a word of a page was written
-  pub saved : (page word v : ℕ) → page < pages → word < 1024
-      → state_of pages (set raw (1024 * page + word) v) l ≡ record (state_of pages raw l) { words = set (state_of pages raw l).words (1024 * page + word) v }
-  saved page word v there low =
-      let k = 1024 * page + word in let lt : k < 1024 * pages = omega (arith, there, low) in
-      λ j. record {
-        pages = pages;
-        words = tab-set (1024 * pages) (slice_index raw) (slice_index (set raw k v)) k v lt (get_or-set_same raw k v 0 (omega (arith, whole, lt))) (λ i below ne. get_or-set_other raw k i v 0 ne) j;
-        fills = column-kept pages raw k v FILL (λ p below e. omega (arith, e, lt)) j;
-        owners = column-kept pages raw k v OWNER (λ p below e. omega (arith, e, lt)) j;
-        serials = serials-kept pages raw k v (λ p below e. omega (arith, e, lt)) (λ p below e. omega (arith, e, lt)) j;
-        bits = bits-kept pages raw k v (λ p f below lo hi e. omega (arith, e, lt, lo, hi)) j;
-        free = tabulate pages (is_among l.free);
-        chains = l.chains;
-      }
-
+module _ (pages : ℕ) (raw : Parts) (l : Lists) (whole : length raw.heads ≡ 40 * pages) where
   -- a page was said to be filled so far
   pub filled : (page v : ℕ) → page < pages
-      → state_of pages (set raw (header_at pages page FILL) v) l ≡ record (state_of pages raw l) { fills = set (state_of pages raw l).fills page v }
+      → state_of pages (headed raw (header_at pages page FILL) v) l ≡ record (state_of pages raw l) { fills = set (state_of pages raw l).fills page v }
   filled page v there =
       let k = header_at pages page FILL in
       λ j. record {
         pages = pages;
-        words = words-kept pages raw k v (omega arith) j;
-        fills = tab-set pages (field_of pages raw FILL) (field_of pages (set raw k v) FILL) page v there (get_or-set_same raw k v 0 (omega (arith, whole, there))) (λ i below ne. field-kept pages raw k v FILL i (λ e. ne (omega (arith, e)))) j;
+        words = raw.words;
+        fills = tab-set pages (field_of pages raw FILL) (field_of pages (headed raw k v) FILL) page v there (get_or-set_same raw.heads k v 0 (omega (arith, whole, there))) (λ i below ne. field-kept pages raw k v FILL i (λ e. ne (omega (arith, e)))) j;
         owners = column-kept pages raw k v OWNER (λ p below e. omega (arith, e)) j;
         serials = serials-kept pages raw k v (λ p below e. omega (arith, e)) (λ p below e. omega (arith, e)) j;
-        bits = bits-kept pages raw k v (λ p f below lo hi e. omega (arith, e, lo, hi)) j;
+        bits = bits-kept pages raw k v (λ i below e. omega (arith, e, below)) j;
         free = tabulate pages (is_among l.free);
         chains = l.chains;
       }
 
   -- a page was said to be this one's
   pub owned : (page v : ℕ) → page < pages
-      → state_of pages (set raw (header_at pages page OWNER) v) l ≡ record (state_of pages raw l) { owners = set (state_of pages raw l).owners page v }
+      → state_of pages (headed raw (header_at pages page OWNER) v) l ≡ record (state_of pages raw l) { owners = set (state_of pages raw l).owners page v }
   owned page v there =
       let k = header_at pages page OWNER in
       λ j. record {
         pages = pages;
-        words = words-kept pages raw k v (omega arith) j;
+        words = raw.words;
         fills = column-kept pages raw k v FILL (λ p below e. omega (arith, e)) j;
-        owners = tab-set pages (field_of pages raw OWNER) (field_of pages (set raw k v) OWNER) page v there (get_or-set_same raw k v 0 (omega (arith, whole, there))) (λ i below ne. field-kept pages raw k v OWNER i (λ e. ne (omega (arith, e)))) j;
+        owners = tab-set pages (field_of pages raw OWNER) (field_of pages (headed raw k v) OWNER) page v there (get_or-set_same raw.heads k v 0 (omega (arith, whole, there))) (λ i below ne. field-kept pages raw k v OWNER i (λ e. ne (omega (arith, e)))) j;
         serials = serials-kept pages raw k v (λ p below e. omega (arith, e)) (λ p below e. omega (arith, e)) j;
-        bits = bits-kept pages raw k v (λ p f below lo hi e. omega (arith, e, lo, hi)) j;
+        bits = bits-kept pages raw k v (λ i below e. omega (arith, e, below)) j;
         free = tabulate pages (is_among l.free);
         chains = l.chains;
       }
 
   -- both halves of a page's serial were written
   pub numbered : (page low high : ℕ) → page < pages
-      → state_of pages (set (set raw (header_at pages page LOW) low) (header_at pages page HIGH) high) l ≡ record (state_of pages raw l) { serials = set (state_of pages raw l).serials page (low + 2 ^ 32 * high) }
+      → state_of pages (headed (headed raw (header_at pages page LOW) low) (header_at pages page HIGH) high) l ≡ record (state_of pages raw l) { serials = set (state_of pages raw l).serials page (low + 2 ^ 32 * high) }
   numbered page low high there =
-      let k = header_at pages page LOW in let h = header_at pages page HIGH in let mid = set raw k low in let long = length-set raw k low in
+      let k = header_at pages page LOW in let h = header_at pages page HIGH in let mid = headed raw k low in let long = length-set raw.heads k low in
       λ j. record {
         pages = pages;
-        words = (words-kept pages mid h high (omega arith) ∙ words-kept pages raw k low (omega arith)) j;
+        words = raw.words;
         fills = (column-kept pages mid h high FILL (λ p below e. omega (arith, e)) ∙ column-kept pages raw k low FILL (λ p below e. omega (arith, e))) j;
         owners = (column-kept pages mid h high OWNER (λ p below e. omega (arith, e)) ∙ column-kept pages raw k low OWNER (λ p below e. omega (arith, e))) j;
-        serials = tab-set pages (serial_of pages raw) (serial_of pages (set mid h high)) page (low + 2 ^ 32 * high) there
-            (λ i. (field-kept pages mid h high LOW page (λ e. omega (arith, e)) ∙ get_or-set_same raw k low 0 (omega (arith, whole, there))) i + 2 ^ 32 * get_or-set_same mid h high 0 (omega (arith, whole, there, long)) i)
+        serials = tab-set pages (serial_of pages raw) (serial_of pages (headed mid h high)) page (low + 2 ^ 32 * high) there
+            (λ i. (field-kept pages mid h high LOW page (λ e. omega (arith, e)) ∙ get_or-set_same raw.heads k low 0 (omega (arith, whole, there))) i + 2 ^ 32 * get_or-set_same mid.heads h high 0 (omega (arith, whole, there, long)) i)
             (λ q below ne. λ i. (field-kept pages mid h high LOW q (λ e. omega (arith, e)) ∙ field-kept pages raw k low LOW q (λ e. ne (omega (arith, e)))) i
             + 2 ^ 32 * (field-kept pages mid h high HIGH q (λ e. ne (omega (arith, e))) ∙ field-kept pages raw k low HIGH q (λ e. omega (arith, e))) i) j;
-        bits = (bits-kept pages mid h high (λ p f below lo hi e. omega (arith, e, lo, hi)) ∙ bits-kept pages raw k low (λ p f below lo hi e. omega (arith, e, lo, hi))) j;
+        bits = (bits-kept pages mid h high (λ i below e. omega (arith, e, below)) ∙ bits-kept pages raw k low (λ i below e. omega (arith, e, below))) j;
         free = tabulate pages (is_among l.free);
         chains = l.chains;
       }
 
   -- a link or a tail was written, which only the lists tell
-  pub linked : (page field v : ℕ) → 4 ≤ field → field < 32 → state_of pages (set raw (header_at pages page field) v) l ≡ state_of pages raw l
+  pub linked : (page field v : ℕ) → 4 ≤ field → field < 8 → state_of pages (headed raw (header_at pages page field) v) l ≡ state_of pages raw l
   linked page field v low high =
       let k = header_at pages page field in
       λ j. record {
         pages = pages;
-        words = words-kept pages raw k v (omega arith) j;
+        words = raw.words;
         fills = column-kept pages raw k v FILL (λ p below e. omega (arith, e, low, high)) j;
         owners = column-kept pages raw k v OWNER (λ p below e. omega (arith, e, low, high)) j;
         serials = serials-kept pages raw k v (λ p below e. omega (arith, e, low, high)) (λ p below e. omega (arith, e, low, high)) j;
-        bits = bits-kept pages raw k v (λ p f below lo hi e. omega (arith, e, lo, hi, low, high)) j;
+        bits = bits-kept pages raw k v (λ i below e. omega (arith, e, below)) j;
         free = tabulate pages (is_among l.free);
         chains = l.chains;
       }
 
   -- a bit of a page was set or cleared
   pub marked : (page bit w : ℕ) (v : Bool) → page < pages → bit < 1024 → (bit_at w (bit % 32) == 1) ≡ v
-      → ((i : ℕ) → i < 32 → (i ≡ bit % 32 → ⊥) → bit_at w i ≡ bit_at (slice_index raw (header_at pages page (32 + bit / 32))) i)
-      → state_of pages (set raw (header_at pages page (32 + bit / 32)) w) l ≡ record (state_of pages raw l) { bits = set (state_of pages raw l).bits (1024 * page + bit) v }
+      → ((i : ℕ) → i < 32 → (i ≡ bit % 32 → ⊥) → bit_at w i ≡ bit_at (slice_index raw.heads (bits_at (1024 * page + bit))) i)
+      → state_of pages (headed raw (bits_at (1024 * page + bit)) w) l ≡ record (state_of pages raw l) { bits = set (state_of pages raw l).bits (1024 * page + bit) v }
   marked page bit w v there low same other =
-      let k = header_at pages page (32 + bit / 32) in let number = 1024 * page + bit in let new = set raw k w in
-      let here : marks_at pages number ≡ k = omega (arith, low) in let rest : number % 32 ≡ bit % 32 = omega arith in
-      let inside : k < length raw = omega (arith, whole, there, low) in
+      let k = bits_at (1024 * page + bit) in let number = 1024 * page + bit in let new = headed raw k w in
+      let rest : number % 32 ≡ bit % 32 = omega arith in
+      let inside : k < length raw.heads = omega (arith, whole, there, low) in
       λ j. record {
         pages = pages;
-        words = words-kept pages raw k w (omega arith) j;
+        words = raw.words;
+        fills = column-kept pages raw k w FILL (λ p below e. omega (arith, e, there, low)) j;
+        owners = column-kept pages raw k w OWNER (λ p below e. omega (arith, e, there, low)) j;
+        serials = serials-kept pages raw k w (λ p below e. omega (arith, e, there, low)) (λ p below e. omega (arith, e, there, low)) j;
+        bits = tab-set (1024 * pages) (bit_of raw) (bit_of new) number v (omega (arith, there, low))
+            ((λ i. bit_at (slice_index new.heads k) (rest i) == 1) ∙ ap (λ x. bit_at x (bit % 32) == 1) (get_or-set_same raw.heads k w 0 inside) ∙ same)
+            (λ i below ne. elim (cases_eq (bits_at i) k) [
+              | inl at ↦ (λ n. bit_at (slice_index new.heads (at n)) (i % 32) == 1) ∙ ap (λ x. bit_at x (i % 32) == 1) (get_or-set_same raw.heads k w 0 inside)
+                  ∙ ap (λ x. x == 1) (other (i % 32) (omega arith) (λ e. ne (omega (arith, at, e, low)))) ∙ (λ n. bit_at (slice_index raw.heads (sym at n)) (i % 32) == 1)
+              | inr away ↦ ap (λ x. bit_at x (i % 32) == 1) (get_or-set_other raw.heads k (bits_at i) w 0 away)
+            ]) j;
+        free = tabulate pages (is_among l.free);
+        chains = l.chains;
+      }
+
+  -- a word that bits are in was written
+  pub rewritten : (k w : ℕ) → k < 32 * pages → state_of pages (headed raw k w) l ≡ record (state_of pages raw l) { bits = tabulate (1024 * pages) (bit_of (headed raw k w)) }
+  rewritten k w low =
+      λ j. record {
+        pages = pages;
+        words = raw.words;
         fills = column-kept pages raw k w FILL (λ p below e. omega (arith, e, low)) j;
         owners = column-kept pages raw k w OWNER (λ p below e. omega (arith, e, low)) j;
         serials = serials-kept pages raw k w (λ p below e. omega (arith, e, low)) (λ p below e. omega (arith, e, low)) j;
-        bits = tab-set (1024 * pages) (bit_of pages raw) (bit_of pages new) number v (omega (arith, there, low))
-            ((λ i. bit_at (slice_index new (here i)) (rest i) == 1) ∙ ap (λ x. bit_at x (bit % 32) == 1) (get_or-set_same raw k w 0 inside) ∙ same)
-            (λ i below ne. elim (cases_eq (marks_at pages i) k) [
-              | inl at ↦ (λ n. bit_at (slice_index new (at n)) (i % 32) == 1) ∙ ap (λ x. bit_at x (i % 32) == 1) (get_or-set_same raw k w 0 inside)
-                  ∙ ap (λ x. x == 1) (other (i % 32) (omega arith) (λ e. ne (omega (arith, at, e, low)))) ∙ (λ n. bit_at (slice_index raw (sym at n)) (i % 32) == 1)
-              | inr away ↦ ap (λ x. bit_at x (i % 32) == 1) (get_or-set_other raw k (marks_at pages i) w 0 away)
-            ]) j;
+        bits = tabulate (1024 * pages) (bit_of (headed raw k w));
         free = tabulate pages (is_among l.free);
         chains = l.chains;
       }

@@ -1,5 +1,5 @@
 -- A pool whose pages are linked from the last one down.
-use Rattle.std.proofs.Common.{◌≡◌, ℕ, zero, suc, ◌+◌, ◌-◌, ◌*◌, ◌%◌, ◌^◌, ◌<◌, ◌≤◌, List, [], ◌∷◌, length, set, replicate, refl, sym, ap, subst, ◌∙◌, arith, length-set, inl, inr}
+use Rattle.std.proofs.Common.{◌≡◌, ℕ, zero, suc, ◌+◌, ◌-◌, ◌*◌, ◌%◌, ◌^◌, ◌<◌, ◌≤◌, [], ◌∷◌, length, replicate, refl, sym, ap, subst, ◌∙◌, arith, length-set, inl, inr}
 use Rattle.std.specs.Prelude.{◌==◌, true, false, slice_index}
 use Rattle.std.specs.List.{AllByRecursion}
 use Rattle.std.specs.Int.{bit_at}
@@ -7,16 +7,18 @@ use Rattle.std.proofs.lemmas.Nat.Bits.{bit_at-zero}
 use Rattle.std.proofs.lemmas.Bool.{cases_eq, cond-true, cond-false, eq-eqb, ne_eqb}
 use Rattle.std.proofs.lemmas.List.{length-replicate}
 use Rattle.cyc_rawpages.specs.Lists.{Lists, chain_at, numbers_from, all_free, is_among}
-use Rattle.cyc_rawpages.specs.Pool.{header_at, field_of, serial_of, marks_at, bit_of, state_of, put, IsLinked, IsDistinct, IsIn, IsChain, LinksAll, IsPool, new_pool}
+use Rattle.cyc_rawpages.specs.Words.{Parts, headed}
+use Rattle.cyc_rawpages.specs.Pool.{header_at, field_of, serial_of, bits_at, bit_of, state_of, put, IsLinked, IsDistinct, IsIn, IsChain, LinksAll, IsPool, new_pool}
 use Rattle.cyc_rawpages.specs.declared.header.TheConstants.{FILL, OWNER, LOW, HIGH, NEXT, TAIL, NONE}
 use Rattle.cyc_rawpages.proofs.Columns.{tab-all, linked}
 use Rattle.cyc_rawpages.proofs.Links.{put-same, put-other, all-map, linked-same}
 use Rattle.cyc_rawpages.proofs.PoolLemmas.{header-in, field-put}
 
 -- the pages from `left` on are linked
-pub record IsLinking (pages : ℕ) (old new : List ℕ) (first left : ℕ) : Type 0 where
+pub record IsLinking (pages : ℕ) (old new : Parts) (first left : ℕ) : Type 0 where
   pub fits : left ≤ pages
-  pub whole : length new ≡ 1088 * pages
+  pub whole : length new.heads ≡ 40 * pages
+  pub words : new.words ≡ old.words
   pub same : (l : Lists) → state_of pages new l ≡ state_of pages old l
   pub linked : IsLinked (field_of pages new NEXT) first (numbers_from left (pages - left)) NONE
 
@@ -24,25 +26,27 @@ above : (first count k : ℕ) → k < first → AllByRecursion (λ x. k < x) (nu
 above first zero k lt = tt
 above first (suc count) k lt = (lt, above (suc first) count k (omega (arith, lt)))
 
-pub starts : (pages : ℕ) (old : List ℕ) → length old ≡ 1088 * pages → IsLinking pages old old NONE pages
+pub starts : (pages : ℕ) (old : Parts) → length old.heads ≡ 40 * pages → IsLinking pages old old NONE pages
 starts pages old long = record {
   fits = omega arith;
   whole = long;
+  words = refl;
   same = λ l. refl;
   linked = subst (λ n. IsLinked (field_of pages old NEXT) NONE (numbers_from pages n) NONE) {x = 0} {y = pages - pages} (omega arith) refl;
 }
 
-pub steps : (pages : ℕ) (old new : List ℕ) (first left : ℕ) → 0 < left → IsLinking pages old new first left
-    → IsLinking pages old (set new (header_at pages (left - 1) NEXT) first) (left - 1) (left - 1)
+pub steps : (pages : ℕ) (old new : Parts) (first left : ℕ) → 0 < left → IsLinking pages old new first left
+    → IsLinking pages old (headed new (header_at pages (left - 1) NEXT) first) (left - 1) (left - 1)
 steps pages old new first zero some is = absurd (omega (arith, some))
 steps pages old new first (suc left) some is =
     let less : suc left - 1 ≡ left = omega arith in let fits = is.fits in let there : left < pages = omega (arith, fits) in let k = header_at pages left NEXT in
     let next = put (field_of pages new NEXT) left first in
     rw less (record {
       fits = omega (arith, fits);
-      whole = length-set new k first ∙ is.whole;
+      whole = length-set new.heads k first ∙ is.whole;
+      words = is.words;
       same = λ l. linked pages new l is.whole left NEXT first (omega arith) (omega arith) ∙ is.same l;
-      linked = subst (λ n. IsLinked (field_of pages (set new k first) NEXT) left (numbers_from left n) NONE) {x = suc (pages - suc left)} {y = pages - left} (omega (arith, there))
+      linked = subst (λ n. IsLinked (field_of pages (headed new k first) NEXT) left (numbers_from left n) NONE) {x = suc (pages - suc left)} {y = pages - left} (omega (arith, there))
           (subst (λ f. IsLinked f left (left ∷ numbers_from (suc left) (pages - suc left)) NONE) (sym (field-put pages left NEXT first new (header-in pages left NEXT new is.whole there (omega arith)))) (
             refl,
             subst (λ q. IsLinked next q (numbers_from (suc left) (pages - suc left)) NONE) (sym (put-same (field_of pages new NEXT) left first left refl))
@@ -55,9 +59,9 @@ steps pages old new first (suc left) some is =
 whole_range : (pages left : ℕ) → left ≡ 0 → pages - left ≡ pages
 whole_range pages left none = omega (arith, none)
 
-pub ends : (pages : ℕ) (old new : List ℕ) (first left : ℕ) → left ≡ 0 → IsLinking pages old new first left → LinksAll pages old new first
+pub ends : (pages : ℕ) (old new : Parts) (first left : ℕ) → left ≡ 0 → IsLinking pages old new first left → LinksAll pages old new first
 ends pages old new first left none is =
-    record { whole = is.whole; same = is.same; linked = subst (λ (u : ℕ × ℕ). IsLinked (field_of pages new NEXT) first (numbers_from u.0 u.1) NONE) {x = (left, pages - left)} {y = (0, pages)} (λ j. (none j, whole_range pages left none j)) is.linked }
+    record { whole = is.whole; words = is.words; same = is.same; linked = subst (λ (u : ℕ × ℕ). IsLinked (field_of pages new NEXT) first (numbers_from u.0 u.1) NONE) {x = (left, pages - left)} {y = (0, pages)} (λ j. (none j, whole_range pages left none j)) is.linked }
 
 -- ---- all of it
 distinct-numbers : (first count : ℕ) → IsDistinct (numbers_from first count)
@@ -73,9 +77,10 @@ no-chain zero head = refl
 no-chain (suc n) zero = refl
 no-chain (suc n) (suc head) = no-chain n head
 
-pub fresh-pool : (pages : ℕ) (old new : List ℕ) (first : ℕ) → pages ≤ 65536 → LinksAll pages old new first → IsPool pages new first (all_free pages)
-fresh-pool pages old new first few is = record {
+pub fresh-pool : (pages : ℕ) (old new : Parts) (first : ℕ) → pages ≤ 65536 → length old.words ≡ 1024 * pages → LinksAll pages old new first → IsPool pages new first (all_free pages)
+fresh-pool pages old new first few long is = record {
   whole = is.whole;
+  words = ap length is.words ∙ long;
   up = record {
     few = few;
     many = length-replicate pages [];
@@ -99,14 +104,19 @@ among-numbers first (suc count) page from to = elim (cases_eq page first) [
   | inr other ↦ cond-false (page == first) true (is_among (numbers_from (suc first) count) page) (ne_eqb page first other) ∙ among-numbers (suc first) count page (omega (arith, from, other)) (omega (arith, to))
 ]
 
-pub fresh-state : (pages n : ℕ) → state_of pages (replicate n 0) (all_free pages) ≡ new_pool pages
-fresh-state pages n = λ j. record {
-  pages = pages;
-  words = tab-all (1024 * pages) (slice_index (replicate n 0)) 0 (λ i lt. zero-at n i) j;
-  fills = tab-all pages (field_of pages (replicate n 0) FILL) 0 (λ i lt. zero-at n _) j;
-  owners = tab-all pages (field_of pages (replicate n 0) OWNER) 0 (λ i lt. zero-at n _) j;
-  serials = tab-all pages (serial_of pages (replicate n 0)) 0 (λ i lt. λ k. zero-at n (header_at pages i LOW) k + 2 ^ 32 * zero-at n (header_at pages i HIGH) k) j;
-  bits = tab-all (1024 * pages) (bit_of pages (replicate n 0)) false (λ i lt. ap (λ w. bit_at w (i % 32) == 1) (zero-at n (marks_at pages i)) ∙ ap (λ k. k == 1) (bit_at-zero (i % 32))) j;
-  free = tab-all pages (is_among (numbers_from 0 pages)) true (λ i lt. among-numbers 0 pages i (omega arith) (omega (arith, lt))) j;
-  chains = replicate pages [];
-}
+abbrev blank : (heads words : ℕ) → Parts
+blank heads words = record { heads = replicate heads 0; words = replicate words 0 }
+
+pub fresh-state : (pages n : ℕ) → state_of pages (blank n (1024 * pages)) (all_free pages) ≡ new_pool pages
+fresh-state pages n =
+    let raw = blank n (1024 * pages) in
+    λ j. record {
+      pages = pages;
+      words = raw.words;
+      fills = tab-all pages (field_of pages raw FILL) 0 (λ i lt. zero-at n _) j;
+      owners = tab-all pages (field_of pages raw OWNER) 0 (λ i lt. zero-at n _) j;
+      serials = tab-all pages (serial_of pages raw) 0 (λ i lt. λ k. zero-at n (header_at pages i LOW) k + 2 ^ 32 * zero-at n (header_at pages i HIGH) k) j;
+      bits = tab-all (1024 * pages) (bit_of raw) false (λ i lt. ap (λ w. bit_at w (i % 32) == 1) (zero-at n (bits_at i)) ∙ ap (λ k. k == 1) (bit_at-zero (i % 32))) j;
+      free = tab-all pages (is_among (numbers_from 0 pages)) true (λ i lt. among-numbers 0 pages i (omega arith) (omega (arith, lt))) j;
+      chains = replicate pages [];
+    }

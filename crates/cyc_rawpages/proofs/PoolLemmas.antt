@@ -6,36 +6,38 @@ use Rattle.std.specs.Int.{bit_at}
 use Rattle.std.proofs.lemmas.Bool.{cases_eq}
 use Rattle.cyc_rawpages.specs.Lists.{Lists, chain_at, after, is_among, freed}
 use Rattle.cyc_rawpages.specs.declared.change.Change.TheVariants.{Taken, Pushed, Given}
-use Rattle.cyc_rawpages.specs.Pool.{PoolState, tabulate, header_at, field_of, marks_at, bit_of, state_of, put, IsFree, IsHead, IsDistinct, IsChain, IsLinkedUp, IsPool}
+use Rattle.cyc_rawpages.specs.Words.{Parts, headed}
+use Rattle.cyc_rawpages.specs.Pool.{PoolState, tabulate, header_at, field_of, bits_at, bit_of, state_of, put, IsFree, IsHead, IsDistinct, IsChain, IsLinkedUp, IsPool}
 use Rattle.cyc_rawpages.specs.declared.header.TheConstants.{NEXT, TAIL, NONE}
 use Rattle.cyc_rawpages.proofs.Columns.{tab-read, field-kept}
 use Rattle.cyc_rawpages.proofs.FreePages.{free-none as none-free, free-first, free-taken, free-given}
 use Rattle.cyc_rawpages.proofs.Links.{put-same, put-other, all-map, free-none, free-some, free-there, taken, tail-in, given, pushed}
 
 -- where a header stands
-pub header-in : (pages page field : ℕ) (raw : List ℕ) → length raw ≡ 1088 * pages → page < pages → field < 64 → header_at pages page field < length raw
+pub header-in : (pages page field : ℕ) (raw : Parts) → length raw.heads ≡ 40 * pages → page < pages → field < 8 → header_at pages page field < length raw.heads
 header-in pages page field raw whole there low = omega (arith, whole, there, low)
 
-pub word-in : (pages page word : ℕ) (raw : List ℕ) → length raw ≡ 1088 * pages → page < pages → word < 1024 → 1024 * page + word < length raw
+pub word-in : (pages page word : ℕ) (raw : Parts) → length raw.words ≡ 1024 * pages → page < pages → word < 1024 → 1024 * page + word < length raw.words
 word-in pages page word raw whole there low = omega (arith, whole, there, low)
 
 -- a field as a function of the page, after that of one page was written
-pub field-put : (pages page field v : ℕ) (raw : List ℕ) → header_at pages page field < length raw → field_of pages (set raw (header_at pages page field) v) field ≡ put (field_of pages raw field) page v
+pub field-put : (pages page field v : ℕ) (raw : Parts) → header_at pages page field < length raw.heads → field_of pages (headed raw (header_at pages page field) v) field ≡ put (field_of pages raw field) page v
 field-put pages page field v raw inside = λ j p. at p j where
-  at : (p : ℕ) → field_of pages (set raw (header_at pages page field) v) field p ≡ put (field_of pages raw field) page v p
+  at : (p : ℕ) → field_of pages (headed raw (header_at pages page field) v) field p ≡ put (field_of pages raw field) page v p
   at p = elim (cases_eq p page) [
-    | inl same ↦ ap (λ q. field_of pages (set raw (header_at pages page field) v) field q) same ∙ get_or-set_same raw (header_at pages page field) v 0 inside ∙ sym (put-same (field_of pages raw field) page v p same)
+    | inl same ↦ ap (λ q. field_of pages (headed raw (header_at pages page field) v) field q) same ∙ get_or-set_same raw.heads (header_at pages page field) v 0 inside ∙ sym (put-same (field_of pages raw field) page v p same)
     | inr other ↦ field-kept pages raw (header_at pages page field) v field p (λ e. other (omega (arith, e))) ∙ sym (put-other (field_of pages raw field) page v p other)
   ]
 
-field-apart : (pages page written v field : ℕ) (raw : List ℕ) → written < 64 → field < 64 → (written ≡ field → ⊥) → field_of pages (set raw (header_at pages page written) v) field ≡ field_of pages raw field
+field-apart : (pages page written v field : ℕ) (raw : Parts) → written < 8 → field < 8 → (written ≡ field → ⊥) → field_of pages (headed raw (header_at pages page written) v) field ≡ field_of pages raw field
 field-apart pages page written v field raw low high ne = λ j p. field-kept pages raw (header_at pages page written) v field p (λ e. ne (omega (arith, e, low, high))) j
 
-module _ (pages : ℕ) (raw : List ℕ) (first : ℕ) (l : Lists) (is : IsPool pages raw first l) where
+module _ (pages : ℕ) (raw : Parts) (first : ℕ) (l : Lists) (is : IsPool pages raw first l) where
   -- no link was written
-  pub kept : (k v : ℕ) → ((page : ℕ) → (header_at pages page NEXT ≡ k → ⊥) × (header_at pages page TAIL ≡ k → ⊥)) → IsPool pages (set raw k v) first l
+  pub kept : (k v : ℕ) → ((page : ℕ) → (header_at pages page NEXT ≡ k → ⊥) × (header_at pages page TAIL ≡ k → ⊥)) → IsPool pages (headed raw k v) first l
   kept k v ne = record {
-    whole = length-set raw k v ∙ is.whole;
+    whole = length-set raw.heads k v ∙ is.whole;
+    words = is.words;
     up = subst (λ (u : (ℕ → ℕ) × (ℕ → ℕ)). IsLinkedUp pages u.0 u.1 first l)
         (λ j. ((λ p. sym (field-kept pages raw k v NEXT p (ne p).0) j), (λ p. sym (field-kept pages raw k v TAIL p (ne p).1) j))) is.up;
   }
@@ -46,13 +48,14 @@ module _ (pages : ℕ) (raw : List ℕ) (first : ℕ) (l : Lists) (is : IsPool p
       free-there pages (field_of pages raw NEXT) (field_of pages raw TAIL) first l is.up had.0 had.1
 
   -- the first free page was taken
-  pub pool-taken : (first ≡ NONE → ⊥) → IsPool pages (set raw (header_at pages first TAIL) first) (field_of pages raw NEXT first) (after l (Taken first))
+  pub pool-taken : (first ≡ NONE → ⊥) → IsPool pages (headed raw (header_at pages first TAIL) first) (field_of pages raw NEXT first) (after l (Taken first))
   pool-taken some =
       let had = free-some pages (field_of pages raw NEXT) (field_of pages raw TAIL) first l is.up some in
       let there = free-there pages (field_of pages raw NEXT) (field_of pages raw TAIL) first l is.up had.0 had.1 in
       let k = header_at pages first TAIL in
       record {
-        whole = length-set raw k first ∙ is.whole;
+        whole = length-set raw.heads k first ∙ is.whole;
+        words = is.words;
         up = subst (λ (u : (ℕ → ℕ) × (ℕ → ℕ)). IsLinkedUp pages u.0 u.1 (field_of pages raw NEXT first) (after l (Taken first)))
             (λ j. (sym (field-apart pages first TAIL first NEXT raw (omega arith) (omega arith) (λ e. omega (arith, e))) j, sym (field-put pages first TAIL first raw (header-in pages first TAIL raw is.whole there (omega arith))) j))
             (taken pages (field_of pages raw NEXT) (field_of pages raw TAIL) first l is.up had.0 had.1);
@@ -80,9 +83,10 @@ module _ (pages : ℕ) (raw : List ℕ) (first : ℕ) (l : Lists) (is : IsPool p
     tail-there = (tail-in pages (field_of pages raw NEXT) (field_of pages raw TAIL) first l is.up head rest below e).0
 
     -- a chain was given back
-    pub pool-given : IsPool pages (set raw (header_at pages tail NEXT) first) head (after l (Given head))
+    pub pool-given : IsPool pages (headed raw (header_at pages tail NEXT) first) head (after l (Given head))
     pool-given = record {
-      whole = length-set raw (header_at pages tail NEXT) first ∙ is.whole;
+      whole = length-set raw.heads (header_at pages tail NEXT) first ∙ is.whole;
+      words = is.words;
       up = subst (λ (u : (ℕ → ℕ) × (ℕ → ℕ)). IsLinkedUp pages u.0 u.1 head (after l (Given head)))
           (λ j. (sym (field-put pages tail NEXT first raw (header-in pages tail NEXT raw is.whole tail-there (omega arith))) j, sym (field-apart pages tail NEXT first TAIL raw (omega arith) (omega arith) (λ same. omega (arith, same))) j))
           (given pages (field_of pages raw NEXT) (field_of pages raw TAIL) first l is.up head rest below e);
@@ -95,11 +99,12 @@ module _ (pages : ℕ) (raw : List ℕ) (first : ℕ) (l : Lists) (is : IsPool p
 
     -- a page was put behind a chain
     pub pool-pushed : (page : ℕ) → page < pages → (head ≡ page → ⊥) → chain_at l.chains page ≡ page ∷ []
-        → IsPool pages (set (set raw (header_at pages tail NEXT) page) (header_at pages head TAIL) page) first (after l (Pushed head page))
+        → IsPool pages (headed (headed raw (header_at pages tail NEXT) page) (header_at pages head TAIL) page) first (after l (Pushed head page))
     pool-pushed page there ne alone =
-        let n = header_at pages tail NEXT in let t = header_at pages head TAIL in let mid = set raw n page in let long : length mid ≡ 1088 * pages = length-set raw n page ∙ is.whole in
+        let n = header_at pages tail NEXT in let t = header_at pages head TAIL in let mid = headed raw n page in let long : length mid.heads ≡ 40 * pages = length-set raw.heads n page ∙ is.whole in
         record {
-          whole = length-set mid t page ∙ long;
+          whole = length-set mid.heads t page ∙ long;
+          words = is.words;
           up = subst (λ (u : (ℕ → ℕ) × (ℕ → ℕ)). IsLinkedUp pages u.0 u.1 first (after l (Pushed head page)))
               (λ j. (
                 sym (field-apart pages head TAIL page NEXT mid (omega arith) (omega arith) (λ same. omega (arith, same)) ∙ field-put pages tail NEXT page raw (header-in pages tail NEXT raw is.whole tail-there (omega arith))) j,
@@ -113,7 +118,7 @@ pub halves : (n : ℕ) → n % 2 ^ 32 + 2 ^ 32 * (n / 2 ^ 32) ≡ n
 halves n = omega arith
 
 -- ---- what is read
-pub column-read : (pages page field : ℕ) (raw : List ℕ) → page < pages → slice_index (tabulate pages (field_of pages raw field)) page ≡ slice_index raw (header_at pages page field)
+pub column-read : (pages page field : ℕ) (raw : Parts) → page < pages → slice_index (tabulate pages (field_of pages raw field)) page ≡ slice_index raw.heads (header_at pages page field)
 column-read pages page field raw there = tab-read pages (field_of pages raw field) page 0 there
 
 -- ---- what is asked of a pool's state is so of its parts
@@ -126,9 +131,9 @@ head-in s now page is has = subst (λ cs. IsHead cs page) (sym (ap (λ (t : Pool
 pub alone-in : (s now : PoolState) (page : ℕ) → s ≡ now → chain_at now.chains page ≡ page ∷ [] → chain_at s.chains page ≡ page ∷ []
 alone-in s now page is has = subst (λ cs. chain_at cs page ≡ page ∷ []) (sym (ap (λ (t : PoolState). t.chains) is)) has
 
-pub bit-read : (pages : ℕ) (raw : List ℕ) (l : Lists) (page bit : ℕ) (now : PoolState) → state_of pages raw l ≡ now → page < now.pages → bit < 1024
-    → (bit_at (slice_index raw (header_at pages page (32 + bit / 32))) (bit % 32) == 1) ≡ slice_index_or now.bits (1024 * page + bit) false
+pub bit-read : (pages : ℕ) (raw : Parts) (l : Lists) (page bit : ℕ) (now : PoolState) → state_of pages raw l ≡ now → page < now.pages → bit < 1024
+    → (bit_at (slice_index raw.heads (bits_at (1024 * page + bit))) (bit % 32) == 1) ≡ slice_index_or now.bits (1024 * page + bit) false
 bit-read pages raw l page bit now is there low =
     let number = 1024 * page + bit in let same = ap (λ (t : PoolState). t.pages) is in
-    let here : header_at pages page (32 + bit / 32) ≡ marks_at pages number = omega (arith, low) in let rest : bit % 32 ≡ number % 32 = omega arith in
-    (λ j. bit_at (slice_index raw (here j)) (rest j) == 1) ∙ sym (tab-read (1024 * pages) (bit_of pages raw) number false (omega (arith, there, low, same))) ∙ ap (λ (t : PoolState). slice_index_or t.bits number false) is
+    let rest : bit % 32 ≡ number % 32 = omega arith in
+    (λ j. bit_at (slice_index raw.heads (bits_at number)) (rest j) == 1) ∙ sym (tab-read (1024 * pages) (bit_of raw) number false (omega (arith, there, low, same))) ∙ ap (λ (t : PoolState). slice_index_or t.bits number false) is

@@ -1,9 +1,10 @@
--- What a pool holds, and how its words say it.
-use Rattle.std.specs.Prelude.{◌≡◌, ℕ, zero, suc, replicate, ◌+◌, ◌*◌, ◌/◌, ◌%◌, ◌^◌, ◌<◌, ◌≤◌, ◌==◌, Bool, true, false, if◌then◌else◌, List, [], ◌∷◌, length, slice_index, slice_index_or}
+-- What a pool holds, and how its block says it.
+use Rattle.std.specs.Prelude.{◌≡◌, ℕ, zero, suc, replicate, ◌+◌, ◌*◌, ◌/◌, ◌%◌, ◌^◌, ◌<◌, ◌≤◌, ◌==◌, ◌&&◌, nat_le, nat_lt, Bool, true, false, if◌then◌else◌, List, [], ◌∷◌, length, slice_index, slice_index_or}
 use Rattle.std.specs.List.{AllByRecursion}
 use Rattle.std.specs.Int.{bit_at}
 use Rattle.cyc_rawpages.specs.Lists.{Lists, chain_at, numbers_from, is_among}
-use Rattle.cyc_rawpages.specs.declared.header.TheConstants.{PAGE_WORDS, HEADER_WORDS, WHOLE_WORDS, MOST_PAGES, FILL, OWNER, LOW, HIGH, NEXT, TAIL, BITS, NONE}
+use Rattle.cyc_rawpages.specs.Words.{Parts}
+use Rattle.cyc_rawpages.specs.declared.header.TheConstants.{PAGE_WORDS, BIT_WORDS, HEADER_WORDS, HEAD_WORDS, MOST_PAGES, FILL, OWNER, LOW, HIGH, NEXT, TAIL, NONE}
 
 -- Each list has one item of each page, in the order of their numbers, but words and bits: these are 1,024 of each page.
 pub record PoolState : Type 0 where
@@ -37,38 +38,42 @@ new_pool pages = record {
   chains = replicate pages [];
 }
 
--- ---- how the words say it
+-- so many bits from one on are this value, and the others what they were
+abbrev pub between : (old : ℕ → Bool) → (first count : ℕ) → (value : Bool) → ℕ → Bool
+between old first count value number = if nat_le first number && nat_lt number (first + count) then value else old number
+
+-- ---- how the block says it
 
 -- f 0, f 1, .. so many
 abbrev pub tabulate : {A : Type 0} → (count : ℕ) → (ℕ → A) → List A
 tabulate zero f = []
 tabulate (suc count) f = f 0 ∷ tabulate count (λ k. f (suc k))
 
--- where a field of a page's header stands, behind the words of all pages
+-- where a field of a page's header stands, behind the bits of all pages
 abbrev pub header_at : (pages page field : ℕ) → ℕ
-header_at pages page field = PAGE_WORDS * pages + (HEADER_WORDS * page + field)
+header_at pages page field = BIT_WORDS * pages + (HEADER_WORDS * page + field)
 
-abbrev pub field_of : (pages : ℕ) → List ℕ → (field page : ℕ) → ℕ
-field_of pages raw field page = slice_index raw (header_at pages page field)
+abbrev pub field_of : (pages : ℕ) → Parts → (field page : ℕ) → ℕ
+field_of pages raw field page = slice_index raw.heads (header_at pages page field)
 
-abbrev pub serial_of : (pages : ℕ) → List ℕ → (page : ℕ) → ℕ
+abbrev pub serial_of : (pages : ℕ) → Parts → (page : ℕ) → ℕ
 serial_of pages raw page = field_of pages raw LOW page + 2 ^ 32 * field_of pages raw HIGH page
 
--- the word of a header that a bit is in, by the bit's number among those of all pages
-abbrev pub marks_at : (pages number : ℕ) → ℕ
-marks_at pages number = header_at pages (number / PAGE_WORDS) (BITS + number % PAGE_WORDS / 32)
+-- the word that a bit is in, by the bit's number among those of all pages
+abbrev pub bits_at : (number : ℕ) → ℕ
+bits_at number = number / 32
 
-abbrev pub bit_of : (pages : ℕ) → List ℕ → (number : ℕ) → Bool
-bit_of pages raw number = bit_at (slice_index raw (marks_at pages number)) (number % 32) == 1
+abbrev pub bit_of : Parts → (number : ℕ) → Bool
+bit_of raw number = bit_at (slice_index raw.heads (bits_at number)) (number % 32) == 1
 
-abbrev pub state_of : (pages : ℕ) → List ℕ → Lists → PoolState
+abbrev pub state_of : (pages : ℕ) → Parts → Lists → PoolState
 state_of pages raw l = record {
   pages = pages;
-  words = tabulate (PAGE_WORDS * pages) (slice_index raw);
+  words = raw.words;
   fills = tabulate pages (field_of pages raw FILL);
   owners = tabulate pages (field_of pages raw OWNER);
   serials = tabulate pages (serial_of pages raw);
-  bits = tabulate (PAGE_WORDS * pages) (bit_of pages raw);
+  bits = tabulate (PAGE_WORDS * pages) (bit_of raw);
   free = tabulate pages (is_among l.free);
   chains = l.chains;
 }
@@ -112,12 +117,14 @@ pub record IsLinkedUp (pages : ℕ) (next tail : ℕ → ℕ) (first : ℕ) (l :
   pub apart : IsDistinct l.free
   pub run : (head : ℕ) → head < pages → IsChain pages next tail home head (chain_at l.chains head)
 
-pub record IsPool (pages : ℕ) (raw : List ℕ) (first : ℕ) (l : Lists) : Type 0 where
-  pub whole : length raw ≡ WHOLE_WORDS * pages
+pub record IsPool (pages : ℕ) (raw : Parts) (first : ℕ) (l : Lists) : Type 0 where
+  pub whole : length raw.heads ≡ HEAD_WORDS * pages
+  pub words : length raw.words ≡ PAGE_WORDS * pages
   pub up : IsLinkedUp pages (field_of pages raw NEXT) (field_of pages raw TAIL) first l
 
 -- the pages were linked to one another, and nothing else was written
-pub record LinksAll (pages : ℕ) (old new : List ℕ) (first : ℕ) : Type 0 where
-  pub whole : length new ≡ WHOLE_WORDS * pages
+pub record LinksAll (pages : ℕ) (old new : Parts) (first : ℕ) : Type 0 where
+  pub whole : length new.heads ≡ HEAD_WORDS * pages
+  pub words : new.words ≡ old.words
   pub same : (l : Lists) → state_of pages new l ≡ state_of pages old l
   pub linked : IsLinked (field_of pages new NEXT) first (numbers_from 0 pages) NONE

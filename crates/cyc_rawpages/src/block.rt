@@ -1,76 +1,138 @@
-//! A block of words, as a list. Nothing here or above has a raw pointer.
+//! A block of words, as lists. Nothing here or above has a raw pointer.
 
-ghost use Rattle.std.specs.Prelude.{◌≡◌, ◌<◌, ◌^◌, None, Some, IfOk, length, replicate, slice_index, slice_set};
+ghost use Rattle.std.specs.Prelude.{◌≡◌, ℕ, ◌+◌, ◌<◌, ◌≤◌, ◌^◌, None, Some, IfOk, get_or, length, replicate, slice_index, slice_set};
+ghost use Rattle.cyc_rawpages.specs.Words.{headed};
 
 use super::cells::{Cells, Lease, Start, acquire, release};
 use std::alloc::{AllocError, Global};
 use std::marker::Model;
 
-/// So many words in one block of memory, which is given back where they are dropped.
+/// How many words are cleared at once, or more.
+const STRETCH: usize = 1024;
+
+/// So many heads, and so many words behind them, in one block of memory, which is given back where they are dropped.
+///
+/// The heads are written when the block is made. Of the words those are, from the first on, up to the last one that was written,
+/// and a stretch behind it. The others are read as 0, so that the system gives no memory for what is not used.
 pub struct Block {
     start: Start,
     count: usize,
+    heads: usize,
+    /// How many of the words are written.
+    made: usize,
     cells: Cells,
     lease: Lease<Global>,
     alloc: Global,
 }
 
 impl Model for Block {
-    ghost use Rattle.std.specs.Prelude.{ℕ, List};
-    ghost use Rattle.cyc_rawpages.specs.Words.{words_of, IsBlock};
+    ghost use Rattle.cyc_rawpages.specs.Words.{Parts, parts_of, IsBlock};
 
-    ghost Value = { List ℕ };
+    ghost Value = { Parts };
 
-    ghost view = { λ b. words_of b.cells.slots };
+    ghost view = { λ b. parts_of b.heads b.cells.slots };
 
-    ghost invariant = { λ b. IsBlock b.start b.count b.cells b.lease b.alloc };
+    ghost invariant = { λ b. IsBlock b.start b.count b.heads b.made b.cells b.lease b.alloc };
 }
 
-/// Writes a 0 at each place.
-fn clear(cells: &mut Cells, start: Start, count: usize)
-    requires { (start.at ≡ cells.old.at) × (cells.old.slots ≡ replicate count None) }
-    ensures { (cells.new.at ≡ cells.old.at) × (cells.new.slots ≡ replicate count (Some 0)) }
+/// Writes a 0 at each place from one on up to another.
+#[inline(never)]
+fn clear(cells: &mut Cells, start: Start, from: usize, to: usize)
+    requires at { start.at ≡ cells.old.at }
+    requires inside { (from ≤ to) × (to ≤ length cells.old.slots) }
+    ensures at { cells.new.at ≡ cells.old.at }
+    ensures many { length cells.new.slots ≡ length cells.old.slots }
+    ensures cleared { (i : ℕ) → from ≤ i → i < to → get_or cells.new.slots i None ≡ Some 0 }
+    ensures below { (i : ℕ) → i < from → get_or cells.new.slots i None ≡ get_or cells.old.slots i None }
+    ensures above { (i : ℕ) → to ≤ i → get_or cells.new.slots i None ≡ get_or cells.old.slots i None }
 {
-    for index in 0..count {
+    for index in from..to {
         cells.write(start, index, 0);
     }
 }
 
 impl Block {
-    /// A block of so many words, each 0.
-    pub fn new(alloc: Global, count: usize) -> Result<Block, AllocError>
-        requires { count < 2 ^ 32 }
-        ensures { IfOk result (λ b. b ≡ replicate count 0) }
+    /// A block of so many heads and words, each 0.
+    pub fn new(alloc: Global, heads: usize, words: usize) -> Result<Block, AllocError>
+        requires { heads + words < 2 ^ 32 }
+        ensures { IfOk result (λ b. b ≡ record { heads = replicate heads 0; words = replicate words 0 }) }
     {
+        let count = heads + words;
         let Some((start, mut cells, lease)) = acquire(&alloc, count) else {
             return Err(AllocError);
         };
-        clear(&mut cells, start, count);
+        clear(&mut cells, start, 0, heads);
         Ok(Block {
             start,
             count,
+            heads,
+            made: 0,
             cells,
             lease,
             alloc,
         })
     }
 
-    /// The word at an index.
+    /// The head at an index.
     #[inline]
-    pub fn get(&self, index: usize) -> u32
-        requires { index < length self.now }
-        ensures { result ≡ slice_index self.now index }
+    pub fn head(&self, index: usize) -> u32
+        requires { index < length self.now.heads }
+        ensures { result ≡ slice_index self.now.heads index }
     {
         self.cells.read(self.start, index)
     }
 
-    /// Writes the word at an index.
+    /// Writes the head at an index.
     #[inline]
-    pub fn set(&mut self, index: usize, word: u32)
-        requires { index < length self.old }
-        ensures { self.new ≡ slice_set self.old index word }
+    pub fn set_head(&mut self, index: usize, word: u32)
+        requires { index < length self.old.heads }
+        ensures { self.new ≡ headed self.old index word }
     {
         self.cells.write(self.start, index, word)
+    }
+
+    /// The word at an index.
+    #[inline]
+    pub fn word(&self, index: usize) -> u32
+        requires { index < length self.now.words }
+        ensures { result ≡ slice_index self.now.words index }
+    {
+        if index < self.made {
+            self.cells.read(self.start, self.heads + index)
+        } else {
+            0
+        }
+    }
+
+    /// Writes the word at an index.
+    #[inline]
+    pub fn set_word(&mut self, index: usize, word: u32)
+        requires { index < length self.old.words }
+        ensures { self.new ≡ record self.old { words = slice_set self.old.words index word } }
+    {
+        if index < self.made {
+            self.cells.write(self.start, self.heads + index, word)
+        } else {
+            self.set_far_word(index, word)
+        }
+    }
+
+    /// Writes the word at an index, and a 0 at each place before it and in a stretch behind it where none was written.
+    #[inline(never)]
+    fn set_far_word(&mut self, index: usize, word: u32)
+        requires { index < length self.old.words }
+        ensures { self.new ≡ record self.old { words = slice_set self.old.words index word } }
+    {
+        let words = self.count - self.heads;
+        let made = (index + STRETCH).min(words).max(self.made);
+        clear(
+            &mut self.cells,
+            self.start,
+            self.heads + self.made,
+            self.heads + made,
+        );
+        self.made = made;
+        self.cells.write(self.start, self.heads + index, word)
     }
 }
 
@@ -79,6 +141,8 @@ impl Drop for Block {
         let Block {
             start,
             count,
+            heads: _,
+            made: _,
             cells,
             lease,
             alloc,

@@ -1,17 +1,20 @@
-//! The words of a pool: those of all pages, and behind them a header of each page.
+//! The heads of a pool: the bits of all pages, and behind them a header of each page.
 
 ghost use Rattle.std.specs.Int.{bit_at};
-ghost use Rattle.std.specs.Prelude.{◌==◌, if◌then◌else◌, ◌≡◌, ◌≢◌, ℕ, ◌<◌, ◌≤◌};
-ghost use Rattle.cyc_rawpages.specs.Pool.{header_at};
+ghost use Rattle.std.specs.Prelude.{◌==◌, if◌then◌else◌, ◌≡◌, ◌≢◌, ℕ, ◌+◌, ◌*◌, ◌<◌, ◌≤◌, ◌⊎◌};
+ghost use Rattle.cyc_rawpages.specs.Pool.{header_at, bits_at};
 
 /// The words of a page, and its bits.
 pub const PAGE_WORDS: u32 = 1024;
 
-/// The words of a page's header.
-pub const HEADER_WORDS: u32 = 64;
+/// The words that hold the bits of a page.
+pub const BIT_WORDS: u32 = 32;
 
-/// The words of a page and of its header.
-pub const WHOLE_WORDS: u32 = 1088;
+/// The words of a page's header.
+pub const HEADER_WORDS: u32 = 8;
+
+/// The words of a page's bits and of its header.
+pub const HEAD_WORDS: u32 = 40;
 
 /// The most pages of a pool.
 pub const MOST_PAGES: u32 = 65536;
@@ -34,13 +37,10 @@ pub const NEXT: u32 = 4;
 /// Of the header of a chain's head, where the last page of the chain stands.
 pub const TAIL: u32 = 5;
 
-/// Of a header, where the first word of bits stands.
-pub const BITS: u32 = 32;
-
 /// No page.
 pub const NONE: u32 = 0xffff_ffff;
 
-/// The number of a word of a page's header among all words of the pool.
+/// The number of a word of a page's header among all heads of the pool.
 #[inline]
 pub(crate) fn header_at(pages: u32, page: u32, field: u32) -> usize
     requires few { pages ≤ MOST_PAGES }
@@ -48,7 +48,16 @@ pub(crate) fn header_at(pages: u32, page: u32, field: u32) -> usize
     requires low { field < HEADER_WORDS }
     ensures { result ≡ header_at pages page field }
 {
-    PAGE_WORDS as usize * pages as usize + (HEADER_WORDS as usize * page as usize + field as usize)
+    BIT_WORDS as usize * pages as usize + (HEADER_WORDS as usize * page as usize + field as usize)
+}
+
+/// The number of the word that a bit of a page is in, among all heads of the pool.
+#[inline]
+pub(crate) fn bits_at(page: u32, bit: u32) -> usize
+    requires { bit < PAGE_WORDS }
+    ensures { result ≡ bits_at (PAGE_WORDS * page + bit) }
+{
+    BIT_WORDS as usize * page as usize + (bit / 32) as usize
 }
 
 /// A word with one of its bits set or cleared.
@@ -62,5 +71,20 @@ pub(crate) fn marked(word: u32, bit: u32, value: bool) -> u32
         word | 1 << bit
     } else {
         word & !(1 << bit)
+    }
+}
+
+/// A word with so many of its bits, from one on, set or cleared.
+#[inline]
+pub(crate) fn marked_from(word: u32, first: u32, count: u32, value: bool) -> u32
+    requires { first + count ≤ 32 }
+    ensures inside { (i : ℕ) → first ≤ i → i < first + count → (bit_at result i == 1) ≡ value }
+    ensures outside { (i : ℕ) → (i < first) ⊎ (first + count ≤ i) → bit_at result i ≡ bit_at word i }
+{
+    let mask = ((1u64 << (first + count)) - (1u64 << first)) as u32;
+    if value {
+        word | mask
+    } else {
+        word ^ (word & mask)
     }
 }

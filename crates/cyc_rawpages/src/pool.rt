@@ -1,14 +1,14 @@
 //! A pool of pages over one block of memory.
 
-ghost use Rattle.std.specs.Prelude.{◌≡◌, ◌≢◌, [], ◌∷◌, ◌++◌, ◌+◌, ◌*◌, ◌<◌, ◌≤◌, IfOk, MatchOption, false, length, replicate, set, slice_index, slice_index_or};
+ghost use Rattle.std.specs.Prelude.{◌≡◌, ◌≢◌, ℕ, [], ◌∷◌, ◌++◌, ◌+◌, ◌*◌, ◌%◌, ◌<◌, ◌≤◌, IfOk, MatchOption, false, length, replicate, set, slice_index, slice_index_or};
 ghost use Rattle.cyc_rawpages.specs.Lists.{chain_at, freed};
-ghost use Rattle.cyc_rawpages.specs.Pool.{IsFree, IsHead, LinksAll, new_pool};
+ghost use Rattle.cyc_rawpages.specs.Pool.{IsFree, IsHead, LinksAll, between, new_pool};
 
 use super::block::Block;
 use super::change::Change;
 use super::header::{
-    BITS, FILL, HIGH, LOW, MOST_PAGES, NEXT, NONE, OWNER, PAGE_WORDS, TAIL, WHOLE_WORDS, header_at,
-    marked,
+    FILL, HEAD_WORDS, HIGH, LOW, MOST_PAGES, NEXT, NONE, OWNER, PAGE_WORDS, TAIL, bits_at,
+    header_at, marked, marked_from,
 };
 use super::roll::Roll;
 use std::alloc::{AllocError, Global};
@@ -54,14 +54,14 @@ impl Model for Pool {
 /// Links all pages, each to the one with the next number, and gives the first.
 fn link_all(block: &mut Block, pages: u32) -> u32
     requires few { pages ≤ MOST_PAGES }
-    requires whole { length block.old ≡ WHOLE_WORDS * pages }
+    requires whole { length block.old.heads ≡ HEAD_WORDS * pages }
     ensures { LinksAll pages block.old block.new result }
 {
     let mut first = NONE;
     let mut left = pages;
     while left > 0 {
         left -= 1;
-        block.set(header_at(pages, left, NEXT), first);
+        block.set_head(header_at(pages, left, NEXT), first);
         first = left;
     }
     first
@@ -73,7 +73,11 @@ impl Pool {
         requires { pages ≤ MOST_PAGES }
         ensures { IfOk result (λ p. p ≡ new_pool pages) }
     {
-        let mut block = Block::new(alloc, WHOLE_WORDS as usize * pages as usize)?;
+        let mut block = Block::new(
+            alloc,
+            HEAD_WORDS as usize * pages as usize,
+            PAGE_WORDS as usize * pages as usize,
+        )?;
         let first = link_all(&mut block, pages);
         Ok(Pool {
             block,
@@ -93,8 +97,8 @@ impl Pool {
         if page == NONE {
             return None;
         }
-        self.first = self.block.get(header_at(self.pages, page, NEXT));
-        self.block.set(header_at(self.pages, page, TAIL), page);
+        self.first = self.block.head(header_at(self.pages, page, NEXT));
+        self.block.set_head(header_at(self.pages, page, TAIL), page);
         self.roll = Roll::with(&self.roll, &Change::Taken(page));
         Some(PageNo { number: page })
     }
@@ -107,11 +111,11 @@ impl Pool {
         ensures head { IsHead self.new.chains head.number }
         ensures pushed { self.new ≡ record self.old { chains = set (set self.old.chains head.number (chain_at self.old.chains head.number ++ page.number ∷ [])) page.number [] } }
     {
-        let tail = self.block.get(header_at(self.pages, head.number, TAIL));
+        let tail = self.block.head(header_at(self.pages, head.number, TAIL));
         self.block
-            .set(header_at(self.pages, tail, NEXT), page.number);
+            .set_head(header_at(self.pages, tail, NEXT), page.number);
         self.block
-            .set(header_at(self.pages, head.number, TAIL), page.number);
+            .set_head(header_at(self.pages, head.number, TAIL), page.number);
         self.roll = Roll::with(&self.roll, &Change::Pushed(head.number, page.number));
     }
 
@@ -122,9 +126,9 @@ impl Pool {
         ensures { self.new ≡ record self.old { free = freed self.old.free (chain_at self.old.chains chain.head.number); chains = set self.old.chains chain.head.number [] } }
     {
         let head = chain.head.number;
-        let tail = self.block.get(header_at(self.pages, head, TAIL));
+        let tail = self.block.head(header_at(self.pages, head, TAIL));
         self.block
-            .set(header_at(self.pages, tail, NEXT), self.first);
+            .set_head(header_at(self.pages, tail, NEXT), self.first);
         self.first = head;
         self.roll = Roll::with(&self.roll, &Change::Given(head));
     }
@@ -136,7 +140,7 @@ impl Pool {
         ensures { result ≡ slice_index self.now.words (PAGE_WORDS * page.number + word) }
     {
         self.block
-            .get(PAGE_WORDS as usize * page.number as usize + word as usize)
+            .word(PAGE_WORDS as usize * page.number as usize + word as usize)
     }
 
     /// Writes a word of a page.
@@ -145,7 +149,7 @@ impl Pool {
         requires { (page.number < self.old.pages) × (word < PAGE_WORDS) }
         ensures { self.new ≡ record self.old { words = set self.old.words (PAGE_WORDS * page.number + word) value } }
     {
-        self.block.set(
+        self.block.set_word(
             PAGE_WORDS as usize * page.number as usize + word as usize,
             value,
         )
@@ -157,7 +161,7 @@ impl Pool {
         requires { page.number < self.now.pages }
         ensures { result ≡ slice_index self.now.fills page.number }
     {
-        self.block.get(header_at(self.pages, page.number, FILL))
+        self.block.head(header_at(self.pages, page.number, FILL))
     }
 
     /// Sets the fill mark of a page.
@@ -167,7 +171,7 @@ impl Pool {
         ensures { self.new ≡ record self.old { fills = set self.old.fills page.number fill } }
     {
         self.block
-            .set(header_at(self.pages, page.number, FILL), fill)
+            .set_head(header_at(self.pages, page.number, FILL), fill)
     }
 
     /// The owner of a page.
@@ -176,7 +180,7 @@ impl Pool {
         requires { page.number < self.now.pages }
         ensures { result ≡ slice_index self.now.owners page.number }
     {
-        self.block.get(header_at(self.pages, page.number, OWNER))
+        self.block.head(header_at(self.pages, page.number, OWNER))
     }
 
     /// Sets the owner of a page.
@@ -186,7 +190,7 @@ impl Pool {
         ensures { self.new ≡ record self.old { owners = set self.old.owners page.number owner } }
     {
         self.block
-            .set(header_at(self.pages, page.number, OWNER), owner)
+            .set_head(header_at(self.pages, page.number, OWNER), owner)
     }
 
     /// The serial of a page.
@@ -195,8 +199,8 @@ impl Pool {
         requires { page.number < self.now.pages }
         ensures { result ≡ slice_index self.now.serials page.number }
     {
-        let low = self.block.get(header_at(self.pages, page.number, LOW));
-        let high = self.block.get(header_at(self.pages, page.number, HIGH));
+        let low = self.block.head(header_at(self.pages, page.number, LOW));
+        let high = self.block.head(header_at(self.pages, page.number, HIGH));
         low as u64 + 0x1_0000_0000 * high as u64
     }
 
@@ -208,9 +212,10 @@ impl Pool {
     {
         let low = (serial % 0x1_0000_0000) as u32;
         let high = (serial / 0x1_0000_0000) as u32;
-        self.block.set(header_at(self.pages, page.number, LOW), low);
         self.block
-            .set(header_at(self.pages, page.number, HIGH), high);
+            .set_head(header_at(self.pages, page.number, LOW), low);
+        self.block
+            .set_head(header_at(self.pages, page.number, HIGH), high);
     }
 
     /// Whether a bit of a page is set.
@@ -219,9 +224,7 @@ impl Pool {
         requires { (page.number < self.now.pages) × (bit < PAGE_WORDS) }
         ensures { result ≡ slice_index_or self.now.bits (PAGE_WORDS * page.number + bit) false }
     {
-        let marks = self
-            .block
-            .get(header_at(self.pages, page.number, BITS + bit / 32));
+        let marks = self.block.head(bits_at(page.number, bit));
         marks >> (bit % 32) & 1 == 1
     }
 
@@ -230,8 +233,21 @@ impl Pool {
         requires { (page.number < self.old.pages) × (bit < PAGE_WORDS) }
         ensures { self.new ≡ record self.old { bits = set self.old.bits (PAGE_WORDS * page.number + bit) value } }
     {
-        let at = header_at(self.pages, page.number, BITS + bit / 32);
-        let marks = marked(self.block.get(at), bit % 32, value);
-        self.block.set(at, marks);
+        let at = bits_at(page.number, bit);
+        let marks = marked(self.block.head(at), bit % 32, value);
+        self.block.set_head(at, marks);
+    }
+
+    /// Sets or clears so many bits of a page, from one on, at once: those of one word.
+    pub fn set_bits(&mut self, page: PageNo, bit: u32, count: u32, value: bool)
+        requires there { (page.number < self.old.pages) × (bit < PAGE_WORDS) }
+        requires few { bit % 32 + count ≤ 32 }
+        ensures same { self.new ≡ record self.old { bits = self.new.bits } }
+        ensures whole { length self.new.bits ≡ length self.old.bits }
+        ensures bits { (number : ℕ) → slice_index_or self.new.bits number false ≡ between (λ (other : ℕ). slice_index_or self.old.bits other false) (PAGE_WORDS * page.number + bit) count value number }
+    {
+        let at = bits_at(page.number, bit);
+        let marks = marked_from(self.block.head(at), bit % 32, count, value);
+        self.block.set_head(at, marks);
     }
 }

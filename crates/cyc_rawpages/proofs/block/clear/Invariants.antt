@@ -1,6 +1,12 @@
-use Rattle.std.proofs.Common.{◌≡◌, None, Some, replicate, ◌-◌, ◌++◌}
+use Rattle.std.proofs.Common.{◌≡◌, ℕ, ◌<◌, ◌≤◌, None, Some, get_or, length}
 use Rattle.cyc_rawpages.proofs.block.clear.Given as goal
 
--- the places before the index hold a 0, and those from it on nothing
+-- the places from the first one on up to the index hold a 0, and the others what they held
 abbrev pub invariant-loop-index : goal.invariant-loop-index
-invariant-loop-index l = (l.cells.at ≡ l.fn.cells.at) × (l.cells.slots ≡ replicate l.index (Some 0) ++ replicate (l.count - l.index) None)
+invariant-loop-index l = record {
+  at : l.cells.at ≡ l.fn.cells.at;
+  many : length l.cells.slots ≡ length l.fn.cells.slots;
+  cleared : (i : ℕ) → l.from ≤ i → i < l.index → get_or l.cells.slots i None ≡ Some 0;
+  below : (i : ℕ) → i < l.from → get_or l.cells.slots i None ≡ get_or l.fn.cells.slots i None;
+  above : (i : ℕ) → l.index ≤ i → get_or l.cells.slots i None ≡ get_or l.fn.cells.slots i None;
+}

@@ -7,7 +7,7 @@ use Rattle.cyc_pagestore.proofs.table.PoolTable.mark.Goals as goal
 
 pub invariant_of-self : goal.invariant_of-self
 invariant_of-self c =
-    let f = c.self.inside in let k = c.loop-number.invariant in let g = c.loop-number.self-inside in
+    let f = c.self.inside in let k = c.loop-done.invariant in let g = c.loop-done.self-inside in
     subst (λ n. IsBacked g.pool n g.spots.items g.next g.roster.links) (sym k.pages)
     (subst (λ v. IsBacked g.pool f.pages v.items g.next g.roster.links) (sym k.spots)
     (subst (λ n. IsBacked g.pool f.pages f.spots.items n g.roster.links) (sym k.next)
@@ -16,8 +16,8 @@ invariant_of-self c =
 
 pub returns : goal.returns
 returns c =
-    let f = c.self.inside in let k = c.loop-number.invariant in let g = c.loop-number.self-inside in
-    let over : c.loop-number.number ≡ c.args.count = omega (arith, c.loop-number-test.false, c.loop-number.auto.number-end) in
+    let f = c.self.inside in let k = c.loop-done.invariant in let g = c.loop-done.self-inside in
+    let few = k.few in let over : c.loop-done.done ≡ c.args.count = omega (arith, c.loop-done-test.false, few) in
     subst (λ r. Marks c.args.self.now (view_of g.pool r.links) c.args.first c.args.count c.args.mark) (sym k.roster)
     (mark-gives f.pool f.pages f.spots.items f.next f.roster.links c.self.invariant c.args.self.now c.self.view_is g.pool.bits k.whole g.pool k.same c.args.first c.args.count c.args.mark
     (λ word. k.live word ∙ ap (λ n. marked_between (λ (other : ℕ). slice_index_or f.pool.bits other false) c.args.first n c.args.mark word) over))

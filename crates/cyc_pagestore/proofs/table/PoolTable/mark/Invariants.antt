@@ -1,16 +1,20 @@
-use Rattle.std.proofs.Common.{◌≡◌, ℕ, false, length}
+use Rattle.std.proofs.Common.{◌≡◌, ℕ, ◌-◌, ◌≤◌, false, length}
 use Rattle.std.specs.Prelude.{slice_index_or}
 use Rattle.cyc_store.specs.Table.{marked_between}
 use Rattle.cyc_pagestore.proofs.table.PoolTable.mark.Given as goal
 
+abbrev pub decreases-loop-done : goal.decreases-loop-done
+decreases-loop-done l = l.count - l.done
+
 -- bits alone have changed: so many from the first on are the mark
-abbrev pub invariant-loop-number : goal.invariant-loop-number
-invariant-loop-number l = record {
+abbrev pub invariant-loop-done : goal.invariant-loop-done
+invariant-loop-done l = record {
+  few : l.done ≤ l.count;
   same : l.self-inside.pool ≡ record l.initial.self-inside.pool { bits = l.self-inside.pool.bits };
   pages : l.self-inside.pages ≡ l.initial.self-inside.pages;
   spots : l.self-inside.spots ≡ l.initial.self-inside.spots;
   next : l.self-inside.next ≡ l.initial.self-inside.next;
   roster : l.self-inside.roster ≡ l.initial.self-inside.roster;
   whole : length l.self-inside.pool.bits ≡ length l.initial.self-inside.pool.bits;
-  live : (word : ℕ) → slice_index_or l.self-inside.pool.bits word false ≡ marked_between (λ (other : ℕ). slice_index_or l.initial.self-inside.pool.bits other false) l.first l.number l.mark word;
+  live : (word : ℕ) → slice_index_or l.self-inside.pool.bits word false ≡ marked_between (λ (other : ℕ). slice_index_or l.initial.self-inside.pool.bits other false) l.first l.done l.mark word;
 }

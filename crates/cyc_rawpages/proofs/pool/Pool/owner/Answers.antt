@@ -8,12 +8,12 @@ use Rattle.cyc_rawpages.proofs.pool.Pool.owner.Goals as goal
 pub header_at-requires : goal.header_at-requires
 header_at-requires c = let there = c.requires in let pages = ap (λ (t : PoolState). t.pages) c.self.view_is in record { few = c.self.invariant.up.few; there = omega (arith, there, pages); low = omega arith }
 
-pub get-requires : goal.get-requires
-get-requires c =
+pub head-requires : goal.head-requires
+head-requires c =
     let s = c.self.inside in let there = c.requires in let pages = ap (λ (t : PoolState). t.pages) c.self.view_is in
     rw c.header_at.ensures (header-in s.pages c.args.page.number OWNER s.block c.self.invariant.whole (omega (arith, there, pages)) (omega arith))
 
 pub returns : goal.returns
 returns c =
     let s = c.self.inside in let p = c.args.page.number in let there = c.requires in let pages = ap (λ (t : PoolState). t.pages) c.self.view_is in
-    c.get.ensures ∙ ap (slice_index s.block) c.header_at.ensures ∙ sym (column-read s.pages p OWNER s.block (omega (arith, there, pages))) ∙ ap (λ (t : PoolState). slice_index t.owners p) c.self.view_is
+    c.head.ensures ∙ ap (slice_index s.block.heads) c.header_at.ensures ∙ sym (column-read s.pages p OWNER s.block (omega (arith, there, pages))) ∙ ap (λ (t : PoolState). slice_index t.owners p) c.self.view_is

@@ -1,4 +1,5 @@
 use Rattle.std.proofs.Common.{set, sym, ap, subst, ◌∙◌, arith}
+use Rattle.cyc_rawpages.specs.Words.{headed}
 use Rattle.cyc_rawpages.specs.Pool.{PoolState, header_at, state_of, IsPool}
 use Rattle.cyc_rawpages.specs.declared.header.TheConstants.{FILL}
 use Rattle.cyc_rawpages.proofs.Columns.{filled}
@@ -8,20 +9,20 @@ use Rattle.cyc_rawpages.proofs.pool.Pool.set_fill.Goals as goal
 pub header_at-requires : goal.header_at-requires
 header_at-requires c = let there = c.requires in let pages = ap (λ (t : PoolState). t.pages) c.self.view_is in record { few = c.self.invariant.up.few; there = omega (arith, there, pages); low = omega arith }
 
-pub set-requires : goal.set-requires
-set-requires c =
+pub set_head-requires : goal.set_head-requires
+set_head-requires c =
     let s = c.self.inside in let there = c.requires in let pages = ap (λ (t : PoolState). t.pages) c.self.view_is in
     rw c.header_at.ensures (header-in s.pages c.args.page.number FILL s.block c.self.invariant.whole (omega (arith, there, pages)) (omega arith))
 
 pub invariant_of-self : goal.invariant_of-self
 invariant_of-self c =
     let s = c.self.inside in
-    subst (λ b. IsPool s.pages b s.first s.roll.lists) (sym (c.set.ensures ∙ ap (λ k. set s.block k c.args.fill) c.header_at.ensures))
+    subst (λ b. IsPool s.pages b s.first s.roll.lists) (sym (c.set_head.ensures ∙ ap (λ k. headed s.block k c.args.fill) c.header_at.ensures))
     (kept s.pages s.block s.first s.roll.lists c.self.invariant (header_at s.pages c.args.page.number FILL) c.args.fill (λ p. ((λ e. omega (arith, e)), (λ e. omega (arith, e)))))
 
 pub returns : goal.returns
 returns c =
     let s = c.self.inside in let p = c.args.page.number in let there = c.requires in let pages = ap (λ (t : PoolState). t.pages) c.self.view_is in
-    ap (λ b. state_of s.pages b s.roll.lists) (c.set.ensures ∙ ap (λ k. set s.block k c.args.fill) c.header_at.ensures)
+    ap (λ b. state_of s.pages b s.roll.lists) (c.set_head.ensures ∙ ap (λ k. headed s.block k c.args.fill) c.header_at.ensures)
     ∙ filled s.pages s.block s.roll.lists c.self.invariant.whole p c.args.fill (omega (arith, there, pages))
     ∙ ap (λ (t : PoolState). record t { fills = set t.fills p c.args.fill }) c.self.view_is

@@ -1,7 +1,8 @@
-use Rattle.std.proofs.Common.{ℕ, List, [], ◌∷◌, ◌<◌, replicate, set, refl, sym, ap, subst, ◌∙◌, arith}
+use Rattle.std.proofs.Common.{ℕ, [], ◌∷◌, ◌<◌, replicate, set, refl, sym, ap, subst, ◌∙◌, arith}
 use Rattle.std.specs.Prelude.{false, slice_index}
 use Rattle.cyc_rawpages.specs.Lists.{Lists, after}
 use Rattle.cyc_rawpages.specs.declared.change.Change.TheVariants.{Taken}
+use Rattle.cyc_rawpages.specs.Words.{Parts, headed}
 use Rattle.cyc_rawpages.specs.Pool.{PoolState, state_of, IsFree, IsPool}
 use Rattle.cyc_rawpages.specs.declared.header.TheConstants.{NEXT, TAIL}
 use Rattle.cyc_rawpages.proofs.Columns.{linked}
@@ -16,22 +17,22 @@ returns-then-page c =
 pub header_at-requires : goal.header_at-requires
 header_at-requires c = let s = c.self.inside in record { few = c.self.invariant.up.few; there = first-there s.pages s.block s.first s.roll.lists c.self.invariant c.if-page.false; low = omega arith }
 
-pub get-self-inside-requires : goal.get-self-inside-requires
-get-self-inside-requires c =
+pub head-self-inside-requires : goal.head-self-inside-requires
+head-self-inside-requires c =
     let s = c.self.inside in rw c.header_at.ensures (header-in s.pages s.first NEXT s.block c.self.invariant.whole (first-there s.pages s.block s.first s.roll.lists c.self.invariant c.if-page.false) (omega arith))
 
 pub header_at-requires-2 : goal.header_at-requires-2
 header_at-requires-2 c = let s = c.self.inside in record { few = c.self.invariant.up.few; there = first-there s.pages s.block s.first s.roll.lists c.self.invariant c.if-page.false; low = omega arith }
 
-pub set-requires : goal.set-requires
-set-requires c =
+pub set_head-requires : goal.set_head-requires
+set_head-requires c =
     let s = c.self.inside in rw c.header_at-2.ensures (header-in s.pages s.first TAIL s.block c.self.invariant.whole (first-there s.pages s.block s.first s.roll.lists c.self.invariant c.if-page.false) (omega arith))
 
 pub invariant_of-self : goal.invariant_of-self
 invariant_of-self c =
     let s = c.self.inside in
-    subst (λ (u : List ℕ × ℕ × Lists). IsPool s.pages u.0 u.1 u.2)
-    (λ j. (sym (c.set.ensures ∙ ap (λ k. set s.block k s.first) c.header_at-2.ensures) j, sym (c.get-self-inside.ensures ∙ ap (λ k. slice_index s.block k) c.header_at.ensures) j, sym c.with-self-inside.ensures j))
+    subst (λ (u : Parts × ℕ × Lists). IsPool s.pages u.0 u.1 u.2)
+    (λ j. (sym (c.set_head.ensures ∙ ap (λ k. headed s.block k s.first) c.header_at-2.ensures) j, sym (c.head-self-inside.ensures ∙ ap (λ k. slice_index s.block.heads k) c.header_at.ensures) j, sym c.with-self-inside.ensures j))
     (pool-taken s.pages s.block s.first s.roll.lists c.self.invariant c.if-page.false)
 
 pub returns : goal.returns
@@ -39,7 +40,7 @@ returns c =
     let s = c.self.inside in let l = s.roll.lists in let some = c.if-page.false in (
       subst (λ (t : PoolState). s.first < t.pages) c.self.view_is (first-there s.pages s.block s.first l c.self.invariant some),
       subst (λ (t : PoolState). IsFree t.free s.first) c.self.view_is (first-free s.pages s.block s.first l c.self.invariant some),
-      (λ j. state_of s.pages ((c.set.ensures ∙ ap (λ k. set s.block k s.first) c.header_at-2.ensures) j) (c.with-self-inside.ensures j))
+      (λ j. state_of s.pages ((c.set_head.ensures ∙ ap (λ k. headed s.block k s.first) c.header_at-2.ensures) j) (c.with-self-inside.ensures j))
           ∙ linked s.pages s.block (after l (Taken s.first)) c.self.invariant.whole s.first TAIL s.first (omega arith) (omega arith)
           ∙ (λ j. record (state_of s.pages s.block l) { free = taken-free s.pages s.block s.first l c.self.invariant some j; chains = set l.chains s.first (s.first ∷ []) })
           ∙ ap (λ (t : PoolState). record t { free = set t.free s.first false; chains = set t.chains s.first (s.first ∷ []) }) c.self.view_is,
