@@ -1,5 +1,7 @@
-use Rattle.std.proofs.Common.{rules, ◌≡◌, map, None, subst}
+use Rattle.std.proofs.Common.{rules, ◌≡◌, List, map, None, ap, subst, ◌∙◌}
 use Rattle.cyc_syntax.specs.TreeView.{place_of_span, expressions_of}
+use Rattle.cyc_types.specs.declared.region.Region.{Region}
+use Rattle.cyc_types.specs.declared.typed.Converted.{Converted}
 use Rattle.cyc_types.specs.SignatureView.{view_signature}
 use Rattle.cyc_types.specs.TypedTrees.{Signature}
 use Rattle.cyc_types.specs.Rules.{settled, run}
@@ -28,5 +30,8 @@ returns-in_err-call_wanted c =
     let es = expressions_of c.args.expressions.now in
     let as' = map value_in c.args.values.items in
     let s = view_signature c.args.signature.now in
-    let is : view_signature c.in_ok-at_call.at_call ≡ instantiated (instance_of s as') s = search rules in
+    let is : view_signature c.in_ok-at_call.at_call ≡ instantiated (instance_of s as') s =
+    c.in_ok-at_call.ensures
+    ∙ ap (λ (m : List Region). instantiated m s)
+    (c.deref-2.ensures ∙ c.in_ok-instance.ensures ∙ ap (λ (vs : List Converted). instance_of s (map value_in vs)) c.deref.ensures.value) in
     subst (λ (t : Signature). Gives view_boxed c.from_residual-in_err-call_wanted.result (run (called_by g c.args.callee p es as' s t))) is (search rules)
