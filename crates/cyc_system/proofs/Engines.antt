@@ -332,6 +332,23 @@ anew_memory grows read limits budget devices =
       answers_memory grows store read limits budget devices devices (Keeps-refl devices.remaining, Keeps-refl devices.written),
     )
 
+-- Want of memory over a store that does not grow is answered before anything is read or written: no instruction wants any.
+early_inside : (outside : Bool) (start : List ℕ → World) (budget : ℕ) (old new : Devices)
+    → MatchBool outside (Refuses (Load load.Outside) old new (Err Memory)) (Starts false start budget old new (Err Memory)) → Rests old new
+early_inside true start budget old new (_, rests) = rests
+early_inside false start budget old new (inl (_, rests)) = rests
+early_inside false start budget old new (inr (_, _, _, _, _, (_, wants))) = let grows = wants.growing in cc
+
+early_answers : (store : StoreState) (read : Result ImageContents ElfFault) (limits : Bounds) (budget : ℕ) (old new : Devices)
+    → Answers false store read limits budget old new (Err Memory) → Rests old new
+early_answers store (Err f) limits budget old new (_, rests) = rests
+early_answers store (Ok image) limits budget old new answers = early_inside (has_outside image) (start_world image limits store) budget old new answers
+
+pub early_memory : (read : Result ImageContents ElfFault) (limits : Bounds) (budget : ℕ) (old new : Devices) (result : Result Report RunFault)
+    → AnswersAnew false read limits budget old new result → result ≡ Err Memory → Rests old new
+early_memory read limits budget old new result (store, _, answers) is =
+    early_answers store read limits budget old new (subst (λ r. Answers false store read limits budget old new r) is answers)
+
 -- A stretch that ends with something else than that it ran: what was told is answered.
 
 pub Progress-stretch : (grows : Bool) (start : List ℕ → World) (old now new : Devices) (count most more : ℕ) (seen seen' : Bool) (machine mid machine' : State) (event : Event) → Progress start old now count seen machine

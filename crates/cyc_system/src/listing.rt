@@ -1,6 +1,7 @@
 //! Lists the words of an image's text with their instructions.
 
-ghost use Rattle.std.specs.Prelude.{◌≡◌, ◌+◌, ◌<◌, ◌^◌, ◌||◌, true, All, OnOk, OnErr, map, slice_index};
+ghost use Rattle.std.specs.Prelude.{◌≡◌, ◌+◌, ◌<◌, ◌^◌, ◌||◌, true, All, OnOk, OnErr, map, slice_index, Err};
+ghost use Rattle.std.specs.Io.KnownBytes.{Keeps};
 ghost use Rattle.std.specs.List.{flat_map};
 ghost use Rattle.cyc_words.specs.Device.{TakesText};
 ghost use Rattle.cyc_isa.specs.Text.{hex_digit_of, hex_digits_of};
@@ -8,6 +9,7 @@ ghost use Rattle.cyc_elf.specs.Image.{segment_contents, IsSegment};
 ghost use Rattle.cyc_machine.specs.Start.{word_in};
 ghost use Rattle.cyc_elf.specs.Reading.{reading};
 ghost use Rattle.cyc_system.specs.Faults.{is_write};
+ghost use Rattle.cyc_system.specs.declared.report.RunFault.TheVariants.{Memory};
 ghost use Rattle.cyc_system.specs.Listing.{word_text, head_of, line_of, segment_lines, begins_in_text, listed_lines, Shows};
 
 use crate::report::RunFault;
@@ -158,6 +160,8 @@ fn put_all_listed<W: ByteOut>(segments: &[Segment], out: &mut W) -> Result<(), F
 /// A failure of the writer leaves a prefix of the listing.
 pub fn disassemble<W: ByteOut>(alloc: Global, image: &[u8], writer: &mut W) -> Result<(), RunFault>
     ensures shows { Shows (reading image.now) (W.written writer.old) (W.written writer.new) result }
+    // `Memory` is answered only before the first line.
+    ensures memory { result ≡ Err Memory → Keeps (W.written writer.old) (W.written writer.new) }
     // `Write` is answered exactly where the writer failed in this call.
     ensures writer { W.failed writer.new ≡ (is_write result || W.failed writer.old) }
 {

@@ -2,7 +2,8 @@
 use crate::answer::Answer;
 use crate::work::read_up_to;
 use cyc_terminal::Shown;
-use std::fs::OpenFile;
+use std::alloc::AllocError;
+use std::fs::{File, OpenFile};
 use std::io::Write;
 use std::rt::Files;
 use std::{fs, io};
@@ -67,7 +68,63 @@ pub fn read_image<R: Files + AllocGlobal + Eprint>(rt: &R, path: &str) -> Result
     Ok(bytes)
 }
 
-fn write_all<R: Files>(rt: &R, path: &str, bytes: &[u8]) -> io::Result<()> {
+/// The most names that are tried for a file beside another.
+const MOST_NAMES: u32 = 100;
+
+/// Whether a new file may take the place of what has this name: of a regular file, or of nothing. A link, a device and a pipe stay
+/// what they are, and are written to.
+fn is_replaced<R: Files>(rt: &R, path: &str) -> bool {
+    match fs::symlink_metadata(rt, path) {
+        Ok(metadata) => metadata.is_file(),
+        Err(error) => error.kind() == io::ErrorKind::NotFound,
+    }
+}
+
+/// A new file with its name.
+#[derive(Drop)]
+struct Beside<F> {
+    file: F,
+    name: String,
+}
+
+/// A new file beside the one of this name, if there can be one.
+fn create_beside<R: Files + AllocGlobal>(
+    rt: &R,
+    path: &str,
+) -> Result<Option<Beside<R::File>>, AllocError> {
+    for number in 0..MOST_NAMES {
+        let name = format!(in rt.alloc(); "{path}.part{number}")?;
+        match File::create_new(rt, name.as_str()) {
+            Ok(file) => return Ok(Some(Beside { file, name })),
+            Err(error) if error.kind() == io::ErrorKind::AlreadyExists => {}
+            Err(_) => return Ok(None),
+        }
+    }
+    Ok(None)
+}
+
+/// Writes bytes to a new file, and gives it this name, so that they stand there whole or not at all.
+fn write_beside<R: Files>(
+    rt: &R,
+    path: &str,
+    beside: Beside<R::File>,
+    bytes: &[u8],
+) -> io::Result<()> {
+    let Beside { mut file, name } = beside;
+    let written = file.write_all(bytes);
+    drop(file);
+    let result = match written {
+        Ok(()) => fs::rename(rt, name.as_str(), path),
+        Err(error) => Err(error),
+    };
+    if result.is_err() {
+        let _ = fs::remove_file(rt, name.as_str());
+    }
+    result
+}
+
+/// Writes bytes to what has this name. A file is made there, or emptied first.
+fn write_there<R: Files>(rt: &R, path: &str, bytes: &[u8]) -> io::Result<()> {
     let mut file = fs::create(rt, path)?;
     let result = file.write_all(bytes);
     if result.is_err() {
@@ -77,12 +134,29 @@ fn write_all<R: Files>(rt: &R, path: &str, bytes: &[u8]) -> io::Result<()> {
     result
 }
 
-/// Writes an image to its file, which is made here, or emptied first.
-pub fn write_image<R: Files + Eprint>(rt: &R, path: &str, image: &[u8]) -> Answer {
+/// Writes bytes beside a file, and then puts them in its place; or straight to it, where that is no regular file or no other can be made
+/// beside it.
+fn write_all<R: Files + AllocGlobal>(
+    rt: &R,
+    path: &str,
+    bytes: &[u8],
+) -> Result<io::Result<()>, AllocError> {
+    if is_replaced(rt, path) {
+        if let Some(beside) = create_beside(rt, path)? {
+            return Ok(write_beside(rt, path, beside, bytes));
+        }
+    }
+    Ok(write_there(rt, path, bytes))
+}
+
+/// Writes an image to its file. Where that is a regular file, or nothing yet, it holds the whole image after `Done`, and else what it
+/// held, if files can be made in its folder.
+pub fn write_image<R: Files + AllocGlobal + Eprint>(rt: &R, path: &str, image: &[u8]) -> Answer {
     // The file is closed before anything is said: where standard error is closed, its number may
     // have become the file's.
     match write_all(rt, path, image) {
-        Ok(()) => Answer::Done,
-        Err(error) => report_write_failure(rt, path, &error),
+        Ok(Ok(())) => Answer::Done,
+        Ok(Err(error)) => report_write_failure(rt, path, &error),
+        Err(_) => Answer::NoMemory,
     }
 }

@@ -1,0 +1,60 @@
+//! Devices that fail in the middle of a run, over both stores.
+
+use crate::devices::{FailingReader, FailingWriter, Failure};
+use crate::outcomes::{over_paged, over_plain, told};
+use crate::rows::{expect, expect_text};
+use cyc_system::compile;
+use cyc_words::{Reader, Writer};
+use std::alloc::Global;
+use std::process::Abort;
+
+/// The program prints what it reads.
+const ECHO: &str =
+    "int main(){ int c = getchar(); while (c >= 0) { putchar(c); c = getchar(); } return 0; }";
+
+/// How a run on `hi` comes out whose devices fail after so many calls, and what was written, over one of the stores.
+fn told_of(
+    alloc: Global,
+    image: &[u8],
+    is_plain: bool,
+    reads: usize,
+    writes: usize,
+    failure: Failure,
+) -> Option<String> {
+    let mut output = FailingWriter::new(writes, failure);
+    let mut reader = Reader::new(FailingReader::new(b"hi", reads));
+    let mut writer = Writer::new(&mut output);
+    let answer = if is_plain {
+        over_plain(alloc, image, &mut reader, &mut writer)?
+    } else {
+        over_paged(alloc, image, &mut reader, &mut writer)?
+    };
+    let told = told(alloc, answer)?;
+    format!(in alloc; "{told}, {:x}", output.taken).ok()
+}
+
+/// Whichever call fails is told, and what was written before: as the numbers of its bytes.
+fn expect_failures<A: Abort>(rt: &A, alloc: Global, is_plain: bool) -> Option<()> {
+    let image = compile(alloc, ECHO.as_bytes()).ok()?;
+    for &(reads, writes, failure, want) in &[
+        (0, 9, Failure::Error, "Read, 0"),
+        (1, 9, Failure::Error, "Read, 68"),
+        (2, 9, Failure::Error, "Read, 6869"),
+        (9, 0, Failure::Error, "Write, 0"),
+        (9, 1, Failure::Error, "Write, 68"),
+        (9, 0, Failure::Nothing, "Write, 0"),
+        (9, 1, Failure::Nothing, "Write, 68"),
+    ] {
+        let told = told_of(alloc, &image, is_plain, reads, writes, failure)?;
+        expect_text(rt, &told, want, "a device that fails");
+    }
+    Some(())
+}
+
+#[test]
+fn failing_devices_are_told_apart(rt: HostRuntime) {
+    for &is_plain in &[true, false] {
+        let made = expect_failures(&rt, rt.alloc(), is_plain);
+        expect(&rt, made.is_some(), "a device that fails");
+    }
+}

@@ -1,0 +1,132 @@
+//! Runs an image over one of the two stores, for the tests of the program: `tests/runners/images.py` holds both beside the reference,
+//! and `tests/runners/refused.py` refuses the allocations of both in turn.
+#![tactic(auto)]
+
+use cyc_machine::Limits;
+use cyc_pagestore::PageStore;
+use cyc_store::PlainStore;
+use cyc_system::{Report, RunFault, run_with};
+use cyc_words::{ByteIn, ByteOut, Reader, Writer};
+use std::alloc::Global;
+use std::io::{BufReader, BufWriter, Read, Write};
+use std::process::ExitCode;
+use std::{env, fs};
+
+/// One byte more than an image may have is read of its file.
+const MOST_IMAGE: u64 = 33_554_433;
+
+/// Runs an image over a new store in memory.
+fn run_plain<R: ByteIn, W: ByteOut>(
+    alloc: Global,
+    image: &[u8],
+    limits: Limits,
+    budget: u64,
+    reader: &mut R,
+    writer: &mut W,
+) -> Result<Report, RunFault> {
+    let store = PlainStore::new(alloc, limits.pages())?;
+    run_with(alloc, image, limits, budget, reader, writer, store)
+}
+
+/// Runs an image over a new store on a pool.
+fn run_paged<R: ByteIn, W: ByteOut>(
+    alloc: Global,
+    image: &[u8],
+    limits: Limits,
+    budget: u64,
+    reader: &mut R,
+    writer: &mut W,
+) -> Result<Report, RunFault> {
+    let store = PageStore::new(alloc, limits.pages())?;
+    run_with(alloc, image, limits, budget, reader, writer, store)
+}
+
+/// What a run is asked for: the store, the limits, the most instructions, and the file of the image.
+#[derive(Drop)]
+struct Asked<'a> {
+    is_plain: bool,
+    limits: Limits,
+    budget: u64,
+    image: &'a str,
+}
+
+/// What the words of the command ask for: the store, the pages, the calls, the most instructions, and the file of the image.
+fn asked(words: &[String]) -> Option<Asked<'_>> {
+    let is_plain = match words.get(1)?.as_str() {
+        "plain" => true,
+        "paged" => false,
+        _ => return None,
+    };
+    let pages = words.get(2)?.parse().ok()?;
+    let calls = words.get(3)?.parse().ok()?;
+    Some(Asked {
+        is_plain,
+        limits: Limits::new(pages, calls)?,
+        budget: words.get(4)?.parse().ok()?,
+        image: words.get(5)?.as_str(),
+    })
+}
+
+/// The bytes of a file, as far as an image goes.
+fn read_file(rt: &HostRuntime, path: &str) -> Option<Vec<u8>> {
+    let mut bytes = Vec::new(rt.alloc());
+    let file = fs::open(rt, path).ok()?;
+    file.take(MOST_IMAGE).read_to_end(&mut bytes).ok()?;
+    Some(bytes)
+}
+
+/// Runs an image between the standard streams.
+fn run_asked(
+    rt: &HostRuntime,
+    asked: &Asked<'_>,
+    image: &[u8],
+) -> Option<Result<Report, RunFault>> {
+    let mut input = BufReader::new(rt.alloc(), rt.stdin()).ok()?;
+    let mut output = BufWriter::new(rt.alloc(), rt.stdout()).ok()?;
+    let mut reader = Reader::new(&mut input);
+    let mut writer = Writer::new(&mut output);
+    let (alloc, limits, budget) = (rt.alloc(), asked.limits, asked.budget);
+    let outcome = if asked.is_plain {
+        run_plain(alloc, image, limits, budget, &mut reader, &mut writer)
+    } else {
+        run_paged(alloc, image, limits, budget, &mut reader, &mut writer)
+    };
+    output.flush().ok()?;
+    Some(outcome)
+}
+
+/// Says on standard error how a run came out: its stop, and after how many instructions; or its fault.
+fn say(rt: &HostRuntime, outcome: Result<Report, RunFault>) -> Option<()> {
+    match outcome {
+        Ok(report) => eprintln!(rt; "{:?} after {}", report.stop, report.count).ok(),
+        Err(fault) => eprintln!(rt; "{fault:?}").ok(),
+    }
+}
+
+/// Does what the words of the command ask for. None where that is nothing, where the image cannot be read, or where memory ran out
+/// before the run.
+fn serve(rt: &HostRuntime, words: &[String]) -> Option<()> {
+    let asked = asked(words)?;
+    let image = read_file(rt, asked.image)?;
+    let outcome = run_asked(rt, &asked, &image)?;
+    say(rt, outcome)
+}
+
+/// The words of the command line.
+fn read_words(rt: &HostRuntime) -> Option<Vec<String>> {
+    env::args(rt).ok()?.collect(rt.alloc()).ok()
+}
+
+/// With words the status is 0 where a run is told, whatever it came to, and else 1. With none it does nothing.
+fn main(rt: HostRuntime) -> ExitCode {
+    let Some(words) = read_words(&rt) else {
+        return ExitCode::FAILURE;
+    };
+    if words.len() < 2 {
+        return ExitCode::SUCCESS;
+    }
+    match serve(&rt, &words) {
+        Some(()) => ExitCode::SUCCESS,
+        None => ExitCode::FAILURE,
+    }
+}
