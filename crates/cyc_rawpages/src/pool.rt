@@ -1,6 +1,6 @@
 //! A pool of pages over one block of memory.
 
-ghost use Rattle.std.specs.Prelude.{◌≡◌, ◌≢◌, ℕ, [], ◌∷◌, ◌++◌, ◌+◌, ◌*◌, ◌%◌, ◌<◌, ◌≤◌, IfOk, MatchOption, false, length, replicate, set, slice_index, slice_index_or};
+ghost use Rattle.std.specs.Prelude.{◌==◌, ◌≡◌, ◌≢◌, ℕ, [], ◌∷◌, ◌++◌, ◌+◌, ◌*◌, ◌%◌, ◌<◌, ◌≤◌, IfOk, MatchOption, false, length, replicate, set, slice_index, slice_index_or};
 ghost use Rattle.cyc_rawpages.specs.Lists.{chain_at, freed};
 ghost use Rattle.cyc_rawpages.specs.Pool.{IsFree, IsHead, LinksAll, between, new_pool};
 
@@ -202,6 +202,22 @@ impl Pool {
         let low = self.block.head(header_at(self.pages, page.number, LOW));
         let high = self.block.head(header_at(self.pages, page.number, HIGH));
         low as u64 + 0x1_0000_0000 * high as u64
+    }
+
+    /// Whether two pages have the same serial.
+    #[inline]
+    pub fn is_serial_same(&self, page: PageNo, other: PageNo) -> bool
+        requires { (page.number < self.now.pages) × (other.number < self.now.pages) }
+        ensures { result ≡ (slice_index self.now.serials page.number == slice_index self.now.serials other.number) }
+    {
+        let low = self.block.head(header_at(self.pages, page.number, LOW));
+        let other_low = self.block.head(header_at(self.pages, other.number, LOW));
+        if low != other_low {
+            return false;
+        }
+        let high = self.block.head(header_at(self.pages, page.number, HIGH));
+        let other_high = self.block.head(header_at(self.pages, other.number, HIGH));
+        high == other_high
     }
 
     /// Sets the serial of a page.
