@@ -8,11 +8,11 @@ use Rattle.cyc_rawpages.specs.Pool.{PoolState, serial_of, state_of}
 use Rattle.cyc_rawpages.proofs.Columns.{tab-read}
 use Rattle.cyc_rawpages.proofs.PoolLemmas.{there-in}
 
-serial-read : (pages : ℕ) (raw : Parts) (l : Lists) (now : PoolState) → state_of pages raw l ≡ now → (page : ℕ) → page < now.pages → slice_index now.serials page ≡ serial_of pages raw page
-serial-read pages raw l now is page there = ap (λ (t : PoolState). slice_index t.serials page) (sym is) ∙ tab-read pages (serial_of pages raw) page 0 (there-in _ _ page is there)
+serial-read : (pages : ℕ) (raw : Parts) (l : Lists) (now : PoolState) → state_of pages raw l ≡ now → (page : ℕ) → page < now.pages → slice_index now.serials page ≡ serial_of raw page
+serial-read pages raw l now is page there = ap (λ (t : PoolState). slice_index t.serials page) (sym is) ∙ tab-read pages (serial_of raw) page 0 (there-in _ _ page is there)
 
 pub serials-read : (pages : ℕ) (raw : Parts) (l : Lists) (now : PoolState) → state_of pages raw l ≡ now → (page other : ℕ) → page < now.pages → other < now.pages
-    → (slice_index now.serials page == slice_index now.serials other) ≡ (serial_of pages raw page == serial_of pages raw other)
+    → (slice_index now.serials page == slice_index now.serials other) ≡ (serial_of raw page == serial_of raw other)
 serials-read pages raw l now is page other there other-there = λ j. serial-read pages raw l now is page there j == serial-read pages raw l now is other other-there j
 
 -- serials whose low halves differ

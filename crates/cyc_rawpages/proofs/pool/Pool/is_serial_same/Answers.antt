@@ -10,7 +10,7 @@ returns-then-low-other_low c =
     let s = c.self.inside in let p = c.args.page.number in let o = c.args.other.number in
     let low = c.head-low.ensures ∙ ap (slice_index s.block.heads) c.header_at.ensures in let other_low = c.head-other_low.ensures ∙ ap (slice_index s.block.heads) c.header_at-2.ensures in
     sym (serials-read s.pages s.block s.roll.lists _ c.self.view_is p o c.requires.0 c.requires.1
-    ∙ low-apart (field_of s.pages s.block LOW p) (field_of s.pages s.block HIGH p) (field_of s.pages s.block LOW o) (field_of s.pages s.block HIGH o)
+    ∙ low-apart (field_of s.block LOW p) (field_of s.block HIGH p) (field_of s.block LOW o) (field_of s.block HIGH o)
     (subst (λ (n : ℕ). n < 2 ^ 32) low c.head-low.type_inv) (subst (λ (n : ℕ). n < 2 ^ 32) other_low c.head-other_low.type_inv) (λ e. c.if-low-other_low.true (low ∙ e ∙ sym other_low)))
 
 pub returns : goal.returns
@@ -19,5 +19,5 @@ returns c =
     let low = c.head-low.ensures ∙ ap (slice_index s.block.heads) c.header_at.ensures in let other_low = c.head-other_low.ensures ∙ ap (slice_index s.block.heads) c.header_at-2.ensures in
     let high = c.head-high.ensures ∙ ap (slice_index s.block.heads) c.header_at-3.ensures in let other_high = c.head-other_high.ensures ∙ ap (slice_index s.block.heads) c.header_at-4.ensures in
     (λ j. nat_eq (high j) (other_high j))
-    ∙ high-tells (field_of s.pages s.block LOW p) (field_of s.pages s.block HIGH p) (field_of s.pages s.block LOW o) (field_of s.pages s.block HIGH o) (sym low ∙ c.if-low-other_low.false ∙ other_low)
+    ∙ high-tells (field_of s.block LOW p) (field_of s.block HIGH p) (field_of s.block LOW o) (field_of s.block HIGH o) (sym low ∙ c.if-low-other_low.false ∙ other_low)
     ∙ sym (serials-read s.pages s.block s.roll.lists _ c.self.view_is p o c.requires.0 c.requires.1)
