@@ -42,7 +42,7 @@ pub(crate) fn is_within(pool: &Pool, page: u32, offset: u32) -> bool
     let owner = PageNo {
         number: pool.owner(page),
     };
-    pool.serial(page) == pool.serial(owner)
+    pool.is_serial_same(page, owner)
 }
 
 /// Numbers all pages anew: each has the number of its owner and one as its serial, and a page that has none of its words

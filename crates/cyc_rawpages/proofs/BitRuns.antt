@@ -1,5 +1,5 @@
 -- Bits of a pool that were set or cleared at once, in one word.
-use Rattle.std.proofs.Common.{◌≡◌, ℕ, ◌+◌, ◌*◌, ◌/◌, ◌%◌, ◌<◌, ◌≤◌, Bool, false, length, sym, ap, ◌∙◌, inl, inr, arith, get_or-set_same, get_or-set_other}
+use Rattle.std.proofs.Common.{◌≡◌, ℕ, ◌+◌, ◌*◌, ◌%◌, ◌<◌, ◌≤◌, Bool, false, length, sym, ap, ◌∙◌, inl, inr, arith, get_or-set_same, get_or-set_other}
 use Rattle.std.specs.Prelude.{◌==◌, ◌&&◌, ◌⊎◌, nat_le, nat_lt, slice_index, slice_index_or}
 use Rattle.std.specs.Int.{bit_at}
 use Rattle.std.proofs.lemmas.Bool.{cases_eq, cases_lt, and_right, cond-true, cond-false, le-leb, lt-leb, le-ltb, lt-ltb}
@@ -17,7 +17,7 @@ between-out old first count value number (inl below) =
 between-out old first count value number (inr past) =
     cond-false (nat_le first number && nat_lt number (first + count)) value (old number) (and_right (nat_le first number) (nat_lt number (first + count)) (le-ltb number (first + count) past))
 
-module _ (pages : ℕ) (raw : Parts) (at count w : ℕ) (v : Bool) (there : at < 1024 * pages) (few : at % 32 + count ≤ 32) (inside : at / 32 < length raw.heads)
+module _ (pages : ℕ) (raw : Parts) (at count w : ℕ) (v : Bool) (there : at < 1024 * pages) (few : at % 32 + count ≤ 32) (inside : bits_at at < length raw.heads)
     (on : (i : ℕ) → at % 32 ≤ i → i < at % 32 + count → (bit_at w i == 1) ≡ v)
     (off : (i : ℕ) → (i < at % 32) ⊎ (at % 32 + count ≤ i) → bit_at w i ≡ bit_at (slice_index raw.heads (bits_at at)) i) where
   abbrev k : ℕ

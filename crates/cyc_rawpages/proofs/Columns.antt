@@ -41,15 +41,15 @@ module _ (pages : ℕ) (raw : Parts) (k v : ℕ) where
   new = headed raw k v
 
   -- a word that is this field of no page
-  pub field-kept : (field page : ℕ) → (header_at pages page field ≡ k → ⊥) → field_of pages new field page ≡ field_of pages raw field page
-  field-kept field page ne = get_or-set_other raw.heads k (header_at pages page field) v 0 ne
+  pub field-kept : (field page : ℕ) → (header_at page field ≡ k → ⊥) → field_of new field page ≡ field_of raw field page
+  field-kept field page ne = get_or-set_other raw.heads k (header_at page field) v 0 ne
 
-  column-kept : (field : ℕ) → ((page : ℕ) → page < pages → header_at pages page field ≡ k → ⊥) → tabulate pages (field_of pages new field) ≡ tabulate pages (field_of pages raw field)
-  column-kept field ne = tab-ext pages (field_of pages new field) (field_of pages raw field) (λ i lt. field-kept field i (ne i lt))
+  column-kept : (field : ℕ) → ((page : ℕ) → page < pages → header_at page field ≡ k → ⊥) → tabulate pages (field_of new field) ≡ tabulate pages (field_of raw field)
+  column-kept field ne = tab-ext pages (field_of new field) (field_of raw field) (λ i lt. field-kept field i (ne i lt))
 
-  serials-kept : ((page : ℕ) → page < pages → header_at pages page LOW ≡ k → ⊥) → ((page : ℕ) → page < pages → header_at pages page HIGH ≡ k → ⊥)
-      → tabulate pages (serial_of pages new) ≡ tabulate pages (serial_of pages raw)
-  serials-kept low high = tab-ext pages (serial_of pages new) (serial_of pages raw) (λ i lt. λ j. field-kept LOW i (low i lt) j + 2 ^ 32 * field-kept HIGH i (high i lt) j)
+  serials-kept : ((page : ℕ) → page < pages → header_at page LOW ≡ k → ⊥) → ((page : ℕ) → page < pages → header_at page HIGH ≡ k → ⊥)
+      → tabulate pages (serial_of new) ≡ tabulate pages (serial_of raw)
+  serials-kept low high = tab-ext pages (serial_of new) (serial_of raw) (λ i lt. λ j. field-kept LOW i (low i lt) j + 2 ^ 32 * field-kept HIGH i (high i lt) j)
 
   -- a word that has the bits of no page
   bits-kept : ((number : ℕ) → number < 1024 * pages → bits_at number ≡ k → ⊥) → tabulate (1024 * pages) (bit_of new) ≡ tabulate (1024 * pages) (bit_of raw)
@@ -58,13 +58,13 @@ module _ (pages : ℕ) (raw : Parts) (k v : ℕ) where
 module _ (pages : ℕ) (raw : Parts) (l : Lists) (whole : length raw.heads ≡ 40 * pages) where
   -- a page was said to be filled so far
   pub filled : (page v : ℕ) → page < pages
-      → state_of pages (headed raw (header_at pages page FILL) v) l ≡ record (state_of pages raw l) { fills = set (state_of pages raw l).fills page v }
+      → state_of pages (headed raw (header_at page FILL) v) l ≡ record (state_of pages raw l) { fills = set (state_of pages raw l).fills page v }
   filled page v there =
-      let k = header_at pages page FILL in
+      let k = header_at page FILL in
       λ j. record {
         pages = pages;
         words = raw.words;
-        fills = tab-set pages (field_of pages raw FILL) (field_of pages (headed raw k v) FILL) page v there (get_or-set_same raw.heads k v 0 (omega (arith, whole, there))) (λ i below ne. field-kept pages raw k v FILL i (λ e. ne (omega (arith, e)))) j;
+        fills = tab-set pages (field_of raw FILL) (field_of (headed raw k v) FILL) page v there (get_or-set_same raw.heads k v 0 (omega (arith, whole, there))) (λ i below ne. field-kept pages raw k v FILL i (λ e. ne (omega (arith, e)))) j;
         owners = column-kept pages raw k v OWNER (λ p below e. omega (arith, e)) j;
         serials = serials-kept pages raw k v (λ p below e. omega (arith, e)) (λ p below e. omega (arith, e)) j;
         bits = bits-kept pages raw k v (λ i below e. omega (arith, e, below)) j;
@@ -74,14 +74,14 @@ module _ (pages : ℕ) (raw : Parts) (l : Lists) (whole : length raw.heads ≡ 4
 
   -- a page was said to be this one's
   pub owned : (page v : ℕ) → page < pages
-      → state_of pages (headed raw (header_at pages page OWNER) v) l ≡ record (state_of pages raw l) { owners = set (state_of pages raw l).owners page v }
+      → state_of pages (headed raw (header_at page OWNER) v) l ≡ record (state_of pages raw l) { owners = set (state_of pages raw l).owners page v }
   owned page v there =
-      let k = header_at pages page OWNER in
+      let k = header_at page OWNER in
       λ j. record {
         pages = pages;
         words = raw.words;
         fills = column-kept pages raw k v FILL (λ p below e. omega (arith, e)) j;
-        owners = tab-set pages (field_of pages raw OWNER) (field_of pages (headed raw k v) OWNER) page v there (get_or-set_same raw.heads k v 0 (omega (arith, whole, there))) (λ i below ne. field-kept pages raw k v OWNER i (λ e. ne (omega (arith, e)))) j;
+        owners = tab-set pages (field_of raw OWNER) (field_of (headed raw k v) OWNER) page v there (get_or-set_same raw.heads k v 0 (omega (arith, whole, there))) (λ i below ne. field-kept pages raw k v OWNER i (λ e. ne (omega (arith, e)))) j;
         serials = serials-kept pages raw k v (λ p below e. omega (arith, e)) (λ p below e. omega (arith, e)) j;
         bits = bits-kept pages raw k v (λ i below e. omega (arith, e, below)) j;
         free = tabulate pages (is_among l.free);
@@ -90,15 +90,15 @@ module _ (pages : ℕ) (raw : Parts) (l : Lists) (whole : length raw.heads ≡ 4
 
   -- both halves of a page's serial were written
   pub numbered : (page low high : ℕ) → page < pages
-      → state_of pages (headed (headed raw (header_at pages page LOW) low) (header_at pages page HIGH) high) l ≡ record (state_of pages raw l) { serials = set (state_of pages raw l).serials page (low + 2 ^ 32 * high) }
+      → state_of pages (headed (headed raw (header_at page LOW) low) (header_at page HIGH) high) l ≡ record (state_of pages raw l) { serials = set (state_of pages raw l).serials page (low + 2 ^ 32 * high) }
   numbered page low high there =
-      let k = header_at pages page LOW in let h = header_at pages page HIGH in let mid = headed raw k low in let long = length-set raw.heads k low in
+      let k = header_at page LOW in let h = header_at page HIGH in let mid = headed raw k low in let long = length-set raw.heads k low in
       λ j. record {
         pages = pages;
         words = raw.words;
         fills = (column-kept pages mid h high FILL (λ p below e. omega (arith, e)) ∙ column-kept pages raw k low FILL (λ p below e. omega (arith, e))) j;
         owners = (column-kept pages mid h high OWNER (λ p below e. omega (arith, e)) ∙ column-kept pages raw k low OWNER (λ p below e. omega (arith, e))) j;
-        serials = tab-set pages (serial_of pages raw) (serial_of pages (headed mid h high)) page (low + 2 ^ 32 * high) there
+        serials = tab-set pages (serial_of raw) (serial_of (headed mid h high)) page (low + 2 ^ 32 * high) there
             (λ i. (field-kept pages mid h high LOW page (λ e. omega (arith, e)) ∙ get_or-set_same raw.heads k low 0 (omega (arith, whole, there))) i + 2 ^ 32 * get_or-set_same mid.heads h high 0 (omega (arith, whole, there, long)) i)
             (λ q below ne. λ i. (field-kept pages mid h high LOW q (λ e. omega (arith, e)) ∙ field-kept pages raw k low LOW q (λ e. ne (omega (arith, e)))) i
             + 2 ^ 32 * (field-kept pages mid h high HIGH q (λ e. ne (omega (arith, e))) ∙ field-kept pages raw k low HIGH q (λ e. omega (arith, e))) i) j;
@@ -108,9 +108,9 @@ module _ (pages : ℕ) (raw : Parts) (l : Lists) (whole : length raw.heads ≡ 4
       }
 
   -- a link or a tail was written, which only the lists tell
-  pub linked : (page field v : ℕ) → 4 ≤ field → field < 8 → state_of pages (headed raw (header_at pages page field) v) l ≡ state_of pages raw l
+  pub linked : (page field v : ℕ) → 4 ≤ field → field < 8 → state_of pages (headed raw (header_at page field) v) l ≡ state_of pages raw l
   linked page field v low high =
-      let k = header_at pages page field in
+      let k = header_at page field in
       λ j. record {
         pages = pages;
         words = raw.words;
@@ -148,14 +148,14 @@ module _ (pages : ℕ) (raw : Parts) (l : Lists) (whole : length raw.heads ≡ 4
       }
 
   -- a word that bits are in was written
-  pub rewritten : (k w : ℕ) → k < 32 * pages → state_of pages (headed raw k w) l ≡ record (state_of pages raw l) { bits = tabulate (1024 * pages) (bit_of (headed raw k w)) }
-  rewritten k w low =
+  pub rewritten : (k w : ℕ) → ((page field : ℕ) → field < 8 → header_at page field ≡ k → ⊥) → state_of pages (headed raw k w) l ≡ record (state_of pages raw l) { bits = tabulate (1024 * pages) (bit_of (headed raw k w)) }
+  rewritten k w apart =
       λ j. record {
         pages = pages;
         words = raw.words;
-        fills = column-kept pages raw k w FILL (λ p below e. omega (arith, e, low)) j;
-        owners = column-kept pages raw k w OWNER (λ p below e. omega (arith, e, low)) j;
-        serials = serials-kept pages raw k w (λ p below e. omega (arith, e, low)) (λ p below e. omega (arith, e, low)) j;
+        fills = column-kept pages raw k w FILL (λ p below. apart p FILL (omega arith)) j;
+        owners = column-kept pages raw k w OWNER (λ p below. apart p OWNER (omega arith)) j;
+        serials = serials-kept pages raw k w (λ p below. apart p LOW (omega arith)) (λ p below. apart p HIGH (omega arith)) j;
         bits = tabulate (1024 * pages) (bit_of (headed raw k w));
         free = tabulate pages (is_among l.free);
         chains = l.chains;

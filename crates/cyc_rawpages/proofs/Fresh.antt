@@ -20,7 +20,7 @@ pub record IsLinking (pages : ℕ) (old new : Parts) (first left : ℕ) : Type 0
   pub whole : length new.heads ≡ 40 * pages
   pub words : new.words ≡ old.words
   pub same : (l : Lists) → state_of pages new l ≡ state_of pages old l
-  pub linked : IsLinked (field_of pages new NEXT) first (numbers_from left (pages - left)) NONE
+  pub linked : IsLinked (field_of new NEXT) first (numbers_from left (pages - left)) NONE
 
 above : (first count k : ℕ) → k < first → AllByRecursion (λ x. k < x) (numbers_from first count)
 above first zero k lt = tt
@@ -32,26 +32,26 @@ starts pages old long = record {
   whole = long;
   words = refl;
   same = λ l. refl;
-  linked = subst (λ n. IsLinked (field_of pages old NEXT) NONE (numbers_from pages n) NONE) {x = 0} {y = pages - pages} (omega arith) refl;
+  linked = subst (λ n. IsLinked (field_of old NEXT) NONE (numbers_from pages n) NONE) {x = 0} {y = pages - pages} (omega arith) refl;
 }
 
 pub steps : (pages : ℕ) (old new : Parts) (first left : ℕ) → 0 < left → IsLinking pages old new first left
-    → IsLinking pages old (headed new (header_at pages (left - 1) NEXT) first) (left - 1) (left - 1)
+    → IsLinking pages old (headed new (header_at (left - 1) NEXT) first) (left - 1) (left - 1)
 steps pages old new first zero some is = absurd (omega (arith, some))
 steps pages old new first (suc left) some is =
-    let less : suc left - 1 ≡ left = omega arith in let fits = is.fits in let there : left < pages = omega (arith, fits) in let k = header_at pages left NEXT in
-    let next = put (field_of pages new NEXT) left first in
+    let less : suc left - 1 ≡ left = omega arith in let fits = is.fits in let there : left < pages = omega (arith, fits) in let k = header_at left NEXT in
+    let next = put (field_of new NEXT) left first in
     rw less (record {
       fits = omega (arith, fits);
       whole = length-set new.heads k first ∙ is.whole;
       words = is.words;
       same = λ l. linked pages new l is.whole left NEXT first (omega arith) (omega arith) ∙ is.same l;
-      linked = subst (λ n. IsLinked (field_of pages (headed new k first) NEXT) left (numbers_from left n) NONE) {x = suc (pages - suc left)} {y = pages - left} (omega (arith, there))
+      linked = subst (λ n. IsLinked (field_of (headed new k first) NEXT) left (numbers_from left n) NONE) {x = suc (pages - suc left)} {y = pages - left} (omega (arith, there))
           (subst (λ f. IsLinked f left (left ∷ numbers_from (suc left) (pages - suc left)) NONE) (sym (field-put pages left NEXT first new (header-in pages left NEXT new is.whole there (omega arith)))) (
             refl,
-            subst (λ q. IsLinked next q (numbers_from (suc left) (pages - suc left)) NONE) (sym (put-same (field_of pages new NEXT) left first left refl))
-                (linked-same (field_of pages new NEXT) next first (numbers_from (suc left) (pages - suc left)) NONE
-                (all-map (numbers_from (suc left) (pages - suc left)) (λ q high. put-other (field_of pages new NEXT) left first q (λ e. omega (arith, e, high))) (above (suc left) (pages - suc left) left (omega arith)))
+            subst (λ q. IsLinked next q (numbers_from (suc left) (pages - suc left)) NONE) (sym (put-same (field_of new NEXT) left first left refl))
+                (linked-same (field_of new NEXT) next first (numbers_from (suc left) (pages - suc left)) NONE
+                (all-map (numbers_from (suc left) (pages - suc left)) (λ q high. put-other (field_of new NEXT) left first q (λ e. omega (arith, e, high))) (above (suc left) (pages - suc left) left (omega arith)))
                 is.linked),
           ));
     })
@@ -61,7 +61,7 @@ whole_range pages left none = omega (arith, none)
 
 pub ends : (pages : ℕ) (old new : Parts) (first left : ℕ) → left ≡ 0 → IsLinking pages old new first left → LinksAll pages old new first
 ends pages old new first left none is =
-    record { whole = is.whole; words = is.words; same = is.same; linked = subst (λ (u : ℕ × ℕ). IsLinked (field_of pages new NEXT) first (numbers_from u.0 u.1) NONE) {x = (left, pages - left)} {y = (0, pages)} (λ j. (none j, whole_range pages left none j)) is.linked }
+    record { whole = is.whole; words = is.words; same = is.same; linked = subst (λ (u : ℕ × ℕ). IsLinked (field_of new NEXT) first (numbers_from u.0 u.1) NONE) {x = (left, pages - left)} {y = (0, pages)} (λ j. (none j, whole_range pages left none j)) is.linked }
 
 -- ---- all of it
 distinct-numbers : (first count : ℕ) → IsDistinct (numbers_from first count)
@@ -88,7 +88,7 @@ fresh-pool pages old new first few long is = record {
     linked = is.linked;
     unused = in-range 0 pages pages (omega arith);
     apart = distinct-numbers 0 pages;
-    run = λ head below. subst (IsChain pages (field_of pages new NEXT) (field_of pages new TAIL) (λ _. NONE) head) (sym (no-chain pages head)) tt;
+    run = λ head below. subst (IsChain pages (field_of new NEXT) (field_of new TAIL) (λ _. NONE) head) (sym (no-chain pages head)) tt;
   };
 }
 
@@ -113,9 +113,9 @@ fresh-state pages n =
     λ j. record {
       pages = pages;
       words = raw.words;
-      fills = tab-all pages (field_of pages raw FILL) 0 (λ i lt. zero-at n _) j;
-      owners = tab-all pages (field_of pages raw OWNER) 0 (λ i lt. zero-at n _) j;
-      serials = tab-all pages (serial_of pages raw) 0 (λ i lt. λ k. zero-at n (header_at pages i LOW) k + 2 ^ 32 * zero-at n (header_at pages i HIGH) k) j;
+      fills = tab-all pages (field_of raw FILL) 0 (λ i lt. zero-at n _) j;
+      owners = tab-all pages (field_of raw OWNER) 0 (λ i lt. zero-at n _) j;
+      serials = tab-all pages (serial_of raw) 0 (λ i lt. λ k. zero-at n (header_at i LOW) k + 2 ^ 32 * zero-at n (header_at i HIGH) k) j;
       bits = tab-all (1024 * pages) (bit_of raw) false (λ i lt. ap (λ w. bit_at w (i % 32) == 1) (zero-at n (bits_at i)) ∙ ap (λ k. k == 1) (bit_at-zero (i % 32))) j;
       free = tab-all pages (is_among (numbers_from 0 pages)) true (λ i lt. among-numbers 0 pages i (omega arith) (omega (arith, lt))) j;
       chains = replicate pages [];

@@ -14,27 +14,27 @@ use Rattle.cyc_rawpages.proofs.FreePages.{free-none as none-free, free-first, fr
 use Rattle.cyc_rawpages.proofs.Links.{put-same, put-other, all-map, free-none, free-some, free-there, taken, tail-in, given, pushed}
 
 -- where a header stands
-pub header-in : (pages page field : ℕ) (raw : Parts) → length raw.heads ≡ 40 * pages → page < pages → field < 8 → header_at pages page field < length raw.heads
+pub header-in : (pages page field : ℕ) (raw : Parts) → length raw.heads ≡ 40 * pages → page < pages → field < 8 → header_at page field < length raw.heads
 header-in pages page field raw whole there low = omega (arith, whole, there, low)
 
 pub word-in : (pages page word : ℕ) (raw : Parts) → length raw.words ≡ 1024 * pages → page < pages → word < 1024 → 1024 * page + word < length raw.words
 word-in pages page word raw whole there low = omega (arith, whole, there, low)
 
 -- a field as a function of the page, after that of one page was written
-pub field-put : (pages page field v : ℕ) (raw : Parts) → header_at pages page field < length raw.heads → field_of pages (headed raw (header_at pages page field) v) field ≡ put (field_of pages raw field) page v
+pub field-put : (pages page field v : ℕ) (raw : Parts) → header_at page field < length raw.heads → field_of (headed raw (header_at page field) v) field ≡ put (field_of raw field) page v
 field-put pages page field v raw inside = λ j p. at p j where
-  at : (p : ℕ) → field_of pages (headed raw (header_at pages page field) v) field p ≡ put (field_of pages raw field) page v p
+  at : (p : ℕ) → field_of (headed raw (header_at page field) v) field p ≡ put (field_of raw field) page v p
   at p = elim (cases_eq p page) [
-    | inl same ↦ ap (λ q. field_of pages (headed raw (header_at pages page field) v) field q) same ∙ get_or-set_same raw.heads (header_at pages page field) v 0 inside ∙ sym (put-same (field_of pages raw field) page v p same)
-    | inr other ↦ field-kept pages raw (header_at pages page field) v field p (λ e. other (omega (arith, e))) ∙ sym (put-other (field_of pages raw field) page v p other)
+    | inl same ↦ ap (λ q. field_of (headed raw (header_at page field) v) field q) same ∙ get_or-set_same raw.heads (header_at page field) v 0 inside ∙ sym (put-same (field_of raw field) page v p same)
+    | inr other ↦ field-kept pages raw (header_at page field) v field p (λ e. other (omega (arith, e))) ∙ sym (put-other (field_of raw field) page v p other)
   ]
 
-field-apart : (pages page written v field : ℕ) (raw : Parts) → written < 8 → field < 8 → (written ≡ field → ⊥) → field_of pages (headed raw (header_at pages page written) v) field ≡ field_of pages raw field
-field-apart pages page written v field raw low high ne = λ j p. field-kept pages raw (header_at pages page written) v field p (λ e. ne (omega (arith, e, low, high))) j
+field-apart : (pages page written v field : ℕ) (raw : Parts) → written < 8 → field < 8 → (written ≡ field → ⊥) → field_of (headed raw (header_at page written) v) field ≡ field_of raw field
+field-apart pages page written v field raw low high ne = λ j p. field-kept pages raw (header_at page written) v field p (λ e. ne (omega (arith, e, low, high))) j
 
 module _ (pages : ℕ) (raw : Parts) (first : ℕ) (l : Lists) (is : IsPool pages raw first l) where
   -- no link was written
-  pub kept : (k v : ℕ) → ((page : ℕ) → (header_at pages page NEXT ≡ k → ⊥) × (header_at pages page TAIL ≡ k → ⊥)) → IsPool pages (headed raw k v) first l
+  pub kept : (k v : ℕ) → ((page : ℕ) → (header_at page NEXT ≡ k → ⊥) × (header_at page TAIL ≡ k → ⊥)) → IsPool pages (headed raw k v) first l
   kept k v ne = record {
     whole = length-set raw.heads k v ∙ is.whole;
     words = is.words;
@@ -44,64 +44,64 @@ module _ (pages : ℕ) (raw : Parts) (first : ℕ) (l : Lists) (is : IsPool page
 
   pub first-there : (first ≡ NONE → ⊥) → first < pages
   first-there some =
-      let had = free-some pages (field_of pages raw NEXT) (field_of pages raw TAIL) first l is.up some in
-      free-there pages (field_of pages raw NEXT) (field_of pages raw TAIL) first l is.up had.0 had.1
+      let had = free-some pages (field_of raw NEXT) (field_of raw TAIL) first l is.up some in
+      free-there pages (field_of raw NEXT) (field_of raw TAIL) first l is.up had.0 had.1
 
   -- the first free page was taken
-  pub pool-taken : (first ≡ NONE → ⊥) → IsPool pages (headed raw (header_at pages first TAIL) first) (field_of pages raw NEXT first) (after l (Taken first))
+  pub pool-taken : (first ≡ NONE → ⊥) → IsPool pages (headed raw (header_at first TAIL) first) (field_of raw NEXT first) (after l (Taken first))
   pool-taken some =
-      let had = free-some pages (field_of pages raw NEXT) (field_of pages raw TAIL) first l is.up some in
-      let there = free-there pages (field_of pages raw NEXT) (field_of pages raw TAIL) first l is.up had.0 had.1 in
-      let k = header_at pages first TAIL in
+      let had = free-some pages (field_of raw NEXT) (field_of raw TAIL) first l is.up some in
+      let there = free-there pages (field_of raw NEXT) (field_of raw TAIL) first l is.up had.0 had.1 in
+      let k = header_at first TAIL in
       record {
         whole = length-set raw.heads k first ∙ is.whole;
         words = is.words;
-        up = subst (λ (u : (ℕ → ℕ) × (ℕ → ℕ)). IsLinkedUp pages u.0 u.1 (field_of pages raw NEXT first) (after l (Taken first)))
+        up = subst (λ (u : (ℕ → ℕ) × (ℕ → ℕ)). IsLinkedUp pages u.0 u.1 (field_of raw NEXT first) (after l (Taken first)))
             (λ j. (sym (field-apart pages first TAIL first NEXT raw (omega arith) (omega arith) (λ e. omega (arith, e))) j, sym (field-put pages first TAIL first raw (header-in pages first TAIL raw is.whole there (omega arith))) j))
-            (taken pages (field_of pages raw NEXT) (field_of pages raw TAIL) first l is.up had.0 had.1);
+            (taken pages (field_of raw NEXT) (field_of raw TAIL) first l is.up had.0 had.1);
       }
 
   pub first-free : (first ≡ NONE → ⊥) → IsFree (tabulate pages (is_among l.free)) first
   first-free some =
-      let had = free-some pages (field_of pages raw NEXT) (field_of pages raw TAIL) first l is.up some in
+      let had = free-some pages (field_of raw NEXT) (field_of raw TAIL) first l is.up some in
       subst (λ free. IsFree (tabulate pages (is_among free)) first) (sym had.1) (free-first pages first had.0 (first-there some))
 
   pub taken-free : (first ≡ NONE → ⊥) → tabulate pages (is_among (drop 1 l.free)) ≡ set (tabulate pages (is_among l.free)) first false
   taken-free some =
-      let had = free-some pages (field_of pages raw NEXT) (field_of pages raw TAIL) first l is.up some in
+      let had = free-some pages (field_of raw NEXT) (field_of raw TAIL) first l is.up some in
       ap (λ free. tabulate pages (is_among (drop 1 free))) had.1 ∙ free-taken pages first had.0 (first-there some) (subst IsDistinct had.1 is.up.apart).0
       ∙ ap (λ free. set (tabulate pages (is_among free)) first false) (sym had.1)
 
   pub no-free : first ≡ NONE → tabulate pages (is_among l.free) ≡ replicate pages false
-  no-free none = ap (λ free. tabulate pages (is_among free)) (free-none pages (field_of pages raw NEXT) (field_of pages raw TAIL) first l is.up none) ∙ none-free pages
+  no-free none = ap (λ free. tabulate pages (is_among free)) (free-none pages (field_of raw NEXT) (field_of raw TAIL) first l is.up none) ∙ none-free pages
 
   module _ (head : ℕ) (rest : List ℕ) (below : head < pages) (e : chain_at l.chains head ≡ head ∷ rest) where
     abbrev tail : ℕ
-    tail = field_of pages raw TAIL head
+    tail = field_of raw TAIL head
 
     pub tail-there : tail < pages
-    tail-there = (tail-in pages (field_of pages raw NEXT) (field_of pages raw TAIL) first l is.up head rest below e).0
+    tail-there = (tail-in pages (field_of raw NEXT) (field_of raw TAIL) first l is.up head rest below e).0
 
     -- a chain was given back
-    pub pool-given : IsPool pages (headed raw (header_at pages tail NEXT) first) head (after l (Given head))
+    pub pool-given : IsPool pages (headed raw (header_at tail NEXT) first) head (after l (Given head))
     pool-given = record {
-      whole = length-set raw.heads (header_at pages tail NEXT) first ∙ is.whole;
+      whole = length-set raw.heads (header_at tail NEXT) first ∙ is.whole;
       words = is.words;
       up = subst (λ (u : (ℕ → ℕ) × (ℕ → ℕ)). IsLinkedUp pages u.0 u.1 head (after l (Given head)))
           (λ j. (sym (field-put pages tail NEXT first raw (header-in pages tail NEXT raw is.whole tail-there (omega arith))) j, sym (field-apart pages tail NEXT first TAIL raw (omega arith) (omega arith) (λ same. omega (arith, same))) j))
-          (given pages (field_of pages raw NEXT) (field_of pages raw TAIL) first l is.up head rest below e);
+          (given pages (field_of raw NEXT) (field_of raw TAIL) first l is.up head rest below e);
     }
 
     pub given-free : tabulate pages (is_among (chain_at l.chains head ++ l.free)) ≡ freed (tabulate pages (is_among l.free)) (chain_at l.chains head)
     given-free =
-        let chain = subst (IsChain pages (field_of pages raw NEXT) (field_of pages raw TAIL) is.up.home head) e (is.up.run head below) in
+        let chain = subst (IsChain pages (field_of raw NEXT) (field_of raw TAIL) is.up.home head) e (is.up.run head below) in
         free-given pages (chain_at l.chains head) l.free (subst (AllByRecursion (λ page. page < pages)) (sym e) (all-map (head ∷ rest) (λ page here. here.0) chain.3))
 
     -- a page was put behind a chain
     pub pool-pushed : (page : ℕ) → page < pages → (head ≡ page → ⊥) → chain_at l.chains page ≡ page ∷ []
-        → IsPool pages (headed (headed raw (header_at pages tail NEXT) page) (header_at pages head TAIL) page) first (after l (Pushed head page))
+        → IsPool pages (headed (headed raw (header_at tail NEXT) page) (header_at head TAIL) page) first (after l (Pushed head page))
     pool-pushed page there ne alone =
-        let n = header_at pages tail NEXT in let t = header_at pages head TAIL in let mid = headed raw n page in let long : length mid.heads ≡ 40 * pages = length-set raw.heads n page ∙ is.whole in
+        let n = header_at tail NEXT in let t = header_at head TAIL in let mid = headed raw n page in let long : length mid.heads ≡ 40 * pages = length-set raw.heads n page ∙ is.whole in
         record {
           whole = length-set mid.heads t page ∙ long;
           words = is.words;
@@ -110,7 +110,7 @@ module _ (pages : ℕ) (raw : Parts) (first : ℕ) (l : Lists) (is : IsPool page
                 sym (field-apart pages head TAIL page NEXT mid (omega arith) (omega arith) (λ same. omega (arith, same)) ∙ field-put pages tail NEXT page raw (header-in pages tail NEXT raw is.whole tail-there (omega arith))) j,
                 sym (field-put pages head TAIL page mid (header-in pages head TAIL mid long below (omega arith)) ∙ ap (λ f. put f head page) (field-apart pages tail NEXT page TAIL raw (omega arith) (omega arith) (λ same. omega (arith, same)))) j,
               ))
-              (pushed pages (field_of pages raw NEXT) (field_of pages raw TAIL) first l is.up head page rest below there ne e alone);
+              (pushed pages (field_of raw NEXT) (field_of raw TAIL) first l is.up head page rest below there ne e alone);
         }
 
 -- ---- a serial in two halves
@@ -118,8 +118,8 @@ pub halves : (n : ℕ) → n % 2 ^ 32 + 2 ^ 32 * (n / 2 ^ 32) ≡ n
 halves n = omega arith
 
 -- ---- what is read
-pub column-read : (pages page field : ℕ) (raw : Parts) → page < pages → slice_index (tabulate pages (field_of pages raw field)) page ≡ slice_index raw.heads (header_at pages page field)
-column-read pages page field raw there = tab-read pages (field_of pages raw field) page 0 there
+pub column-read : (pages page field : ℕ) (raw : Parts) → page < pages → slice_index (tabulate pages (field_of raw field)) page ≡ slice_index raw.heads (header_at page field)
+column-read pages page field raw there = tab-read pages (field_of raw field) page 0 there
 
 -- ---- what is asked of a pool's state is so of its parts
 pub there-in : (s now : PoolState) (page : ℕ) → s ≡ now → page < now.pages → page < s.pages

@@ -4,7 +4,7 @@ use Rattle.std.specs.List.{AllByRecursion}
 use Rattle.std.specs.Int.{bit_at}
 use Rattle.cyc_rawpages.specs.Lists.{Lists, chain_at, numbers_from, is_among}
 use Rattle.cyc_rawpages.specs.Words.{Parts}
-use Rattle.cyc_rawpages.specs.declared.header.TheConstants.{PAGE_WORDS, BIT_WORDS, HEADER_WORDS, HEAD_WORDS, MOST_PAGES, FILL, OWNER, LOW, HIGH, NEXT, TAIL, NONE}
+use Rattle.cyc_rawpages.specs.declared.header.TheConstants.{PAGE_WORDS, HEADER_WORDS, HEAD_WORDS, MOST_PAGES, FILL, OWNER, LOW, HIGH, NEXT, TAIL, NONE}
 
 -- Each list has one item of each page, in the order of their numbers, but words and bits: these are 1,024 of each page.
 pub record PoolState : Type 0 where
@@ -49,19 +49,19 @@ abbrev pub tabulate : {A : Type 0} → (count : ℕ) → (ℕ → A) → List A
 tabulate zero f = []
 tabulate (suc count) f = f 0 ∷ tabulate count (λ k. f (suc k))
 
--- where a field of a page's header stands, behind the bits of all pages
-abbrev pub header_at : (pages page field : ℕ) → ℕ
-header_at pages page field = BIT_WORDS * pages + (HEADER_WORDS * page + field)
+-- where a field of a page's header stands
+abbrev pub header_at : (page field : ℕ) → ℕ
+header_at page field = HEAD_WORDS * page + field
 
-abbrev pub field_of : (pages : ℕ) → Parts → (field page : ℕ) → ℕ
-field_of pages raw field page = slice_index raw.heads (header_at pages page field)
+abbrev pub field_of : Parts → (field page : ℕ) → ℕ
+field_of raw field page = slice_index raw.heads (header_at page field)
 
-abbrev pub serial_of : (pages : ℕ) → Parts → (page : ℕ) → ℕ
-serial_of pages raw page = field_of pages raw LOW page + 2 ^ 32 * field_of pages raw HIGH page
+abbrev pub serial_of : Parts → (page : ℕ) → ℕ
+serial_of raw page = field_of raw LOW page + 2 ^ 32 * field_of raw HIGH page
 
--- the word that a bit is in, by the bit's number among those of all pages
+-- the word that a bit is in, behind the header of its page, by the bit's number among those of all pages
 abbrev pub bits_at : (number : ℕ) → ℕ
-bits_at number = number / 32
+bits_at number = header_at (number / PAGE_WORDS) (HEADER_WORDS + number % PAGE_WORDS / 32)
 
 abbrev pub bit_of : Parts → (number : ℕ) → Bool
 bit_of raw number = bit_at (slice_index raw.heads (bits_at number)) (number % 32) == 1
@@ -70,9 +70,9 @@ abbrev pub state_of : (pages : ℕ) → Parts → Lists → PoolState
 state_of pages raw l = record {
   pages = pages;
   words = raw.words;
-  fills = tabulate pages (field_of pages raw FILL);
-  owners = tabulate pages (field_of pages raw OWNER);
-  serials = tabulate pages (serial_of pages raw);
+  fills = tabulate pages (field_of raw FILL);
+  owners = tabulate pages (field_of raw OWNER);
+  serials = tabulate pages (serial_of raw);
   bits = tabulate (PAGE_WORDS * pages) (bit_of raw);
   free = tabulate pages (is_among l.free);
   chains = l.chains;
@@ -120,11 +120,11 @@ pub record IsLinkedUp (pages : ℕ) (next tail : ℕ → ℕ) (first : ℕ) (l :
 pub record IsPool (pages : ℕ) (raw : Parts) (first : ℕ) (l : Lists) : Type 0 where
   pub whole : length raw.heads ≡ HEAD_WORDS * pages
   pub words : length raw.words ≡ PAGE_WORDS * pages
-  pub up : IsLinkedUp pages (field_of pages raw NEXT) (field_of pages raw TAIL) first l
+  pub up : IsLinkedUp pages (field_of raw NEXT) (field_of raw TAIL) first l
 
 -- the pages were linked to one another, and nothing else was written
 pub record LinksAll (pages : ℕ) (old new : Parts) (first : ℕ) : Type 0 where
   pub whole : length new.heads ≡ HEAD_WORDS * pages
   pub words : new.words ≡ old.words
   pub same : (l : Lists) → state_of pages new l ≡ state_of pages old l
-  pub linked : IsLinked (field_of pages new NEXT) first (numbers_from 0 pages) NONE
+  pub linked : IsLinked (field_of new NEXT) first (numbers_from 0 pages) NONE

@@ -1,4 +1,4 @@
-//! The heads of a pool: the bits of all pages, and behind them a header of each page.
+//! The heads of a pool: of each page a header, and its bits behind it.
 
 ghost use Rattle.std.specs.Int.{bit_at};
 ghost use Rattle.std.specs.Prelude.{◌==◌, if◌then◌else◌, ◌≡◌, ◌≢◌, ℕ, ◌+◌, ◌*◌, ◌<◌, ◌≤◌, ◌⊎◌};
@@ -7,13 +7,10 @@ ghost use Rattle.cyc_rawpages.specs.Pool.{header_at, bits_at};
 /// The words of a page, and its bits.
 pub const PAGE_WORDS: u32 = 1024;
 
-/// The words that hold the bits of a page.
-pub const BIT_WORDS: u32 = 32;
-
 /// The words of a page's header.
 pub const HEADER_WORDS: u32 = 8;
 
-/// The words of a page's bits and of its header.
+/// The words of a page's header and of its bits.
 pub const HEAD_WORDS: u32 = 40;
 
 /// The most pages of a pool.
@@ -42,13 +39,10 @@ pub const NONE: u32 = 0xffff_ffff;
 
 /// The number of a word of a page's header among all heads of the pool.
 #[inline]
-pub(crate) fn header_at(pages: u32, page: u32, field: u32) -> usize
-    requires few { pages ≤ MOST_PAGES }
-    requires there { page < pages }
-    requires low { field < HEADER_WORDS }
-    ensures { result ≡ header_at pages page field }
+pub(crate) fn header_at(page: u32, field: u32) -> usize
+    ensures { result ≡ header_at page field }
 {
-    BIT_WORDS as usize * pages as usize + (HEADER_WORDS as usize * page as usize + field as usize)
+    HEAD_WORDS as usize * page as usize + field as usize
 }
 
 /// The number of the word that a bit of a page is in, among all heads of the pool.
@@ -57,7 +51,7 @@ pub(crate) fn bits_at(page: u32, bit: u32) -> usize
     requires { bit < PAGE_WORDS }
     ensures { result ≡ bits_at (PAGE_WORDS * page + bit) }
 {
-    BIT_WORDS as usize * page as usize + (bit / 32) as usize
+    HEAD_WORDS as usize * page as usize + (HEADER_WORDS + bit / 32) as usize
 }
 
 /// A word with one of its bits set or cleared.

@@ -1,6 +1,6 @@
 //! A pool of pages over one block of memory.
 
-ghost use Rattle.std.specs.Prelude.{◌≡◌, ◌≢◌, ℕ, [], ◌∷◌, ◌++◌, ◌+◌, ◌*◌, ◌%◌, ◌<◌, ◌≤◌, IfOk, MatchOption, false, length, replicate, set, slice_index, slice_index_or};
+ghost use Rattle.std.specs.Prelude.{◌==◌, ◌≡◌, ◌≢◌, ℕ, [], ◌∷◌, ◌++◌, ◌+◌, ◌*◌, ◌%◌, ◌<◌, ◌≤◌, IfOk, MatchOption, false, length, replicate, set, slice_index, slice_index_or};
 ghost use Rattle.cyc_rawpages.specs.Lists.{chain_at, freed};
 ghost use Rattle.cyc_rawpages.specs.Pool.{IsFree, IsHead, LinksAll, between, new_pool};
 
@@ -61,7 +61,7 @@ fn link_all(block: &mut Block, pages: u32) -> u32
     let mut left = pages;
     while left > 0 {
         left -= 1;
-        block.set_head(header_at(pages, left, NEXT), first);
+        block.set_head(header_at(left, NEXT), first);
         first = left;
     }
     first
@@ -97,8 +97,8 @@ impl Pool {
         if page == NONE {
             return None;
         }
-        self.first = self.block.head(header_at(self.pages, page, NEXT));
-        self.block.set_head(header_at(self.pages, page, TAIL), page);
+        self.first = self.block.head(header_at(page, NEXT));
+        self.block.set_head(header_at(page, TAIL), page);
         self.roll = Roll::with(&self.roll, &Change::Taken(page));
         Some(PageNo { number: page })
     }
@@ -111,11 +111,10 @@ impl Pool {
         ensures head { IsHead self.new.chains head.number }
         ensures pushed { self.new ≡ record self.old { chains = set (set self.old.chains head.number (chain_at self.old.chains head.number ++ page.number ∷ [])) page.number [] } }
     {
-        let tail = self.block.head(header_at(self.pages, head.number, TAIL));
+        let tail = self.block.head(header_at(head.number, TAIL));
+        self.block.set_head(header_at(tail, NEXT), page.number);
         self.block
-            .set_head(header_at(self.pages, tail, NEXT), page.number);
-        self.block
-            .set_head(header_at(self.pages, head.number, TAIL), page.number);
+            .set_head(header_at(head.number, TAIL), page.number);
         self.roll = Roll::with(&self.roll, &Change::Pushed(head.number, page.number));
     }
 
@@ -126,9 +125,8 @@ impl Pool {
         ensures { self.new ≡ record self.old { free = freed self.old.free (chain_at self.old.chains chain.head.number); chains = set self.old.chains chain.head.number [] } }
     {
         let head = chain.head.number;
-        let tail = self.block.head(header_at(self.pages, head, TAIL));
-        self.block
-            .set_head(header_at(self.pages, tail, NEXT), self.first);
+        let tail = self.block.head(header_at(head, TAIL));
+        self.block.set_head(header_at(tail, NEXT), self.first);
         self.first = head;
         self.roll = Roll::with(&self.roll, &Change::Given(head));
     }
@@ -161,7 +159,7 @@ impl Pool {
         requires { page.number < self.now.pages }
         ensures { result ≡ slice_index self.now.fills page.number }
     {
-        self.block.head(header_at(self.pages, page.number, FILL))
+        self.block.head(header_at(page.number, FILL))
     }
 
     /// Sets the fill mark of a page.
@@ -170,8 +168,7 @@ impl Pool {
         requires { page.number < self.old.pages }
         ensures { self.new ≡ record self.old { fills = set self.old.fills page.number fill } }
     {
-        self.block
-            .set_head(header_at(self.pages, page.number, FILL), fill)
+        self.block.set_head(header_at(page.number, FILL), fill)
     }
 
     /// The owner of a page.
@@ -180,7 +177,7 @@ impl Pool {
         requires { page.number < self.now.pages }
         ensures { result ≡ slice_index self.now.owners page.number }
     {
-        self.block.head(header_at(self.pages, page.number, OWNER))
+        self.block.head(header_at(page.number, OWNER))
     }
 
     /// Sets the owner of a page.
@@ -189,8 +186,7 @@ impl Pool {
         requires { page.number < self.old.pages }
         ensures { self.new ≡ record self.old { owners = set self.old.owners page.number owner } }
     {
-        self.block
-            .set_head(header_at(self.pages, page.number, OWNER), owner)
+        self.block.set_head(header_at(page.number, OWNER), owner)
     }
 
     /// The serial of a page.
@@ -199,9 +195,25 @@ impl Pool {
         requires { page.number < self.now.pages }
         ensures { result ≡ slice_index self.now.serials page.number }
     {
-        let low = self.block.head(header_at(self.pages, page.number, LOW));
-        let high = self.block.head(header_at(self.pages, page.number, HIGH));
+        let low = self.block.head(header_at(page.number, LOW));
+        let high = self.block.head(header_at(page.number, HIGH));
         low as u64 + 0x1_0000_0000 * high as u64
+    }
+
+    /// Whether two pages have the same serial.
+    #[inline]
+    pub fn is_serial_same(&self, page: PageNo, other: PageNo) -> bool
+        requires { (page.number < self.now.pages) × (other.number < self.now.pages) }
+        ensures { result ≡ (slice_index self.now.serials page.number == slice_index self.now.serials other.number) }
+    {
+        let low = self.block.head(header_at(page.number, LOW));
+        let other_low = self.block.head(header_at(other.number, LOW));
+        if low != other_low {
+            return false;
+        }
+        let high = self.block.head(header_at(page.number, HIGH));
+        let other_high = self.block.head(header_at(other.number, HIGH));
+        high == other_high
     }
 
     /// Sets the serial of a page.
@@ -212,10 +224,8 @@ impl Pool {
     {
         let low = (serial % 0x1_0000_0000) as u32;
         let high = (serial / 0x1_0000_0000) as u32;
-        self.block
-            .set_head(header_at(self.pages, page.number, LOW), low);
-        self.block
-            .set_head(header_at(self.pages, page.number, HIGH), high);
+        self.block.set_head(header_at(page.number, LOW), low);
+        self.block.set_head(header_at(page.number, HIGH), high);
     }
 
     /// Whether a bit of a page is set.

@@ -5,9 +5,6 @@ use Rattle.cyc_rawpages.specs.declared.header.TheConstants.{OWNER}
 use Rattle.cyc_rawpages.proofs.PoolLemmas.{header-in, column-read}
 use Rattle.cyc_rawpages.proofs.pool.Pool.owner.Goals as goal
 
-pub header_at-requires : goal.header_at-requires
-header_at-requires c = let there = c.requires in let pages = ap (λ (t : PoolState). t.pages) c.self.view_is in record { few = c.self.invariant.up.few; there = omega (arith, there, pages); low = omega arith }
-
 pub head-requires : goal.head-requires
 head-requires c =
     let s = c.self.inside in let there = c.requires in let pages = ap (λ (t : PoolState). t.pages) c.self.view_is in

@@ -18,7 +18,7 @@ pub returns-clause-same : goal.returns-clause-same
 returns-clause-same c =
     let s = c.self.inside in let low = c.requires.there.1 in let there = there-in _ _ _ c.self.view_is c.requires.there.0 in let w = c.marked_from-marks.result in
     let k = bits_at (1024 * c.args.page.number + c.args.bit) in let written = c.set_head.ensures ∙ ap (λ n. headed s.block n w) c.bits_at-at.ensures in
-    ap (λ b. state_of s.pages b s.roll.lists) written ∙ rewritten s.pages s.block s.roll.lists c.self.invariant.whole k w (omega (arith, low, there))
+    ap (λ b. state_of s.pages b s.roll.lists) written ∙ rewritten s.pages s.block s.roll.lists c.self.invariant.whole k w (λ p field few e. omega (arith, e, few))
     ∙ (λ j. record (c.self.view_is j) { bits = tabulate (1024 * s.pages) (bit_of (sym written j)) })
 
 pub returns-clause-whole : goal.returns-clause-whole

@@ -6,9 +6,6 @@ use Rattle.cyc_rawpages.proofs.Columns.{owned}
 use Rattle.cyc_rawpages.proofs.PoolLemmas.{header-in, kept}
 use Rattle.cyc_rawpages.proofs.pool.Pool.set_owner.Goals as goal
 
-pub header_at-requires : goal.header_at-requires
-header_at-requires c = let there = c.requires in let pages = ap (λ (t : PoolState). t.pages) c.self.view_is in record { few = c.self.invariant.up.few; there = omega (arith, there, pages); low = omega arith }
-
 pub set_head-requires : goal.set_head-requires
 set_head-requires c =
     let s = c.self.inside in let there = c.requires in let pages = ap (λ (t : PoolState). t.pages) c.self.view_is in
@@ -18,7 +15,7 @@ pub invariant_of-self : goal.invariant_of-self
 invariant_of-self c =
     let s = c.self.inside in
     subst (λ b. IsPool s.pages b s.first s.roll.lists) (sym (c.set_head.ensures ∙ ap (λ k. headed s.block k c.args.owner) c.header_at.ensures))
-    (kept s.pages s.block s.first s.roll.lists c.self.invariant (header_at s.pages c.args.page.number OWNER) c.args.owner (λ p. ((λ e. omega (arith, e)), (λ e. omega (arith, e)))))
+    (kept s.pages s.block s.first s.roll.lists c.self.invariant (header_at c.args.page.number OWNER) c.args.owner (λ p. ((λ e. omega (arith, e)), (λ e. omega (arith, e)))))
 
 pub returns : goal.returns
 returns c =

@@ -8,7 +8,7 @@ use Rattle.cyc_rawpages.proofs.pool.Pool.set_serial.Goals as goal
 
 pub invariant_of-self : goal.invariant_of-self
 invariant_of-self c =
-    let s = c.self.inside in let p = c.args.page.number in let k = header_at s.pages p LOW in let h = header_at s.pages p HIGH in
+    let s = c.self.inside in let p = c.args.page.number in let k = header_at p LOW in let h = header_at p HIGH in
     let low = c.args.serial % 2 ^ 32 in let high = c.args.serial / 2 ^ 32 in
     subst (λ b. IsPool s.pages b s.first s.roll.lists)
     (sym (c.set_head-2.ensures ∙ (λ j. headed ((c.set_head.ensures ∙ ap (λ n. headed s.block n low) c.header_at.ensures) j) (c.header_at-2.ensures j) high)))

@@ -14,15 +14,9 @@ returns-then-page c =
     let s = c.self.inside in
     (ap (λ (t : PoolState). t.free) (sym c.self.view_is) ∙ no-free s.pages s.block s.first s.roll.lists c.self.invariant c.if-page.true ∙ ap (λ (t : PoolState). replicate t.pages false) c.self.view_is, refl)
 
-pub header_at-requires : goal.header_at-requires
-header_at-requires c = let s = c.self.inside in record { few = c.self.invariant.up.few; there = first-there s.pages s.block s.first s.roll.lists c.self.invariant c.if-page.false; low = omega arith }
-
 pub head-self-inside-requires : goal.head-self-inside-requires
 head-self-inside-requires c =
     let s = c.self.inside in rw c.header_at.ensures (header-in s.pages s.first NEXT s.block c.self.invariant.whole (first-there s.pages s.block s.first s.roll.lists c.self.invariant c.if-page.false) (omega arith))
-
-pub header_at-requires-2 : goal.header_at-requires-2
-header_at-requires-2 c = let s = c.self.inside in record { few = c.self.invariant.up.few; there = first-there s.pages s.block s.first s.roll.lists c.self.invariant c.if-page.false; low = omega arith }
 
 pub set_head-requires : goal.set_head-requires
 set_head-requires c =
