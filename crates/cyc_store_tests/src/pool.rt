@@ -1,13 +1,27 @@
 //! Pools of pages: which pages are taken and given back, and the largest pool, with words of every page written.
 
+ghost use Rattle.std.specs.Prelude.{◌≡◌, ◌<◌, IfSome};
+ghost use Rattle.cyc_rawpages.specs.Pool.{IsHead, new_pool};
+
 use crate::expect::expect;
 use cyc_rawpages::{Chain, PageNo, Pool};
 use std::alloc::Global;
 use std::marker::Model;
 
+/// A new pool of so many pages, where there may be one. That the number stands in no code keeps the pool's lists from being written out
+/// by the check.
+fn pool_of(alloc: Global, pages: u32) -> Option<Pool>
+    ensures { IfSome result (λ pool. pool ≡ new_pool pages) }
+{
+    if pages > 65_536 {
+        return None;
+    }
+    Pool::new(alloc, pages).ok()
+}
+
 /// Of three pages, two are given back as one chain, and these two are taken again.
-fn gives_chain_back(alloc: Global) -> Option<bool> {
-    let mut pool = Pool::new(alloc, 3).ok()?;
+fn gives_chain_back(alloc: Global, pages: u32) -> Option<bool> {
+    let mut pool = pool_of(alloc, pages)?;
     let first = pool.take()?;
     let second = pool.take()?;
     let third = pool.take()?;
@@ -29,13 +43,22 @@ fn gives_chain_back(alloc: Global) -> Option<bool> {
 
 #[test]
 fn chain_of_two(rt: HostRuntime) {
-    let right = gives_chain_back(rt.alloc());
+    let right = gives_chain_back(rt.alloc(), 3);
     expect(&rt, right == Some(true), "two pages of three");
 }
 
-/// Each of three pages is given back while the others are held, and is the one that is taken then.
-fn gives_each_back(alloc: Global) -> Option<bool> {
-    let mut pool = Pool::new(alloc, 3).ok()?;
+/// Whether a page that is given back is the one that is taken then, and the only one.
+fn is_taken_again(mut pool: Pool, page: PageNo) -> Option<bool>
+    requires there { page.number < pool.pages }
+    requires head { IsHead pool.chains page.number }
+{
+    pool.give_chain(Chain { head: page });
+    Some(pool.take()? == page && pool.take().is_none())
+}
+
+/// Of three pages, the one of this number is given back while the others are held, and is the one that is taken then.
+fn gives_back(alloc: Global, pages: u32, number: u32) -> Option<bool> {
+    let mut pool = pool_of(alloc, pages)?;
     let first = pool.take()?;
     let second = pool.take()?;
     let third = pool.take()?;
@@ -45,28 +68,28 @@ fn gives_each_back(alloc: Global) -> Option<bool> {
     {
         return Some(false);
     }
-    pool.give_chain(Chain { head: first });
-    if pool.take()?.number != first.number {
-        return Some(false);
+    if number == 0 {
+        return is_taken_again(pool, first);
     }
-    pool.give_chain(Chain { head: second });
-    if pool.take()?.number != second.number {
-        return Some(false);
+    if number == 1 {
+        return is_taken_again(pool, second);
     }
-    pool.give_chain(Chain { head: third });
-    Some(pool.take()? == third && pool.take().is_none())
+    is_taken_again(pool, third)
 }
 
 #[test]
 fn each_page(rt: HostRuntime) {
-    let right = gives_each_back(rt.alloc());
-    expect(&rt, right == Some(true), "each of three pages");
+    for number in 0..3 {
+        let right = gives_back(rt.alloc(), 3, number);
+        expect(&rt, right == Some(true), "each of three pages");
+    }
 }
 
-/// A pool of the most pages.
+/// A pool of many pages.
 #[derive(Drop)]
 struct Largest {
     pool: Pool,
+    pages: u32,
 }
 
 impl Model for Largest {
@@ -77,18 +100,18 @@ impl Model for Largest {
 
     ghost view = { λ l. l.pool };
 
-    ghost invariant = { λ l. l.pool.pages ≡ 65536 };
+    ghost invariant = { λ l. l.pool.pages ≡ l.pages };
 }
 
 impl Largest {
-    fn new(alloc: Global) -> Option<Largest> {
-        let pool = Pool::new(alloc, 65_536).ok()?;
-        Some(Largest { pool })
+    fn new(alloc: Global, pages: u32) -> Option<Largest> {
+        let pool = pool_of(alloc, pages)?;
+        Some(Largest { pool, pages })
     }
 
     /// The word of a page, if there is one.
     fn load(&self, page: u32, word: u32) -> Option<u32> {
-        if page < 65_536 && word < 1024 {
+        if page < self.pages && word < 1024 {
             return Some(self.pool.load(PageNo { number: page }, word));
         }
         None
@@ -96,7 +119,7 @@ impl Largest {
 
     /// Writes a word of a page, if there is one.
     fn save(&mut self, page: u32, word: u32, value: u32) {
-        if page < 65_536 && word < 1024 {
+        if page < self.pages && word < 1024 {
             self.pool.save(PageNo { number: page }, word, value);
         }
     }
@@ -133,12 +156,12 @@ impl Largest {
 }
 
 /// Takes and fills every page of the largest pool, and reads them again.
-fn fills_all(alloc: Global) -> Option<bool> {
-    let mut largest = Largest::new(alloc)?;
-    for _ in 0..65_536 {
+fn fills_all(alloc: Global, pages: u32) -> Option<bool> {
+    let mut largest = Largest::new(alloc, pages)?;
+    for _ in 0..pages {
         largest.fill_next()?;
     }
-    for page in 0..65_536 {
+    for page in 0..pages {
         if !largest.is_filled(page) {
             return Some(false);
         }
@@ -148,6 +171,6 @@ fn fills_all(alloc: Global) -> Option<bool> {
 
 #[test]
 fn most_pages(rt: HostRuntime) {
-    let right = fills_all(rt.alloc());
+    let right = fills_all(rt.alloc(), 65_536);
     expect(&rt, right == Some(true), "65,536 pages");
 }
