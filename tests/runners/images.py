@@ -1,7 +1,7 @@
 #!/usr/bin/env python3
 """Images that hardly a compiler writes, run and listed, beside what tests/references/machine.py says; and instructions beside qemu-mips.
 
-    python3 tests/runners/images.py [--program PATH] [--count N] [--seed N] [--part NAME]
+    python3 tests/runners/images.py [--program PATH] [--runner PATH] [--count N] [--seed N] [--part NAME]
 
 Four parts, of which --part takes one alone:
 
@@ -15,6 +15,11 @@ Four parts, of which --part takes one alone:
 Each answer has to be one that the manual names, in its time, and no crash. Output, last line and status have to be the reference's,
 with just as many steps as the reference counts and with one less; and so each line of a listing. Where an answer hangs on what a store
 is free to choose, which the reference says, the output has to begin as the reference's does. A listing too long to be read is broken off.
+
+Each image is run over both stores too, by the program of `crates/cyc_runner` (`--runner`; of another `--program` than the one that is
+built, only where it is named): output, end and count are the same, or, where they hang on what a store is free to choose, both outputs
+begin as the reference's does.
+
 The last line is `N passed, M failed`, of images.
 """
 import collections
@@ -39,6 +44,8 @@ LISTED_AT_MOST = 5_000
 # So many images are tried by a process in turn.
 SHARE = 25
 EXAMPLES = os.path.join(suite.ROOT, "examples")
+RUNNER = os.path.join(suite.ROOT, "crates", "cyc_runner", "out", "cyc_runner")
+STORES = ("plain", "paged")
 INSTRUCTIONS_AT_MOST = 10_000_000
 CAUSES = [
     "reserved instruction", "unpredictable", "misaligned", "no such address", "dead cell", "write to text", "break", "bad service",
@@ -97,14 +104,15 @@ def asked(words, given=b"", most=None):
 class Tried:
     """An image in a file, and the ends that it came to."""
 
-    def __init__(self, program, path, made):
-        self.program, self.path, self.made, self.end = program, path, made, None
+    def __init__(self, program, runner, path, made):
+        self.program, self.runner, self.path, self.made, self.end = program, runner, path, made, None
+        self.limits = (machine.PAGES, machine.CALLS)
         with open(path, "wb") as file:
             file.write(made.file)
 
     def fault(self):
         """The first fault, or None."""
-        return self.fault_of_run() or self.fault_of_listing()
+        return self.fault_of_run() or self.fault_of_stores() or self.fault_of_listing()
 
     def run(self, steps):
         """What the reference says of a run: its answer, and how many instructions it counts."""
@@ -112,6 +120,7 @@ class Tried:
             run = machine.Run(machine.Image(self.made.file), self.made.given, self.made.pages, self.made.calls, steps)
         except machine.ImageFault as fault:
             return (b"", str(fault), 3), None
+        self.limits = (run.pages, run.calls)
         try:
             line, status = run.end()
         except machine.Open:
@@ -120,7 +129,7 @@ class Tried:
 
     def fault_of_run(self):
         wanted, count = self.run(self.made.steps)
-        self.end = wanted[1] or "open"
+        self.end, self.printed = wanted[1] or "open", wanted[0]
         if count is None or wanted[1] in (None, "budget spent"):
             return self.fault_with(self.made.steps, wanted)
         fault = self.fault_with(count, wanted)
@@ -130,6 +139,17 @@ class Tried:
         options = self.made.options(steps)
         fault = fault_of("run", wanted, asked([self.program, "run", self.path, *options], self.made.given))
         return fault and f"{' '.join(options)} on {self.made.given}: {fault}"
+
+    def fault_of_stores(self):
+        """What the two stores do otherwise than each other, or None."""
+        if not self.runner:
+            return None
+        words = [str(number) for number in (*self.limits, self.made.steps)] + [self.path]
+        answers = [asked([self.runner, store, *words], self.made.given) for store in STORES]
+        for store, (output, line, status) in zip(STORES, answers):
+            if status != 0 or not output.startswith(self.printed):
+                return f"{store} {' '.join(words[:-1])}: {line!r} with status {status}"
+        return None if self.end == "open" or answers[0] == answers[1] else suite.difference("plain and paged", *answers)
 
     def fault_of_listing(self):
         words = [self.program, "disasm", self.path]
@@ -167,25 +187,25 @@ def named(program, part, options):
     return [(f"image {number}, seed {options.seed}", None) for number in range(options.count)]
 
 
-def try_some(program, seed, names):
+def try_some(program, runner, seed, names):
     """The end of each image, and what fails, with the image."""
     tried = []
     with tempfile.TemporaryDirectory(prefix="cyclone-image-") as folder:
         for number, (name, made) in names:
             made = made or image_makers.made(random.Random(f"image {seed} {number}"))
-            image = Tried(program, os.path.join(folder, "image.elf"), made)
+            image = Tried(program, runner, os.path.join(folder, "image.elf"), made)
             fault = image.fault()
             kind = re.sub(r" -?\d.*", "", image.end) if image.end.startswith(("returned", "uncaught")) else image.end
             tried.append((kind, fault and f"{name} ({made.family}): {fault}\n  {made.file.hex()}"))
     return tried
 
 
-def try_images(program, part, options, workers):
+def try_images(program, runner, part, options, workers):
     """Tries the images of a part side by side, and gives what fails."""
     names = list(enumerate(named(program, part, options)))
     shares = [names[start:start + SHARE] for start in range(0, len(names), SHARE)]
     ends, faults = collections.Counter(), []
-    for tried in workers.map(try_some, itertools.repeat(program), itertools.repeat(options.seed), shares):
+    for tried in workers.map(try_some, itertools.repeat(program), itertools.repeat(runner), itertools.repeat(options.seed), shares):
         ends.update(end for end, _ in tried)
         faults += [fault for _, fault in tried if fault]
     print(f"{part}, {len(names)} images: " + ", ".join(f"{end} {count}" for end, count in ends.most_common()))
@@ -227,13 +247,18 @@ def main():
     parser.add_argument("--count", type=int, default=2_000)
     parser.add_argument("--seed", type=int, default=1)
     parser.add_argument("--part", choices=PARTS)
+    parser.add_argument("--runner", metavar="PATH")
     options = parser.parse_args()
     program = suite.program_of(options, options.count)
+    runner = options.runner or (RUNNER if options.program == parser.get_default("program") else None)
+    if runner and not os.access(runner, os.X_OK):
+        print(f"there is no program {runner}: `make build` proves and builds it")
+        suite.end(0, options.count)
     tried, failed = 0, 0
     with concurrent.futures.ProcessPoolExecutor() as workers:
         for part in [options.part] if options.part else PARTS:
             is_of_images = part != "instructions"
-            images, faults = try_images(program, part, options, workers) if is_of_images else try_instructions(program, workers)
+            images, faults = try_images(program, runner, part, options, workers) if is_of_images else try_instructions(program, workers)
             tried, failed = tried + images, failed + len(faults)
             print("\n".join(f"FAILED {fault}" for fault in faults), end="\n" if faults else "")
     suite.end(tried - failed, failed)
