@@ -36,6 +36,7 @@ quick:
 	@sh tests/quick.sh "$(UNPROVED)"
 
 cases: build
+	@cd crates/cyc_runner && rt run >/dev/null
 	@sh tests/tools.sh
 	@python3 tests/runners/run.py
 	@python3 tests/runners/run.py --whole

@@ -252,7 +252,7 @@ def main():
     program = suite.program_of(options, options.count)
     runner = options.runner or (RUNNER if options.program == parser.get_default("program") else None)
     if runner and not os.access(runner, os.X_OK):
-        print(f"there is no program {runner}: `make build` proves and builds it")
+        print(f"there is no program {runner}: `rt run` in its crate proves and builds it")
         suite.end(0, options.count)
     tried, failed = 0, 0
     with concurrent.futures.ProcessPoolExecutor() as workers:
