@@ -1,5 +1,7 @@
 //! Devices that fail at one of their calls.
 
+ghost use Rattle.std.specs.Prelude.{◌≡◌, IfOk};
+
 use std::io;
 
 /// How a device fails.
@@ -62,7 +64,10 @@ impl FailingWriter {
         }
     }
 
-    fn fail(&self) -> io::Result<usize> {
+    /// The answer of the call that fails, which takes no byte.
+    fn fail(&self) -> io::Result<usize>
+        ensures { IfOk result (λ taken. taken ≡ 0) }
+    {
         match self.failure {
             Failure::Error => Err(io::Error::other("no room")),
             Failure::Nothing => Ok(0),

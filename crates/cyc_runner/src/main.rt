@@ -41,17 +41,17 @@ fn run_paged<R: ByteIn, W: ByteOut>(
     run_with(alloc, image, limits, budget, reader, writer, store)
 }
 
-/// What a run is asked for: the store, the limits, the most instructions, and the file of the image.
-#[derive(Drop)]
-struct Asked<'a> {
+/// What a run is asked for: the store, the limits, and the most instructions.
+#[derive(Clone, Copy)]
+struct Request {
     is_plain: bool,
     limits: Limits,
     budget: u64,
-    image: &'a str,
 }
 
-/// What the words of the command ask for: the store, the pages, the calls, the most instructions, and the file of the image.
-fn asked(words: &[String]) -> Option<Asked<'_>> {
+/// What the words of the command ask for: the store, the pages, the calls and the most instructions. The file of the image is the next
+/// word.
+fn request_of(words: &[String]) -> Option<Request> {
     let is_plain = match words.get(1)?.as_str() {
         "plain" => true,
         "paged" => false,
@@ -59,11 +59,10 @@ fn asked(words: &[String]) -> Option<Asked<'_>> {
     };
     let pages = words.get(2)?.parse().ok()?;
     let calls = words.get(3)?.parse().ok()?;
-    Some(Asked {
+    Some(Request {
         is_plain,
         limits: Limits::new(pages, calls)?,
         budget: words.get(4)?.parse().ok()?,
-        image: words.get(5)?.as_str(),
     })
 }
 
@@ -76,11 +75,7 @@ fn read_file(rt: &HostRuntime, path: &str) -> Option<Vec<u8>> {
 }
 
 /// Runs an image between the standard streams.
-fn run_asked(
-    rt: &HostRuntime,
-    asked: &Asked<'_>,
-    image: &[u8],
-) -> Option<Result<Report, RunFault>> {
+fn run_asked(rt: &HostRuntime, asked: Request, image: &[u8]) -> Option<Result<Report, RunFault>> {
     let mut input = BufReader::new(rt.alloc(), rt.stdin()).ok()?;
     let mut output = BufWriter::new(rt.alloc(), rt.stdout()).ok()?;
     let mut reader = Reader::new(&mut input);
@@ -106,9 +101,9 @@ fn say(rt: &HostRuntime, outcome: Result<Report, RunFault>) -> Option<()> {
 /// Does what the words of the command ask for. None where that is nothing, where the image cannot be read, or where memory ran out
 /// before the run.
 fn serve(rt: &HostRuntime, words: &[String]) -> Option<()> {
-    let asked = asked(words)?;
-    let image = read_file(rt, asked.image)?;
-    let outcome = run_asked(rt, &asked, &image)?;
+    let asked = request_of(words)?;
+    let image = read_file(rt, words.get(5)?.as_str())?;
+    let outcome = run_asked(rt, asked, &image)?;
     say(rt, outcome)
 }
 
