@@ -24,7 +24,8 @@ use Rattle.cyc_system.specs.declared.report.Report.{Report}
 use Rattle.cyc_system.specs.declared.report.Stop.TheVariants as stops
 use Rattle.cyc_system.specs.declared.report.RunFault.{RunFault}
 use Rattle.cyc_system.specs.declared.report.RunFault.TheVariants.{Elf, Load, Read, Write, Memory}
-use Rattle.cyc_system.specs.Engine.{Devices, Rests, Tells, Leaves, Counted, Executes, Runs, Refuses, Starts, Answers, AnswersAnew}
+use Rattle.cyc_system.specs.Engine.{Devices, Rests, Tells, Leaves, Counted, Executes, Runs, Refuses, Starts, Answers, AnswersAnew, Stands, limit_at}
+use Rattle.cyc_system.specs.declared.report.Limit.{Limit}
 use Rattle.cyc_system.specs.Turn.{Asked, Turned}
 
 -- one more instruction at the end of a run
@@ -253,33 +254,57 @@ executes_kept start old now new count w x (kept, silent) = record {
 
 -- the budget is used up
 pub spends : (grows : Bool) (start : List ℕ → World) (old now : Devices) (count budget : ℕ) (seen : Bool) (machine : State) → Progress start old now count seen machine → count ≡ budget
-    → Runs grows start budget old now (Ok (record { stop = stops.Spent; count = budget }))
-spends grows start old now count budget seen machine p is = (
+    → (counter : ℕ) (limit : Option Limit) → Runs grows start budget old now (Ok (record { stop = stops.Spent; count = budget; counter = counter; limit = limit }))
+spends grows start old now count budget seen machine p is counter limit = (
   record { machine = machine; output = p.output; input = rest_of old.remaining now.remaining },
   subst (λ k. Executes start old now k (record { machine = machine; output = p.output; input = rest_of old.remaining now.remaining })) is (executes_of start old now count seen machine p),
   (omega arith),
   (ap end_in p.running, refl),
 )
 
+pub spends_stands : (start : List ℕ → World) (old now : Devices) (count budget : ℕ) (seen : Bool) (machine : State) → Progress start old now count seen machine → count ≡ budget
+    → Stands start budget old now (Ok (record { stop = stops.Spent; count = budget; counter = machine.core.counter; limit = limit_at stops.Spent machine.core }))
+spends_stands start old now count budget seen machine p is = (
+  record { machine = machine; output = p.output; input = rest_of old.remaining now.remaining },
+  subst (λ k. Executes start old now k (record { machine = machine; output = p.output; input = rest_of old.remaining now.remaining })) is (executes_of start old now count seen machine p),
+  (ap end_in p.running, refl),
+  (refl, refl),
+)
+
 -- the run ends
-pub stops_at : (grows : Bool) (start : List ℕ → World) (old now new : Devices) (count budget : ℕ) (seen seen' : Bool) (machine machine' : State) (end : End) → Progress start old now count seen machine → count < budget
-    → Turned machine machine' seen seen' now new (Ok (Some end)) → Runs grows start budget old new (Ok (record { stop = stops.End end; count = count + 1 }))
-stops_at grows start old now new count budget seen seen' machine machine' end p below (step, rests) =
+executes_last : (start : List ℕ → World) (old now new : Devices) (count : ℕ) (seen seen' : Bool) (machine machine' : State) (end : End) → (p : Progress start old now count seen machine)
+    → Turned machine machine' seen seen' now new (Ok (Some end)) → Executes start old new (count + 1) (record { machine = machine'; output = p.output; input = rest_of old.remaining now.remaining })
+executes_last start old now new count seen seen' machine machine' end p (step, rests) =
     let rest = rest_of old.remaining now.remaining in
     let x = executes_kept start old now new count (record { machine = machine; output = p.output; input = rest }) (executes_of start old now count seen machine p) rests in
     let here : World = record { machine = machine; output = p.output; input = rest } in
-    let there : World = record { machine = machine'; output = p.output; input = rest } in (
-      there,
-      record {
-        input = x.input;
-        told = x.told;
-        counted = counted_more count (start x.input) here there x.counted p.running (Ended end, machine', step, refl);
-        unread = x.unread;
-        written = x.written;
-      },
-      (omega arith),
-      ap end_in (Step-phase machine (Ended end) machine' step),
-    )
+    let there : World = record { machine = machine'; output = p.output; input = rest } in record {
+      input = x.input;
+      told = x.told;
+      counted = counted_more count (start x.input) here there x.counted p.running (Ended end, machine', step, refl);
+      unread = x.unread;
+      written = x.written;
+    }
+
+pub stops_at : (grows : Bool) (start : List ℕ → World) (old now new : Devices) (count budget : ℕ) (seen seen' : Bool) (machine machine' : State) (end : End) → Progress start old now count seen machine → count < budget
+    → Turned machine machine' seen seen' now new (Ok (Some end)) → (counter : ℕ) (limit : Option Limit)
+    → Runs grows start budget old new (Ok (record { stop = stops.End end; count = count + 1; counter = counter; limit = limit }))
+stops_at grows start old now new count budget seen seen' machine machine' end p below turned counter limit = (
+  record { machine = machine'; output = p.output; input = rest_of old.remaining now.remaining },
+  executes_last start old now new count seen seen' machine machine' end p turned,
+  (omega arith),
+  ap end_in (Step-phase machine (Ended end) machine' turned.0),
+)
+
+pub stops_stands : (start : List ℕ → World) (old now new : Devices) (count budget : ℕ) (seen seen' : Bool) (machine machine' : State) (end : End) → Progress start old now count seen machine
+    → Turned machine machine' seen seen' now new (Ok (Some end))
+    → Stands start budget old new (Ok (record { stop = stops.End end; count = count + 1; counter = machine'.core.counter; limit = limit_at (stops.End end) machine'.core }))
+stops_stands start old now new count budget seen seen' machine machine' end p turned = (
+  record { machine = machine'; output = p.output; input = rest_of old.remaining now.remaining },
+  executes_last start old now new count seen seen' machine machine' end p turned,
+  ap end_in (Step-phase machine (Ended end) machine' turned.0),
+  (refl, refl),
+)
 
 -- a device fails
 pub fails_at : (grows : Bool) (start : List ℕ → World) (old now new : Devices) (count budget : ℕ) (seen seen' : Bool) (machine machine' : State) (e : RunFault) → Progress start old now count seen machine → count < budget
@@ -345,12 +370,21 @@ Progress-stretch grows start old now new count most more seen seen' machine mid 
 
 pub stops_after : (grows : Bool) (start : List ℕ → World) (old now new : Devices) (count budget more : ℕ) (seen seen' : Bool) (machine mid machine' : State) (event : Event) (end : End) → Progress start old now count seen machine → count < budget
     → (event ≡ Ran → ⊥) → (event ≡ NoMemory → ⊥) → IsStretch grows (budget - count) machine more event mid → ((before : State) → Step before event mid → Turned before machine' seen seen' now new (Ok (Some end)))
-    → Runs grows start budget old new (Ok (record { stop = stops.End end; count = count + more }))
-stops_after grows start old now new count budget more seen seen' machine mid machine' event end p below other memory stretch turned =
+    → (counter : ℕ) (limit : Option Limit) → Runs grows start budget old new (Ok (record { stop = stops.End end; count = count + more; counter = counter; limit = limit }))
+stops_after grows start old now new count budget more seen seen' machine mid machine' event end p below other memory stretch turned counter limit =
     let t = tells_last grows (budget - count) machine more event mid other memory stretch in
     let same : count + t.quiet + 1 ≡ count + more = omega (arith, t.counted) in
-    subst (λ (k : ℕ). Runs grows start budget old new (Ok (record { stop = stops.End end; count = k }))) same
-    (stops_at grows start old now new (count + t.quiet) budget seen seen' t.before machine' end (Progress-quiet start old now count t.quiet seen machine t.before p t.runs) (omega (arith, t.counted, t.few)) (turned t.before t.last))
+    subst (λ (k : ℕ). Runs grows start budget old new (Ok (record { stop = stops.End end; count = k; counter = counter; limit = limit }))) same
+    (stops_at grows start old now new (count + t.quiet) budget seen seen' t.before machine' end (Progress-quiet start old now count t.quiet seen machine t.before p t.runs) (omega (arith, t.counted, t.few)) (turned t.before t.last) counter limit)
+
+pub stands_after : (grows : Bool) (start : List ℕ → World) (old now new : Devices) (count budget more : ℕ) (seen seen' : Bool) (machine mid machine' : State) (event : Event) (end : End) → Progress start old now count seen machine
+    → (event ≡ Ran → ⊥) → (event ≡ NoMemory → ⊥) → IsStretch grows (budget - count) machine more event mid → ((before : State) → Step before event mid → Turned before machine' seen seen' now new (Ok (Some end)))
+    → Stands start budget old new (Ok (record { stop = stops.End end; count = count + more; counter = machine'.core.counter; limit = limit_at (stops.End end) machine'.core }))
+stands_after grows start old now new count budget more seen seen' machine mid machine' event end p other memory stretch turned =
+    let t = tells_last grows (budget - count) machine more event mid other memory stretch in
+    let same : count + t.quiet + 1 ≡ count + more = omega (arith, t.counted) in
+    subst (λ (k : ℕ). Stands start budget old new (Ok (record { stop = stops.End end; count = k; counter = machine'.core.counter; limit = limit_at (stops.End end) machine'.core }))) same
+    (stops_stands start old now new (count + t.quiet) budget seen seen' t.before machine' end (Progress-quiet start old now count t.quiet seen machine t.before p t.runs) (turned t.before t.last))
 
 pub fails_after : (grows : Bool) (start : List ℕ → World) (old now new : Devices) (count budget more : ℕ) (seen seen' : Bool) (machine mid machine' : State) (event : Event) (e : RunFault) → Progress start old now count seen machine → count < budget
     → (event ≡ Ran → ⊥) → (event ≡ NoMemory → ⊥) → IsStretch grows (budget - count) machine more event mid → ((before : State) → Step before event mid → Turned before machine' seen seen' now new (Err e))
