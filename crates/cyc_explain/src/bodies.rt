@@ -12,6 +12,7 @@ use crate::teller::Teller;
 use cyc_heads::{heads, members, signature_of};
 use cyc_scope::{Program, Scope, Tables};
 use cyc_syntax::{Block, Ident, Item, Member, Parameters, Tree, WrittenType};
+use cyc_types::{Signature, Ty};
 use cyc_words::{Fault, Span};
 use std::alloc::Global;
 
@@ -30,7 +31,8 @@ struct Step<'t> {
     is_around: bool,
 }
 
-/// The words for a fault in the body of this function.
+/// The words for a fault in the body of this function. No function on the way from here to the walk gives up while it holds what it
+/// made: each hands it on by a reference, or as a whole.
 pub(crate) fn words_in_body(
     alloc: Global,
     tree: &Tree,
@@ -40,15 +42,83 @@ pub(crate) fn words_in_body(
     parameters: &Parameters,
     body: &Block,
 ) -> Option<Vec<u8>> {
-    let program = heads(alloc, tree).ok()?;
+    match heads(alloc, tree) {
+        Ok(program) => {
+            let teller = Teller::new(alloc, tree, fault);
+            words_over(&program, teller, returned, name, parameters, body)
+        }
+        Err(_) => None,
+    }
+}
+
+/// The same, once the heads of the program are known.
+fn words_over(
+    program: &Program,
+    teller: Teller<'_>,
+    returned: &Option<WrittenType>,
+    name: Ident,
+    parameters: &Parameters,
+    body: &Block,
+) -> Option<Vec<u8>> {
+    let alloc = teller.alloc;
     let mut tables = Tables::new(alloc);
-    let known = program.known();
-    let signature = signature_of(alloc, known, &mut tables.names, returned, parameters).ok()?;
-    let members = members(parameters);
-    let mut outline = Outline::new(alloc);
-    outline.add_parameters(&tables.names, members, &signature.parameters);
+    match signature_of(
+        alloc,
+        program.known(),
+        &mut tables.names,
+        returned,
+        parameters,
+    ) {
+        Ok(signature) => words_under(
+            program,
+            tables,
+            teller,
+            &signature,
+            name,
+            members(parameters),
+            body,
+        ),
+        Err(_) => None,
+    }
+}
+
+/// The same, once its signature is known too.
+fn words_under(
+    program: &Program,
+    tables: Tables,
+    teller: Teller<'_>,
+    signature: &Signature,
+    name: Ident,
+    members: &[Member],
+    body: &Block,
+) -> Option<Vec<u8>> {
+    match Scope::of_body(teller.alloc, program, tables, signature, name, members) {
+        Ok(scope) => {
+            let mut walk = Walk {
+                program,
+                scope,
+                teller,
+            };
+            walk_to(&mut walk, &signature.parameters, name, members, body);
+            walk.teller.into_words()
+        }
+        Err(_) => None,
+    }
+}
+
+/// Goes to the fault, and says what is broken there.
+fn walk_to(walk: &mut Walk<'_, '_>, types: &[Ty], name: Ident, members: &[Member], body: &Block) {
+    let mut outline = Outline::new(walk.teller.alloc);
+    outline.add_parameters(walk.scope.names(), members, types);
     outline.add_items(&body.items, 0);
-    let scope = Scope::of_body(alloc, &program, tables, &signature, name, members).ok()?;
+    let sites = note_outline(walk, outline, name);
+    let steps = steps_to(walk.teller.alloc, &walk.teller, &sites);
+    pass_steps(walk, &steps);
+    explain_steps(walk, &steps, members);
+}
+
+/// Notes the regions of this function and where blocks end. What is left are the forms.
+fn note_outline<'b>(walk: &mut Walk<'_, '_>, outline: Outline<'b>, name: Ident) -> Vec<Site<'b>> {
     let Outline {
         sites,
         homes,
@@ -56,28 +126,24 @@ pub(crate) fn words_in_body(
         is_whole,
         ..
     } = outline;
-    let mut teller = Teller::new(alloc, tree, fault);
-    teller.function = Some(name);
-    teller.homes = homes;
-    teller.endings = endings;
-    teller.is_whole = is_whole;
-    let mut walk = Walk {
-        program: &program,
-        scope,
-        teller,
-    };
-    note_home(&mut walk, 0, Some(name), name.span, Origin::Block);
-    let steps = steps_to(alloc, &walk.teller, &sites);
+    walk.teller.function = Some(name);
+    walk.teller.homes = homes;
+    walk.teller.endings = endings;
+    walk.teller.is_whole = is_whole;
+    note_home(walk, 0, Some(name), name.span, Origin::Block);
+    sites
+}
+
+/// Brings into scope what is declared before the fault, in the blocks that it stands in.
+fn pass_steps(walk: &mut Walk<'_, '_>, steps: &[Step<'_>]) {
     for step in steps.iter().rev() {
         let Step { site, is_around } = *step;
         if is_around {
-            enter(&mut walk, &site);
+            enter(walk, &site);
         } else if let Node::Item(item) = site.node {
-            pass_item(&mut walk, item);
+            pass_item(walk, item);
         }
     }
-    explain_steps(&mut walk, &steps, members);
-    walk.teller.into_words()
 }
 
 /// The forms that the fault stands in, and those before each in the same form: the last one first.
