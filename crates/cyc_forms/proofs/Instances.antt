@@ -1,9 +1,9 @@
 -- The table of first places gives what the rules say that a signature's variables are.
-use Rattle.std.proofs.Common.{◌≡◌, ℕ, zero, suc, ◌+◌, ◌<◌, ◌≤◌, Bool, true, false, cond, if◌then◌else◌, ◌||◌, List, [], ◌∷◌, ◌++◌, map, replicate, drop, length, get_or, slice_get, unwrap_or, Option, Some, None, refl, sym, ap, ◌∙◌, arith}
-use Rattle.std.specs.List.{list_any}
+use Rattle.std.proofs.Common.{◌≡◌, ℕ, zero, suc, ◌+◌, ◌<◌, ◌≤◌, Bool, true, false, cond, if◌then◌else◌, ◌||◌, List, [], ◌∷◌, ◌++◌, map, replicate, drop, take, length, append-nil, get_or, slice_get, unwrap_or, Option, Some, None, refl, sym, ap, ◌∙◌, arith}
+use Rattle.std.specs.List.{list_any, refill}
 use Rattle.std.proofs.lemmas.Bool.{eq-eqb}
 use Rattle.std.proofs.lemmas.Bool.Decides.{nat_tests}
-use Rattle.std.proofs.lemmas.List.{drop_all}
+use Rattle.std.proofs.lemmas.List.{drop_all, take_all, length-set}
 use Rattle.std.proofs.lemmas.List.Folds.{list_any-append}
 use Rattle.cyc_words.proofs.Lists.{drop_read}
 use Rattle.cyc_types.specs.declared.region.Region.{Region}
@@ -21,6 +21,26 @@ use Rattle.cyc_forms.specs.Instances.{noted_at, noted_place, noted_places}
 pub noted_append : (table : List (Option Region)) (ps qs : List (Region × Region)) → noted_places table (ps ++ qs) ≡ noted_places (noted_places table ps) qs
 noted_append table [] qs = refl
 noted_append table (p ∷ ps) qs = noted_append (noted_place table p) ps qs
+
+-- noting places makes no table longer or shorter
+noted_at_length : (known : Option (Option Region)) (n : ℕ) (r : Region) (table : List (Option Region)) → length (noted_at known n r table) ≡ length table
+noted_at_length None n r table = refl
+noted_at_length (Some (Some s)) n r table = refl
+noted_at_length (Some None) n r table = length-set table n (Some r)
+
+noted_length : (table : List (Option Region)) (ps : List (Region × Region)) → length (noted_places table ps) ≡ length table
+noted_length table [] = refl
+noted_length table ((Variable n, r) ∷ ps) = noted_length (noted_at (slice_get table n) n r table) ps ∙ noted_at_length (slice_get table n) n r table
+noted_length table ((Heap, r) ∷ ps) = noted_length table ps
+noted_length table ((Unique, r) ∷ ps) = noted_length table ps
+
+-- so a list that is filled up from its table with what was noted in it is what was noted
+pub noted_whole : (table : List (Option Region)) (ps : List (Region × Region)) → refill (length table) table (noted_places table ps) ≡ noted_places table ps
+noted_whole table ps =
+    let long : length (noted_places table ps) ≡ length table = noted_length table ps in
+    ap (λ rest. take (length table) (noted_places table ps ++ rest)) (drop_all (length (noted_places table ps)) table (omega (arith, long)))
+    ∙ ap (take (length table)) (append-nil (noted_places table ps))
+    ∙ take_all (length table) (noted_places table ps) (omega (arith, long))
 
 none_paired : (rs : List Region) → all_paired rs [] ≡ []
 none_paired [] = refl

@@ -1,6 +1,5 @@
 //! New structs, of values for their fields.
 ghost use Rattle.std.specs.Prelude.{◌≡◌, map, Ok, IfOk};
-ghost use Rattle.std.specs.Rc.{rc_slice_items};
 ghost use Rattle.cyc_syntax.specs.TreeView.{view_name, expressions_of};
 ghost use Rattle.cyc_types.specs.TypeView.{view_ty};
 ghost use Rattle.cyc_types.specs.TypedTrees as nodes;
@@ -20,8 +19,9 @@ use cyc_syntax::{Expr, Ident, PointerKind};
 use cyc_types::formation::arguments_or;
 use cyc_types::typed::{Converted, Initial};
 use cyc_types::{Region, Ty};
+use smallvec::SmallVec;
 use std::alloc::{AllocError, Global};
-use std::rc::RcSlice;
+use std::rc::Rc;
 
 /// The types of the fields of a struct with these arguments.
 fn field_types(alloc: Global, arguments: &[Region], fields: &[Field]) -> Result<Vec<Ty>, AllocError>
@@ -46,8 +46,8 @@ fn arguments_written(
     scope: &Scope<'_>,
     name: Ident,
     regions: &[Ident],
-) -> Result<RcSlice<Region>, AllocError>
-    ensures { IfOk result (λ rs. rc_slice_items rs ≡ arguments_written scope.now (view_name name) (map view_name regions.now)) }
+) -> Result<Rc<SmallVec<Region, 4>>, AllocError>
+    ensures { IfOk result (λ rs. rs.value.items ≡ arguments_written scope.now (view_name name) (map view_name regions.now)) }
 {
     let count = scope.structs().parameters(name.name.number).unwrap_or(0);
     arguments_or(scope.alloc(), scope.names(), count, regions)

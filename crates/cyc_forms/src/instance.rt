@@ -12,11 +12,12 @@ ghost use Rattle.cyc_forms.specs.Instances.{noted_place, noted_places};
 use crate::given::Given;
 use cyc_types::typed::Converted;
 use cyc_types::{Region, Signature, Ty};
+use smallvec::SmallVec;
 use std::alloc::{AllocError, Global};
 
 /// Notes that a region stands at a place of a region of a parameter's type.
-fn note(table: &mut Vec<Option<Region>>, variable: Region, region: Region)
-    ensures { table.new.items ≡ noted_place table.old.items (variable, region) }
+fn note(table: &mut [Option<Region>], variable: Region, region: Region)
+    ensures { table.new ≡ noted_place table.old (variable, region) }
 {
     let Region::Variable(number) = variable else {
         return;
@@ -28,8 +29,8 @@ fn note(table: &mut Vec<Option<Region>>, variable: Region, region: Region)
 
 /// The same for the arguments of structs.
 #[tactic(auto, using(crate::proofs::Instances::paired_past))]
-fn note_all(table: &mut Vec<Option<Region>>, variables: &[Region], regions: &[Region])
-    ensures { table.new.items ≡ noted_places table.old.items (all_paired variables.now regions.now) }
+fn note_all(table: &mut [Option<Region>], variables: &[Region], regions: &[Region])
+    ensures { table.new ≡ noted_places table.old (all_paired variables.now regions.now) }
 {
     for i in 0..variables.len() {
         if i >= regions.len() {
@@ -41,8 +42,8 @@ fn note_all(table: &mut Vec<Option<Region>>, variables: &[Region], regions: &[Re
 
 /// The same for all regions of a parameter's type.
 #[tactic(auto, using(crate::proofs::Instances::noted_append))]
-fn note_type(table: &mut Vec<Option<Region>>, parameter: &Ty, given: &Ty)
-    ensures { table.new.items ≡ noted_places table.old.items (paired (view_ty parameter.now) (view_ty given.now)) }
+fn note_type(table: &mut [Option<Region>], parameter: &Ty, given: &Ty)
+    ensures { table.new ≡ noted_places table.old (paired (view_ty parameter.now) (view_ty given.now)) }
 {
     match (parameter, given) {
         (
@@ -80,8 +81,8 @@ fn note_type(table: &mut Vec<Option<Region>>, parameter: &Ty, given: &Ty)
 }
 
 /// The same where the handle of the heap is given.
-fn note_heap_handle(table: &mut Vec<Option<Region>>, parameter: &Ty)
-    ensures { table.new.items ≡ noted_places table.old.items (paired (view_ty parameter.now) (types.Handle regions.Heap)) }
+fn note_heap_handle(table: &mut [Option<Region>], parameter: &Ty)
+    ensures { table.new ≡ noted_places table.old (paired (view_ty parameter.now) (types.Handle regions.Heap)) }
 {
     if let Ty::Handle { region } = parameter {
         note(table, *region, Region::Heap);
@@ -89,8 +90,8 @@ fn note_heap_handle(table: &mut Vec<Option<Region>>, parameter: &Ty)
 }
 
 #[tactic(auto, using(crate::proofs::Instances::paired_int))]
-fn note_given(table: &mut Vec<Option<Region>>, parameter: &Ty, given: Given<'_>)
-    ensures { table.new.items ≡ noted_places table.old.items (paired_argument (view_ty parameter.now) (view_given given.entry)) }
+fn note_given(table: &mut [Option<Region>], parameter: &Ty, given: Given<'_>)
+    ensures { table.new ≡ noted_places table.old (paired_argument (view_ty parameter.now) (view_given given.entry)) }
 {
     match given {
         Given::Void | Given::Null | Given::Int => {}
@@ -100,8 +101,8 @@ fn note_given(table: &mut Vec<Option<Region>>, parameter: &Ty, given: Given<'_>)
 }
 
 #[tactic(auto, using(crate::proofs::Instances::given_past))]
-fn note_arguments(table: &mut Vec<Option<Region>>, parameters: &[Ty], values: &[Converted])
-    ensures { table.new.items ≡ noted_places table.old.items (paired_arguments (map view_ty parameters.now) (map value_in values.now)) }
+fn note_arguments(table: &mut [Option<Region>], parameters: &[Ty], values: &[Converted])
+    ensures { table.new ≡ noted_places table.old (paired_arguments (map view_ty parameters.now) (map value_in values.now)) }
 {
     for i in 0..parameters.len() {
         if i >= values.len() {
@@ -112,10 +113,10 @@ fn note_arguments(table: &mut Vec<Option<Region>>, parameters: &[Ty], values: &[
 }
 
 /// A table of so many variables, of which none has a place yet. None has the number 0.
-fn no_places(alloc: Global, variables: usize) -> Result<Vec<Option<Region>>, AllocError>
+fn no_places(alloc: Global, variables: usize) -> Result<SmallVec<Option<Region>, 5>, AllocError>
     ensures { IfOk result (λ table. table.items ≡ Some regions.Heap ∷ replicate variables None) }
 {
-    let mut table = Vec::new(alloc);
+    let mut table = SmallVec::new(alloc);
     table.push(Some(Region::Heap))?;
     for _ in 0..variables {
         table.push(None)?;
@@ -124,10 +125,10 @@ fn no_places(alloc: Global, variables: usize) -> Result<Vec<Option<Region>>, All
 }
 
 /// The regions of a table; a variable without a place is the heap.
-fn regions_in(alloc: Global, table: &[Option<Region>]) -> Result<Vec<Region>, AllocError>
+fn regions_in(alloc: Global, table: &[Option<Region>]) -> Result<SmallVec<Region, 5>, AllocError>
     ensures { IfOk result (λ all. all.items ≡ map (λ o. unwrap_or o regions.Heap) table.now) }
 {
-    let mut all = Vec::with_capacity(alloc, table.len())?;
+    let mut all = SmallVec::with_capacity(alloc, table.len())?;
     for region in table {
         all.push(region.unwrap_or(Region::Heap))?;
     }
@@ -140,7 +141,7 @@ pub(crate) fn instance_of(
     alloc: Global,
     signature: &Signature,
     values: &[Converted],
-) -> Result<Vec<Region>, AllocError>
+) -> Result<SmallVec<Region, 5>, AllocError>
     ensures { IfOk result (λ all. all.items ≡ instance_of (view_signature signature.now) (map value_in values.now)) }
 {
     let mut table = no_places(alloc, signature.variables)?;

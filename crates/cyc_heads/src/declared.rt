@@ -15,6 +15,7 @@ use cyc_syntax::{Constructor, Declaration, Ident, Member, Names, Parameters, Wri
 use cyc_types::formation::type_written;
 use cyc_types::typed::Callee;
 use cyc_types::{Known, Region, RegionNames, Signature, Ty};
+use smallvec::SmallVec;
 use std::alloc::{AllocError, Global};
 
 /// What some heads have declared.
@@ -40,8 +41,8 @@ fn signature_of_ints(alloc: Global, count: usize) -> Result<Signature, AllocErro
         variables: 0,
         parameters,
         result: Some(Ty::Int),
-        effect: Vec::new(alloc),
-        constraints: Vec::new(alloc),
+        effect: SmallVec::new(alloc),
+        constraints: SmallVec::new(alloc),
     })
 }
 

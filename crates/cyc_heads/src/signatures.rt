@@ -13,6 +13,7 @@ use cyc_syntax::{Constraint, Ident, Member, ParameterList, Parameters, WrittenTy
 use cyc_types::formation::{region_of, type_written};
 use cyc_types::parameters::types_for;
 use cyc_types::{Known, Region, RegionNames, Signature, Ty};
+use smallvec::SmallVec;
 use std::alloc::{AllocError, Global};
 
 /// The parameters of a function, of which `void` has none.
@@ -98,10 +99,14 @@ impl HeadTypes {
 }
 
 /// The region variables of this number, but for those that have a key.
-fn without_keys(alloc: Global, keys: &Keys, variables: usize) -> Result<Vec<Region>, AllocError>
+fn without_keys(
+    alloc: Global,
+    keys: &Keys,
+    variables: usize,
+) -> Result<SmallVec<Region, 4>, AllocError>
     ensures { IfOk result (λ rs. rs.items ≡ without keys.now variables 1) }
 {
-    let mut all = Vec::new(alloc);
+    let mut all = SmallVec::new(alloc);
     for i in 0..variables {
         let region = Region::Variable(i + 1);
         if !keys.has(region) {
@@ -115,10 +120,10 @@ fn regions_of(
     alloc: Global,
     names: &RegionNames,
     written: &[Ident],
-) -> Result<Vec<Region>, AllocError>
+) -> Result<SmallVec<Region, 4>, AllocError>
     ensures { IfOk result (λ rs. rs.items ≡ map (region_of names.now) (map view_name written.now)) }
 {
-    let mut all = Vec::with_capacity(alloc, written.len())?;
+    let mut all = SmallVec::with_capacity(alloc, written.len())?;
     for name in written {
         all.push(region_of(names, *name))?;
     }
@@ -132,7 +137,7 @@ fn effect_of(
     keys: &Keys,
     variables: usize,
     effect: &Option<Vec<Ident>>,
-) -> Result<Vec<Region>, AllocError>
+) -> Result<SmallVec<Region, 4>, AllocError>
     ensures { IfOk result (λ rs. rs.items ≡ effect_by names.now keys.now variables (option_map (λ rs. map view_name rs.items) effect.now)) }
 {
     match effect {
@@ -145,10 +150,10 @@ fn constraints_of(
     alloc: Global,
     names: &RegionNames,
     written: &[Constraint],
-) -> Result<Vec<(Region, Region)>, AllocError>
+) -> Result<SmallVec<(Region, Region), 4>, AllocError>
     ensures { IfOk result (λ cs. cs.items ≡ constraints_of names.now (map view_constraint written.now)) }
 {
-    let mut all = Vec::with_capacity(alloc, written.len())?;
+    let mut all = SmallVec::with_capacity(alloc, written.len())?;
     for constraint in written {
         let longer = region_of(names, constraint.longer);
         let shorter = region_of(names, constraint.shorter);

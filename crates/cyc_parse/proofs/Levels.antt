@@ -2,7 +2,7 @@
 use Rattle.std.proofs.Common.{◌≡◌, ℕ, zero, suc, ◌+◌, ◌-◌, ◌<◌, ◌≤◌, Bool, true, false, ◌&&◌, cond, inl, inr, List, [], ◌∷◌, map, length, Option, None, Some, Ok, Err, refl, sym, ap, ◌∙◌, arith}
 use Rattle.std.proofs.lemmas.Bool.{leb-true, le-leb, ltb-true, lt-ltb, ne_eqb}
 use Rattle.std.proofs.lemmas.Bool.Decides.{eqb_tells}
-use Rattle.std.specs.Prelude.{nat_lt}
+use Rattle.std.specs.Prelude.{nat_lt, is_some}
 use Rattle.std.specs.declared.vec.Vec.{Vec}
 use Rattle.std.specs.declared.boxed.Box.{Box}
 use Rattle.std.specs.declared.alloc.Global.{Global as Heap}
@@ -40,6 +40,10 @@ nested_group room ts h = let k : room ≡ suc (room - 1) = omega arith in ap (λ
 pub nested_initial : (room : ℕ) (ts : List Symbol) → 0 < room → (nested room).initial ts ≡ initial (room - 1) (nested (room - 1)) ts
 unfolding nested
 nested_initial room ts h = let k : room ≡ suc (room - 1) = omega arith in ap (λ (n : ℕ). (nested n).initial ts) k
+
+pub operator_comes : (k : ℕ) (t : Option Terminal) (o : BinaryOperator) → Some o ≡ operator_at k t → is_some t ≡ true
+operator_comes k None o h = absurd (cc)
+operator_comes k (Some t) o h = refl
 
 -- the operators of levels of which none comes next
 

@@ -1,4 +1,5 @@
 -- An operand of operators that is one number or one name: neither arguments nor a postfix nor a tighter operator comes behind it.
+-- And a postfix that is no index.
 use Rattle.std.proofs.Common.{◌≡◌, ℕ, zero, suc, Bool, true, false, ◌||◌, List, [], ◌∷◌, Option, None, Some, is_some, Ok, refl, ap, ◌∙◌}
 use Rattle.cyc_syntax.specs.declared.tokens.Sign.TheVariants as signs
 use Rattle.cyc_syntax.specs.Symbols.{Terminal, Place, Symbol, Identifier}
@@ -7,7 +8,7 @@ use Rattle.cyc_syntax.specs.Grammar.{max_items}
 use Rattle.cyc_syntax.specs.Trees.{Expression, Number, Variable, NoPostfixes}
 use Rattle.cyc_parse.specs.Parsing.{Outcome, and_then, bind, choose, if_sees, next, sees, advance}
 use Rattle.cyc_parse.specs.Expressions.{Nested, nested, unary, primary, postfixes}
-use Rattle.cyc_parse.specs.Steps.{level_at, behind, is_continued, operand}
+use Rattle.cyc_parse.specs.Steps.{one_field, one_postfix, level_at, behind, is_continued, operand}
 use Rattle.cyc_parse.proofs.Levels.{climb_all, climb_ends}
 
 no_either : (b c : Bool) → b || c ≡ false → (b ≡ false) × (c ≡ false)
@@ -58,3 +59,7 @@ pub lone_variable : (room below x : ℕ) (ts us : List Symbol) (p : Place) → n
 unfolding terminal_of
 lone_variable room below x [] us p is taken alone = absurd (cc)
 lone_variable room below x (t ∷ ts) us p is taken alone = variable room below t ts alone x (ap (terminal_of t.terminal) is) ∙ ap (λ (o : Outcome Place). and_then o (λ q vs. Ok (Variable (record { name = x; place = q }), vs))) taken
+
+pub no_bracket : (room : ℕ) (ts : List Symbol) → sees signs.LeftBracket ts ≡ false → one_field (suc room) ts ≡ one_postfix room (nested room) ts
+unfolding if_sees
+no_bracket room ts h = rw h refl

@@ -1,15 +1,17 @@
 -- Parts of the parser that are functions of their own in the code, and one step of each list that the code reads in a
 -- loop: the next item, if the list goes on.
 use Rattle.std.specs.Prelude.{ℕ, zero, suc, ◌+◌, ◌-◌, Bool, false, ◌&&◌, ◌||◌, nat_lt, nat_le, if◌then◌else◌, List, [], ◌∷◌, Option, Some, None, is_some}
+use Rattle.cyc_syntax.specs.declared.tokens.Keyword.TheVariants as words
 use Rattle.cyc_syntax.specs.declared.tokens.Sign.TheVariants as signs
 use Rattle.cyc_syntax.specs.declared.tree.BinaryOperator.{BinaryOperator}
 use Rattle.cyc_syntax.specs.declared.tree.PrefixOperator.{PrefixOperator}
 use Rattle.cyc_syntax.specs.declared.tree.Operation.{Operation}
 use Rattle.cyc_syntax.specs.Grammar.{level, max_items}
-use Rattle.cyc_syntax.specs.Symbols.{Terminal, Mark, Symbol}
-use Rattle.cyc_syntax.specs.Trees.{Declaration, Pointer, Expression, Bracketed, FreeKey, Prefixed, New, RegionNew, Postfixes, ThenIndex, ThenField, Operations, ThenOperation}
+use Rattle.cyc_syntax.specs.Symbols.{Terminal, Mark, Symbol, Place}
+use Rattle.cyc_syntax.specs.Symbols as terminals
+use Rattle.cyc_syntax.specs.Trees.{Declaration, Pointer, Named, Expression, Number, Character, Null, HeapRegion, UniqueRegion, Call, Bracketed, FreeKey, Prefixed, New, RegionNew, Initial, Fields, Array, Expressions, Postfixes, ThenIndex, ThenField, Operations, ThenOperation}
 use Rattle.cyc_syntax.specs.TreeView.{place_of_span, view_expression}
-use Rattle.cyc_parse.specs.Parsing.{Parser, ◌>>=◌, ◌>>◌, pure, next, sees, if_sees, if_starts, choose, advance, sign, identifier}
+use Rattle.cyc_parse.specs.Parsing.{Parser, Unexpected, refuse, ◌>>=◌, ◌>>◌, pure, next, sees, if_sees, if_starts, choose, advance, sign, identifier}
 use Rattle.cyc_parse.specs.Types.{mark_at, optional_region}
 use Rattle.cyc_parse.specs.Declarations.{declaration}
 use Rattle.cyc_parse.specs.Expressions.{Nested, binary_operator, operator_at, chained, binary_of, operations, climb, postfixes, unary}
@@ -36,6 +38,39 @@ freed_key room = advance >>= (λ p. sign (suc room) signs.LeftParen >> identifie
 abbrev pub bracketed : ℕ → Nested → Parser Expression
 bracketed room inner = advance >>= (λ p. inner.expression >>= (λ e. sign room signs.RightParen >> pure (Bracketed p e)))
 
+-- an operand without expressions inside it, but for a call or a variable
+abbrev pub lone_by : ℕ → Option Terminal → Parser Expression
+lone_by room (Some (terminals.Number n)) = advance >>= (λ p. pure (Number p n))
+lone_by room (Some (terminals.Character c)) = advance >>= (λ p. pure (Character p c))
+lone_by room (Some (terminals.Word words.Null)) = advance >>= (λ p. pure (Null p))
+lone_by room (Some (terminals.Word words.HeapRegion)) = advance >>= (λ p. pure (HeapRegion p))
+lone_by room (Some (terminals.Word words.UniqueRegion)) = advance >>= (λ p. pure (UniqueRegion p))
+lone_by room (Some (terminals.Word words.FreeKey)) = freed_key room
+lone_by room _ = refuse Unexpected
+
+abbrev pub lone : ℕ → Parser Expression
+lone room = choose (lone_by room)
+
+-- what closes behind a part, and makes a node of it
+
+abbrev pub end_of_group : ℕ → Expression → Parser Expression
+end_of_group room e = sign room signs.RightParen >> pure e
+
+abbrev pub end_of_bracketed : ℕ → Place → Expression → Parser Expression
+end_of_bracketed room p e = sign room signs.RightParen >> pure (Bracketed p e)
+
+abbrev pub end_of_call : ℕ → Named → Expressions → Parser Expression
+end_of_call room x es = sign room signs.RightParen >> pure (Call x es)
+
+abbrev pub end_of_index : ℕ → Expression → Parser (Option (Postfixes → Postfixes))
+end_of_index room e = sign room signs.RightBracket >> pure (Some (ThenIndex e))
+
+abbrev pub end_of_fields : ℕ → Named → List Named → Expressions → Parser Initial
+end_of_fields room s rs es = sign room signs.RightBrace >> pure (Fields s rs es)
+
+abbrev pub end_of_array : ℕ → Place → Named → Expression → Expression → Parser Initial
+end_of_array room p x n e = sign room signs.RightBrace >> pure (Array p x n e)
+
 abbrev pub prefixed : Nested → PrefixOperator → Parser Expression
 prefixed inner o = advance >>= (λ p. inner.unary >>= (λ e. pure (Prefixed p o e)))
 
@@ -48,12 +83,15 @@ created_in inner = advance >>= (λ p. inner.group >>= (λ h. inner.initial >>= (
 abbrev pub with_chain : ℕ → Nested → Expression → Parser Expression
 with_chain room inner e = postfixes room inner max_items >>= (λ ps. pure (chained e ps))
 
+-- `->` and a field's name, as what they make of the postfixes behind them
+abbrev pub one_field : ℕ → Parser (Option (Postfixes → Postfixes))
+one_field room = if_sees signs.Arrow (sign room signs.Arrow >> identifier room >>= (λ x. pure (Some (ThenField x)))) (pure None)
+
 -- a postfix, as what it makes of those behind it
 abbrev pub one_postfix : ℕ → Nested → Parser (Option (Postfixes → Postfixes))
 one_postfix room inner =
     if_sees signs.LeftBracket (sign (suc room) signs.LeftBracket >> inner.expression >>= (λ e. sign room signs.RightBracket >> pure (Some (ThenIndex e))))
-    (if_sees signs.Arrow (sign (suc room) signs.Arrow >> identifier (suc room) >>= (λ x. pure (Some (ThenField x))))
-    (pure None))
+    (one_field (suc room))
 
 -- an operator is of one of the levels up to this one
 abbrev pub is_within : ℕ → Option BinaryOperator → Bool

@@ -2,13 +2,13 @@
 //! reads at a level of nesting below which so many are left.
 #![tactic(auto, unfolding(crate::specs::Parsing::bind, crate::specs::Parsing::choose, crate::specs::Parsing::if_sees, crate::specs::Parsing::if_starts, crate::specs::Parsing::if_is, crate::specs::Parsing::refuse_item, crate::specs::Expressions::nested), using(crate::proofs::Levels::levels))]
 
-ghost use Rattle.std.specs.Prelude.{◌≡◌, ◌<◌, ◌≤◌, ◌-◌, suc, true, ◌||◌, map, option_map, is_some, List, [], Ok, IfSome};
+ghost use Rattle.std.specs.Prelude.{◌≡◌, ◌<◌, ◌≤◌, ◌-◌, suc, true, ◌||◌, ℕ, map, option_map, is_some, List, [], Ok, IfSome, IfNone};
 ghost use Rattle.cyc_syntax.specs.declared.tokens.Sign.TheVariants as signs;
-ghost use Rattle.cyc_syntax.specs.TreeView.{view_name, view_expression, view_initial, expressions_of, postfixes_of, operations_of, then_postfix};
+ghost use Rattle.cyc_syntax.specs.TreeView.{place_of_span, view_name, view_expression, view_initial, expressions_of, postfixes_of, operations_of, then_postfix};
 ghost use Rattle.cyc_parse.specs.Boxes.{view_boxed, view_boxed_initial};
 ghost use Rattle.cyc_parse.specs.Code.{Gives};
-ghost use Rattle.cyc_parse.specs.Parsing.{next, sees, starts, separated, no_more_items, opens_regions};
-ghost use Rattle.cyc_parse.specs.Steps.{after_comma, one_postfix, one_operation, then_operation, prefixed, created, created_in, freed_key, bracketed, with_chain, level_at, behind, is_continued, operand, climb_from, one_level};
+ghost use Rattle.cyc_parse.specs.Parsing.{next, sees, starts, advance, separated, no_more_items, opens_regions};
+ghost use Rattle.cyc_parse.specs.Steps.{after_comma, one_postfix, one_field, one_operation, then_operation, prefixed, created, created_in, freed_key, bracketed, lone, end_of_group, end_of_bracketed, end_of_call, end_of_index, end_of_fields, end_of_array, with_chain, level_at, behind, is_continued, operand, climb_from, one_level};
 ghost use Rattle.cyc_syntax.specs.Grammar.{level};
 ghost use Rattle.cyc_syntax.specs.Trees.{Expression, NoPostfixes, NoOperations, Call, Plain, Fields};
 ghost use Rattle.cyc_parse.specs.Expressions.{binary_operator, chained, binary_of, nested, begins_expression, begins_initial, operator_at, no_more_operations, operations, climb, group, arguments, from_name, primary, no_more_postfixes, postfixes, with_postfixes, unary, assignment, binary, expression, values, fields, initial_from_name, array, initial};
@@ -164,6 +164,14 @@ impl<'a> Parser<'a> {
         Ok(Box::new(self.alloc(), value)?)
     }
 
+    /// The bracket that closes behind an expression.
+    fn end_group(&mut self, room: u32, inner: Box<Expr>) -> Result<Box<Expr>, Stop>
+        ensures { Gives view_boxed result (end_of_group room (view_boxed inner) self.old) self.new }
+    {
+        self.take_sign_inside(room, Sign::RightParen)?;
+        Ok(inner)
+    }
+
     /// An expression in round brackets.
     #[cycle(expression)]
     pub(crate) fn parse_group_here(&mut self, room: u32) -> Result<Box<Expr>, Stop>
@@ -171,8 +179,7 @@ impl<'a> Parser<'a> {
     {
         self.take_sign(Sign::LeftParen)?;
         let inner = self.parse_expression(room)?;
-        self.take_sign_inside(room, Sign::RightParen)?;
-        Ok(inner)
+        self.end_group(room, inner)
     }
 
     #[cycle(expression)]
@@ -226,18 +233,24 @@ impl<'a> Parser<'a> {
         Ok(arguments)
     }
 
+    /// The bracket that closes behind the arguments of a call.
+    fn end_call(&mut self, room: u32, name: Ident, arguments: Vec<Expr>) -> Result<Box<Expr>, Stop>
+        ensures { Gives view_boxed result (end_of_call room (view_name name) (expressions_of arguments.items) self.old) self.new }
+    {
+        self.take_sign_inside(room, Sign::RightParen)?;
+        self.node(call(name, arguments))
+    }
+
     /// An expression that begins with this name: a call or a variable.
     #[cycle(expression)]
     pub(crate) fn parse_from_name(&mut self, room: u32, name: Ident) -> Result<Box<Expr>, Stop>
         ensures { Gives view_boxed result (from_name room (nested room) (view_name name) self.old) self.new }
     {
-        if !self.sees(Sign::LeftParen) {
+        let Some(_) = self.take_if(Sign::LeftParen) else {
             return self.node(Expr::Variable { name });
-        }
-        self.take_sign(Sign::LeftParen)?;
+        };
         let arguments = self.parse_arguments(room)?;
-        self.take_sign_inside(room, Sign::RightParen)?;
-        self.node(call(name, arguments))
+        self.end_call(room, name, arguments)
     }
 
     /// `free_ukey(..)`
@@ -252,6 +265,14 @@ impl<'a> Parser<'a> {
         self.node(Expr::FreeKey { span, key })
     }
 
+    /// The bracket that closes behind an expression, as a tree.
+    fn end_bracketed(&mut self, room: u32, span: Span, inner: Box<Expr>) -> Result<Box<Expr>, Stop>
+        ensures { Gives view_boxed result (end_of_bracketed room (place_of_span span) (view_boxed inner) self.old) self.new }
+    {
+        self.take_sign_inside(room, Sign::RightParen)?;
+        self.node(Expr::Bracketed { span, inner })
+    }
+
     /// An expression in round brackets, as a tree.
     #[cycle(expression)]
     fn parse_bracketed(&mut self, room: u32) -> Result<Box<Expr>, Stop>
@@ -260,14 +281,12 @@ impl<'a> Parser<'a> {
     {
         let span = self.take_next();
         let inner = self.parse_expression(room)?;
-        self.take_sign_inside(room, Sign::RightParen)?;
-        self.node(Expr::Bracketed { span, inner })
+        self.end_bracketed(room, span, inner)
     }
 
-    #[cycle(expression)]
-    #[tactic(auto, unfolding(crate::specs::Expressions::primary, crate::specs::Parsing::choose, crate::specs::Parsing::bind))]
-    fn parse_primary(&mut self, room: u32) -> Result<Box<Expr>, Stop>
-        ensures { Gives view_boxed result (primary room (nested room) self.old) self.new }
+    /// An operand without expressions inside it, but for a call or a variable.
+    fn parse_lone(&mut self, room: u32) -> Result<Box<Expr>, Stop>
+        ensures { Gives view_boxed result (lone room self.old) self.new }
     {
         match self.next() {
             Some(Terminal::Number(value)) => {
@@ -277,10 +296,6 @@ impl<'a> Parser<'a> {
             Some(Terminal::Character(value)) => {
                 let span = self.take_next();
                 self.node(Expr::Character { span, value })
-            }
-            Some(Terminal::Identifier(name)) => {
-                let span = self.take_next();
-                self.parse_from_name(room, Ident { name, span })
             }
             Some(Terminal::Word(Keyword::Null)) => {
                 let span = self.take_next();
@@ -294,6 +309,21 @@ impl<'a> Parser<'a> {
                 let span = self.take_next();
                 self.node(Expr::UniqueRegion { span })
             }
+            Some(Terminal::Word(Keyword::FreeKey)) => self.parse_freed_key(room),
+            _ => Err(Stop::Refused(Reason::Unexpected)),
+        }
+    }
+
+    #[cycle(expression)]
+    #[tactic(auto, unfolding(crate::specs::Expressions::primary, crate::specs::Parsing::choose, crate::specs::Parsing::bind))]
+    fn parse_primary(&mut self, room: u32) -> Result<Box<Expr>, Stop>
+        ensures { Gives view_boxed result (primary room (nested room) self.old) self.new }
+    {
+        match self.next() {
+            Some(Terminal::Identifier(name)) => {
+                let span = self.take_next();
+                self.parse_from_name(room, Ident { name, span })
+            }
             Some(Terminal::Word(Keyword::NumberOfElements)) => {
                 let span = self.take_next();
                 let pointer = self.parse_group_here(room)?;
@@ -304,10 +334,30 @@ impl<'a> Parser<'a> {
                 let pointer = self.parse_group_here(room)?;
                 self.node(Expr::FreeUnique { span, pointer })
             }
-            Some(Terminal::Word(Keyword::FreeKey)) => self.parse_freed_key(room),
             Some(Terminal::Mark(Sign::LeftParen)) => self.parse_bracketed(room),
-            _ => Err(Stop::Refused(Reason::Unexpected)),
+            _ => self.parse_lone(room),
         }
+    }
+
+    /// The bracket that closes behind an index.
+    fn end_index(&mut self, room: u32, index: Box<Expr>) -> Result<Option<Postfix>, Stop>
+        ensures { Gives (option_map then_postfix) result (end_of_index room (view_boxed index) self.old) self.new }
+    {
+        self.take_sign_inside(room, Sign::RightBracket)?;
+        Ok(Some(Postfix::Index {
+            index: Box::into_inner(index),
+        }))
+    }
+
+    /// `->` and a field's name, if it comes next.
+    fn parse_field_postfix(&mut self) -> Result<Option<Postfix>, Stop>
+        ensures { (room : ℕ) → Gives (option_map then_postfix) result (one_field (suc room) self.old) self.new }
+    {
+        let Some(_) = self.take_if(Sign::Arrow) else {
+            return Ok(None);
+        };
+        let name = self.take_identifier()?;
+        Ok(Some(Postfix::Field { name }))
     }
 
     /// `[..]` or `->` and a field's name, if one comes next.
@@ -315,20 +365,11 @@ impl<'a> Parser<'a> {
     fn parse_postfix(&mut self, room: u32) -> Result<Option<Postfix>, Stop>
         ensures { Gives (option_map then_postfix) result (one_postfix room (nested room) self.old) self.new }
     {
-        if self.sees(Sign::LeftBracket) {
-            self.take_sign(Sign::LeftBracket)?;
-            let index = self.parse_expression(room)?;
-            self.take_sign_inside(room, Sign::RightBracket)?;
-            return Ok(Some(Postfix::Index {
-                index: Box::into_inner(index),
-            }));
-        }
-        if self.sees(Sign::Arrow) {
-            self.take_sign(Sign::Arrow)?;
-            let name = self.take_identifier()?;
-            return Ok(Some(Postfix::Field { name }));
-        }
-        Ok(None)
+        let Some(_) = self.take_if(Sign::LeftBracket) else {
+            return self.parse_field_postfix();
+        };
+        let index = self.parse_expression(room)?;
+        self.end_index(room, index)
     }
 
     fn begins_postfix(&self) -> bool
@@ -488,30 +529,54 @@ impl<'a> Parser<'a> {
             || behind.next_level(0, below).is_some()
     }
 
-    /// An operand of the operators of the level above this one. Most are one number or one name, which needs no box.
+    /// An operand of the operators of the level above this one, if it is one number or one name: most are, and need no box.
+    fn take_lone_operand(&mut self, below: u32) -> Option<Expr>
+        requires { below < 10 }
+        ensures taken { IfSome result (λ e. (room : ℕ) → operand room (nested room) below self.old ≡ Ok (view_expression e, self.new)) }
+        ensures left { IfNone result (self.new ≡ self.old) }
+    {
+        if self.is_continued(below) {
+            return None;
+        }
+        match self.next() {
+            Some(Terminal::Number(value)) => {
+                let span = self.take_next();
+                Some(Expr::Number { span, value })
+            }
+            Some(Terminal::Identifier(name)) => {
+                let span = self.take_next();
+                Some(Expr::Variable {
+                    name: Ident { name, span },
+                })
+            }
+            _ => None,
+        }
+    }
+
+    /// An operand of the operators of the level above this one.
     #[cycle(expression)]
     fn parse_operand(&mut self, room: u32, below: u32) -> Result<Expr, Stop>
         requires { below < 10 }
         ensures { Gives view_expression result (operand room (nested room) below self.old) self.new }
     {
-        let is_continued = self.is_continued(below);
-        match self.next() {
-            Some(Terminal::Number(value)) if !is_continued => {
-                let span = self.advance()?;
-                Ok(Expr::Number { span, value })
-            }
-            Some(Terminal::Identifier(name)) if !is_continued => {
-                let span = self.advance()?;
-                Ok(Expr::Variable {
-                    name: Ident { name, span },
-                })
-            }
-            _ => {
-                let first = self.parse_unary_here(room)?;
-                let operand = self.climb(room, below, first)?;
-                Ok(Box::into_inner(operand))
-            }
+        if let Some(operand) = self.take_lone_operand(below) {
+            return Ok(operand);
         }
+        let first = self.parse_unary_here(room)?;
+        let operand = self.climb(room, below, first)?;
+        Ok(Box::into_inner(operand))
+    }
+
+    /// Takes the next symbol, if it is a binary operator of the level above this one.
+    #[tactic(auto, unfolding(crate::specs::Parsing::take), using(crate::proofs::Levels::operator_comes))]
+    fn take_operator(&mut self, below: u32) -> Option<(BinaryOperator, Span)>
+        ensures seen { option_map (λ taken. taken.0) result ≡ operator_at (suc below) (next self.old) }
+        ensures taken { IfSome result (λ taken. advance self.old ≡ Ok (place_of_span taken.1, self.new)) }
+        ensures left { IfNone result (self.new ≡ self.old) }
+    {
+        let operator = self.operator(below)?;
+        let span = self.take_next();
+        Some((operator, span))
     }
 
     #[cycle(expression)]
@@ -519,10 +584,9 @@ impl<'a> Parser<'a> {
         requires { below < 10 }
         ensures { Gives (option_map then_operation) result (one_operation (operand room (nested room) below) (suc below) self.old) self.new }
     {
-        let Some(operator) = self.operator(below) else {
+        let Some((operator, span)) = self.take_operator(below) else {
             return Ok(None);
         };
-        let span = self.advance()?;
         let operand = self.parse_operand(room, below)?;
         Ok(Some(Operation {
             operator,
@@ -622,10 +686,9 @@ impl<'a> Parser<'a> {
     ) -> Result<Box<Expr>, Stop>
         ensures { Gives view_boxed result (assignment room (nested room) (view_boxed target) self.old) self.new }
     {
-        if !self.sees(Sign::Assign) {
+        let Some(_) = self.take_if(Sign::Assign) else {
             return Ok(target);
-        }
-        self.take_sign(Sign::Assign)?;
+        };
         let value = self.parse_expression(room)?;
         self.node(Expr::Assign { target, value })
     }
@@ -658,6 +721,20 @@ impl<'a> Parser<'a> {
         Ok(values)
     }
 
+    /// The brace that closes behind the values of a struct's fields.
+    fn end_values(
+        &mut self,
+        room: u32,
+        name: Ident,
+        regions: Vec<Ident>,
+        values: Vec<Expr>,
+    ) -> Result<Box<Initial>, Stop>
+        ensures { Gives view_boxed_initial result (end_of_fields room (view_name name) (map view_name regions.items) (expressions_of values.items) self.old) self.new }
+    {
+        self.take_sign_inside(room, Sign::RightBrace)?;
+        self.initial_node(struct_fields(name, regions, values))
+    }
+
     #[cycle(expression)]
     fn parse_fields(
         &mut self,
@@ -669,8 +746,7 @@ impl<'a> Parser<'a> {
     {
         self.take_sign(Sign::LeftBrace)?;
         let values = self.parse_values(room)?;
-        self.take_sign_inside(room, Sign::RightBrace)?;
-        self.initial_node(struct_fields(name, regions, values))
+        self.end_values(room, name, regions, values)
     }
 
     /// A struct's name opens its fields, with region arguments or without, or the name begins an expression.
@@ -690,6 +766,26 @@ impl<'a> Parser<'a> {
         self.plain(value)
     }
 
+    /// The brace that closes behind an array's element.
+    fn end_array(
+        &mut self,
+        room: u32,
+        span: Span,
+        variable: Ident,
+        length: Box<Expr>,
+        element: Box<Expr>,
+    ) -> Result<Box<Initial>, Stop>
+        ensures { Gives view_boxed_initial result (end_of_array room (place_of_span span) (view_name variable) (view_boxed length) (view_boxed element) self.old) self.new }
+    {
+        self.take_sign_inside(room, Sign::RightBrace)?;
+        self.initial_node(Initial::Array {
+            span,
+            variable,
+            length: Box::into_inner(length),
+            element: Box::into_inner(element),
+        })
+    }
+
     /// `{for variable < length : element}`
     #[cycle(expression)]
     fn parse_array(&mut self, room: u32) -> Result<Box<Initial>, Stop>
@@ -702,13 +798,7 @@ impl<'a> Parser<'a> {
         let length = self.parse_binary(room)?;
         self.take_sign_inside(room, Sign::Colon)?;
         let element = self.parse_expression(room)?;
-        self.take_sign_inside(room, Sign::RightBrace)?;
-        self.initial_node(Initial::Array {
-            span,
-            variable,
-            length: Box::into_inner(length),
-            element: Box::into_inner(element),
-        })
+        self.end_array(room, span, variable, length, element)
     }
 
     #[cycle(expression)]

@@ -2,15 +2,16 @@
 //! so many are left.
 #![tactic(auto, unfolding(crate::specs::Parsing::bind, crate::specs::Parsing::choose, crate::specs::Parsing::if_sees, crate::specs::Parsing::if_starts, crate::specs::Parsing::refuse_item, crate::specs::Expressions::nested, crate::specs::Statements::nested_statements), using(crate::proofs::StatementLevels::nested_statement, crate::proofs::StatementLevels::nested_items))]
 
-ghost use Rattle.std.specs.Prelude.{◌≡◌, ℕ, suc, true, length, option_map, is_some};
+ghost use Rattle.std.specs.Prelude.{◌≡◌, ℕ, suc, true, length, option_map, is_some, Ok, IfSome, IfNone};
+ghost use Rattle.cyc_syntax.specs.declared.tokens.Keyword.TheVariants as words;
 ghost use Rattle.cyc_syntax.specs.TreeView.{place_of_span, view_name, view_expression, view_initial, view_statement, view_item, view_block, items_of, clauses_of, default_of};
 ghost use Rattle.cyc_syntax.specs.Trees as trees;
 ghost use Rattle.cyc_parse.specs.Boxes.{view_boxed, view_boxed_statement};
 ghost use Rattle.cyc_parse.specs.Code.{Gives};
-ghost use Rattle.cyc_parse.specs.Parsing.{next, starts, inside, sign};
+ghost use Rattle.cyc_parse.specs.Parsing.{next, starts, inside, sign, word};
 ghost use Rattle.cyc_parse.specs.Types.{region_of};
 ghost use Rattle.cyc_parse.specs.Statements.{begins_statement, begins_item, is_case, is_default, begins_clause, is_else, is_unary, ends_in_new, ends_in_name, end_of_swap, nested_statements, body, expression_from, swap, behind, else_part, return_value, thrown, caught, clauses_in, clauses, if_statement, while_statement, throw_statement, try_statement, statement, local_value, local, opened_key, region, alias, new_key, dynamic_region, item, items};
-ghost use Rattle.cyc_parse.specs.StatementSteps.{one_item, one_clause, then_clause, default_clause, end_of_try, after_symbol, return_statement, named_statement, block_statement, expression_statement, let_item};
+ghost use Rattle.cyc_parse.specs.StatementSteps.{one_item, view_clause_head, clause_head, one_clause, then_clause, default_clause, end_of_block, end_of_try, statement_from, conditional, plain_statement, after_symbol, return_statement, named_statement, block_statement, expression_statement, let_item};
 
 use crate::cursor::{Parser, refusal};
 use crate::expressions::LEVELS;
@@ -84,12 +85,6 @@ impl<'a> Parser<'a> {
             self.next(),
             Some(Terminal::Word(Keyword::Case | Keyword::Default))
         )
-    }
-
-    fn begins_else(&self) -> bool
-        ensures { result ≡ starts is_else (next self.now) }
-    {
-        matches!(self.next(), Some(Terminal::Word(Keyword::Else)))
     }
 
     // ---- one level deeper
@@ -177,6 +172,14 @@ impl<'a> Parser<'a> {
         self.parse_assignment(room, target)
     }
 
+    /// A statement that begins with an expression that begins with this name.
+    fn parse_statement_from(&mut self, room: u32, name: Ident) -> Result<Stmt, Stop>
+        ensures { Gives view_statement result (statement_from room (nested_statements room) (view_name name) self.old) self.new }
+    {
+        let value = self.parse_expression_from(room, name)?;
+        self.parse_rest_of_statement(room, value)
+    }
+
     fn parse_expression_statement(&mut self, room: u32) -> Result<Stmt, Stop>
         ensures { Gives view_statement result (expression_statement room (nested_statements room) self.old) self.new }
     {
@@ -192,16 +195,22 @@ impl<'a> Parser<'a> {
     {
         let span = self.take_next();
         let name = Ident { name, span };
-        if self.sees(Sign::Colon) {
-            self.take_sign(Sign::Colon)?;
-            let block = self.parse_block(room)?;
-            return Ok(labelled(name, block));
-        }
-        let value = self.parse_expression_from(room, name)?;
-        self.parse_rest_of_statement(room, value)
+        let Some(_) = self.take_if(Sign::Colon) else {
+            return self.parse_statement_from(room, name);
+        };
+        let block = self.parse_block(room)?;
+        Ok(labelled(name, block))
     }
 
     // ---- statements that begin with words and signs
+
+    /// The brace that closes behind the items of a block.
+    fn end_block(&mut self, room: u32, span: Span, items: Vec<Item>) -> Result<Block, Stop>
+        ensures { Gives view_block result (end_of_block room (nested_statements room) (place_of_span span) (items_of items.items) self.old) self.new }
+    {
+        let end = self.take_sign_inside(room, Sign::RightBrace)?;
+        Ok(Block { span, items, end })
+    }
 
     /// Items in braces.
     #[cycle(statement)]
@@ -210,8 +219,7 @@ impl<'a> Parser<'a> {
     {
         let span = self.take_sign(Sign::LeftBrace)?;
         let items = self.parse_items(room)?;
-        let end = self.take_sign_inside(room, Sign::RightBrace)?;
-        Ok(Block { span, items, end })
+        self.end_block(room, span, items)
     }
 
     #[cycle(statement)]
@@ -219,6 +227,19 @@ impl<'a> Parser<'a> {
         ensures { Gives view_statement result (block_statement room (nested_statements room) self.old) self.new }
     {
         Ok(block(self.parse_block(room)?))
+    }
+
+    /// Takes `else`, if it comes next.
+    #[tactic(auto, unfolding(crate::specs::Parsing::take))]
+    fn take_else(&mut self) -> Option<Span>
+        ensures seen { starts is_else (next self.old) ≡ is_some result }
+        ensures taken { IfSome result (λ span. (room : ℕ) → word (suc room) words.Else self.old ≡ Ok (place_of_span span, self.new)) }
+        ensures left { IfNone result (self.new ≡ self.old) }
+    {
+        let Some(Terminal::Word(Keyword::Else)) = self.next() else {
+            return None;
+        };
+        Some(self.take_next())
     }
 
     #[cycle(statement)]
@@ -231,22 +252,11 @@ impl<'a> Parser<'a> {
     ) -> Result<Stmt, Stop>
         ensures { Gives view_statement result (else_part room (nested_statements room) (place_of_span span) (view_boxed condition) (view_statement then.value) self.old) self.new }
     {
-        if !self.begins_else() {
-            return Ok(Stmt::If {
-                span,
-                condition: Box::into_inner(condition),
-                then,
-                otherwise: None,
-            });
-        }
-        self.take_word(Keyword::Else)?;
+        let Some(_) = self.take_else() else {
+            return Ok(conditional(span, condition, then, None));
+        };
         let otherwise = self.parse_statement(room)?;
-        Ok(Stmt::If {
-            span,
-            condition: Box::into_inner(condition),
-            then,
-            otherwise: Some(otherwise),
-        })
+        Ok(conditional(span, condition, then, Some(otherwise)))
     }
 
     /// `if`
@@ -338,10 +348,9 @@ impl<'a> Parser<'a> {
         Ok(Some(variable))
     }
 
-    /// `case &exception(variable): ..`, if one comes next.
-    #[cycle(statement)]
-    fn parse_clause(&mut self, room: u32) -> Result<Option<Clause>, Stop>
-        ensures { Gives (option_map then_clause) result (one_clause room (nested_statements room) self.old) self.new }
+    /// A clause up to its colon, if one comes next: its exception, and its variable if it has one.
+    fn parse_clause_head(&mut self, room: u32) -> Result<Option<(Ident, Option<Ident>)>, Stop>
+        ensures { Gives (option_map view_clause_head) result (clause_head room (nested_statements room) self.old) self.new }
     {
         if !self.begins_case() {
             return Ok(None);
@@ -351,6 +360,17 @@ impl<'a> Parser<'a> {
         let exception = self.take_identifier_inside(room)?;
         let variable = self.parse_caught(room)?;
         self.take_sign_inside(room, Sign::Colon)?;
+        Ok(Some((exception, variable)))
+    }
+
+    /// `case &exception(variable): ..`, if one comes next.
+    #[cycle(statement)]
+    fn parse_clause(&mut self, room: u32) -> Result<Option<Clause>, Stop>
+        ensures { Gives (option_map then_clause) result (one_clause room (nested_statements room) self.old) self.new }
+    {
+        let Some((exception, variable)) = self.parse_clause_head(room)? else {
+            return Ok(None);
+        };
         let items = self.parse_items(room)?;
         Ok(Some(Clause {
             exception,
@@ -430,20 +450,15 @@ impl<'a> Parser<'a> {
         self.end_try(room, span, body, handlers)
     }
 
-    #[cycle(statement)]
-    #[tactic(auto, unfolding(crate::specs::Statements::statement, crate::specs::Parsing::choose, crate::specs::Parsing::bind))]
-    fn parse_statement_here(&mut self, room: u32) -> Result<Stmt, Stop>
-        ensures { Gives view_statement result (statement room (nested_statements room) self.old) self.new }
+    /// A statement without statements inside it.
+    fn parse_plain_statement(&mut self, room: u32) -> Result<Stmt, Stop>
+        ensures { Gives view_statement result (plain_statement room (nested_statements room) self.old) self.new }
     {
         match self.next() {
-            Some(Terminal::Identifier(name)) => self.parse_named_statement(room, name),
-            Some(Terminal::Mark(Sign::LeftBrace)) => self.parse_block_statement(room),
             Some(Terminal::Mark(Sign::Semicolon)) => {
                 let span = self.take_next();
                 Ok(Stmt::Empty { span })
             }
-            Some(Terminal::Word(Keyword::If)) => self.parse_if(room),
-            Some(Terminal::Word(Keyword::While)) => self.parse_while(room),
             Some(Terminal::Word(Keyword::Return)) => {
                 let span = self.take_next();
                 self.parse_return(room, span)
@@ -459,8 +474,22 @@ impl<'a> Parser<'a> {
                 Ok(Stmt::Continue { span })
             }
             Some(Terminal::Word(Keyword::Throw)) => self.parse_throw(room),
-            Some(Terminal::Word(Keyword::Try)) => self.parse_try(room),
             _ => self.parse_expression_statement(room),
+        }
+    }
+
+    #[cycle(statement)]
+    #[tactic(auto, unfolding(crate::specs::Statements::statement, crate::specs::Parsing::choose, crate::specs::Parsing::bind))]
+    fn parse_statement_here(&mut self, room: u32) -> Result<Stmt, Stop>
+        ensures { Gives view_statement result (statement room (nested_statements room) self.old) self.new }
+    {
+        match self.next() {
+            Some(Terminal::Identifier(name)) => self.parse_named_statement(room, name),
+            Some(Terminal::Mark(Sign::LeftBrace)) => self.parse_block_statement(room),
+            Some(Terminal::Word(Keyword::If)) => self.parse_if(room),
+            Some(Terminal::Word(Keyword::While)) => self.parse_while(room),
+            Some(Terminal::Word(Keyword::Try)) => self.parse_try(room),
+            _ => self.parse_plain_statement(room),
         }
     }
 
@@ -682,6 +711,22 @@ fn block(block: Block) -> Stmt
     ensures { view_statement result ≡ trees.Block (view_block block) }
 {
     Stmt::Block { block }
+}
+
+fn conditional(
+    span: Span,
+    condition: Box<Expr>,
+    then: Box<Stmt>,
+    otherwise: Option<Box<Stmt>>,
+) -> Stmt
+    ensures { view_statement result ≡ conditional (place_of_span span) (view_boxed condition) (view_boxed_statement then) (option_map view_boxed_statement otherwise) }
+{
+    Stmt::If {
+        span,
+        condition: Box::into_inner(condition),
+        then,
+        otherwise,
+    }
 }
 
 fn labelled(label: Ident, block: Block) -> Stmt

@@ -1,7 +1,8 @@
 //! Images as files, with the answers worked out by hand.
 
-use crate::rows::{bytes_of_words, decimal, expect, expect_number, expect_text};
+use crate::expect::{expect, expect_number, expect_text};
 use cyc_elf::{ElfFault, read_image};
+use cyc_rows::rows::{bytes_of_words, decimal};
 use std::alloc::Global;
 use std::process::Abort;
 

@@ -1,8 +1,9 @@
 //! Vectors from outside, words that are no instructions, and devices that fail.
 
-use crate::devices::FailsOnce;
-use crate::rows::{expect, expect_number, hexadecimal};
+use crate::expect::{expect, expect_number};
 use cyc_isa::{Instr, decode, encode, write_text};
+use cyc_rows::devices::FailsOnce;
+use cyc_rows::rows::hexadecimal;
 use cyc_words::Writer;
 use std::alloc::Global;
 use std::process::Abort;

@@ -1,7 +1,8 @@
 //! Texts, and beside each the tokens or the fault that the language's text gives it, worked out by hand.
 
-use crate::rows::{decimal, expect, expect_text};
+use crate::expect::{expect, expect_text};
 use cyc_lex::lex;
+use cyc_rows::rows::decimal;
 use cyc_syntax::Token;
 use cyc_words::Fault;
 use std::alloc::Global;

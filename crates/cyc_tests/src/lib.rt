@@ -3,23 +3,15 @@
 #![tactic(auto)]
 
 #[cfg(test)]
-mod devices;
-#[cfg(test)]
 mod elf;
+#[cfg(test)]
+mod expect;
 #[cfg(test)]
 mod isa;
 #[cfg(test)]
 mod lex;
 #[cfg(test)]
-mod machine;
-#[cfg(test)]
 mod notes;
-#[cfg(test)]
-mod pool;
-#[cfg(test)]
-mod rows;
-#[cfg(test)]
-mod store;
 #[cfg(test)]
 mod surface;
 #[cfg(test)]

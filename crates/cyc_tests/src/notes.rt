@@ -1,8 +1,9 @@
 //! Images that carry limits, with the answers worked out by hand.
 
-use crate::rows::{bytes_of_words, decimal, expect, expect_text};
+use crate::expect::{expect, expect_text};
 use cyc_elf::{Image, Segment, read_image};
 use cyc_machine::Limits;
+use cyc_rows::rows::{bytes_of_words, decimal};
 use cyc_system::{compile, compile_with, note_of, run};
 use cyc_words::{Reader, Writer};
 use std::alloc::Global;

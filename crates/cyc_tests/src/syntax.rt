@@ -1,6 +1,6 @@
 //! Names.
 
-use crate::rows::expect;
+use crate::expect::expect;
 use cyc_syntax::Names;
 
 /// Whether a text gets the name of this number, and the name has this text.

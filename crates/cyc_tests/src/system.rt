@@ -1,8 +1,9 @@
 //! Whole texts with their answers, worked by hand, and devices that fail.
 
-use crate::devices::{EndsOnce, FailsOnce};
-use crate::rows::{bytes_of_words, expect, expect_text};
+use crate::expect::{expect, expect_text};
 use cyc_machine::Limits;
+use cyc_rows::devices::{EndsOnce, FailsOnce};
+use cyc_rows::rows::bytes_of_words;
 use cyc_system::{RunFault, accept, compile, disassemble, run};
 use cyc_words::{ByteIn, ByteOut, Reader, Writer};
 use std::alloc::Global;

@@ -1,11 +1,12 @@
 //! Which region outlives which, worked out by hand, and types that are far deeper than any that a text can have.
 
-use crate::rows::expect;
+use crate::expect::expect;
 use cyc_syntax::PointerKind;
 use cyc_types::{Kind, Outlives, Region, Ty};
+use smallvec::SmallVec;
 use std::alloc::Global;
 use std::process::Abort;
-use std::rc::{Rc, RcSlice};
+use std::rc::Rc;
 
 const A: Region = Region::Variable(0);
 
@@ -50,8 +51,11 @@ fn scopes_within_scopes(rt: HostRuntime) {
 
 /// A fat pointer to a fat pointer, and so on to a structure, 2000 deep.
 fn deep_type(alloc: Global) -> Option<Ty> {
-    let regions = RcSlice::from_slice(alloc, &[A, Region::Heap, C]).ok()?;
-    let mut ty = Ty::Struct { number: 3, regions };
+    let regions = SmallVec::from_slice(alloc, &[A, Region::Heap, C]).ok()?;
+    let mut ty = Ty::Struct {
+        number: 3,
+        regions: Rc::new(alloc, regions).ok()?,
+    };
     for number in 0..2000 {
         let target = Rc::new(alloc, ty).ok()?;
         ty = Ty::Pointer {

@@ -1,7 +1,8 @@
 //! Vectors of words, and devices that fail.
 
-use crate::devices::FailsOnce;
-use crate::rows::{expect, expect_number, hexadecimal};
+use crate::expect::{expect, expect_number};
+use cyc_rows::devices::FailsOnce;
+use cyc_rows::rows::hexadecimal;
 use cyc_words::{
     ByteIn, ByteOut, Code, Fault, Reader, Writer, add, bytes_of, div, mul, rem, sar, shl, shr, slt,
     sltu, sub, word_at,

@@ -1,5 +1,4 @@
 -- The view of the code's types: the same type, without where it lies in memory.
-use Rattle.std.specs.Rc.{rc_slice_items}
 use Rattle.cyc_types.specs.declared.ty.Ty.{Ty as TyCode}
 use Rattle.cyc_types.specs.declared.ty.Ty.TheVariants as ty
 use Rattle.cyc_types.specs.declared.typed.ValueType.{ValueType as ValueTypeCode}
@@ -11,7 +10,7 @@ view_ty ty.Int = Int
 view_ty (ty.Pointer' k b t r) = Pointer k (view_ty t) r
 view_ty (ty.Handle r) = Handle r
 view_ty (ty.Key r) = Key r
-view_ty (ty.Struct n rs) = Struct n (rc_slice_items rs)
+view_ty (ty.Struct n rs) = Struct n rs.value.items
 
 abbrev pub view_value_type : ValueTypeCode → ValueType
 view_value_type value_type.Void = Void

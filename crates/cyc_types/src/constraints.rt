@@ -5,6 +5,7 @@ ghost use Rattle.cyc_types.specs.Regions.{region_eq, is_region_among};
 ghost use Rattle.cyc_types.specs.Closure.{above, entry_leads, table_leads, written_in, IsClosed, has_entry};
 
 use crate::Region;
+use smallvec::SmallVec;
 use std::alloc::{AllocError, Global};
 
 /// A constraint as it is written, and all that its longer-lived region outlives by the constraints.
@@ -12,7 +13,7 @@ use std::alloc::{AllocError, Global};
 pub struct Constraint {
     pub longer: Region,
     pub shorter: Region,
-    pub outlived: Vec<Region>,
+    pub outlived: SmallVec<Region, 4>,
 }
 
 /// Whether the list has the region.
@@ -32,7 +33,7 @@ impl Constraint {
         Constraint {
             longer,
             shorter,
-            outlived: Vec::new(alloc),
+            outlived: SmallVec::new(alloc),
         }
     }
 
@@ -98,12 +99,12 @@ fn all_below(
     alloc: Global,
     constraints: &[Constraint],
     region: Region,
-) -> Result<Vec<Region>, AllocError>
+) -> Result<SmallVec<Region, 5>, AllocError>
     ensures { IfOk result (λ below. (b : Region) → is_region_among b below.items ≡ table_leads constraints.now region b) }
 {
     let mut below = match entry_of(constraints, region) {
-        Some(constraint) => Vec::from_slice(alloc, &constraint.outlived)?,
-        None => Vec::new(alloc),
+        Some(constraint) => SmallVec::from_slice(alloc, &constraint.outlived)?,
+        None => SmallVec::new(alloc),
     };
     below.push(region)?;
     Ok(below)

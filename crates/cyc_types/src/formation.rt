@@ -1,7 +1,6 @@
 //! The types that written types mean, by functions that always answer: what is left out has a default, and so has what is not known.
 //! What may be wrong with a written type is told apart from that.
 ghost use Rattle.std.specs.Prelude.{◌≡◌, ℕ, map, option_map, replicate, unwrap_or, IfOk, OnOk, List};
-ghost use Rattle.std.specs.Rc.{rc_slice_items};
 ghost use Rattle.cyc_syntax.specs.TreeView.{view_name, view_base, view_pointer, view_type};
 ghost use Rattle.cyc_types.specs.declared.region.Region.TheVariants.{Heap};
 ghost use Rattle.cyc_types.specs.Types as types;
@@ -13,8 +12,9 @@ use crate::names::RegionNames;
 use crate::structs::StructNames;
 use crate::{Region, Ty};
 use cyc_syntax::{BaseType, Ident, Pointer, WrittenType};
+use smallvec::SmallVec;
 use std::alloc::{AllocError, Global};
-use std::rc::{Rc, RcSlice};
+use std::rc::Rc;
 
 /// What the name of a region stands for: a name that is not known is taken for that of the heap.
 pub fn region_of(names: &RegionNames, name: Ident) -> Region
@@ -37,14 +37,14 @@ fn region_or(names: &RegionNames, left_out: Region, written: Option<Ident>) -> R
 }
 
 /// The heap as often as this.
-pub(crate) fn heaps(alloc: Global, count: usize) -> Result<RcSlice<Region>, AllocError>
-    ensures { IfOk result (λ rs. rc_slice_items rs ≡ replicate count Heap) }
+pub(crate) fn heaps(alloc: Global, count: usize) -> Result<Rc<SmallVec<Region, 4>>, AllocError>
+    ensures { IfOk result (λ rs. rs.value.items ≡ replicate count Heap) }
 {
-    let mut all = Vec::with_capacity(alloc, count)?;
+    let mut all = SmallVec::with_capacity(alloc, count)?;
     for _ in 0..count {
         all.push(Region::Heap)?;
     }
-    RcSlice::from_vec(all)
+    Ok(Rc::new(alloc, all)?)
 }
 
 /// The region arguments of a struct with this number of parameters. Where they are left out, they are the heap.
@@ -53,17 +53,17 @@ pub fn arguments_or(
     names: &RegionNames,
     count: usize,
     written: &[Ident],
-) -> Result<RcSlice<Region>, AllocError>
-    ensures { IfOk result (λ rs. rc_slice_items rs ≡ arguments_or names.now count (map view_name written.now)) }
+) -> Result<Rc<SmallVec<Region, 4>>, AllocError>
+    ensures { IfOk result (λ rs. rs.value.items ≡ arguments_or names.now count (map view_name written.now)) }
 {
     if written.is_empty() {
         return heaps(alloc, count);
     }
-    let mut all = Vec::with_capacity(alloc, written.len())?;
+    let mut all = SmallVec::with_capacity(alloc, written.len())?;
     for name in written {
         all.push(region_of(names, *name))?;
     }
-    RcSlice::from_vec(all)
+    Ok(Rc::new(alloc, all)?)
 }
 
 /// The type before the marks.

@@ -1,6 +1,5 @@
 //! The types of parameters: they declare the names of regions that stand in them, and what they leave out is a region of its own.
 ghost use Rattle.std.specs.Prelude.{◌≡◌, suc, map, option_map, IfOk, OnOk};
-ghost use Rattle.std.specs.Rc.{rc_slice_items};
 ghost use Rattle.cyc_syntax.specs.TreeView.{view_name, view_base, view_pointer, view_type, view_member};
 ghost use Rattle.cyc_types.specs.declared.region.Region.TheVariants.{Variable};
 ghost use Rattle.cyc_types.specs.Types as types;
@@ -13,8 +12,9 @@ use crate::names::RegionNames;
 use crate::structs::StructNames;
 use crate::{Region, Ty};
 use cyc_syntax::{BaseType, Ident, Member, Pointer, WrittenType};
+use smallvec::SmallVec;
 use std::alloc::{AllocError, Global};
-use std::rc::{Rc, RcSlice};
+use std::rc::Rc;
 
 /// The next region, which is a new one.
 fn next_region(next: &mut usize) -> Result<Region, AllocError>
@@ -64,18 +64,18 @@ fn arguments_for(
     next: &mut usize,
     count: usize,
     written: &[Ident],
-) -> Result<RcSlice<Region>, AllocError>
-    ensures arguments { IfOk result (λ rs. rc_slice_items rs ≡ arguments_for (naming names.old next.old) count (map view_name written.now)) }
+) -> Result<Rc<SmallVec<Region, 4>>, AllocError>
+    ensures arguments { IfOk result (λ rs. rs.value.items ≡ arguments_for (naming names.old next.old) count (map view_name written.now)) }
     ensures naming { OnOk result (naming names.new next.new ≡ after_regions (naming names.old next.old) (map view_name written.now)) }
 {
     if written.is_empty() {
         return heaps(alloc, count);
     }
-    let mut all = Vec::with_capacity(alloc, written.len())?;
+    let mut all = SmallVec::with_capacity(alloc, written.len())?;
     for name in written {
         all.push(region_for(names, next, *name)?)?;
     }
-    RcSlice::from_vec(all)
+    Ok(Rc::new(alloc, all)?)
 }
 
 /// The type before the marks.

@@ -6,6 +6,7 @@ ghost use Rattle.cyc_types.specs.TypeView.{view_ty};
 ghost use Rattle.cyc_types.specs.SignatureView.{substituted_pair};
 
 use crate::{Region, Ty};
+use smallvec::SmallVec;
 use std::alloc::{AllocError, Global};
 
 /// The type of a function with what it asks of its callers. Its region variables have the numbers from 1 on.
@@ -17,9 +18,9 @@ pub struct Signature {
     /// A `void` function has none.
     pub result: Option<Ty>,
     /// The regions that must be live where it is called.
-    pub effect: Vec<Region>,
+    pub effect: SmallVec<Region, 4>,
     /// Pairs of regions of which the first outlives the second.
-    pub constraints: Vec<(Region, Region)>,
+    pub constraints: SmallVec<(Region, Region), 4>,
 }
 
 impl Signature {
@@ -72,10 +73,10 @@ fn regions_substituted(
     alloc: Global,
     regions: &[Region],
     instance: &[Region],
-) -> Result<Vec<Region>, AllocError>
+) -> Result<SmallVec<Region, 4>, AllocError>
     ensures { IfOk result (λ all. all.items ≡ map (substituted_region instance.now) regions.now) }
 {
-    let mut all = Vec::with_capacity(alloc, regions.len())?;
+    let mut all = SmallVec::with_capacity(alloc, regions.len())?;
     for region in regions {
         all.push(region.substituted(instance))?;
     }
@@ -86,10 +87,10 @@ fn pairs_substituted(
     alloc: Global,
     pairs: &[(Region, Region)],
     instance: &[Region],
-) -> Result<Vec<(Region, Region)>, AllocError>
+) -> Result<SmallVec<(Region, Region), 4>, AllocError>
     ensures { IfOk result (λ all. all.items ≡ map (substituted_pair instance.now) pairs.now) }
 {
-    let mut all = Vec::with_capacity(alloc, pairs.len())?;
+    let mut all = SmallVec::with_capacity(alloc, pairs.len())?;
     for pair in pairs {
         all.push((pair.0.substituted(instance), pair.1.substituted(instance)))?;
     }

@@ -2,8 +2,9 @@
 
 use crate::Region;
 use cyc_syntax::PointerKind;
+use smallvec::SmallVec;
 use std::alloc::{AllocError, Global};
-use std::rc::{Rc, RcSlice};
+use std::rc::Rc;
 
 /// A type in which each region stands: a formed type of the subset, or a struct as the target of a pointer. What it is made of is
 /// shared by all that has the type, so that having it once more takes no memory.
@@ -26,7 +27,7 @@ pub enum Ty {
     /// The struct of this number with its region arguments, one for each of its region parameters.
     Struct {
         number: usize,
-        regions: RcSlice<Region>,
+        regions: Rc<SmallVec<Region, 4>>,
     },
 }
 
@@ -71,7 +72,7 @@ impl Ty {
                     number: other_number,
                     regions: other_regions,
                 },
-            ) => *number == *other_number && **regions == **other_regions,
+            ) => *number == *other_number && regions.as_slice() == other_regions.as_slice(),
             _ => false,
         }
     }
@@ -146,7 +147,6 @@ impl Ty {
 }
 
 ghost use Rattle.std.specs.Prelude.{◌≡◌, IfOk, map};
-ghost use Rattle.std.specs.Rc.{rc_slice_items};
 ghost use Rattle.cyc_types.specs.Regions.{substituted_region};
 
 /// Each region of a list substituted.
@@ -154,12 +154,12 @@ fn all_substituted(
     alloc: Global,
     regions: &[Region],
     replacements: &[Region],
-) -> Result<RcSlice<Region>, AllocError>
-    ensures { IfOk result (λ all. rc_slice_items all ≡ map (substituted_region replacements.now) regions.now) }
+) -> Result<Rc<SmallVec<Region, 4>>, AllocError>
+    ensures { IfOk result (λ all. all.value.items ≡ map (substituted_region replacements.now) regions.now) }
 {
-    let mut all = Vec::with_capacity(alloc, regions.len())?;
+    let mut all = SmallVec::with_capacity(alloc, regions.len())?;
     for region in regions {
         all.push(region.substituted(replacements))?;
     }
-    RcSlice::from_vec(all)
+    Ok(Rc::new(alloc, all)?)
 }

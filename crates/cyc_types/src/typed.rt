@@ -9,6 +9,7 @@
 use crate::{Region, Ty};
 use cyc_syntax::Name;
 use cyc_words::Span;
+use smallvec::SmallVec;
 
 /// What a cell holds, and so what a conversion converts from and to.
 #[derive(Clone, Copy)]
@@ -444,9 +445,9 @@ pub struct Function {
     /// How many regions its parameters name.
     pub variables: usize,
     /// The regions that must be live where it is called.
-    pub effect: Vec<Region>,
+    pub effect: SmallVec<Region, 4>,
     /// Pairs of regions of which the first outlives the second.
-    pub constraints: Vec<(Region, Region)>,
+    pub constraints: SmallVec<(Region, Region), 4>,
     /// The types of what the body declares.
     pub locals: Vec<Ty>,
     /// The number of its own region, in which its parameters and the body's own variables live.

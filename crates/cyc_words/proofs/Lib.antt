@@ -1,6 +1,7 @@
 -- what the laws and other crates cite
 pub mod WordLemmas
 pub mod BytesLemmas
+pub mod WordBytesLemmas
 pub mod PrefixLemmas
 pub mod EndingLemmas
 pub mod DeviceLemmas

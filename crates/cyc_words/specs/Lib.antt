@@ -1,6 +1,7 @@
 -- words of 32 bits, bytes, faults, and devices: what the contracts of this crate rest on
 pub mod Word
 pub mod Bytes
+pub mod WordBytes
 pub mod Fault
 pub mod Prefix
 pub mod Device

@@ -2,6 +2,7 @@
 
 ghost use Rattle.std.specs.Prelude.{◌≡◌};
 ghost use Rattle.cyc_words.specs.Bytes.{bytes_of_word, word_of_bytes};
+ghost use Rattle.cyc_words.specs.WordBytes.{byte_in, with_byte};
 
 /// The word of four bytes, the highest first.
 pub fn word_at(bytes: &[u8; 4]) -> u32
@@ -15,4 +16,30 @@ pub fn bytes_of(word: u32) -> [u8; 4]
     ensures { result ≡ bytes_of_word word }
 {
     word.to_be_bytes()
+}
+
+/// The byte of a word at a place. Place 0 has the highest byte, which stands at the lowest address, and each place from 3 on the
+/// lowest one.
+pub fn byte_in(word: u32, place: u32) -> u8
+    ensures { result ≡ byte_in word place }
+{
+    match place {
+        0 => (word / 0x100_0000) as u8,
+        1 => (word / 0x1_0000 % 0x100) as u8,
+        2 => (word / 0x100 % 0x100) as u8,
+        _ => (word % 0x100) as u8,
+    }
+}
+
+/// The word with this byte at a place, and its other bytes as they are.
+pub fn with_byte(word: u32, place: u32, byte: u8) -> u32
+    ensures { result ≡ with_byte word place byte }
+{
+    let byte = byte as u32;
+    match place {
+        0 => byte * 0x100_0000 + word % 0x100_0000,
+        1 => word / 0x100_0000 * 0x100_0000 + byte * 0x1_0000 + word % 0x1_0000,
+        2 => word / 0x1_0000 * 0x1_0000 + byte * 0x100 + word % 0x100,
+        _ => word / 0x100 * 0x100 + byte,
+    }
 }

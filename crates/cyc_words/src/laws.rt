@@ -1,10 +1,11 @@
 //! Laws of the definitions in `specs/`. Each function does nothing: its contract is the law, and so it is proved
 //! with the crate. The lemmas behind them stand in `proofs/` for other proofs to cite.
 
-ghost use Rattle.std.specs.Prelude.{◌≡◌, ◌≢◌, ℕ, ◌+◌, ◌-◌, ◌*◌, ◌/◌, ◌%◌, ◌^◌, ◌<◌, ◌≤◌, ◌⊎◌, ◌↔◌, ℤ, pos, ◌+ℤ◌, ◌-ℤ◌, ◌*ℤ◌, ◌<ℤ◌, List, length, All, FitsSigned, int_div, int_rem, bit_or};
+ghost use Rattle.std.specs.Prelude.{◌≡◌, ◌≢◌, ℕ, ◌+◌, ◌-◌, ◌*◌, ◌/◌, ◌%◌, ◌^◌, ◌<◌, ◌≤◌, ◌⊎◌, ◌↔◌, ℤ, pos, ◌+ℤ◌, ◌-ℤ◌, ◌*ℤ◌, ◌<ℤ◌, List, [], ◌∷◌, length, All, FitsSigned, int_div, int_rem, bit_or};
 ghost use Rattle.std.specs.Int.{w16, w32, bit_at};
 ghost use Rattle.cyc_words.specs.Word.{IsWord, IsHalf, signed, unsigned, signed_half, sign_extended, floor_div, add_of, sub_of, mul_of, shl_of, sar_of, div_of, rem_of};
 ghost use Rattle.cyc_words.specs.Bytes.{IsByte, bytes_of_word, word_of_bytes};
+ghost use Rattle.cyc_words.specs.WordBytes.{byte_in, with_byte};
 ghost use Rattle.cyc_words.specs.Prefix.{IsPrefix};
 ghost use Rattle.cyc_words.specs.Ending.{Ending, Alike};
 
@@ -49,6 +50,14 @@ pub fn word_parts()
 pub fn word_bytes()
     ensures word { (w : ℕ) → IsWord w → word_of_bytes (bytes_of_word w) ≡ w }
     ensures bytes { (bs : List ℕ) → length bs ≡ 4 → All IsByte bs → bytes_of_word (word_of_bytes bs) ≡ bs }
+{}
+
+/// The bytes of a word by place are those of its list. One that is put at a place is found there, and the other three stay.
+pub fn byte_places()
+    ensures listed { (w : ℕ) → bytes_of_word w ≡ byte_in w 0 ∷ byte_in w 1 ∷ byte_in w 2 ∷ byte_in w 3 ∷ [] }
+    ensures here { (w p b : ℕ) → IsByte b → byte_in (with_byte w p b) p ≡ b }
+    ensures there { (w p q b : ℕ) → p < 4 → q < 4 → q ≢ p → IsByte b → byte_in (with_byte w p b) q ≡ byte_in w q }
+    ensures word { (w p b : ℕ) → IsWord w → IsByte b → IsWord (with_byte w p b) }
 {}
 
 /// Being a prefix is an order.

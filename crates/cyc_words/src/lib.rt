@@ -12,7 +12,7 @@ mod span;
 mod writer;
 
 pub use arith::{add, div, mul, rem, sar, shl, shr, slt, sltu, sub};
-pub use bytes::{bytes_of, word_at};
+pub use bytes::{byte_in, bytes_of, with_byte, word_at};
 pub use device::{ByteIn, ByteOut, Failed};
 pub use fault::{Code, Fault};
 pub use reader::Reader;

@@ -19,3 +19,6 @@ returns c =
     let is : view_signature called ≡ instantiated (instance_of s (map value_in cs)) s = search rules in
     let kept : settled None (call_demanded g p es (map value_in cs) s (view_signature called)) ≡ None = search rules in
     subst (λ o. Gives view_boxed c.call_with.result o) (called_well g c.args.callee p es cs s called is kept) c.call_with.ensures
+
+pub returns-in_err-call_wanted : goal.returns-in_err-call_wanted
+returns-in_err-call_wanted c = ?

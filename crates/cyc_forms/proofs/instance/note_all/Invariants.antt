@@ -5,4 +5,4 @@ use Rattle.cyc_forms.proofs.instance.note_all.Given as goal
 
 abbrev pub invariant-loop-i : goal.invariant-loop-i
 invariant-loop-i l =
-    noted_places l.table.items (all_paired (drop l.i l.variables) (drop l.i l.regions)) ≡ noted_places l.fn.table.items (all_paired l.variables l.regions)
+    noted_places l.table (all_paired (drop l.i l.variables) (drop l.i l.regions)) ≡ noted_places l.fn.table (all_paired l.variables l.regions)

@@ -7,5 +7,5 @@ use Rattle.cyc_forms.proofs.instance.note_arguments.Given as goal
 
 abbrev pub invariant-loop-i : goal.invariant-loop-i
 invariant-loop-i l =
-    noted_places l.table.items (paired_arguments (map view_ty (drop l.i l.parameters)) (map value_in (drop l.i l.values)))
-    ≡ noted_places l.fn.table.items (paired_arguments (map view_ty l.parameters) (map value_in l.values))
+    noted_places l.table (paired_arguments (map view_ty (drop l.i l.parameters)) (map value_in (drop l.i l.values)))
+    ≡ noted_places l.fn.table (paired_arguments (map view_ty l.parameters) (map value_in l.values))

@@ -9,6 +9,7 @@ loop-count-preserved-in-Ran g c = record {
   progress = Progress-quiet _ _ _ _ _ _ _ _ c.loop-count.invariant.progress (only_ran _ _ _ _ c.go-stretch.result.event _ c.in-Ran.is c.go-stretch.ensures);
   reader = c.loop-count.invariant.reader;
   writer = c.loop-count.invariant.writer;
+  past_end = c.loop-count.invariant.past_end;
   few = omega (arith, stretch_few _ _ _ _ c.go-stretch.result.event _ c.go-stretch.ensures);
 }
 
@@ -30,8 +31,17 @@ loop-count-preserved g c = record {
   progress = Progress-stretch _ _ _ _ _ _ _ _ _ _ _ _ _ c.go-stretch.result.event c.loop-count.invariant.progress c.in_default.not-Ran c.in_default.not-NoMemory c.go-stretch.ensures (rw c.in_default-2.is at c.in_ok-end-in_default.ensures.turned);
   reader = c.in_ok-end-in_default.ensures.reader ∙ c.loop-count.invariant.reader;
   writer = c.in_ok-end-in_default.ensures.writer ∙ c.loop-count.invariant.writer;
+  past_end = λ goes_on.
+      let before = c.loop-count.invariant.past_end goes_on in
+      let behind = c.in_ok-end-in_default.ensures.past_end before.0 in
+      (behind.0, behind.1 ∙ before.1);
   few = omega (arith, stretch_few _ _ _ _ c.go-stretch.result.event _ c.go-stretch.ensures);
 }
 
 pub returns-clause-runs : goal.returns-clause-runs
 returns-clause-runs g c = spends g.S.Store.GROWS _ _ _ _ _ _ _ c.loop-count.invariant.progress (omega arith)
+
+pub returns-in-Some-clause-past_end : goal.returns-in-Some-clause-past_end
+returns-in-Some-clause-past_end g c = λ goes_on.
+    let before = c.loop-count.invariant.past_end goes_on in
+    (c.in_ok-end-in_default.ensures.past_end before.0).1 ∙ before.1

@@ -1,4 +1,4 @@
-use Rattle.std.proofs.Common.{◌≡◌, ◌-◌, ◌≤◌, []}
+use Rattle.std.proofs.Common.{◌≡◌, ◌-◌, ◌≤◌, [], false}
 use Rattle.cyc_machine.specs.Held.{state_of}
 use Rattle.cyc_system.proofs.Engines.{Progress}
 use Rattle.cyc_system.proofs.engine.drive.Given as goal
@@ -11,6 +11,8 @@ invariant-loop-count g l = record {
       l.count l.seen (state_of g.S.Store.held l.machine);
   reader : g.R.ByteIn.failed l.reader ≡ g.R.ByteIn.failed l.fn.reader;
   writer : g.W.ByteOut.failed l.writer ≡ g.W.ByteOut.failed l.fn.writer;
+  past_end : g.R.ByteIn.ended l.fn.reader ≡ false
+      → (l.seen ≡ false → g.R.ByteIn.ended l.reader ≡ false) × (g.R.ByteIn.asked_past_end l.reader ≡ g.R.ByteIn.asked_past_end l.fn.reader);
   few : l.count ≤ l.budget;
 }
 

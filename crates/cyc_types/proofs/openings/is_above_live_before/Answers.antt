@@ -32,7 +32,7 @@ returns-in-Some c =
     let whole : above_one_of (written_in c.args.constraints.now) rs c.args.a ≡ list_any test (c.args.a ∷ below) =
     above-among (written_in c.args.constraints.now) rs (c.args.a ∷ below) c.args.a
     (λ b. sym (c.requires.closed c.args.a b) ∙ c.in-Some.ensures.entry b ∙ ap (λ z. region_eq z b || is_region_among b below) c.in-Some.ensures.longer) in
-    c.is_one_live_before.ensures ∙ ap (list_any test) c.deref.ensures.value ∙ sym (ap (λ z. z || list_any test below) first) ∙ sym whole
+    c.is_one_live_before.ensures ∙ ap (list_any test) c.deref.ensures ∙ sym (ap (λ z. z || list_any test below) first) ∙ sym whole
 
 pub returns-in-None : goal.returns-in-None
 returns-in-None c =

@@ -1,14 +1,14 @@
-use Rattle.std.proofs.Common.{◌≡◌, ℕ, suc, List, [], map, Some, Ok, refl, sym, ap, ◌∙◌}
+use Rattle.std.proofs.Common.{◌≡◌, ℕ, suc, List, [], map, Option, option_map, Ok, refl, ap, subst, ◌∙◌}
 use Rattle.std.proofs.lemmas.Result.{err_from_is_err_and}
 use Rattle.cyc_syntax.specs.Symbols.{Symbol}
-use Rattle.cyc_syntax.specs.Trees.{NoPostfixes, NoOperations, NoExpressions}
-use Rattle.cyc_syntax.specs.TreeView.{place_of_span, view_expression, then_postfix, postfixes_of, operations_of, expressions_of}
+use Rattle.cyc_syntax.specs.Trees.{Postfixes, NoPostfixes, NoOperations, NoExpressions}
+use Rattle.cyc_syntax.specs.TreeView.{view_expression, then_postfix, postfixes_of, operations_of, expressions_of}
 use Rattle.cyc_parse.specs.Expressions.{nested, begins_expression, more_values, postfixes, operations}
-use Rattle.cyc_parse.specs.Steps.{operand, then_operation}
-use Rattle.cyc_parse.specs.Code.{view_terminal}
-use Rattle.cyc_parse.specs.Parsing.{more_items}
+use Rattle.cyc_parse.specs.Steps.{one_field, operand, then_operation}
+use Rattle.cyc_parse.specs.Code.{Gives}
+use Rattle.cyc_parse.specs.Parsing.{Outcome, more_items}
 use Rattle.cyc_parse.proofs.Loops.{goes_on, fails, fails_full, ends_as, is_full_as, onto-map, onto-expressions, onto-postfixes, onto-operations, more_items_steps, postfixes_steps, operations_steps, more_values_steps}
-use Rattle.cyc_parse.proofs.LoneOperands.{lone_number, lone_variable}
+use Rattle.cyc_parse.proofs.LoneOperands.{no_bracket}
 use Rattle.cyc_parse.proofs.cursor.Parser.+expression.Goals as goal
 
 pub parse_argument_list-returns-in_err-argument : goal.parse_argument_list-returns-in_err-argument
@@ -35,6 +35,11 @@ unfolding more_items
 parse_argument_list-returns t c =
     is_full_as view_expression _ [] (map view_expression) (onto-map view_expression) _ _ (more_items_steps c.args.room begins_expression (nested c.args.room).expression) c.loop.arguments.items 64 c.loop.counter c.loop.self c.end_arguments.new.self _ c.loop-test.false c.in_ok-end_arguments.ensures c.loop.invariant
 
+pub parse_postfix-returns-in_default : goal.parse_postfix-returns-in_default
+parse_postfix-returns-in_default t c =
+    subst (λ (o : Outcome (Option (Postfixes → Postfixes))). Gives (option_map then_postfix) c.parse_field_postfix.result o c.parse_field_postfix.new.self)
+    (ap (one_field (suc c.args.room)) c.in_default.ensures.left ∙ no_bracket c.args.room c.args.self.now c.in_default.ensures.seen) (c.parse_field_postfix.ensures c.args.room)
+
 pub parse_postfixes-returns-in_err-postfix : goal.parse_postfixes-returns-in_err-postfix
 parse_postfixes-returns-in_err-postfix t c =
     let p = err_from_is_err_and c.from_residual.result c.from_residual.ensures.1 in
@@ -58,16 +63,6 @@ pub parse_postfixes-returns : goal.parse_postfixes-returns
 unfolding postfixes
 parse_postfixes-returns t c =
     is_full_as then_postfix _ NoPostfixes postfixes_of onto-postfixes _ _ (postfixes_steps c.args.room (nested c.args.room)) c.loop.postfixes.items 64 c.loop.counter c.loop.self c.end_postfixes.new.self _ c.loop-test.false c.in_ok-end_postfixes.ensures c.loop.invariant
-
-pub parse_operand-returns-in_ok-span-in-Some-Number : goal.parse_operand-returns-in_ok-span-in-Some-Number
-parse_operand-returns-in_ok-span-in-Some-Number t c =
-    lone_number c.args.room c.args.below c.in-Some-Number.value c.args.self.now c.advance.new.self (place_of_span c.in_ok-span-in-Some-Number.span)
-    (sym c.in-Some-Number.ensures ∙ ap (λ t. Some (view_terminal t)) c.in-Some-Number.field-0-is) c.in_ok-span-in-Some-Number.ensures (sym c.is_continued-is_continued.ensures ∙ c.if-not-is_continued.true)
-
-pub parse_operand-returns-in_ok-span-in-Some-Identifier : goal.parse_operand-returns-in_ok-span-in-Some-Identifier
-parse_operand-returns-in_ok-span-in-Some-Identifier t c =
-    lone_variable c.args.room c.args.below c.in-Some-Identifier.name.number c.args.self.now c.advance-in-Some-Identifier.new.self (place_of_span c.in_ok-span-in-Some-Identifier.span)
-    (sym c.in-Some-Identifier.ensures ∙ ap (λ t. Some (view_terminal t)) c.in-Some-Identifier.field-0-is) c.in_ok-span-in-Some-Identifier.ensures (sym c.is_continued-is_continued.ensures ∙ c.if-not-is_continued-2.true)
 
 pub parse_operations-returns-in_err-operation : goal.parse_operations-returns-in_err-operation
 parse_operations-returns-in_err-operation t c =

@@ -1,6 +1,5 @@
-use Rattle.std.proofs.Common.{◌≡◌, ℕ, Bool, true, List, ap}
+use Rattle.std.proofs.Common.{◌≡◌, ℕ, Bool, true, List, ap, ◌∙◌}
 use Rattle.std.specs.Bool.{Decides}
-use Rattle.std.specs.Rc.{rc_slice_items}
 use Rattle.std.proofs.lemmas.Slice.Eq.{slice_eq-Decides}
 use Rattle.cyc_types.specs.declared.region.Region.{Region}
 use Rattle.cyc_types.specs.Types.{Ty, Struct}
@@ -15,9 +14,11 @@ structs_equal a b n m xs ys us vs r p q u v e d = (λ h. let k = d.0 h in cc, λ
 
 pub returns-then-number-other_number : goal.returns-then-number-other_number
 returns-then-number-other_number t c =
-    let x = c.deref-then-number-other_number.result.now in
-    let y = c.deref-then-number-other_number-2.result.now in
+    let x = c.as_slice.result.now in
+    let y = c.as_slice-then-number-other_number.result.now in
     structs_equal (view_ty c.args.self.now) (view_ty c.args.other.now) c.in-Struct-Struct.number c.in-Struct-Struct.other_number
-    (rc_slice_items c.in-Struct-Struct.regions) (rc_slice_items c.in-Struct-Struct.other_regions) x y c.eq-then-number-other_number.result
-    (ap view_ty c.in-Struct-Struct.is-0) (ap view_ty c.in-Struct-Struct.is-1) c.deref-then-number-other_number.ensures.value c.deref-then-number-other_number-2.ensures.value
+    c.in-Struct-Struct.regions.value.items c.in-Struct-Struct.other_regions.value.items x y c.eq-then-number-other_number.result
+    (ap view_ty c.in-Struct-Struct.is-0) (ap view_ty c.in-Struct-Struct.is-1)
+    (c.as_slice.ensures ∙ ap (λ v. v.items) c.deref-then-number-other_number.ensures)
+    (c.as_slice-then-number-other_number.ensures ∙ ap (λ v. v.items) c.deref-then-number-other_number-2.ensures)
     c.if-number-other_number.true (slice_eq-Decides derived-Decides x y c.eq-then-number-other_number.result c.eq-then-number-other_number.ensures)

@@ -1,6 +1,6 @@
 //! Pools of pages: which pages are taken and given back, and the largest pool, with words of every page written.
 
-use crate::rows::expect;
+use crate::expect::expect;
 use cyc_rawpages::{Chain, PageNo, Pool};
 use std::alloc::Global;
 use std::marker::Model;

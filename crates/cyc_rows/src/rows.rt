@@ -1,24 +1,7 @@
-//! Rows of tables: how their words are read, and what is expected of them. What reads a row answers nothing where the row
-//! has another form. Each assertion stands here once, since one with a message costs the check some seconds.
+//! Rows of tables: how their words are read. What reads a row answers nothing where the row has another form.
 
 use cyc_words::bytes_of;
 use std::alloc::Global;
-use std::process::Abort;
-
-/// Something holds of a row.
-pub fn expect<A: Abort>(rt: &A, holds: bool, row: &str) {
-    assert!(rt; holds, "{row}");
-}
-
-/// A number of a row is as wanted.
-pub fn expect_number<A: Abort>(rt: &A, got: u32, want: u32, row: &str) {
-    assert_eq!(rt; got, want, "{row}");
-}
-
-/// A text of a row is as wanted.
-pub fn expect_text<A: Abort>(rt: &A, got: &str, want: &str, row: &str) {
-    assert_eq!(rt; got, want, "{row}");
-}
 
 /// The number that decimal digits write.
 pub fn decimal(text: &str) -> Option<u32> {

@@ -1,8 +1,9 @@
 //! Both stores: worked calls with their answers, handles and addresses past their end, many calls beside plain lists, and pages
 //! that are given back.
 
-use crate::rows::{decimal, expect, expect_number, expect_text};
+use crate::expect::{expect, expect_number, expect_text};
 use cyc_pagestore::PageStore;
+use cyc_rows::rows::decimal;
 use cyc_store::{HEAP, No, PlainStore, STORE_BASE, Store, UNIQUE};
 use std::alloc::Global;
 use std::process::Abort;

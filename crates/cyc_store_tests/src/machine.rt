@@ -1,11 +1,10 @@
 //! Runs of small programs, with ends, counts and registers from outside: those of the longer programs were seen under
 //! `qemu-mips`, the others follow from the architecture manual.
 
-use crate::rows::{
-    decimal, expect, expect_number, expect_text, hexadecimal, put_numbers, put_words,
-};
+use crate::expect::{expect, expect_number, expect_text};
 use cyc_elf::read_image;
 use cyc_machine::{Event, Limits, LoadFault};
+use cyc_rows::rows::{decimal, hexadecimal, put_numbers, put_words};
 use cyc_store::PlainStore;
 use std::alloc::Global;
 use std::process::Abort;

@@ -1,0 +1,20 @@
+-- The bytes of a word by their places: the byte at the lowest address of a word, at place 0, is its highest one.
+use Rattle.std.specs.Prelude.{ℕ, zero, suc, ◌+◌, ◌*◌, ◌/◌, ◌%◌}
+
+-- the byte at a place
+abbrev pub byte_in : (word place : ℕ) → ℕ
+byte_in w zero = w / 16777216 % 256
+byte_in w (suc zero) = w / 65536 % 256
+byte_in w (suc (suc zero)) = w / 256 % 256
+byte_in w (suc (suc (suc n))) = w % 256
+
+-- the word with another byte at a place
+abbrev pub with_byte : (word place byte : ℕ) → ℕ
+with_byte w zero b = b * 16777216 + w % 16777216
+with_byte w (suc zero) b = w / 16777216 * 16777216 + b * 65536 + w % 65536
+with_byte w (suc (suc zero)) b = w / 65536 * 65536 + b * 256 + w % 256
+with_byte w (suc (suc (suc n))) b = w / 256 * 256 + b
+
+-- the address of the word that has the byte at an address
+abbrev pub word_of : (address : ℕ) → ℕ
+word_of x = 4 * (x / 4)
