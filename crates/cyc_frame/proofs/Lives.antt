@@ -117,7 +117,7 @@ module _ (masks : List ℕ) (slot j : ℕ) (has : HasBit masks slot j) where
 
   pub pass_bit : (program : Program) (i : Instruction) → passes program i slot ≡ true → bit_at (pass_mask masks program i) j ≡ 1
   pass_bit program (instructions.Call function arguments count result) is =
-      ranges_bit arguments count result (routine_at program function).results is
+      among_bit masks result (routine_at program function).results slot j is has
   pass_bit program i is = absurd (false≢true is)
 
   -- and that of what it writes has no bit of a slot that it does not write

@@ -98,8 +98,8 @@ bar_mask masks (instructions.Try first handler) = range_mask masks first RECORD_
 bar_mask masks (instructions.Leave first) = range_mask masks first RECORD_WORDS
 bar_mask masks instruction = 0
 
--- what it passes
+-- what it gets from another function
 abbrev pub pass_mask : List ℕ → Program → Instruction → ℕ
 pass_mask masks program (instructions.Call function arguments count result) =
-    bit_or (range_mask masks arguments count) (range_mask masks result (routine_at program function).results)
+    range_mask masks result (routine_at program function).results
 pass_mask masks program instruction = 0

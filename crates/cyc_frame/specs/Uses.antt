@@ -95,8 +95,8 @@ bars (instructions.Try first handler) slot = is_among first RECORD_WORDS slot
 bars (instructions.Leave first) slot = is_among first RECORD_WORDS slot
 bars instruction slot = false
 
--- it passes the slot's word to another function, or gets it from there
+-- it gets the slot's word from another function
 abbrev pub passes : Program → Instruction → (slot : ℕ) → Bool
 passes program (instructions.Call function arguments count result) slot =
-    is_among arguments count slot || is_among result (routine_at program function).results slot
+    is_among result (routine_at program function).results slot
 passes program instruction slot = false

@@ -15,16 +15,17 @@ enum Need {
     /// It has not been looked at.
     Unknown,
     Nothing,
-    /// It is wanted behind a call or in a clause, or passed.
+    /// It is wanted behind a call or in a clause, or returned by a call.
     Memory,
     /// It cannot have a register.
     NoRegister,
 }
 
-/// How often the code reads and writes slots, by a guess of how often each place is executed.
+/// How often the code reads, writes and passes slots, by a guess of how often each place is executed.
 #[derive(Drop)]
 struct Gains {
     reads: Vec<u64>,
+    passes: Vec<u64>,
     writes: Vec<u64>,
     calls: u64,
 }
@@ -232,6 +233,7 @@ fn gains_of(alloc: Global, function: &Function) -> Result<Gains, AllocError> {
     let weights = weights_of(alloc, &function.code)?;
     let mut reads = vec![in alloc; 0u64; function.slots]?;
     let mut writes = vec![in alloc; 0u64; function.slots]?;
+    let mut passes = vec![in alloc; 0u64; function.slots]?;
     let mut calls: u64 = 0;
     for index in 0..function.code.len() {
         let instruction = function.code[index];
@@ -251,12 +253,18 @@ fn gains_of(alloc: Global, function: &Function) -> Result<Gains, AllocError> {
                 add_range(&mut reads, source, count, weight);
                 add_range(&mut writes, destination, count, weight);
             }
+            Instruction::Call {
+                arguments,
+                count,
+                ..
+            } => add_range(&mut passes, arguments, count, weight),
             _ => {}
         }
         calls = calls.saturating_add(calls_in(instruction, weight));
     }
     Ok(Gains {
         reads,
+        passes,
         writes,
         calls,
     })
@@ -281,7 +289,10 @@ fn gain_at(gains: &Gains, needs: &[Need], slot: usize, both: usize) -> u64 {
                 0
             }
         }
-        _ => reads.saturating_add(weight_at(&gains.writes, slot)),
+        _ => {
+            let saved = reads.saturating_add(weight_at(&gains.writes, slot));
+            saved.saturating_sub(weight_at(&gains.passes, slot))
+        }
     }
 }
 

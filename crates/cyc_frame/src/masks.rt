@@ -173,20 +173,16 @@ pub(crate) fn bar_mask(masks: &[u32], instruction: Instruction) -> u32
     }
 }
 
-/// What it passes to another function, or gets from there.
+/// What it gets from another function.
 pub(crate) fn pass_mask(masks: &[u32], plain: &Plain, instruction: Instruction) -> u32
     ensures { result ≡ masks_of.pass_mask masks.now plain.now instruction }
 {
     match instruction {
         Instruction::Call {
             function,
-            arguments,
-            count,
             result,
-        } => {
-            range_mask(masks, arguments, count)
-                | range_mask(masks, result, results_of(plain, function))
-        }
+            ..
+        } => range_mask(masks, result, results_of(plain, function)),
         _ => 0,
     }
 }

@@ -46,7 +46,7 @@ use Rattle.cyc_select.specs.declared.plan.Test.TheVariants as tests
 use Rattle.cyc_select.specs.Plans.{unary_plan, binary_plan, test_of}
 use Rattle.cyc_select.specs.Labelled.{Labelled, IsFormed, IsFormedLine}
 use Rattle.cyc_select.specs.Numbers.{fits_signed, is_zero_word}
-use Rattle.cyc_select.specs.Selection.{value_register, is_kept, load_from, fetch_from, move_to, keep_code, give_to, give_code, load_words, reloads_from, reloads, opened_code, made_in, slot_offset, ordinary, result_registers, argument_code, service_number, answer_code, unwound_code, far_plan, address_code, near_half, at_address, copies, load_all, store_all, moves, all_moved, store_slot, pop_frame, load_upper, constant, or_immediate, is_tested, part_of, plan_count, small, syscall, add_immediate, minus, upper_of_global, at_global, word_code, load_code, load_count, operand_code, operand_register, operands_code, operation_code, outcome_code, operation_of, computed_code, plan_code, test_code, branch_line, quotient_code, loads_code, divided_code, divide_code, divide_count, ending_code, ending_count, operator_code, operator_count, body, behind, body_count, count_of, function_count, functions_count, function_line, instruction_line, code_lines, function_lines, start_lines, select_of, regions_code}
+use Rattle.cyc_select.specs.Selection.{value_register, is_kept, load_from, fetch_from, move_to, keep_code, give_to, give_code, load_words, reloads_from, reloads, opened_code, made_in, slot_offset, ordinary, result_registers, argument_code, service_number, answer_code, unwound_code, far_plan, address_code, near_half, at_address, copies, load_all, store_all, moves, all_moved, spill, spills, spills_count, calling_code, store_slot, pop_frame, load_upper, constant, or_immediate, is_tested, part_of, plan_count, small, syscall, add_immediate, minus, upper_of_global, at_global, word_code, load_code, load_count, operand_code, operand_register, operands_code, operation_code, outcome_code, operation_of, computed_code, plan_code, test_code, branch_line, quotient_code, loads_code, divided_code, divide_code, divide_count, ending_code, ending_count, operator_code, operator_count, body, behind, body_count, count_of, function_count, functions_count, function_line, instruction_line, code_lines, function_lines, start_lines, select_of, regions_code}
 use Rattle.cyc_select.proofs.Lines.{line_first}
 use Rattle.cyc_select.proofs.Plans.{AllOfTest, all_unary, all_binary, all_test}
 use Rattle.cyc_select.proofs.Counts.{operation_some, move_some, move_words_some, give_some, length_registers, answer_few, service_small}
@@ -227,6 +227,14 @@ module _ (program : Program) (well : IsWellFormed program) (words : HasWords pro
     stores_formed : (slot : ℕ) (sources : List ℕ) → slot + length sources ≤ slots → Formed (ordinary (store_all frame slot sources))
     stores_formed slot [] fits = tt
     stores_formed slot (source ∷ sources) fits = ((refl, slot_fits slot (omega (arith, fits))), stores_formed (suc slot) sources (omega (arith, fits)))
+
+    spills_formed : (slot count : ℕ) → slot + count ≤ slots → Formed (ordinary (spills frame slot count))
+    spills_formed slot zero fits = tt
+    spills_formed slot (suc count) fits = formed_append (spill frame slot) (spills frame (suc slot) count) (one (is_kept frame slot)) (spills_formed (suc slot) count (omega (arith, fits)))
+      where
+        one : (b : Bool) → Formed (ordinary (if b then [] else store_slot frame (made_in frame slot) slot ∷ []))
+        one true = tt
+        one false = ((refl, slot_fits slot (omega (arith, fits))), tt)
 
     copies_formed : (callee : Frame) (callee_slots : ℕ) → callee.words ≤ 256 → ((slot : ℕ) → slot < callee_slots → slot_word callee slot < callee.words)
         → (source slot count : ℕ) → source + count ≤ slots → slot + count ≤ callee_slots → Formed (ordinary (copies frame callee source slot count))
@@ -421,7 +429,10 @@ module _ (program : Program) (well : IsWellFormed program) (words : HasWords pro
         (test_formed test (all_test IsThere zero_there IsPlanThere (λ op l r outcome x y. (x, y, tt)) (λ op l half outcome small x. (x, zero_there, small)) comparison left right (a, fits) (b, also)))
         (branch_formed test (instruction_line program frames function target) (target_known function target below), tt)
     body_formed (plain.Call callee arguments count result) n in_range fits long =
-        let its = fit.each callee in_range.function_in_range in (
+        let its = fit.each callee in_range.function_in_range in
+        let spilled : ℕ = n + spills_count frame arguments count in
+        all_front (IsFormedLine (length (select_of program frames).lines)) (ordinary (spills frame arguments count)) (calling_code frame (frame_at frames callee) spilled (function_line program frames callee) arguments count)
+        (spills_formed arguments count in_range.arguments_in_range) (
           (omega (arith, long)),
           (
             (refl, (omega arith)),

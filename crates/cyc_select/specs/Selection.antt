@@ -435,6 +435,21 @@ operator_code frame here operator destination left right =
     then divide_code frame here (part_of operator) destination left right
     else ordinary (plan_code frame (binary_plan operator left right) destination)
 
+-- A slot that a register alone has comes into its word in memory, where it is passed.
+abbrev pub spill : Frame → (slot : ℕ) → List Instr
+spill frame slot = if is_kept frame slot then [] else store_slot frame (made_in frame slot) slot ∷ []
+
+abbrev pub spills : Frame → (slot count : ℕ) → List Instr
+spills frame slot zero = []
+spills frame slot (suc count) = spill frame slot ++ spills frame (suc slot) count
+
+abbrev pub spill_count : Frame → (slot : ℕ) → ℕ
+spill_count frame slot = if is_kept frame slot then 0 else 1
+
+abbrev pub spills_count : Frame → (slot count : ℕ) → ℕ
+spills_count frame slot zero = 0
+spills_count frame slot (suc count) = spill_count frame slot + spills_count frame (suc slot) count
+
 -- Arguments from the caller's slots to the first slots of the callee, whose frame is the current one already. Each comes
 -- by the register that the callee has it in.
 abbrev pub copies : (caller callee : Frame) → (source slot count : ℕ) → List Instr
@@ -503,7 +518,8 @@ body_count program frames function (plain.Binary operator destination left right
 body_count program frames function (plain.Jump target) = 1
 body_count program frames function (plain.Branch comparison left right target) =
     test_count (frame_at frames function) (test_of comparison left right) + 1
-body_count program frames function (plain.Call callee arguments count result) = 7 + 2 * count
+body_count program frames function (plain.Call callee arguments count result) =
+    spills_count (frame_at frames function) arguments count + 7 + 2 * count
 body_count program frames function (plain.Return value) =
     ending_count program function + (routine_at program function).results + 2
 body_count program frames function (plain.ReadByte destination) = 2 + give_count (frame_at frames function) destination
@@ -772,7 +788,8 @@ body program frames function here (plain.Jump target) =
 body program frames function here (plain.Branch comparison left right target) =
     branch_code (frame_at frames function) (test_of comparison left right) (instruction_line program frames function target)
 body program frames function here (plain.Call callee arguments count result) =
-    calling_code (frame_at frames function) (frame_at frames callee) here (function_line program frames callee) arguments count
+    ordinary (spills (frame_at frames function) arguments count)
+    ++ calling_code (frame_at frames function) (frame_at frames callee) (here + spills_count (frame_at frames function) arguments count) (function_line program frames callee) arguments count
 body program frames function here (plain.Return value) =
     returning_code (function == program.main) (frame_at frames function) here value (routine_at program function).results
 body program frames function here (plain.ReadByte destination) =

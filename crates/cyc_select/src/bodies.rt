@@ -6,6 +6,7 @@ ghost use Rattle.cyc_select.specs.Selection.{body, behind};
 ghost use Rattle.cyc_select.specs.Emission.{AddsLines, IsKnown, most_lines};
 
 use crate::code::Line;
+use crate::counting::spills_count;
 use crate::emitter::Emitter;
 use crate::operators::Parts;
 use crate::plan::{test_of, unary_plan};
@@ -69,7 +70,9 @@ impl Emitter {
             } => {
                 let callee = tables.frame(function);
                 let label = tables.start(function);
-                self.call(frame, callee, here, label, arguments, count)
+                let spilled = here + spills_count(frame, arguments, count);
+                self.spills(frame, arguments, count)?;
+                self.call(frame, callee, spilled, label, arguments, count)
             }
             Instruction::Return { value } => {
                 let results = tables.results(tables.function);
