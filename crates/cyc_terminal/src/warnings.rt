@@ -47,11 +47,20 @@ pub struct Warnings<'a> {
     pub tokens: &'a [Token],
 }
 
+/// So many warnings are said. The place of each is looked for from the beginning of the text, so that any number of them would take a
+/// time that grows with the square of the text.
+const MOST_WARNINGS: usize = 20;
+
 impl fmt::Display for Warnings<'_> {
     fn fmt<W: fmt::Write>(&self, f: &mut fmt::Formatter<W>) -> fmt::Result {
         let name = self.name.as_bytes();
+        let mut said = 0usize;
         for (n, token) in self.tokens.iter().enumerate() {
             if let Some(words) = warning(&self.tokens[n..]) {
+                if said >= MOST_WARNINGS {
+                    return write!(f, "{}: further warnings are not shown\n", Shown(name));
+                }
+                said = said.saturating_add(1);
                 let (line, column) = (token.span.line, token.span.column);
                 write!(f, "{}:{line}:{column}: warning: {words}\n", Shown(name))?;
                 write!(f, "{}", excerpt_at(self.text, line, column))?;
