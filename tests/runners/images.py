@@ -16,9 +16,9 @@ Each answer has to be one that the manual names, in its time, and no crash. Outp
 with just as many steps as the reference counts and with one less; and so each line of a listing. Where an answer hangs on what a store
 is free to choose, which the reference says, the output has to begin as the reference's does. A listing too long to be read is broken off.
 
-Each image is run over both stores too, by the program of `crates/cyc_runner` (`--runner`; of another `--program` than the one that is
-built, only where it is named): output, end and count are the same, or, where they hang on what a store is free to choose, both outputs
-begin as the reference's does.
+Each image, those of instructions apart, is run over both stores too, by the program of `crates/cyc_runner` (`--runner`; of another
+`--program` than the one that is built, only where it is named): output, end and count are the same, or, where they hang on what a store
+is free to choose, both outputs begin as the reference's does.
 
 The last line is `N passed, M failed`, of images.
 """

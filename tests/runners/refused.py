@@ -185,7 +185,7 @@ def main():
     options = parser.parse_args()
     program = suite.program_of(options, 16)
     if not os.access(options.runner, os.X_OK):
-        print(f"there is no program {options.runner}: `rt ci` builds it")
+        print(f"there is no program {options.runner}: `rt run` in its crate proves and builds it")
         suite.end(0, 16)
     with tempfile.TemporaryDirectory(prefix="cyclone-refused-") as folder:
         library = os.path.join(folder, "refuse.so")
