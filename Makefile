@@ -37,9 +37,11 @@ quick:
 
 cases: build
 	@cd crates/cyc_runner && rt run >/dev/null
+	@cd crates/cyc_tracer && rt run >/dev/null
 	@sh tests/tools.sh
 	@python3 tests/runners/run.py
 	@python3 tests/runners/run.py --whole
+	@python3 tests/runners/run.py tests/traced/traced.cases
 	@python3 tests/runners/codes.py
 	@python3 tests/runners/documents.py
 	@python3 tests/runners/examples.py

@@ -31,7 +31,7 @@ KINDS = {
 }
 # of each other kind, what it is, and for which numbers it is asked, each with its words
 TIMES = {
-    "run": ("a run of 220 million instructions", {1: "on a block of the heap", 2: "on a unique block"}),
+    "run": ("a run of 220 million instructions", {1: "on a block of the heap", 3: "on one on its second page", 2: "on a unique block"}),
     "close": ("a region closed", {1: "of 1 page", 60_000: "of 60,000 pages"}),
     "new": ("a store made", {1_024: "of 1,024 pages", 65_536: "of 65,536 pages"}),
 }

@@ -51,6 +51,7 @@ add "self tests" python3 tests/runners/self_test.py
 add "wrong bodies" python3 tests/runners/wrong.py
 add "command line" python3 tests/runners/run.py
 add "whole language" python3 tests/runners/run.py --whole
+add "traces" python3 tests/runners/run.py tests/traced/traced.cases
 add "codes" python3 tests/runners/codes.py
 add "documents" python3 tests/runners/documents.py
 add "examples" python3 tests/runners/examples.py

@@ -145,11 +145,12 @@ class Words:
         return [word_of(name, s if name in OF_REGISTERS + SHIFTS_BY else 0, t if name not in ("mfhi", "mflo") else 0, d, amount)]
 
     def access(self):
-        name = self.numbers.choice(["lw", "sw"])
+        name = self.numbers.choice(["lw", "sw", "lbu", "sb"])
         base = self.register() if self.numbers.random() < 0.1 else self.numbers.choice(self.BASES)
-        if name == "sw" and base == 18 and self.numbers.random() < 0.8:
+        if name in ("sw", "sb") and base == 18 and self.numbers.random() < 0.8:
             base = 16
-        offset = 4 * self.numbers.randint(0 if base == 18 else -16, 15) + self.numbers.choice([0] * 24 + [1, 2, 3])
+        odd = [0, 1, 2, 3] if name in ("lbu", "sb") else [0] * 24 + [1, 2, 3]
+        offset = 4 * self.numbers.randint(0 if base == 18 else -16, 15) + self.numbers.choice(odd)
         return [word_of(name, base, self.register(), i=offset)]
 
     def address(self):
@@ -189,7 +190,7 @@ class Words:
             [*constant(8, 1 << 31), word_of("addiu", 0, 9, i=-1), word_of("div", 8, 9)],
             [*constant(10, machine.TEXT), word_of("jalr", 10, d=10), NOP],
             [*constant(10, machine.STORE + 4 * self.numbers.randrange(2_048)), word_of("lw", 10, 8)],
-            [*constant(10, self.numbers.choice(FIELDS)), word_of(self.numbers.choice(["lw", "sw"]), 10, 8)],
+            [*constant(10, self.numbers.choice(FIELDS)), word_of(self.numbers.choice(["lw", "sw", "lbu", "sb"]), 10, 8)],
         ]
         return self.numbers.choice(words) if self.numbers.random() < 0.3 else [NOP]
 
@@ -261,12 +262,17 @@ class Calls:
         return words
 
     def use(self):
-        """Stores a word and prints what is loaded from there, which a block of one word has at its beginning alone."""
+        """Stores a word and prints what is loaded from there, which a block of one word has at its beginning alone; or so with a byte
+        of a word that was stored."""
         blocks = self.blocks + self.unique
         if not blocks:
             return self.make()
         base, offset = self.numbers.choice(blocks), 0 if self.happens(0.9) else self.numbers.choice([4, 8, 12, 1, 2, -4])
         value = self.numbers.choice([65, 66, 67, 300])
+        if self.happens(0.5):
+            byte, other = self.numbers.randrange(4), self.numbers.randrange(4)
+            begun = [*number_in(8, value), word_of("sw", base, 8, i=offset)] if self.happens(0.9) else number_in(8, value)
+            return [*begun, word_of("sb", base, 8, i=offset + byte), word_of("lbu", base, 4, i=offset + other), *service(2)]
         return [*number_in(8, value), word_of("sw", base, 8, i=offset), word_of("lw", base, 4, i=offset), *service(2)]
 
     def free(self):

@@ -150,10 +150,27 @@ def of_accesses(name):
     return body
 
 
+def of_bytes(name):
+    """Each byte of a word, from registers before and behind it, and what its other three are then."""
+    body = Body()
+    word = machine.DATA + DATA_BYTES - 64
+    for offset, value in itertools.product([0, 1, 2, 3, 0x7FFD, 0x7FFF, 0x8000, 0x8003, 0xFFFE, 0xFFFF], [*EDGES[::3], 0x80, 0x12345678]):
+        place = offset % 4
+        body.set(8, (word + place - (offset - 0x10000 if offset & 0x8000 else offset)) % machine.WORD)
+        body.set(9, value)
+        body.set(11, word)
+        body.set(13, 0x89ABCDEF)
+        body.add(word_of("sw", 11, 13), word_of("sb", 8, 9, i=offset), word_of("lbu", 8, 10, i=offset), word_of("lbu", 8, 0, i=offset))
+        body.add(word_of("lw", 11, 12), word_of("lbu", 11, 13, i=3 - place), word_of("lbu", 11, 11, i=place))
+        body.keep(0, 10, 11, 12, 13)
+    return body
+
+
 MAKERS = [
     (image_makers.OF_REGISTERS + image_makers.SHIFTS_BY, of_registers), (image_makers.WITH_NUMBERS, of_numbers), (["lui"], of_lui),
     (image_makers.SHIFTS, of_amounts), (["mult", "div"], of_products), (image_makers.BRANCHES, of_branches),
     (["j", "jal", "jr", "jalr"], of_jumps), (["lw", "sw"], of_accesses),
+    (["lbu", "sb"], of_bytes),
 ]
 
 
@@ -173,6 +190,8 @@ def of_all(numbers):
             body.add(word_of("ori", t, 9, i=1), word_of("andi", 9, 9, i=0x7FFF), word_of("div", s, 9))
         elif name in ("lw", "sw"):
             body.add(word_of(name, RESULTS, t, i=0x4000 + 4 * numbers.randrange(8)))
+        elif name in ("lbu", "sb"):
+            body.add(word_of(name, RESULTS, t, i=0x4000 + numbers.randrange(32)))
         elif make is of_branches:
             body.add(word_of(name, s, t if name in ("beq", "bne") else 0, i=2), word_of("addiu", s, d, i=7), word_of("addu", s, t, d))
         elif make is of_numbers or make is of_lui:

@@ -7,7 +7,7 @@ code; the same of the habits of C programmers with docs/habits.txt, and of the t
 The docstrings of crates/cyc_words/src/fault.rt, the messages and hints of crates/cyc_terminal/src/advice.rt and the
 table of codes in docs/LANGUAGE.md have to say what docs/codes.txt says. --write makes the table in docs/LANGUAGE.md of it, and
 tries nothing. The table in crates/cyc_terminal/src/habits.rt has to be that of docs/habits.txt, row by row. `cyclone --version`
-has to name the toolchain as `rt --version` does. The last line is `N passed, M failed`, of the four files, the version, the codes and
+has to name the toolchain's logic as `rt --version` does. The last line is `N passed, M failed`, of the four files, the version, the codes and
 the habits.
 """
 import os
@@ -219,8 +219,9 @@ def faults_of_code(code, program, folder):
 
 
 def faults_of_version(program):
-    """What the program says otherwise of the toolchain that proved and built it."""
-    wanted = subprocess.run(["rt", "--version"], check=True, capture_output=True, text=True).stdout.strip()
+    """What the program says otherwise of the logic of the toolchain that proved and built it. Kits with one logic prove the same."""
+    told = subprocess.run(["rt", "--version"], check=True, capture_output=True, text=True).stdout
+    wanted = re.search(r"logic \w+", told)[0]
     got = subprocess.run([program, "--version"], capture_output=True, text=True).stdout
     return [] if wanted in got.split("\n")[0] else [suite.difference("the toolchain", wanted, got)]
 

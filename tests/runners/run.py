@@ -1,10 +1,13 @@
 #!/usr/bin/env python3
 """Runs the built program on the cases in tests/cases and says which of them it fails.
 
-    python3 tests/runners/run.py [--program PATH] [--whole] [--quick] [FILE.cases ..]
+    python3 tests/runners/run.py [--program PATH] [--runner PATH] [--whole] [--quick] [FILE.cases ..]
 
 The last line is `N passed, M failed`. A case is a few lines; tests/README.md has the format. With --whole the cases are those of
 the whole language, in tests/whole. With --quick those with a file of more than 8,192 bytes, and those that are marked as slow, are left out, and it says how many.
+
+Each image that a case runs is run over both stores too, by the program of crates/cyc_runner (`--runner`; of another program than the
+default one only where it is named): they do the same.
 """
 import os
 import re
@@ -17,6 +20,10 @@ import suite
 
 CASES = os.path.join(suite.TESTS, "cases")
 WHOLE = os.path.join(suite.TESTS, "whole")
+RUNNER = os.path.join(suite.ROOT, "crates", "cyc_runner", "out", "cyc_runner")
+STORES = ("plain", "paged")
+# What a run is given where it has no such option, and the image carries no limits.
+LIMITS = {"--pages": "1024", "--calls": "4096", "--steps": str(2**64 - 1)}
 # The file that holds the text of a line `? LINE | TEXT`.
 TEXT_FILE = "text.cyc"
 # What is long for --quick, in bytes.
@@ -326,14 +333,42 @@ def faults_of_step(step, folder, program, act):
     return faults
 
 
-def faults_of(case, program, act=run_step):
-    """What a case does otherwise than expected, where `act` runs its steps."""
+def words_of_run(step):
+    """The pages, the calls, the steps and the file of a step that runs one, or None."""
+    if not step.is_program or step.words[:1] != ["run"] or step.closed or step.full or step.broken:
+        return None
+    files, limits, words = [], dict(LIMITS), iter(step.words[1:])
+    for word in words:
+        if word in limits:
+            limits[word] = next(words, "")
+        else:
+            files.append(word)
+    if len(files) != 1 or not all(limit.isdecimal() for limit in limits.values()):
+        return None
+    return [*limits.values(), files[0]]
+
+
+def faults_of_stores(step, folder, runner):
+    """What the two stores do otherwise than each other with the image that a step runs, in words."""
+    words = words_of_run(step)
+    if words is None or not os.path.isfile(os.path.join(folder, words[-1])):
+        return []
+    over = [subprocess.run([runner, store, *words], cwd=folder, input=step.input, capture_output=True, timeout=suite.SECONDS) for store in STORES]
+    answers = [(done.returncode, done.stdout, done.stderr) for done in over]
+    return [] if answers[0] == answers[1] else [suite.difference("plain and paged", *answers)]
+
+
+def faults_of(case, program, act=run_step, runner=None):
+    """What a case does otherwise than expected, where `act` runs its steps, and over both stores where there is a `runner`."""
     faults = []
     with tempfile.TemporaryDirectory(prefix="cyclone-case-") as folder:
         for action in case.actions:
             if isinstance(action, Step):
                 name = "> " if action.is_program else "$ "
-                for fault in faults_of_step(action, folder, program, act):
+                found = faults_of_step(action, folder, program, act)
+                if runner:
+                    found += faults_of_stores(action, folder, runner)
+                for fault in found:
                     faults.append(f"line {action.line}: {name}{shlex.join(action.words)}\n{fault}")
             else:
                 fault = action(folder)
@@ -348,6 +383,7 @@ def case_files(folder):
 
 def main():
     parser = suite.command_line(__doc__)
+    parser.add_argument("--runner", metavar="PATH")
     parser.add_argument("--whole", action="store_true")
     parser.add_argument("--quick", action="store_true", help=f"leave out slow cases, and those with a file of more than {LONG} bytes")
     parser.add_argument("files", nargs="*")
@@ -359,7 +395,12 @@ def main():
         print(f"left out, with long files or many steps: {len(cases) - len(short)}")
         cases = short
     program = suite.program_of(options, len(cases))
-    suite.try_each(cases, lambda case: f"{case.place}: {case.name}", lambda case: faults_of(case, program))
+    runner = options.runner or (RUNNER if options.program == parser.get_default("program") else None)
+    runner = runner and os.path.abspath(runner)
+    if runner and not os.access(runner, os.X_OK):
+        print(f"there is no program {runner}: `rt run` in its crate proves and builds it")
+        suite.end(0, len(cases))
+    suite.try_each(cases, lambda case: f"{case.place}: {case.name}", lambda case: faults_of(case, program, runner=runner))
 
 
 if __name__ == "__main__":

@@ -17,6 +17,7 @@ import sys
 import tempfile
 
 import suite  # first: it says where the references and the generators are
+import bodies
 import gate_table
 import images
 import in_trees
@@ -34,6 +35,7 @@ case "$1" in
 say) printf '%s' "$2"; echo said >&2; exit 3;;
 echo) cat 2>/dev/null || exit 8; echo done >&2;;
 make) printf '%s' "$3" > "$2"; echo done >&2;;
+run) cat; echo done >&2;;
 check) case "$(cat "$2")" in good*) echo done >&2;; *) echo 'fault 1 at 1:1' >&2; exit 2;; esac;;
 silent) exit 0;;
 *) echo 'first line' >&2; echo usage >&2; exit 9;;
@@ -109,6 +111,34 @@ closed in out err
 ends 0
 """
 
+# A stand-in for the program that runs an image over a store. Over both stores it does the same with each image but one.
+OVER_STORES = """#!/bin/sh
+cat
+test $# = 5 && case "$5" in differs*) echo "$1" >&2;; *) echo "$2 $3 $4" >&2;; esac
+"""
+
+# Only the last of these cases runs an image with which the stores do otherwise than each other.
+STORES = r"""
+== what is no run of an image by limits
+> say run
+out run
+ends 3 said
+> run
+ends 0 done
+> run absent.elf --steps
+ends 0 done
+== an image
+bytes same.elf x
+> run same.elf --steps 9 --pages 3
+in abc
+out abc
+ends 0 done
+== an image with which they do not
+bytes differs.elf x
+> run differs.elf
+ends 0 done
+"""
+
 # Each of these cases breaks one expectation.
 BAD = r"""
 == a wrong output
@@ -146,11 +176,11 @@ holds a y
 """
 
 
-def last_line_of_run(cases, folder):
+def last_line_of_run(cases, folder, *options):
     path = os.path.join(folder, "x.cases")
     with open(path, "w", encoding="utf-8") as file:
         file.write(cases)
-    words = [sys.executable, os.path.join(HERE, "run.py"), "--program", os.path.join(folder, "stand_in"), path]
+    words = [sys.executable, os.path.join(HERE, "run.py"), "--program", os.path.join(folder, "stand_in"), *options, path]
     done = subprocess.run(words, capture_output=True, text=True)
     return done.stdout.rstrip().split("\n")[-1], done.returncode, done.stdout + done.stderr
 
@@ -282,14 +312,136 @@ file: src/lib.rt
 old: self.parts() + 1
 new: self.parts()
 refused: Parted::more
+
+== half_is_a_fourth
+tests: half
+file: src/lib.rt
+old: {
+old:     part(n, 2)
+old: }
+new: {
+new:     part(n, 4)
+new: }
+refused: half
 """
 
-# The cases that are tried together, and whether each turns the body of its function alone: a constant is no body.
+# The cases that are tried together, and whether each turns the body of its function alone: a constant is no body, and lines that stay are
+# not turned.
 ROUNDS = [
     [("half_is_a_third", True), ("part_is_one_more", True), ("third_is_one_more", True), ("more_is_two_more", True)],
-    [("more_is_the_same", True)],
+    [("more_is_the_same", True), ("half_is_a_fourth", True)],
     [("third_is_a_fourth", False)],
 ]
+
+# The files of a crate of which others can call some functions, with a case and an excuse, and the public functions that have neither.
+PUBLIC = {
+    "lib.rt": """\
+mod inner;
+pub mod laws;
+
+pub use inner::{Kept, told};
+""",
+    "laws.rt": """\
+/// A law.
+pub fn law()
+    ensures { 0 ≡ 0 }
+{}
+""",
+    "inner.rt": """\
+pub struct Kept<T> {
+    count: u32,
+}
+
+impl<T> Kept<T> {
+    pub fn count(&self) -> u32
+        ensures { result ≡ self.now.count }
+    {
+        self.count
+    }
+
+    pub fn clear(&mut self)
+        ensures { self.new.count ≡ 0 }
+    {
+        self.count = 0;
+    }
+
+    /// A law of what is kept.
+    pub fn is_small(&self)
+        ensures { self.now.count < 2 ^ 32 }
+    {
+        let _count = self.count;
+    }
+
+    pub fn unpromised(&self) -> u32 {
+        self.count
+    }
+
+    fn own(&self) -> u32
+        ensures { result ≡ self.now.count }
+    {
+        self.count
+    }
+}
+
+impl<T> From<Fault<T>> for Kept<T> {
+    fn from(_fault: Fault<T>) -> Kept<T> {
+        Kept { count: 0 }
+    }
+}
+
+impl<T> Counted for Kept<T> {
+    fn counted(&self) -> u32 {
+        self.count
+    }
+}
+
+impl<T> fmt::Display for Kept<T> {
+    fn fmt(&self, f: &mut Formatter) -> Result {
+        f.write_str("kept")
+    }
+}
+
+pub struct Hidden {}
+
+impl Hidden {
+    pub fn count(&self) -> u32
+        ensures { result ≡ 0 }
+    {
+        0
+    }
+}
+
+pub fn told(n: u32) -> u32
+    ensures { result ≡ n }
+{
+    n
+}
+
+pub fn untold(n: u32) -> u32
+    ensures { result ≡ n }
+{
+    n
+}
+""",
+    "../../other/src/lib.rt": """\
+pub trait Counted {
+    fn counted(&self) -> u32
+        ensures { result ≡ 0 };
+}
+""",
+}
+CLEARED = """\
+# It has but one count.
+none: inner::Kept::count
+
+== clear_leaves_one
+tests: clear
+file: src/inner.rt
+old:         self.count = 0;
+new:         self.count = 1;
+refused: inner::Kept::clear
+"""
+LACKING = ["inner::KeptCounted::counted", "inner::KeptFromFault::from", "inner::told"]
 
 
 def are_rounds_right(folder):
@@ -308,6 +460,32 @@ def are_rounds_right(folder):
     if got != ROUNDS or alone != [1] * len(cases):
         print(suite.difference("rounds of cases", ROUNDS, got))
     return got == ROUNDS and alone == [1] * len(cases)
+
+
+def are_missing_found(folder):
+    """Whether the public functions of a crate that have no wrong body are told."""
+    crates, path = os.path.join(folder, "public"), os.path.join(folder, "high.cases")
+    texts = {os.path.join(crates, "high", "src", name): text for name, text in PUBLIC.items()}
+    for there, text in {**texts, path: CLEARED}.items():
+        os.makedirs(os.path.dirname(there), exist_ok=True)
+        with open(there, "w", encoding="utf-8") as file:
+            file.write(text)
+    got = wrong.missing_of("high", crates, bodies.traits_of(crates), wrong.cases_in(path), wrong.without_cases_in(path))
+    if got != LACKING:
+        print(suite.difference("functions without a wrong body", LACKING, got))
+    return got == LACKING
+
+
+# So many runs of the prover side by side, by processors and by free memory in GB.
+LANES = {(1, 16): 1, (2, 8): 2, (4, 7): 2, (4, 13): 4, (2, 1): 1}
+
+
+def are_lanes_right():
+    """Whether as many runs of the prover are side by side as processors and memory allow."""
+    got = {(processors, free): wrong.lanes_for(processors, free * 10 ** 9) for processors, free in LANES}
+    if got != LANES:
+        print(suite.difference("runs side by side", LANES, got))
+    return got == LANES
 
 
 # What the prover says of a wrong body of `a::f` in the crate `mid`, and of a definition of `low` for a law of `mid`: its status, the lines
@@ -365,10 +543,23 @@ def case_on(path):
     return case
 
 
+def are_groups_right(folder):
+    """Whether cases of one crate that change fewer crates go with those that change more, where these are the more."""
+    settings = wrong.Settings(folder, folder, {"low": [], "mid": ["low"]}, folder, folder)
+    own, below = "src/a.rt", "../low/specs/Rules.antt"
+    right = True
+    for paths, wanted in (([own, below, below], [3]), ([own, own, below], [2, 1]), ([own, below], [1, 1])):
+        got = sorted((len(it.cases) for it in wrong.groups_of([case_on(path) for path in paths], settings)), reverse=True)
+        if got != wanted:
+            print(suite.difference("groups of cases", wanted, got))
+            right = False
+    return right
+
+
 def is_judge_right():
     """Whether what the prover says of wrong bodies and definitions is judged as it should be."""
     right = True
-    body = wrong.Body("a::f", "a/f", "mid/src/a.rt", 1, 2, frozenset(), None, True)
+    body = bodies.Body("a::f", "a/f", "mid/src/a.rt", 1, 2, frozenset(), None, True)
     for path, turned, answers in (("src/a.rt", body, ANSWERS_TO_BODIES), ("../low/specs/Rules.antt", None, ANSWERS_TO_DEFINITIONS)):
         for status, said, wanted in answers:
             answer = wrong.Answer(status, "\n".join(said), "mid", "/crates")
@@ -468,13 +659,20 @@ def are_pairs_right(folder):
 
 
 def is_runner_right(folder):
-    program = os.path.join(folder, "stand_in")
-    with open(program, "w", encoding="utf-8") as file:
-        file.write(STAND_IN)
-    os.chmod(program, 0o755)
+    for name, text in (("stand_in", STAND_IN), ("over_stores", OVER_STORES)):
+        path = os.path.join(folder, name)
+        with open(path, "w", encoding="utf-8") as file:
+            file.write(text)
+        os.chmod(path, 0o755)
     is_right = True
-    for cases, wanted in ((GOOD, ("6 passed, 0 failed", 0)), (BAD, ("0 passed, 10 failed", 1))):
-        line, status, all_of_it = last_line_of_run(cases, folder)
+    over = ["--runner", os.path.join(folder, "over_stores")]
+    for cases, options, wanted in (
+        (GOOD, [], ("6 passed, 0 failed", 0)),
+        (BAD, [], ("0 passed, 10 failed", 1)),
+        (STORES, [], ("3 passed, 0 failed", 0)),
+        (STORES, over, ("2 passed, 1 failed", 1)),
+    ):
+        line, status, all_of_it = last_line_of_run(cases, folder, *options)
         if (line, status) != wanted:
             print(f"the runner said {line!r} with status {status} and should have said {wanted}:\n{all_of_it}")
             is_right = False
@@ -563,7 +761,8 @@ def main():
         with open(sys.argv[1], encoding="utf-8") as file:
             texts = json.load(file)
     with tempfile.TemporaryDirectory() as folder:
-        right = [is_runner_right(folder), is_judge_of_images_right(folder), is_table_right(), are_rounds_right(folder), is_judge_right(), are_promises_told()]
+        right = [is_runner_right(folder), is_judge_of_images_right(folder), is_table_right(), are_rounds_right(folder), are_missing_found(folder)]
+        right += [are_lanes_right(), are_groups_right(folder), is_judge_right(), are_promises_told()]
         right.append(are_pairs_right(folder))
     right += reference.with_room(lambda: [is_case_right(case) for case in cases] + [is_text_right(case) for case in texts])
     right += reference.with_room(lambda: [is_program_right(*one) for name in ("accepted", "refused") for one in in_trees.programs_in(name)])

@@ -26,14 +26,36 @@ import signal
 import subprocess
 import sys
 import tempfile
+import threading
 from concurrent.futures import FIRST_COMPLETED, ThreadPoolExecutor, wait
 
 import suite  # first: it says where the references and the generators are
 import in_trees
+from bodies import Bodies, traits_of
 
 CASES = os.path.join(suite.TESTS, "wrong")
 PARTS = ("src", "specs", "proofs")
-LANES = max(1, len(os.sched_getaffinity(0)) // 2)
+# What a run of the prover takes of memory, in bytes, with a third to spare.
+MEMORY = 3 * 10 ** 9
+
+
+def lanes_for(processors, free):
+    """So many runs of the prover side by side, each of which keeps one processor busy: as memory that is free holds, and one at least."""
+    return max(1, min(processors, free // MEMORY))
+
+
+def free_memory():
+    """The bytes of memory that are free, also by the limit of the group of processes that this one is in."""
+    with open("/proc/meminfo", encoding="utf-8") as file:
+        free = 1024 * next(int(line.split()[1]) for line in file if line.startswith("MemAvailable:"))
+    held = []
+    for name in ("memory.max", "memory.current"):
+        try:
+            with open(f"/sys/fs/cgroup/{name}", encoding="utf-8") as file:
+                held.append(int(file.read()))
+        except (OSError, ValueError):
+            return free
+    return min(free, held[0] - held[1])
 
 
 def stands_on(root):
@@ -71,6 +93,13 @@ class Edit:
         self.path = path
         self.old = []
         self.new = []
+
+    def core(self):
+        """How many of its first lines stay, and the lines that go and come behind them: its last lines may stay too. One goes at least."""
+        most = max(0, min(len(self.old), len(self.new)) - 1)
+        before = next((at for at in range(most) if self.old[at] != self.new[at]), most)
+        behind = next((at for at in range(most - before) if self.old[-1 - at] != self.new[-1 - at]), most - before)
+        return before, self.old[before:len(self.old) - behind], self.new[before:len(self.new) - behind]
 
 
 class Case:
@@ -129,9 +158,11 @@ def texts_with(cases, crates, left_out=()):
         old = "\n".join(edit.old)
         if texts[edit.path].count(old) != 1:
             raise ValueError(f"{edit.path} has {texts[edit.path].count(old)} times: {old}")
-        start = texts[edit.path].index(old)
-        if not any(first <= start and start + len(old) <= last for first, last, _ in outs[edit.path]):
-            places[edit.path].append((start, start + len(old), "\n".join(edit.new)))
+        before, gone, come = edit.core()
+        start = texts[edit.path].index(old) + sum(len(line) + 1 for line in edit.old[:before])
+        end = start + len("\n".join(gone))
+        if not any(first <= start and end <= last for first, last, _ in outs[edit.path]):
+            places[edit.path].append((start, end, "\n".join(come)))
     for path in texts:
         last = len(texts[path])
         for start, end, new in sorted([*outs[path], *places[path]], reverse=True):
@@ -150,13 +181,19 @@ def cases_in(path):
             line = line.rstrip("\n")
             if line.startswith("== "):
                 found.append(Case(crate, line[3:]))
-            elif line and not line.startswith("#"):
+            elif line and not line.startswith(("#", "none: ")):
                 word, _, text = line.partition(":")
                 found[-1].read(word, text[1:])
     for case in found:
         if not (case.edits and case.refused and case.tests):
             raise ValueError(f"{crate}, {case.name}: it changes nothing, or does not say what is refused or what it tests")
     return found
+
+
+def without_cases_in(path):
+    """The functions of which the file says above its cases that there is no wrong body: what each gives is the only value at hand."""
+    with open(path, encoding="utf-8") as file:
+        return {name for line in file if line.startswith("none: ") for name in line.split()[1:]}
 
 
 def all_cases():
@@ -189,120 +226,34 @@ def write_promises():
         file.write(TABLE.sub(lambda _: "\n".join(promises(all_cases())), text))
 
 
-# ---- functions, and which wrong bodies are tried together
+# ---- functions that have none
 
-HEAD = re.compile(r"( *)(?:pub(?:\(\w+\))? )?(?:(?:const|final|unsafe|ghost) )*fn (\w+)")
-OWNER = re.compile(r"(?:pub(?:\(\w+\))? |unsafe )*(?:trait (?P<trait>\w+)|impl (?:(?P<of>[\w:]+) for )?(?P<type>\w+))")
-TYPE = re.compile(r"(?:pub(?:\(\w+\))? )?(?:struct|enum|union) (\w+)")
-CYCLE = re.compile(r" *#\[cycle\((\w+)\)\]")
-
-# A function with a body: its path in the crate, the folder of its proof in `proofs`, its file, the numbers of the body's first line and of
-# the one behind it, the words in it, the number of the line that says which cycle of calls it is in, or None, and whether the path is
-# sure: that of a method of a trait with parameters may have them in it.
-Body = collections.namedtuple("Body", "function proof path first behind words cycle is_sure")
+# All that is called by others is called in the end by this program.
+PROGRAM = "cyclone"
 
 
-def opening(lines, head, indent):
-    """The line in which the body of a function opens: the last one of its head, or one of its own behind the clauses. None where it has
-    no body, or one with nothing in it."""
-    for at in range(head, len(lines)):
-        if at > head and HEAD.match(lines[at]) or lines[at].endswith("{}"):
-            return None
-        if lines[at].endswith("{") and re.match(indent + "[^ /]", lines[at]):
-            return at
-    return None
+def missing_of(crate, crates, traits, cases, excused):
+    """The public functions of a crate with a promise that no case turns, in order."""
+    bodies = Bodies(crates, crate, traits)
+    turned = bodies.turned_by_any(cases) | excused
+    return sorted(it.function for it in bodies.all if it.is_public and it.function not in turned)
 
 
-def without_parameters(text):
-    """A head without what stands in angle brackets."""
-    while "<" in text:
-        shorter = re.sub(r"<[^<>]*>", "", text.replace("->", ""))
-        if shorter == text:
-            break
-        text = shorter
-    return text
+def show_missing(chosen_crates):
+    """Prints the public functions of these crates, or of all below the program, that have no wrong body; answers how many there are."""
+    crates, count = os.path.join(suite.ROOT, "crates"), 0
+    traits = traits_of(crates)
+    for crate in chosen_crates or in_order(PROGRAM, stands_on(suite.ROOT)):
+        path = os.path.join(CASES, f"{crate}.cases")
+        is_there = os.path.exists(path)
+        found = missing_of(crate, crates, traits, cases_in(path) if is_there else [], without_cases_in(path) if is_there else set())
+        print("".join(f"{crate}::{it}\n" for it in found), end="")
+        count += len(found)
+    print(f"{count} public functions have no wrong body")
+    return count
 
 
-def steps_to(path):
-    """The path in the crate of a file's module, by the file's path from the folder of the crates."""
-    steps = path.removesuffix(".rt").split(os.sep)[2:]
-    return steps[:-1] if steps[-1] in ("lib", "main", "mod") else steps
-
-
-def types_in(path, text):
-    """The types of a file, each with the path of its module."""
-    return {it[1]: steps_to(path) for it in map(TYPE.match, text.split("\n")) if it}
-
-
-def bodies_in(path, text, types):
-    """The bodies of a file's functions. The file is laid out as `rt fmt` does. Methods stand where their type does, in one of these
-    modules."""
-    lines, found = text.split("\n"), []
-    types = types | types_in(path, text)
-    owner, is_sure, cycle = [], True, None
-    for at, line in enumerate(lines):
-        it = OWNER.match(without_parameters(line))
-        if it:
-            home = types.get(it["type"], steps_to(path))
-            owner = [*home, it["trait"] or it["type"] + (it["of"] or "").split("::")[-1]]
-            is_sure = "> for " not in line
-        cycle = at if CYCLE.match(line) else cycle
-        head = HEAD.match(line)
-        if not head:
-            continue
-        above = owner if head[1] else steps_to(path)
-        proof = os.path.join(*above, head[2] if cycle is None else f"+{CYCLE.match(lines[cycle])[1]}")
-        opens = opening(lines, at, head[1])
-        if opens is not None:
-            closes = lines.index(head[1] + "}", opens)
-            words = frozenset(re.findall(r"\w+", "\n".join(lines[opens + 1:closes])))
-            function = "::".join([*above, head[2]])
-            found.append(Body(function, proof, path, opens + 1, closes, words, cycle, is_sure or not head[1]))
-        cycle = None
-    return found
-
-
-class Bodies:
-    """The bodies of a crate's functions."""
-
-    def __init__(self, crates, crate):
-        self.crates = crates
-        texts = {}
-        for folder, _, names in os.walk(os.path.join(crates, crate, "src")):
-            for path in (os.path.join(folder, name) for name in names):
-                with open(path, encoding="utf-8") as file:
-                    texts[os.path.relpath(path, crates)] = file.read()
-        types = {name: steps for path, text in texts.items() for name, steps in types_in(path, text).items()}
-        self.all = [self.settled(body, crate) for path, text in texts.items() for body in bodies_in(path, text, types)]
-
-    def settled(self, body, crate):
-        """The body with the folder of its proof, which is named as a cycle's where the function calls itself. Where a function of the same
-        name is called, it is taken for that, unless there is a folder that says otherwise."""
-        above, name = os.path.split(body.proof)
-        own = os.path.join(above, f"+{name}")
-        there = [os.path.isdir(os.path.join(self.crates, crate, "proofs", it)) for it in (body.proof, own)]
-        return body._replace(proof=own) if there[1] or not there[0] and name in body.words else body
-
-    def beside(self, functions):
-        """All functions but these and those of their cycles, where their paths are sure."""
-        proofs = {it.proof for it in self.all if it.function in functions}
-        return [it for it in self.all if it.is_sure and it.proof not in proofs]
-
-    def turned_by(self, case):
-        """The function that must be refused, where a case changes its body and maybe its proof, and nothing else; or None."""
-        own = next((it for it in self.all if [it.function] == case.refused), None)
-        if not own:
-            return None
-        proof = os.path.join(case.crate, "proofs", own.proof, "")
-        around = {self.around(it) for it in case.edits if not it.path.startswith(proof)}
-        return own if around == {own} else None
-
-    def around(self, edit):
-        """The function whose body an edit changes, or None."""
-        with open(os.path.join(self.crates, edit.path), encoding="utf-8") as file:
-            first = file.read().partition("\n".join(edit.old))[0].count("\n")
-        is_in = lambda it: it.path == edit.path and it.first <= first and first + len(edit.old) <= it.behind
-        return next(filter(is_in, self.all), None)
+# ---- which wrong bodies are tried together
 
 
 def rounds_of(cases, bodies, is_alone):
@@ -434,20 +385,21 @@ def judged_of(case, function, turned, answer, between):
 # Where the prover and its libraries are, the crates, what each stands on, a folder with the libraries that are built of them, and one for
 # what is made here.
 Settings = collections.namedtuple("Settings", "kit crates graph built room")
-# The prover's processes, which end where the script is ended.
+# The prover's processes, which end where the script is ended, and whether that has been.
 RUNNING = set()
+IS_ENDED = threading.Event()
 
 
 class Group:
     """Cases of a crate that change files of the same other crates: these and those between are taken as they are written."""
 
-    def __init__(self, crate, others, settings):
+    def __init__(self, crate, others, cases, settings):
         self.crate = crate
+        self.cases = cases
         self.settings = settings
         self.order = in_order(crate, settings.graph)
         self.written = [it for it in self.order if it == crate or others & set(in_order(it, settings.graph))]
         self.bodies = Bodies(settings.crates, crate)
-        self.cases = []
         self.seed = None
 
     def library(self, crate):
@@ -513,6 +465,8 @@ class Group:
             how = {"stdin": subprocess.DEVNULL, "stdout": subprocess.PIPE, "stderr": subprocess.STDOUT, "text": True, "errors": "replace"}
             with subprocess.Popen(self.words(crates, kept, functions), cwd=os.path.join(crates, self.crate), **how) as process:
                 RUNNING.add(process)
+                if IS_ENDED.is_set():
+                    process.kill()
                 said = process.stdout.read()
                 _, status, used = os.wait4(process.pid, 0)
                 process.returncode = os.waitstatus_to_exitcode(status)
@@ -572,6 +526,7 @@ class Run:
             try:
                 self.work(pool, lanes)
             except BaseException:
+                IS_ENDED.set()
                 for process in list(RUNNING):
                     process.kill()
                 raise
@@ -642,14 +597,18 @@ def chosen(options):
 
 
 def groups_of(cases, settings):
-    """The groups of cases, those with most to prove first."""
-    found = {}
+    """The groups of cases, those with most to prove first. Cases that change fewer crates go with those that change more, where these are
+    the more: so what is proved as it stands is proved once."""
+    found = collections.defaultdict(list)
     for case in cases:
-        others, is_whole = frozenset(case.changed() - {case.crate}), any(map(is_file, case.refused))
-        if (case.crate, others, is_whole) not in found:
-            found[case.crate, others, is_whole] = Group(case.crate, others, settings)
-        found[case.crate, others, is_whole].cases.append(case)
-    return sorted(found.values(), key=lambda it: -it.size())
+        found[case.crate, frozenset(case.changed() - {case.crate}), any(map(is_file, case.refused))].append(case)
+    for key in sorted(found, key=lambda it: len(it[1])):
+        is_wider = lambda it: (it[0], it[2]) == (key[0], key[2]) and key[1] < it[1] and len(found[key]) < len(found[it])
+        wider = next(filter(is_wider, found), None)
+        if wider:
+            found[wider] += found.pop(key)
+    groups = [Group(crate, others, several, settings) for (crate, others, _), several in found.items()]
+    return sorted(groups, key=lambda it: -it.size())
 
 
 def main():
@@ -657,14 +616,17 @@ def main():
     parser.add_argument("crates", nargs="*", metavar="CRATE")
     parser.add_argument("--only", action="append", default=[], metavar="NAME", help="this case (repeatable)")
     parser.add_argument("--alone", action="store_true", help="each case by itself")
-    parser.add_argument("--lanes", type=int, default=LANES, help="so many runs of the prover side by side")
+    parser.add_argument("--lanes", type=int, help="so many runs of the prover side by side; else as processors and memory allow")
     built = os.path.join(suite.ROOT, "crates")
     parser.add_argument("--built", default=built, metavar="FOLDER", help="the crates whose libraries are taken")
     parser.add_argument("--write", action="store_true", help="makes the table in docs/GUARANTEES.md of the cases, and tries none")
+    parser.add_argument("--missing", action="store_true", help="lists the public functions that have no wrong body, and tries none")
     options = parser.parse_args()
     if options.write:
         write_promises()
         return 0
+    if options.missing:
+        return 1 if show_missing(options.crates) else 0
     cases = chosen(options)
     if cases is None:
         return 2
@@ -678,7 +640,7 @@ def main():
         for group in groups:
             for case in group.cases if group.missing() else []:
                 run.end(case, f"there is no library of {group.missing()[0]}: `rt ci {group.missing()[-1]}` makes those that are needed")
-        run.on(options.lanes)
+        run.on(options.lanes or lanes_for(len(os.sched_getaffinity(0)), free_memory()))
         for case in cases:
             missing = [it for it in case.lets if it not in refused]
             if missing:

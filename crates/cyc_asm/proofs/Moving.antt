@@ -1,14 +1,16 @@
 -- An instruction that moves into the slot of a branch or jump does there what it does before it, and does not change what this
 -- does: it leaves the registers that it does not set, and does not see those that it does not read.
-use Rattle.std.proofs.Common.{◌≡◌, ◌≢◌, ℕ, ◌+◌, ◌-◌, ◌^◌, Bool, true, false, not, ◌==◌, ◌||◌, ◌&&◌, List, [], ◌∷◌, length, Option, None, refl, sym, ap, subst, ◌∙◌}
+use Rattle.std.proofs.Common.{◌≡◌, ◌≢◌, ℕ, ◌+◌, ◌-◌, ◌%◌, ◌^◌, Bool, true, false, not, ◌==◌, ◌||◌, ◌&&◌, List, [], ◌∷◌, length, Option, None, refl, sym, ap, subst, ◌∙◌}
 use Rattle.std.specs.Prelude.{if◌then◌else◌, slice_index, slice_set}
 use Rattle.std.proofs.lemmas.Bool.{eq-eqb}
 use Rattle.std.proofs.lemmas.List.{get_or-set_other, set_comm}
+use Rattle.cyc_words.specs.WordBytes.{byte_in, with_byte, word_of}
 use Rattle.cyc_isa.specs.Effect.{immediate_result, load_upper_result, arithmetic_result, shift_result, high_result, low_result, memory_address, branch_taken, branch_zero_taken}
 use Rattle.cyc_isa.specs.Uses.{reads, names_result, writes}
+use Rattle.cyc_isa.specs.declared.operand.Register.{Register}
 use Rattle.cyc_isa.specs.declared.instr.Instr.{Instr}
 use Rattle.cyc_isa.specs.declared.instr.Instr.TheVariants.{Immediate, LoadUpper, Memory, Branch, BranchZero, Jump, Shift, ShiftVariable, JumpRegister, JumpRegisterLink, Exception, MoveFrom, MultiplyDivide, Arithmetic}
-use Rattle.cyc_isa.specs.declared.instr.MemoryOp.TheVariants.{LoadWord, StoreWord}
+use Rattle.cyc_isa.specs.declared.instr.MemoryOp.TheVariants.{LoadWord, StoreWord, LoadByte, StoreByte}
 use Rattle.cyc_isa.specs.declared.instr.MoveFromOp.TheVariants.{High, Low}
 use Rattle.cyc_isa.specs.declared.instr.MultiplyDivideOp.TheVariants.{Multiply, Divide}
 use Rattle.cyc_machine.specs.declared.constants.TheConstants.{RETURN_ADDRESS}
@@ -17,7 +19,7 @@ use Rattle.cyc_machine.specs.declared.event.Cause.TheVariants as causes
 use Rattle.cyc_machine.specs.declared.event.Event.TheVariants.{Ran}
 use Rattle.cyc_machine.specs.declared.phase.Phase.TheVariants as phases
 use Rattle.cyc_machine.specs.State as machines
-use Rattle.cyc_machine.specs.State.{Core, register, with_register, place_of, is_dead, loaded, stored}
+use Rattle.cyc_machine.specs.State.{Core, Place, register, with_register, place_of, is_dead, loaded, stored}
 use Rattle.cyc_machine.specs.Step.{Does, after, performs, cause_of, first_of, is_aligned, is_nowhere, is_text}
 use Rattle.cyc_machine.specs.Run.{told}
 use Rattle.cyc_machine.proofs.MemoryLaws.{length-stack-stored}
@@ -97,6 +99,8 @@ after_runs c (Immediate op t b h) movable = refl
 after_runs c (LoadUpper t h) movable = refl
 after_runs c (Memory LoadWord t b h) movable = refl
 after_runs c (Memory StoreWord t b h) movable = refl
+after_runs c (Memory LoadByte t b h) movable = refl
+after_runs c (Memory StoreByte t b h) movable = refl
 after_runs c (Branch op l r h) movable = cc
 after_runs c (BranchZero op b h) movable = cc
 after_runs c (Jump op x) movable = cc
@@ -117,6 +121,11 @@ same_stack c (LoadUpper t h) movable = refl
 same_stack c (Memory LoadWord t b h) movable = refl
 same_stack c (Memory StoreWord t b h) movable =
     length-stack-stored (memory_of c) (place_of (memory_of c) (memory_address (word_in c b.number) h)) (word_in c t.number)
+same_stack c (Memory LoadByte t b h) movable = refl
+same_stack c (Memory StoreByte t b h) movable =
+    let address : ℕ = memory_address (word_in c b.number) h in
+    let place : Place = place_of (memory_of c) (word_of address) in
+    length-stack-stored (memory_of c) place (with_byte (loaded (memory_of c) place) (address % 4) (word_in c t.number % 256))
 same_stack c (Branch op l r h) movable = cc
 same_stack c (BranchZero op b h) movable = cc
 same_stack c (Jump op x) movable = cc
@@ -163,6 +172,8 @@ sets-stays c (Immediate op t b h) n movable none = register-other (core_of c) t.
 sets-stays c (LoadUpper t h) n movable none = register-other (core_of c) t.number _ n (apart t.number n none)
 sets-stays c (Memory LoadWord t b h) n movable none = register-other (core_of c) t.number _ n (apart t.number n none)
 sets-stays c (Memory StoreWord t b h) n movable none = refl
+sets-stays c (Memory LoadByte t b h) n movable none = register-other (core_of c) t.number _ n (apart t.number n none)
+sets-stays c (Memory StoreByte t b h) n movable none = refl
 sets-stays c (Branch op l r h) n movable none = cc
 sets-stays c (BranchZero op b h) n movable none = cc
 sets-stays c (Jump op x) n movable none = cc
@@ -198,6 +209,15 @@ holds_stays c i (conditions.Sign op source) movable free =
 unread : (c : Configuration) (number word other : ℕ) → (other == number) ≡ false → word_in (with_word c number word) other ≡ word_in c other
 unread c number word other none = register-other (core_of c) number word other (λ same. apart other number none (sym same))
 
+-- memory is left the same where neither register of a store is the one that is set
+store_commutes : (c : Configuration) (t b : Register) (n w : ℕ) (left : (base word : ℕ) → machines.Memory) → (t.number == n || b.number == n) ≡ false
+    → (let m : machines.Memory = left (word_in (with_word c n w) b.number) (word_in (with_word c n w) t.number) in let d : Configuration = record (with_word c n w) { globals = m.globals; stack = m.stack; store = m.store; line = c.line + 1 } in d)
+    ≡ (let m : machines.Memory = left (word_in c b.number) (word_in c t.number) in let d : Configuration = record (with_word c n w) { globals = m.globals; stack = m.stack; store = m.store; line = c.line + 1 } in d)
+store_commutes c t b n w left free =
+    ap (λ (m : machines.Memory). let d : Configuration = record (with_word c n w) { globals = m.globals; stack = m.stack; store = m.store; line = c.line + 1 } in d)
+    (ap (λ (x : ℕ). left x (word_in (with_word c n w) t.number)) (unread c n w b.number (or_right (t.number == n) (b.number == n) free))
+    ∙ ap (left (word_in c b.number)) (unread c n w t.number (or_left (t.number == n) (b.number == n) free)))
+
 -- a register set before it that it neither reads nor sets could as well be set behind it: so a call may link first
 pub commutes : (c : Configuration) (i : Instr) (n w : ℕ) → is_movable i ≡ true → reads i n ≡ false → names_result i n ≡ false → did (with_word c n w) i ≡ with_word (did c i) n w
 commutes c (Immediate op t b h) n w movable free none =
@@ -210,9 +230,14 @@ commutes c (Memory LoadWord t b h) n w movable free none =
     ap (λ (rs : List ℕ). record (did c (Memory LoadWord t b h)) { registers = rs })
     (both_set (core_of c) t.number n w _ _ (ap (λ (x : ℕ). loaded (memory_of c) (place_of (memory_of c) (memory_address x h))) (unread c n w b.number free)) (apart t.number n none))
 commutes c (Memory StoreWord t b h) n w movable free none =
-    ap (λ (m : machines.Memory). record (with_word c n w) { globals = m.globals; stack = m.stack; store = m.store; line = c.line + 1 })
-    (ap (λ (x : ℕ). stored (memory_of c) (place_of (memory_of c) (memory_address x h)) (word_in (with_word c n w) t.number)) (unread c n w b.number (or_right (t.number == n) (b.number == n) free))
-    ∙ ap (stored (memory_of c) (place_of (memory_of c) (memory_address (word_in c b.number) h))) (unread c n w t.number (or_left (t.number == n) (b.number == n) free)))
+    store_commutes c t b n w (λ base word. stored (memory_of c) (place_of (memory_of c) (memory_address base h)) word) free
+commutes c (Memory LoadByte t b h) n w movable free none =
+    ap (λ (rs : List ℕ). record (did c (Memory LoadByte t b h)) { registers = rs })
+    (both_set (core_of c) t.number n w _ _
+    (ap (λ (x : ℕ). byte_in (loaded (memory_of c) (place_of (memory_of c) (word_of (memory_address x h)))) (memory_address x h % 4)) (unread c n w b.number free)) (apart t.number n none))
+commutes c (Memory StoreByte t b h) n w movable free none =
+    store_commutes c t b n w
+    (λ base word. let place : Place = place_of (memory_of c) (word_of (memory_address base h)) in stored (memory_of c) place (with_byte (loaded (memory_of c) place) (memory_address base h % 4) (word % 256))) free
 commutes c (Branch op l r h) n w movable free none = cc
 commutes c (BranchZero op b h) n w movable free none = cc
 commutes c (Jump op x) n w movable free none = cc
@@ -270,6 +295,9 @@ pub same_refusal : (c : Configuration) (i : Instr) (n w : ℕ) → is_movable i 
 same_refusal c (Memory LoadWord t b h) n w movable free = ap (λ (x : ℕ). memory_cause c false (memory_address x h)) (unread c n w b.number free)
 same_refusal c (Memory StoreWord t b h) n w movable free =
     ap (λ (x : ℕ). memory_cause c true (memory_address x h)) (unread c n w b.number (or_right (t.number == n) (b.number == n) free))
+same_refusal c (Memory LoadByte t b h) n w movable free = ap (λ (x : ℕ). memory_cause c false (word_of (memory_address x h))) (unread c n w b.number free)
+same_refusal c (Memory StoreByte t b h) n w movable free =
+    ap (λ (x : ℕ). memory_cause c true (word_of (memory_address x h))) (unread c n w b.number (or_right (t.number == n) (b.number == n) free))
 same_refusal c (MultiplyDivide Divide l r) n w movable free =
     ap (λ (y : ℕ). division_cause (word_in (with_word c n w) l.number) y) (unread c n w r.number (or_right (l.number == n) (r.number == n) free))
     ∙ ap (λ (x : ℕ). division_cause x (word_in c r.number)) (unread c n w l.number (or_left (l.number == n) (r.number == n) free))

@@ -1,13 +1,15 @@
 -- An ordinary instruction does the same in the labelled machine and in the machine with text.
-use Rattle.std.proofs.Common.{◌≡◌, ℕ, ◌+◌, ◌*◌, ◌≤◌, List, [], ◌∷◌, length, Bool, true, false, ◌||◌, cond, nat_le, Option, None, Some, refl, sym, ap, ◌∙◌, arith, inl, inr}
-use Rattle.std.specs.Prelude.{◌⊎◌, is_some, slice_index_or}
+use Rattle.std.proofs.Common.{◌≡◌, ℕ, ◌+◌, ◌*◌, ◌%◌, ◌≤◌, List, [], ◌∷◌, length, Bool, true, false, ◌||◌, cond, nat_le, Option, None, Some, refl, sym, ap, ◌∙◌, arith, inl, inr}
+use Rattle.std.specs.Prelude.{◌⊎◌, not, is_some, slice_index_or, if◌then◌else◌}
 use Rattle.std.proofs.lemmas.Bool.{or_cases}
 use Rattle.cyc_words.specs.Word.{add_of}
+use Rattle.cyc_words.specs.WordBytes.{byte_in, with_byte}
+use Rattle.cyc_isa.specs.Effect.{place_address}
 use Rattle.cyc_isa.specs.declared.operand.Register.{Register}
 use Rattle.cyc_isa.specs.declared.instr.Instr.{Instr}
 use Rattle.cyc_isa.specs.declared.instr.Instr.TheVariants.{Immediate, LoadUpper, Memory, Branch, BranchZero, Jump, Shift, ShiftVariable, JumpRegister, JumpRegisterLink, Exception, MoveFrom, MultiplyDivide, Arithmetic}
 use Rattle.cyc_isa.specs.declared.instr.MemoryOp.{MemoryOp}
-use Rattle.cyc_isa.specs.declared.instr.MemoryOp.TheVariants.{LoadWord, StoreWord}
+use Rattle.cyc_isa.specs.declared.instr.MemoryOp.TheVariants.{LoadWord, StoreWord, LoadByte, StoreByte}
 use Rattle.cyc_isa.specs.declared.instr.ExceptionOp.TheVariants.{Syscall, Break}
 use Rattle.cyc_isa.specs.declared.instr.MoveFromOp.TheVariants.{High, Low}
 use Rattle.cyc_isa.specs.declared.instr.MultiplyDivideOp.TheVariants.{Multiply, Divide}
@@ -20,8 +22,8 @@ use Rattle.cyc_machine.specs.declared.event.Event.{Event}
 use Rattle.cyc_machine.specs.declared.event.Event.TheVariants.{Ran, WantsByte, Puts, Ended}
 use Rattle.cyc_machine.specs.declared.phase.Phase.TheVariants as phases
 use Rattle.cyc_machine.specs.State as machines
-use Rattle.cyc_machine.specs.State.{text_base, text_end, data_base, stack_base, store_base, words_per_page, text_at, place_of, is_within, Place, InText, InGlobals, InStack, InStore, Nowhere, is_dead, word_number, register, with_register, advanced, loaded, stored}
-use Rattle.cyc_machine.specs.Step.{Action, Does, Acts, Service, GetByte, PutByte, EndReturned, EndUncaught, Asks, EndFull, refused_by, told_by, answered, with_store, cause_of, first_of, after, performs, calls, asked, address_of, is_nowhere, is_text, is_misaligned}
+use Rattle.cyc_machine.specs.State.{text_base, text_end, data_base, stack_base, store_base, words_per_page, text_at, place_of, is_within, Place, InText, InGlobals, InStack, InStore, Nowhere, is_dead, word_number, register}
+use Rattle.cyc_machine.specs.Step.{Action, Does, Acts, Service, GetByte, PutByte, EndReturned, EndUncaught, Asks, EndFull, refused_by, told_by, answered, with_store, cause_of, first_of, loads, stores, after, performs, calls, asked, address_of, is_aligned, is_nowhere, is_text}
 use Rattle.cyc_machine.specs.Run.{World, told}
 use Rattle.cyc_select.specs.Labelled.{is_ordinary}
 use Rattle.cyc_select.specs.Machine.{Configuration, machine_of, memory_of, world_of, from_world}
@@ -29,13 +31,6 @@ use Rattle.cyc_asm.specs.Text.{text_of}
 use Rattle.cyc_asm.proofs.Fetching.{world_at, no_text}
 
 -- ---- loads and stores
-
--- what a load and a store leave, from their place
-abbrev loads : machines.State → Register → Place → machines.State
-loads s target place = record s { core = advanced (with_register s.core target.number (loaded s.memory place)) }
-
-abbrev stores : machines.State → Register → Place → machines.State
-stores s target place = record s { core = advanced s.core; memory = stored s.memory place (register s.core target.number) }
 
 module _ (words : List ℕ) (inside : text_base + 4 * length words ≤ text_end) (c : Configuration) (small : length c.stack ≤ 1048576) where
   -- the memory with the text
@@ -100,22 +95,14 @@ module _ (words : List ℕ) (inside : text_base + 4 * length words ≤ text_end)
 
   -- ---- refusals
 
-  abbrev cause_at : machines.Memory → MemoryOp → (target base : Register) → (offset : ℕ) → Place → Option Cause
-  cause_at memory LoadWord target base offset place = first_of (
+  -- why a load or a store may be refused, from its place
+  abbrev cause_for : machines.Memory → (misaligned stores : Bool) → Place → Option Cause
+  cause_for memory misaligned stores place = first_of (
       (false, causes.Unpredictable)
-      ∷ (is_misaligned (machine_of c).core (Memory LoadWord target base offset), causes.Misaligned)
+      ∷ (misaligned, causes.Misaligned)
       ∷ (is_nowhere place, causes.NoSuchAddress)
       ∷ (is_dead memory place, causes.DeadCell)
-      ∷ (false, causes.WriteToText)
-      ∷ (false, causes.Break)
-      ∷ (false, causes.BadService)
-      ∷ [])
-  cause_at memory StoreWord target base offset place = first_of (
-      (false, causes.Unpredictable)
-      ∷ (is_misaligned (machine_of c).core (Memory StoreWord target base offset), causes.Misaligned)
-      ∷ (is_nowhere place, causes.NoSuchAddress)
-      ∷ (is_dead memory place, causes.DeadCell)
-      ∷ (is_text place, causes.WriteToText)
+      ∷ ((if stores then is_text place else false), causes.WriteToText)
       ∷ (false, causes.Break)
       ∷ (false, causes.BadService)
       ∷ [])
@@ -125,30 +112,35 @@ module _ (words : List ℕ) (inside : text_base + 4 * length words ≤ text_end)
   third false true rules none = cc
   third false false rules none = refl
 
-  -- where a load or store goes
+  -- where a load or a store goes
   abbrev address : Register → ℕ → ℕ
   address base offset = address_of (machine_of c).core base.number offset
 
-  there : (op : MemoryOp) (target base : Register) (offset : ℕ) → cause_of (machine_of c) (Memory op target base offset) ≡ None → Known (address base offset)
-  there LoadWord target base offset none =
-      known (address base offset) (third _ _ ((is_dead (memory_of c) (place_of (memory_of c) (address base offset)), causes.DeadCell) ∷ (false, causes.WriteToText) ∷ (false, causes.Break) ∷ (false, causes.BadService) ∷ []) none)
-  there StoreWord target base offset none =
-      known (address base offset) (third _ _ ((is_dead (memory_of c) (place_of (memory_of c) (address base offset)), causes.DeadCell) ∷ (is_text (place_of (memory_of c) (address base offset)), causes.WriteToText) ∷ (false, causes.Break) ∷ (false, causes.BadService) ∷ []) none)
+  abbrev misaligned : MemoryOp → (base : Register) → (offset : ℕ) → Bool
+  misaligned op base offset = not (is_aligned (place_address op (address base offset)))
 
-  memory_cause : (at next : ℕ) (in_slot : Bool) (op : MemoryOp) (target base : Register) (offset : ℕ) → cause_of (machine_of c) (Memory op target base offset) ≡ None → Known (address base offset)
+  found : (wrong stores : Bool) (at : ℕ) → cause_for (memory_of c) wrong stores (place_of (memory_of c) at) ≡ None → Known at
+  found wrong stores at none =
+      let place : Place = place_of (memory_of c) at in
+      known at (third wrong (is_nowhere place) ((is_dead (memory_of c) place, causes.DeadCell) ∷ ((if stores then is_text place else false), causes.WriteToText) ∷ (false, causes.Break) ∷ (false, causes.BadService) ∷ []) none)
+
+  there : (op : MemoryOp) (target base : Register) (offset : ℕ) → cause_of (machine_of c) (Memory op target base offset) ≡ None → Known (place_address op (address base offset))
+  there LoadWord target base offset none = found (misaligned LoadWord base offset) false (place_address LoadWord (address base offset)) none
+  there StoreWord target base offset none = found (misaligned StoreWord base offset) true (place_address StoreWord (address base offset)) none
+  there LoadByte target base offset none = found (misaligned LoadByte base offset) false (place_address LoadByte (address base offset)) none
+  there StoreByte target base offset none = found (misaligned StoreByte base offset) true (place_address StoreByte (address base offset)) none
+
+  cause_there : (wrong stores : Bool) (at : ℕ) → cause_for (memory_of c) wrong stores (place_of (memory_of c) at) ≡ None → Known at → cause_for memory_with wrong stores (place_of memory_with at) ≡ None
+  cause_there wrong stores at none (globals n without with) = ap (cause_for memory_with wrong stores) with ∙ sym (ap (cause_for (memory_of c) wrong stores) without) ∙ none
+  cause_there wrong stores at none (stack n without with) = ap (cause_for memory_with wrong stores) with ∙ sym (ap (cause_for (memory_of c) wrong stores) without) ∙ none
+  cause_there wrong stores at none (cells n without with) = ap (cause_for memory_with wrong stores) with ∙ sym (ap (cause_for (memory_of c) wrong stores) without) ∙ none
+
+  memory_cause : (at next : ℕ) (in_slot : Bool) (op : MemoryOp) (target base : Register) (offset : ℕ) → cause_of (machine_of c) (Memory op target base offset) ≡ None → Known (place_address op (address base offset))
       → cause_of (world_at words c at next in_slot).machine (Memory op target base offset) ≡ None
-  memory_cause at next in_slot LoadWord target base offset none (globals n without with) =
-      ap (cause_at memory_with LoadWord target base offset) with ∙ sym (ap (cause_at (memory_of c) LoadWord target base offset) without) ∙ none
-  memory_cause at next in_slot LoadWord target base offset none (stack n without with) =
-      ap (cause_at memory_with LoadWord target base offset) with ∙ sym (ap (cause_at (memory_of c) LoadWord target base offset) without) ∙ none
-  memory_cause at next in_slot LoadWord target base offset none (cells n without with) =
-      ap (cause_at memory_with LoadWord target base offset) with ∙ sym (ap (cause_at (memory_of c) LoadWord target base offset) without) ∙ none
-  memory_cause at next in_slot StoreWord target base offset none (globals n without with) =
-      ap (cause_at memory_with StoreWord target base offset) with ∙ sym (ap (cause_at (memory_of c) StoreWord target base offset) without) ∙ none
-  memory_cause at next in_slot StoreWord target base offset none (stack n without with) =
-      ap (cause_at memory_with StoreWord target base offset) with ∙ sym (ap (cause_at (memory_of c) StoreWord target base offset) without) ∙ none
-  memory_cause at next in_slot StoreWord target base offset none (cells n without with) =
-      ap (cause_at memory_with StoreWord target base offset) with ∙ sym (ap (cause_at (memory_of c) StoreWord target base offset) without) ∙ none
+  memory_cause at next in_slot LoadWord target base offset none known_there = cause_there (misaligned LoadWord base offset) false (place_address LoadWord (address base offset)) none known_there
+  memory_cause at next in_slot StoreWord target base offset none known_there = cause_there (misaligned StoreWord base offset) true (place_address StoreWord (address base offset)) none known_there
+  memory_cause at next in_slot LoadByte target base offset none known_there = cause_there (misaligned LoadByte base offset) false (place_address LoadByte (address base offset)) none known_there
+  memory_cause at next in_slot StoreByte target base offset none known_there = cause_there (misaligned StoreByte base offset) true (place_address StoreByte (address base offset)) none known_there
 
   -- what is not refused without the text is not refused with it
   pub same_cause : (at next : ℕ) (in_slot : Bool) (i : Instr) → is_ordinary i ≡ true → cause_of (machine_of c) i ≡ None → cause_of (world_at words c at next in_slot).machine i ≡ None
@@ -195,32 +187,46 @@ module _ (words : List ℕ) (inside : text_base + 4 * length words ≤ text_end)
   did at next in_slot above left event s running is acts =
       (Ran, above, (refl, refl), inl (running, told_same at next in_slot event Ran s left acts.0 acts.1 ∙ is))
 
-  memory_did : (at next : ℕ) (in_slot : Bool) (op : MemoryOp) (t b : Register) (h : ℕ) (event : Event) (s : machines.State) → Known (address b h)
+  load_did : (at next : ℕ) (in_slot : Bool) (target : ℕ) (value : ℕ → ℕ) (address : ℕ) (event : Event) (s : machines.State) → Known address
+      → Acts (Does Ran (loads (world_here at next in_slot).machine target (place_of memory_with address) value)) (world_here at next in_slot).machine event s
+      → Matched at next in_slot (Does Ran (loads (machine_of c) target (place_of (memory_of c) address) value)) event s
+  load_did at next in_slot target value address event s (globals n without with) acts =
+      did at next in_slot _ _ event s refl (
+      ap (λ place. told (world_here at next in_slot) Ran (loads (world_here at next in_slot).machine target place value)) with
+      ∙ sym (ap (λ place. world_at words (from_world (told (world_of c) Ran (loads (machine_of c) target place value)) 0) next (add_of next 4) false) without)) acts
+  load_did at next in_slot target value address event s (stack n without with) acts =
+      did at next in_slot _ _ event s refl (
+      ap (λ place. told (world_here at next in_slot) Ran (loads (world_here at next in_slot).machine target place value)) with
+      ∙ sym (ap (λ place. world_at words (from_world (told (world_of c) Ran (loads (machine_of c) target place value)) 0) next (add_of next 4) false) without)) acts
+  load_did at next in_slot target value address event s (cells n without with) acts =
+      did at next in_slot _ _ event s refl (
+      ap (λ place. told (world_here at next in_slot) Ran (loads (world_here at next in_slot).machine target place value)) with
+      ∙ sym (ap (λ place. world_at words (from_world (told (world_of c) Ran (loads (machine_of c) target place value)) 0) next (add_of next 4) false) without)) acts
+
+  store_did : (at next : ℕ) (in_slot : Bool) (value : ℕ → ℕ) (address : ℕ) (event : Event) (s : machines.State) → Known address
+      → Acts (Does Ran (stores (world_here at next in_slot).machine (place_of memory_with address) value)) (world_here at next in_slot).machine event s
+      → Matched at next in_slot (Does Ran (stores (machine_of c) (place_of (memory_of c) address) value)) event s
+  store_did at next in_slot value address event s (globals n without with) acts =
+      did at next in_slot _ _ event s refl (
+      ap (λ place. told (world_here at next in_slot) Ran (stores (world_here at next in_slot).machine place value)) with
+      ∙ sym (ap (λ place. world_at words (from_world (told (world_of c) Ran (stores (machine_of c) place value)) 0) next (add_of next 4) false) without)) acts
+  store_did at next in_slot value address event s (stack n without with) acts =
+      did at next in_slot _ _ event s refl (
+      ap (λ place. told (world_here at next in_slot) Ran (stores (world_here at next in_slot).machine place value)) with
+      ∙ sym (ap (λ place. world_at words (from_world (told (world_of c) Ran (stores (machine_of c) place value)) 0) next (add_of next 4) false) without)) acts
+  store_did at next in_slot value address event s (cells n without with) acts =
+      did at next in_slot _ _ event s refl (
+      ap (λ place. told (world_here at next in_slot) Ran (stores (world_here at next in_slot).machine place value)) with
+      ∙ sym (ap (λ place. world_at words (from_world (told (world_of c) Ran (stores (machine_of c) place value)) 0) next (add_of next 4) false) without)) acts
+
+  memory_did : (at next : ℕ) (in_slot : Bool) (op : MemoryOp) (t b : Register) (h : ℕ) (event : Event) (s : machines.State) → Known (place_address op (address b h))
       → Acts (Does Ran (after (world_here at next in_slot).machine (Memory op t b h))) (world_here at next in_slot).machine event s → Matched at next in_slot (Does Ran (after (machine_of c) (Memory op t b h))) event s
-  memory_did at next in_slot LoadWord t b h event s (globals n without with) acts =
-      did at next in_slot _ _ event s refl (
-      ap (λ place. told (world_here at next in_slot) Ran (loads (world_here at next in_slot).machine t place)) with
-      ∙ sym (ap (λ place. world_at words (from_world (told (world_of c) Ran (loads (machine_of c) t place)) 0) next (add_of next 4) false) without)) acts
-  memory_did at next in_slot LoadWord t b h event s (stack n without with) acts =
-      did at next in_slot _ _ event s refl (
-      ap (λ place. told (world_here at next in_slot) Ran (loads (world_here at next in_slot).machine t place)) with
-      ∙ sym (ap (λ place. world_at words (from_world (told (world_of c) Ran (loads (machine_of c) t place)) 0) next (add_of next 4) false) without)) acts
-  memory_did at next in_slot LoadWord t b h event s (cells n without with) acts =
-      did at next in_slot _ _ event s refl (
-      ap (λ place. told (world_here at next in_slot) Ran (loads (world_here at next in_slot).machine t place)) with
-      ∙ sym (ap (λ place. world_at words (from_world (told (world_of c) Ran (loads (machine_of c) t place)) 0) next (add_of next 4) false) without)) acts
-  memory_did at next in_slot StoreWord t b h event s (globals n without with) acts =
-      did at next in_slot _ _ event s refl (
-      ap (λ place. told (world_here at next in_slot) Ran (stores (world_here at next in_slot).machine t place)) with
-      ∙ sym (ap (λ place. world_at words (from_world (told (world_of c) Ran (stores (machine_of c) t place)) 0) next (add_of next 4) false) without)) acts
-  memory_did at next in_slot StoreWord t b h event s (stack n without with) acts =
-      did at next in_slot _ _ event s refl (
-      ap (λ place. told (world_here at next in_slot) Ran (stores (world_here at next in_slot).machine t place)) with
-      ∙ sym (ap (λ place. world_at words (from_world (told (world_of c) Ran (stores (machine_of c) t place)) 0) next (add_of next 4) false) without)) acts
-  memory_did at next in_slot StoreWord t b h event s (cells n without with) acts =
-      did at next in_slot _ _ event s refl (
-      ap (λ place. told (world_here at next in_slot) Ran (stores (world_here at next in_slot).machine t place)) with
-      ∙ sym (ap (λ place. world_at words (from_world (told (world_of c) Ran (stores (machine_of c) t place)) 0) next (add_of next 4) false) without)) acts
+  memory_did at next in_slot LoadWord t b h event s known_there acts = load_did at next in_slot t.number (λ word. word) (place_address LoadWord (address b h)) event s known_there acts
+  memory_did at next in_slot StoreWord t b h event s known_there acts = store_did at next in_slot (λ old. register (machine_of c).core t.number) (place_address StoreWord (address b h)) event s known_there acts
+  memory_did at next in_slot LoadByte t b h event s known_there acts =
+      load_did at next in_slot t.number (λ word. byte_in word (address b h % 4)) (place_address LoadByte (address b h)) event s known_there acts
+  memory_did at next in_slot StoreByte t b h event s known_there acts =
+      store_did at next in_slot (λ old. with_byte old (address b h % 4) (register (machine_of c).core t.number % 256)) (place_address StoreByte (address b h)) event s known_there acts
 
   ended : (at next : ℕ) (in_slot : Bool) (end : End) (event : Event) (s : machines.State) → (event ≡ Ended end) × (s ≡ machines.over (world_here at next in_slot).machine end)
       → Shown next (told (world_of c) (Ended end) (machines.over (machine_of c) end)) (told (world_here at next in_slot) event s)

@@ -1,14 +1,31 @@
-//! An image that loads and saves words of one block, for machines over each store.
+//! Images that load and save words of one block, for machines over each store.
 
 use cyc_words::bytes_of;
 use std::alloc::Global;
 
-/// How many instructions a run of the image executes.
-pub(crate) const INSTRUCTIONS: u64 = 10 + 11 * 20_000_000;
+/// How many instructions a run of an image executes.
+pub(crate) const INSTRUCTIONS: u64 = 15 + 11 * 20_000_000;
+
+/// Where the block lies.
+#[derive(Clone, Copy)]
+pub(crate) enum Place {
+    /// On the first page of the heap.
+    Heap,
+    /// It is a unique block.
+    Unique,
+    /// On the second page of the heap.
+    SecondPage,
+}
 
 /// The headers: one segment with the text, which begins at the entry.
 const HEADERS: &str = "7f454c46 01020100 0 0 00020008 1 00400000 34 0 0 00340020 00010000 0 \
-    1 54 00400000 00400000 54 54 5 4";
+    1 54 00400000 00400000 68 68 5 4";
+
+/// Nothing, and as long as what makes two blocks of 1,000 words in the region of register 4. The second one is on its second page, where
+/// there is room for another one of a few words.
+const NOTHING: &str = "00000000 00000000 00000000 00000000 00000000";
+
+const TWO_BLOCKS: &str = "240503e8 24020009 0000000c 24020009 0000000c";
 
 /// Register 8 counts 20 million turns, and register 9 points to a block of 4 words. Register 4 holds the handle of its region.
 const START: &str = "3c080131 35082d00 24050004 24020009 0000000c 00404821";
@@ -26,11 +43,17 @@ fn put(file: &mut Vec<u8>, words: &str) -> Option<()> {
     Some(())
 }
 
-/// The file of the image, whose block is unique or else in the heap.
-pub(crate) fn file_of(alloc: Global, is_unique: bool) -> Option<Vec<u8>> {
+/// The file of the image whose block is at this place.
+pub(crate) fn file_of(alloc: Global, place: Place) -> Option<Vec<u8>> {
+    let (region, first) = match place {
+        Place::Heap => ("24040001", NOTHING),
+        Place::Unique => ("24040002", NOTHING),
+        Place::SecondPage => ("24040001", TWO_BLOCKS),
+    };
     let mut file = Vec::new(alloc);
     put(&mut file, HEADERS)?;
-    put(&mut file, if is_unique { "24040002" } else { "24040001" })?;
+    put(&mut file, region)?;
+    put(&mut file, first)?;
     put(&mut file, START)?;
     put(&mut file, TURNS)?;
     Some(file)

@@ -7,7 +7,7 @@ use cyc_elf::read_image;
 use cyc_machine::{Event, Limits, Machine};
 use cyc_pagestore::PageStore;
 use cyc_store::{LEAST_PAGES, MOST_BLOCK_WORDS, MOST_PAGES, PlainStore, Store, UNIQUE};
-use image::{INSTRUCTIONS, file_of};
+use image::{INSTRUCTIONS, Place, file_of};
 use std::alloc::Global;
 use std::env;
 use std::process::ExitCode;
@@ -167,16 +167,26 @@ fn machine_paged(alloc: Global, file: &[u8], limits: Limits) -> Option<Machine<P
     Machine::load(alloc, &image, limits, store).ok()
 }
 
-/// The nanoseconds that the image takes over a store in memory, with its block in the region with this handle.
-fn run_plain(rt: &HostRuntime, handle: u32) -> Option<u64> {
-    let file = file_of(rt.alloc(), handle == UNIQUE)?;
+/// The place of the block that a number names.
+fn place_of(number: u32) -> Option<Place> {
+    match number {
+        1 => Some(Place::Heap),
+        2 => Some(Place::Unique),
+        3 => Some(Place::SecondPage),
+        _ => None,
+    }
+}
+
+/// The nanoseconds that the image takes over a store in memory, with its block at the place with this number.
+fn run_plain(rt: &HostRuntime, number: u32) -> Option<u64> {
+    let file = file_of(rt.alloc(), place_of(number)?)?;
     let limits = Limits::new(1024, 4096)?;
     run(rt, &mut machine_plain(rt.alloc(), &file, limits)?)
 }
 
-/// The nanoseconds that the image takes over a store on a pool, with its block in the region with this handle.
-fn run_paged(rt: &HostRuntime, handle: u32) -> Option<u64> {
-    let file = file_of(rt.alloc(), handle == UNIQUE)?;
+/// The nanoseconds that the image takes over a store on a pool, with its block at the place with this number.
+fn run_paged(rt: &HostRuntime, number: u32) -> Option<u64> {
+    let file = file_of(rt.alloc(), place_of(number)?)?;
     let limits = Limits::new(1024, 4096)?;
     run(rt, &mut machine_paged(rt.alloc(), &file, limits)?)
 }

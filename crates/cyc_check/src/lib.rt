@@ -1,8 +1,10 @@
 //! The checker: the typed tree of an abstract syntax tree, exactly where the typing rules derive one.
 #![tactic(auto)]
 
+pub use at_fault::{place_type, refusal, scope_at_fault, value_type};
 pub use tree::check;
 
+mod at_fault;
 mod declared_types;
 mod functions;
 mod statements;

@@ -1,198 +1,354 @@
-//! The words for a fault in a function's body. The forms that the fault stands in are found by its place. What is declared before it there is
-//! brought into scope, and the rest is passed over. Then these forms are asked, from the innermost one outwards.
-use crate::expressions::explain_expression;
+//! The words for a fault in a function's body. The scope at the fault is the checker's own: it stops there. The forms of the body are walked
+//! in the order of the text, each behind its parts, and asked where they stand at the fault.
+use crate::calls::explain_call;
+use crate::expressions::{
+    explain_assigned, explain_binary, explain_chain, explain_fields, explain_key, explain_name,
+    explain_prefixed, explain_unique_region,
+};
 use crate::homes::Origin;
 use crate::names::{explain_region_twice, explain_twice};
-use crate::outline::{Node, Outline, Site};
-use crate::scopes::{enter, note_home, pass_item};
 use crate::statements::{
-    explain_alias, explain_exception, explain_local, explain_opened, explain_statement,
+    explain_alias, explain_exception, explain_local, explain_opened, explain_return, explain_swap,
 };
 use crate::teller::Teller;
-use cyc_heads::{heads, members, signature_of};
-use cyc_scope::{Program, Scope, Tables};
-use cyc_syntax::{Block, Ident, Item, Member, Parameters, Tree, WrittenType};
-use cyc_words::{Fault, Span};
-use std::alloc::Global;
+use crate::wanted::{Wanted, explain_value, wanted_by, wanted_of};
+use cyc_check::scope_at_fault;
+use cyc_forms::span_of;
+use cyc_heads::{heads, members};
+use cyc_scope::{Program, Scope};
+use cyc_syntax::{
+    Block, Clause, Declaration, Expr, Ident, Initial, Item, Member, Postfix, Stmt, Tree,
+};
+use cyc_words::Span;
 
-/// What is known where the fault stands, and what is said of it.
-#[derive(Drop)]
-pub(crate) struct Walk<'t, 's> {
-    pub(crate) program: &'s Program,
-    pub(crate) scope: Scope<'s>,
-    pub(crate) teller: Teller<'t>,
-}
+// ---- functions
 
-/// A form on the way to the fault, which stands in it or behind it.
-#[derive(Clone, Copy)]
-struct Step<'t> {
-    site: Site<'t>,
-    is_around: bool,
-}
-
-/// The words for a fault in the body of this function.
-pub(crate) fn words_in_body(
-    alloc: Global,
-    tree: &Tree,
-    fault: Fault,
-    returned: &Option<WrittenType>,
-    name: Ident,
-    parameters: &Parameters,
-    body: &Block,
-) -> Option<Vec<u8>> {
-    let program = heads(alloc, tree).ok()?;
-    let mut tables = Tables::new(alloc);
-    let known = program.known();
-    let signature = signature_of(alloc, known, &mut tables.names, returned, parameters).ok()?;
-    let members = members(parameters);
-    let mut outline = Outline::new(alloc);
-    outline.add_parameters(&tables.names, members, &signature.parameters);
-    outline.add_items(&body.items, 0);
-    let scope = Scope::of_body(alloc, &program, tables, &signature, name, members).ok()?;
-    let Outline {
-        sites,
-        homes,
-        endings,
-        is_whole,
-        ..
-    } = outline;
-    let mut teller = Teller::new(alloc, tree, fault);
-    teller.function = Some(name);
-    teller.homes = homes;
-    teller.endings = endings;
-    teller.is_whole = is_whole;
-    let mut walk = Walk {
-        program: &program,
-        scope,
-        teller,
-    };
-    note_home(&mut walk, 0, Some(name), name.span, Origin::Block);
-    let steps = steps_to(alloc, &walk.teller, &sites);
-    for step in steps.iter().rev() {
-        let Step { site, is_around } = *step;
-        if is_around {
-            enter(&mut walk, &site);
-        } else if let Node::Item(item) = site.node {
-            pass_item(&mut walk, item);
-        }
-    }
-    explain_steps(&mut walk, &steps, members);
-    walk.teller.into_words()
-}
-
-/// The forms that the fault stands in, and those before each in the same form: the last one first.
-fn steps_to<'t>(alloc: Global, teller: &Teller<'_>, sites: &[Site<'t>]) -> Vec<Step<'t>> {
-    let mut steps = Vec::new(alloc);
-    let mut depth = usize::MAX;
-    let mut behind = Span {
-        line: u32::MAX,
-        column: 0,
-    };
-    for site in sites.iter().rev() {
-        let mut site = *site;
-        if let Node::Default = site.node {
-            site.span = behind;
-        }
-        behind = site.span;
-        if site.depth <= depth && teller.is_from(site.span) {
-            let is_around = site.depth < depth;
-            let _ = steps.push(Step { site, is_around });
-            depth = site.depth;
-        }
-    }
-    steps
-}
-
-/// Asks the forms that the fault stands in, from the innermost one outwards, until there are words.
-fn explain_steps(walk: &mut Walk<'_, '_>, steps: &[Step<'_>], members: &[Member]) {
-    for i in 0..steps.len() {
-        let step = steps[i];
-        if step.is_around {
-            explain_site(walk, &step.site);
-            explain_declared(&mut walk.teller, &steps[i..], members);
+/// The words for a fault in the body of a declaration, if it stands there.
+pub(crate) fn explain_body(teller: &mut Teller<'_>, tree: &Tree, declaration: &Declaration) {
+    if let Declaration::Function { body, .. } = declaration {
+        if teller.is_from(body.span) && !teller.is_from(body.end) {
+            if let Ok(program) = heads(teller.alloc, tree) {
+                explain_function(teller, &program, declaration);
+            }
         }
     }
 }
 
-fn explain_site(walk: &mut Walk<'_, '_>, site: &Site<'_>) {
-    match site.node {
-        Node::Expression(expression) => explain_expression(walk, expression),
-        Node::Statement(statement) => explain_statement(walk, statement),
-        Node::Clause(clause) => {
-            explain_exception(&mut walk.teller, &walk.scope, clause.exception);
+/// The words for a fault in the body of a function, where this is known of the program.
+fn explain_function(teller: &mut Teller<'_>, program: &Program, declaration: &Declaration) {
+    if let Declaration::Function {
+        result,
+        name,
+        parameters,
+        body,
+    } = declaration
+    {
+        let alloc = teller.alloc;
+        if let Ok(mut scope) = scope_at_fault(alloc, program, result, *name, parameters, body) {
+            let members = members(parameters);
+            teller.function = Some(*name);
+            teller.homes.add_parameters(scope.names(), *name, members);
+            explain_items(teller, &mut scope, &body.items, members);
         }
-        Node::Default => {}
-        Node::Item(item) => explain_item(walk, item),
     }
 }
 
-fn explain_item(walk: &mut Walk<'_, '_>, item: &Item) {
-    let scope = &mut walk.scope;
-    let teller = &mut walk.teller;
+// ---- items
+
+/// The local that an item declares.
+fn local_of(item: &Item) -> Option<Ident> {
     match item {
-        Item::Statement { .. } => {}
-        Item::Local { of_type, value, .. } => explain_local(teller, scope, of_type, value),
+        Item::Statement { .. } => None,
+        Item::Local { name, .. }
+        | Item::Region { handle: name, .. }
+        | Item::Alias { name, .. }
+        | Item::DynamicRegion { key: name, .. } => Some(*name),
+    }
+}
+
+/// The words where an item declares a local that its block has already: by items before it, or as one of these parameters.
+fn explain_declared(teller: &mut Teller<'_>, before: &[Item], item: &Item, members: &[Member]) {
+    if let Some(name) = local_of(item) {
+        if teller.is_at(name.span) {
+            for other in before {
+                if let Some(first) = local_of(other) {
+                    explain_twice(teller, name, first);
+                }
+            }
+            for member in members {
+                explain_twice(teller, name, member.name);
+            }
+        }
+    }
+}
+
+/// Asks the items of a block, which declares these parameters too.
+#[cycle(statement)]
+fn explain_items(
+    teller: &mut Teller<'_>,
+    scope: &mut Scope<'_>,
+    items: &[Item],
+    members: &[Member],
+) {
+    for i in 0..items.len() {
+        explain_declared(teller, &items[..i], &items[i], members);
+        explain_item(teller, scope, &items[i]);
+    }
+}
+
+#[cycle(statement)]
+fn explain_item(teller: &mut Teller<'_>, scope: &mut Scope<'_>, item: &Item) {
+    match item {
+        Item::Statement { statement } => walk_statement(teller, scope, statement),
+        Item::Local { of_type, value, .. } => {
+            walk_value(teller, scope, value, Wanted::Nothing);
+            explain_local(teller, scope, of_type, value);
+        }
         Item::Region {
             region,
             key: Some(key),
             ..
-        } => explain_opened(teller, scope, *region, *key),
-        Item::Region { region, .. } | Item::DynamicRegion { region, .. } => {
-            explain_region_twice(teller, *region);
+        } => {
+            explain_opened(teller, scope, *region, *key);
+            teller.note_opened(*region);
         }
+        Item::Region { region, .. } => add_region(teller, *region, Origin::Item),
+        Item::DynamicRegion { region, .. } => add_region(teller, *region, Origin::Dynamic),
         Item::Alias {
             region,
             of_type,
             source,
             ..
-        } => explain_alias(teller, scope, *region, of_type, *source),
-    }
-}
-
-// ---- locals that are declared twice
-
-/// The local that a form declares.
-fn local_of(node: Node<'_>) -> Option<Ident> {
-    match node {
-        Node::Item(
-            Item::Local { name, .. }
-            | Item::Region { handle: name, .. }
-            | Item::Alias { name, .. }
-            | Item::DynamicRegion { key: name, .. },
-        ) => Some(*name),
-        _ => None,
-    }
-}
-
-/// Where a local of this number is declared before the first of these forms, in the same block.
-fn first_in_block(steps: &[Step<'_>], number: usize) -> Option<Span> {
-    for i in 1..steps.len() {
-        let Step { site, is_around } = steps[i];
-        if is_around {
-            return None;
+        } => {
+            add_region(teller, *region, Origin::Item);
+            explain_alias(teller, scope, *region, of_type, *source);
         }
-        if let Some(name) = local_of(site.node) {
-            if name.name.number == number {
-                return Some(name.span);
+    }
+}
+
+/// Adds a region that has a name, which is to be new.
+fn add_region(teller: &mut Teller<'_>, name: Ident, origin: Origin) {
+    explain_region_twice(teller, name);
+    teller.homes.add(Some(name), name.span, origin);
+}
+
+// ---- statements
+
+#[cycle(statement)]
+fn walk_block(teller: &mut Teller<'_>, scope: &mut Scope<'_>, block: &Block) {
+    let around = teller.block_end;
+    teller.block_end = Some(block.end);
+    explain_items(teller, scope, &block.items, &[]);
+    teller.block_end = around;
+}
+
+#[cycle(statement)]
+fn walk_statement(teller: &mut Teller<'_>, scope: &mut Scope<'_>, statement: &Stmt) {
+    match statement {
+        Stmt::Block { block } => {
+            teller.homes.add(None, block.span, Origin::Block);
+            walk_block(teller, scope, block);
+        }
+        Stmt::Labelled { label, block } => {
+            add_region(teller, *label, Origin::Block);
+            walk_block(teller, scope, block);
+        }
+        Stmt::Expression { value } => walk_expression(teller, scope, value, Wanted::Nothing),
+        Stmt::Swap { left, right } => {
+            walk_expression(teller, scope, left, Wanted::Nothing);
+            walk_expression(teller, scope, right, Wanted::Nothing);
+            explain_swap(teller, scope, left, right);
+        }
+        Stmt::If {
+            condition,
+            then,
+            otherwise,
+            ..
+        } => {
+            walk_expression(teller, scope, condition, Wanted::Tested);
+            walk_statement(teller, scope, then);
+            if let Some(other) = otherwise {
+                walk_statement(teller, scope, other);
+            }
+        }
+        Stmt::While {
+            condition,
+            body,
+            ..
+        } => {
+            walk_expression(teller, scope, condition, Wanted::Tested);
+            walk_statement(teller, scope, body);
+        }
+        Stmt::Return { span, value } => {
+            walk_value(teller, scope, value, Wanted::Nothing);
+            explain_return(teller, scope, *span, value);
+        }
+        Stmt::Throw {
+            exception,
+            value,
+            ..
+        } => {
+            explain_exception(teller, scope, *exception);
+            walk_value(teller, scope, value, Wanted::Int);
+        }
+        Stmt::Try {
+            span,
+            body,
+            clauses,
+            default,
+        } => {
+            walk_statement(teller, scope, body);
+            walk_clauses(teller, scope, clauses);
+            if let Some(items) = default {
+                let start = start_of(items, *span);
+                teller.homes.add(None, start, Origin::Block);
+                explain_items(teller, scope, items, &[]);
+            }
+        }
+        Stmt::Empty { .. } | Stmt::Break { .. } | Stmt::Continue { .. } => {}
+    }
+}
+
+#[cycle(statement)]
+fn walk_clauses(teller: &mut Teller<'_>, scope: &mut Scope<'_>, clauses: &[Clause]) {
+    for clause in clauses {
+        explain_exception(teller, scope, clause.exception);
+        teller.homes.add(None, clause.exception.span, Origin::Block);
+        explain_caught(teller, clause);
+        explain_items(teller, scope, &clause.items, &[]);
+    }
+}
+
+/// The words where the items of a clause declare its variable a second time.
+fn explain_caught(teller: &mut Teller<'_>, clause: &Clause) {
+    if let Some(variable) = clause.variable {
+        for item in &clause.items {
+            if let Some(name) = local_of(item) {
+                explain_twice(teller, name, variable);
             }
         }
     }
-    None
 }
 
-/// The words where the first of these forms declares a local that its block has already, or the parameters.
-fn explain_declared(teller: &mut Teller<'_>, steps: &[Step<'_>], members: &[Member]) {
-    let Some(first) = steps.first() else {
-        return;
-    };
-    let Some(name) = local_of(first.site.node) else {
-        return;
-    };
-    let number = name.name.number;
-    explain_twice(teller, name, first_in_block(steps, number));
-    for member in members {
-        if member.name.name.number == number {
-            explain_twice(teller, name, Some(member.name.span));
+/// Where the items of a default clause begin. The clause has no place of its own; this is where its statement does.
+fn start_of(items: &[Item], around: Span) -> Span {
+    match items.first() {
+        Some(Item::Local { of_type, .. }) => of_type.span,
+        Some(
+            Item::Statement {
+                statement: Stmt::Expression { value },
+            },
+        ) => span_of(value),
+        _ => around,
+    }
+}
+
+// ---- expressions
+
+fn walk_value(
+    teller: &mut Teller<'_>,
+    scope: &mut Scope<'_>,
+    value: &Option<Expr>,
+    wanted: Wanted,
+) {
+    if let Some(value) = value {
+        walk_expression(teller, scope, value, wanted);
+    }
+}
+
+#[cycle(expression)]
+fn walk_expressions(teller: &mut Teller<'_>, scope: &mut Scope<'_>, expressions: &[Expr]) {
+    for expression in expressions {
+        walk_expression(teller, scope, expression, Wanted::Nothing);
+    }
+}
+
+/// Asks the parts of an expression, and then what is wanted of it.
+#[cycle(expression)]
+fn walk_expression(
+    teller: &mut Teller<'_>,
+    scope: &mut Scope<'_>,
+    expression: &Expr,
+    wanted: Wanted,
+) {
+    match expression {
+        Expr::Number { .. }
+        | Expr::Character { .. }
+        | Expr::Null { .. }
+        | Expr::HeapRegion { .. } => {}
+        Expr::UniqueRegion { span } => explain_unique_region(teller, *span),
+        Expr::Variable { name } => explain_name(teller, scope, *name),
+        Expr::FreeKey { key, .. } => explain_key(teller, scope, *key),
+        Expr::Call {
+            function,
+            arguments,
+        } => {
+            walk_expressions(teller, scope, arguments);
+            explain_call(teller, scope, *function, arguments);
+        }
+        Expr::Bracketed { inner, .. } => walk_expression(teller, scope, inner, Wanted::Nothing),
+        Expr::NumberOfElements { pointer, .. } => {
+            walk_expression(teller, scope, pointer, Wanted::Fat);
+        }
+        Expr::FreeUnique { pointer, .. } => walk_expression(teller, scope, pointer, Wanted::Freed),
+        Expr::Chained { base, postfixes } => {
+            walk_expression(teller, scope, base, Wanted::Nothing);
+            for postfix in postfixes {
+                if let Postfix::Index { index } = postfix {
+                    walk_expression(teller, scope, index, Wanted::Int);
+                }
+            }
+            explain_chain(teller, scope, base, postfixes);
+        }
+        Expr::Prefixed {
+            span,
+            operator,
+            operand,
+        } => {
+            walk_expression(teller, scope, operand, wanted_of(*operator));
+            explain_prefixed(teller, scope, *operator, *span, operand);
+        }
+        Expr::New { value, .. } => walk_initial(teller, scope, value),
+        Expr::RegionNew { region, value, .. } => {
+            walk_expression(teller, scope, region, Wanted::Handle);
+            walk_initial(teller, scope, value);
+        }
+        Expr::Binary { first, rest } => {
+            walk_expression(teller, scope, first, Wanted::Nothing);
+            for operation in rest {
+                let wanted = wanted_by(operation.operator).1;
+                walk_expression(teller, scope, &operation.operand, wanted);
+            }
+            explain_binary(teller, scope, first, rest);
+        }
+        Expr::Assign { target, value } => {
+            walk_expression(teller, scope, target, Wanted::Nothing);
+            walk_expression(teller, scope, value, Wanted::Nothing);
+            explain_assigned(teller, scope, target, value);
+        }
+    }
+    explain_value(teller, scope, expression, wanted);
+}
+
+#[cycle(expression)]
+fn walk_initial(teller: &mut Teller<'_>, scope: &mut Scope<'_>, initial: &Initial) {
+    match initial {
+        Initial::Plain { value } => walk_expression(teller, scope, value, Wanted::Content),
+        Initial::Fields {
+            name,
+            regions,
+            values,
+        } => {
+            walk_expressions(teller, scope, values);
+            explain_fields(teller, scope, *name, regions, values);
+        }
+        Initial::Array {
+            length,
+            element,
+            ..
+        } => {
+            walk_expression(teller, scope, length, Wanted::Int);
+            walk_expression(teller, scope, element, Wanted::Content);
         }
     }
 }

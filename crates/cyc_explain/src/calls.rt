@@ -1,25 +1,26 @@
 //! What a call asks, in the words of the caller and of the function that is called.
-use crate::bodies::Walk;
 use crate::conversions::{explain_conversion, say_closed, say_shorter};
-use crate::homes::find_name;
+use crate::homes::Homes;
 use crate::names::{Sort, explain_unknown};
-use crate::outline::Outline;
 use crate::teller::{Part, Teller};
-use crate::values::{given, value_type};
+use crate::wanted::given;
 use crate::written::say_count;
+use cyc_check::value_type;
 use cyc_forms::span_of;
-use cyc_heads::{members, signature_of};
+use cyc_heads::members;
 use cyc_scope::{Meaning, Scope};
-use cyc_syntax::{Declaration, Expr, Ident, Parameters, Tree};
+use cyc_syntax::{Declaration, Expr, Ident};
 use cyc_types::typed::ValueType;
 use cyc_types::{Region, RegionNames, Signature, Ty};
-use cyc_words::{Code, Span};
-use std::alloc::{AllocError, Global};
+use cyc_words::Code;
+use std::alloc::Global;
 
-// ---- the regions of the function that is called
+// ---- regions at the call
 
-/// The head of the function of this name.
-fn parameters_of(tree: &Tree, function: Ident) -> Option<&Parameters> {
+/// Notes the regions of the function of this name, as its own head names them.
+fn note_theirs(teller: &mut Teller<'_>, names: &RegionNames, function: Ident) {
+    let tree = teller.tree;
+    let mut theirs = Homes::new(teller.alloc);
     for declaration in &tree.declarations {
         if let Declaration::Function {
             name,
@@ -28,38 +29,26 @@ fn parameters_of(tree: &Tree, function: Ident) -> Option<&Parameters> {
         } = declaration
         {
             if name.name == function.name {
-                return Some(parameters);
+                theirs.add_parameters(names, *name, members(parameters));
             }
         }
     }
-    None
+    teller.theirs = theirs;
 }
 
-/// Notes the regions of the function of this name, as its own head names them.
-fn note_theirs(walk: &mut Walk<'_, '_>, function: Ident) {
-    let alloc = walk.teller.alloc;
-    if let Some(parameters) = parameters_of(walk.teller.tree, function) {
-        let mut names = RegionNames::new(alloc);
-        let known = walk.program.known();
-        if let Ok(signature) = signature_of(alloc, known, &mut names, &None, parameters) {
-            let mut outline = Outline::new(alloc);
-            outline.add_parameters(&names, members(parameters), &signature.parameters);
-            walk.teller.theirs = outline.homes;
+/// The region at the first place of a region variable.
+fn region_among(variables: &[Region], given: &[Region], variable: Region) -> Option<Region> {
+    let mut found = None;
+    for i in 0..variables.len() {
+        if variables[i] == variable && found.is_none() {
+            found = given.get(i).copied();
         }
     }
+    found
 }
 
-fn note(table: &mut Vec<Option<Region>>, variable: Region, region: Region) {
-    let Region::Variable(number) = variable else {
-        return;
-    };
-    if let Some(None) = table.get(number) {
-        table[number] = Some(region);
-    }
-}
-
-/// Notes what the region variables of a parameter's type are by what is given: the region at the first place of each.
-fn note_type(table: &mut Vec<Option<Region>>, parameter: &Ty, given: &Ty) {
+/// The same, where the variables stand in a parameter's type.
+fn region_in(parameter: &Ty, given: &Ty, variable: Region) -> Option<Region> {
     match (parameter, given) {
         (
             Ty::Pointer { target, region, .. },
@@ -68,10 +57,10 @@ fn note_type(table: &mut Vec<Option<Region>>, parameter: &Ty, given: &Ty) {
                 region: given_region,
                 ..
             },
-        ) => {
-            note_type(table, target, given_target);
-            note(table, *region, *given_region);
-        }
+        ) => match region_in(target, given_target, variable) {
+            Some(found) => Some(found),
+            None => region_among(&[*region], &[*given_region], variable),
+        },
         (
             Ty::Handle { region } | Ty::Key { region },
             Ty::Handle {
@@ -80,80 +69,69 @@ fn note_type(table: &mut Vec<Option<Region>>, parameter: &Ty, given: &Ty) {
             | Ty::Key {
                 region: given_region,
             },
-        ) => note(table, *region, *given_region),
+        ) => region_among(&[*region], &[*given_region], variable),
         (
             Ty::Struct { regions, .. },
             Ty::Struct {
                 regions: given_regions,
                 ..
             },
-        ) => {
-            for i in 0..regions.len() {
-                if let Some(region) = given_regions.get(i) {
-                    note(table, regions[i], *region);
-                }
-            }
-        }
-        _ => {}
+        ) => region_among(regions, given_regions, variable),
+        _ => None,
     }
 }
 
-/// The signature as it is at a call with these arguments.
-fn at_call(
-    alloc: Global,
-    signature: &Signature,
-    values: &[ValueType],
-) -> Result<Signature, AllocError> {
-    let mut table = vec![in alloc; None; signature.variables.saturating_add(1)]?;
-    for i in 0..values.len() {
-        if let (Some(parameter), ValueType::Value { of_type }) = (
-            signature.parameters.get(i),
-            &values[i],
-        ) {
-            note_type(&mut table, parameter, of_type);
+/// The same of all parameters; the heap where there is none.
+fn region_given(parameters: &[Ty], values: &[ValueType], variable: Region) -> Region {
+    let mut found = None;
+    for i in 0..parameters.len() {
+        if let (None, Some(ValueType::Value { of_type })) = (found, values.get(i)) {
+            found = region_in(&parameters[i], of_type, variable);
         }
     }
-    let mut instance = Vec::with_capacity(alloc, table.len())?;
-    for region in &table {
-        instance.push(region.unwrap_or(Region::Heap))?;
+    found.unwrap_or(Region::Heap)
+}
+
+/// What the region variables of a function are at a call with these values, by their numbers.
+fn instance_of(alloc: Global, signature: &Signature, values: &[ValueType]) -> Vec<Region> {
+    let mut instance = Vec::new(alloc);
+    for number in 0..signature.variables.saturating_add(1) {
+        let variable = Region::Variable(number);
+        let _ = instance.push(region_given(&signature.parameters, values, variable));
     }
-    signature.instantiated(alloc, &instance)
+    instance
 }
 
 // ---- what is asked
 
-/// The types of the values of expressions, up to one that is refused.
-pub(crate) fn values_of(scope: &mut Scope<'_>, expressions: &[Expr]) -> Vec<ValueType> {
-    let mut values = Vec::new(scope.alloc());
+/// Whether the fault is at this place or at that of an expression.
+pub(crate) fn is_among(teller: &Teller<'_>, name: Ident, expressions: &[Expr]) -> bool {
+    let mut is_here = teller.is_at(name.span);
     for expression in expressions {
-        let Some(value) = value_type(scope, expression, false) else {
-            return values;
-        };
-        let _ = values.push(value);
+        is_here = is_here || teller.is_at(span_of(expression));
+    }
+    is_here
+}
+
+/// The types of the values of expressions, up to one that is refused.
+fn values_of(scope: &mut Scope<'_>, expressions: &[Expr]) -> Vec<ValueType> {
+    let mut values = Vec::new(scope.alloc());
+    let mut is_known = true;
+    for expression in expressions {
+        if is_known {
+            match value_type(scope, expression, false) {
+                Some(value) => is_known = values.push(value).is_ok(),
+                None => is_known = false,
+            }
+        }
     }
     values
 }
 
-/// The words where values in these expressions are not converted to the types that they are passed to.
-pub(crate) fn explain_passed(
-    teller: &mut Teller<'_>,
-    scope: &Scope<'_>,
-    expressions: &[Expr],
-    values: &[ValueType],
-    types: &[Ty],
-) {
-    for i in 0..expressions.len() {
-        if let (Some(value), Some(wanted)) = (values.get(i), types.get(i)) {
-            let span = span_of(&expressions[i]);
-            explain_conversion(teller, scope, given(value), wanted, span);
-        }
-    }
-}
-
 /// What a region of the function that is called is at the call.
 fn say_here(teller: &mut Teller<'_>, function: Ident, own: Region, here: Region) {
-    let theirs = find_name(&teller.theirs, own);
-    let ours = find_name(&teller.homes, here);
+    let theirs = teller.theirs.name(own);
+    let ours = teller.homes.name(here);
     match teller.function {
         Some(caller) if theirs.is_some() && theirs == ours => {
             let parts = [
@@ -173,73 +151,69 @@ fn say_here(teller: &mut Teller<'_>, function: Ident, own: Region, here: Region)
     }
 }
 
-/// The words for the first constraint that a call does not keep.
-fn explain_constraints(
+/// The words for a constraint that a call does not keep, where the regions are these.
+fn explain_constraint(
     teller: &mut Teller<'_>,
     scope: &Scope<'_>,
     function: Ident,
-    signature: &Signature,
-    here: &Signature,
+    own: (Region, Region),
+    here: (Region, Region),
 ) {
-    for i in 0..signature.constraints.len() {
-        let own = signature.constraints[i];
-        let Some((longer, shorter)) = here.constraints.get(i) else {
-            return;
-        };
-        if teller.is_fault(Code::NotOutlived, function.span) && !scope.outlives(*longer, *shorter) {
-            let parts = [
-                Part::Name(function),
-                Part::Theirs(own.0),
-                Part::Theirs(own.1),
-            ];
-            teller.say("% has the constraint % > %", &parts);
-            say_here(teller, function, own.0, *longer);
-            say_here(teller, function, own.1, *shorter);
-            say_shorter(teller, *longer, *shorter);
-        }
+    if teller.is_fault(Code::NotOutlived, function.span) && !scope.outlives(here.0, here.1) {
+        let parts = [
+            Part::Name(function),
+            Part::Theirs(own.0),
+            Part::Theirs(own.1),
+        ];
+        teller.say("% has the constraint % > %", &parts);
+        say_here(teller, function, own.0, here.0);
+        say_here(teller, function, own.1, here.1);
+        say_shorter(teller, here.0, here.1);
     }
 }
 
-/// The words for the first region of a callee's effect that is not live.
+/// The words for a region of an effect that is not live, where it is this one.
 fn explain_effect(
     teller: &mut Teller<'_>,
     scope: &Scope<'_>,
     function: Ident,
-    signature: &Signature,
-    here: &Signature,
+    effect: &[Region],
+    own: Region,
+    here: Region,
 ) {
-    for i in 0..signature.effect.len() {
-        let own = signature.effect[i];
-        let Some(region) = here.effect.get(i) else {
-            return;
-        };
-        if teller.is_fault(Code::EffectNotCovered, function.span) && !scope.is_live(*region) {
-            teller.say("the effect of % is {", &[Part::Name(function)]);
-            for j in 0..signature.effect.len() {
-                let text = if j == 0 { "%" } else { ", %" };
-                teller.say(text, &[Part::Theirs(signature.effect[j])]);
-            }
-            teller.say("}", &[]);
-            say_here(teller, function, own, *region);
-            teller.say("\n", &[]);
-            say_closed(teller, *region);
+    if teller.is_fault(Code::EffectNotCovered, function.span) && !scope.is_live(here) {
+        teller.say("the effect of % is {", &[Part::Name(function)]);
+        for i in 0..effect.len() {
+            let text = if i == 0 { "%" } else { ", %" };
+            teller.say(text, &[Part::Theirs(effect[i])]);
         }
+        teller.say("}", &[]);
+        say_here(teller, function, own, here);
+        teller.say("\n", &[]);
+        say_closed(teller, here);
     }
 }
 
-/// The words for an argument that is a unique pointer, where the parameter's is not.
-fn explain_lent(teller: &mut Teller<'_>, function: Ident, arguments: &[Expr], parameters: &[Ty]) {
-    for i in 0..arguments.len() {
-        if let Some(Ty::Pointer { region, .. }) = parameters.get(i) {
+/// The words for an argument that is not converted to the type of its parameter, or that is a unique pointer where that is none.
+fn explain_argument(
+    teller: &mut Teller<'_>,
+    scope: &Scope<'_>,
+    function: Ident,
+    argument: &Expr,
+    value: &ValueType,
+    parameter: &Ty,
+    instance: &[Region],
+) {
+    let span = span_of(argument);
+    if teller.is_at(span) {
+        if let Ok(wanted) = parameter.substituted(teller.alloc, instance) {
+            explain_conversion(teller, scope, given(value), &wanted, span);
+        }
+        if let Ty::Pointer { region, .. } = parameter {
             let parts = [Part::Theirs(*region), Part::Name(function)];
             let text =
                 "% of % would be `U\nhint: lend the pointer by let alias, or write `U in the parameter's type";
-            teller.say_of(
-                Code::RegionOrKeyMisused,
-                span_of(&arguments[i]),
-                text,
-                &parts,
-            );
+            teller.say_of(Code::RegionOrKeyMisused, span, text, &parts);
         }
     }
 }
@@ -253,39 +227,55 @@ fn explain_called(
     values: &[ValueType],
     signature: &Signature,
 ) {
-    let wanted = signature.parameters.len();
-    if arguments.len() != wanted && teller.is_fault(Code::TypeMismatch, function.span) {
-        say_count(teller, wanted, arguments.len(), "argument");
+    let instance = instance_of(teller.alloc, signature, values);
+    let parameters = &signature.parameters;
+    if arguments.len() != parameters.len() && teller.is_fault(Code::TypeMismatch, function.span) {
+        say_count(teller, parameters.len(), arguments.len(), "argument");
     }
-    explain_lent(teller, function, arguments, &signature.parameters);
-    if let Ok(here) = at_call(teller.alloc, signature, values) {
-        explain_passed(teller, scope, arguments, values, &here.parameters);
-        explain_constraints(teller, scope, function, signature, &here);
-        explain_effect(teller, scope, function, signature, &here);
+    for i in 0..arguments.len() {
+        if let (Some(value), Some(parameter)) = (values.get(i), parameters.get(i)) {
+            explain_argument(
+                teller,
+                scope,
+                function,
+                &arguments[i],
+                value,
+                parameter,
+                &instance,
+            );
+        }
+    }
+    for own in &signature.constraints {
+        let here = (own.0.substituted(&instance), own.1.substituted(&instance));
+        explain_constraint(teller, scope, function, *own, here);
+    }
+    for own in &signature.effect {
+        let here = own.substituted(&instance);
+        explain_effect(teller, scope, function, &signature.effect, *own, here);
     }
 }
 
 /// The words for a call.
-pub(crate) fn explain_call(walk: &mut Walk<'_, '_>, function: Ident, arguments: &[Expr]) {
-    let span: Span = function.span;
-    let values = values_of(&mut walk.scope, arguments);
-    note_theirs(walk, function);
-    match walk.scope.meaning(function) {
-        Meaning::Unknown => {
-            explain_unknown(&mut walk.teller, &walk.scope, Sort::Value, function);
-        }
-        Meaning::Routine { signature, .. } => explain_called(
-            &mut walk.teller,
-            &walk.scope,
-            function,
-            arguments,
-            &values,
-            signature,
-        ),
-        _ => {
-            let text = "% is a variable, and no function";
-            let parts = [Part::Name(function)];
-            walk.teller.say_of(Code::TypeMismatch, span, text, &parts);
+pub(crate) fn explain_call(
+    teller: &mut Teller<'_>,
+    scope: &mut Scope<'_>,
+    function: Ident,
+    arguments: &[Expr],
+) {
+    if is_among(teller, function, arguments) {
+        let values = values_of(scope, arguments);
+        note_theirs(teller, scope.names(), function);
+        match scope.meaning(function) {
+            Meaning::Unknown => explain_unknown(teller, scope, Sort::Value, function),
+            Meaning::Routine { signature, .. } => {
+                explain_called(teller, scope, function, arguments, &values, signature);
+            }
+            _ => {
+                let text =
+                    "% is a variable, and no function\nhint: only a function is called, by its name";
+                let parts = [Part::Name(function)];
+                teller.say_of(Code::TypeMismatch, function.span, text, &parts);
+            }
         }
     }
 }

@@ -1,6 +1,7 @@
 //! Words for values that are converted to a type, and for regions: that are not live, or do not outlive each other.
-use crate::homes::{Home, Origin, find_home};
+use crate::homes::{Home, Origin};
 use crate::teller::{Part, Teller};
+use cyc_forms::types::is_pointer;
 use cyc_forms::{Given, convert};
 use cyc_scope::{Scope, Settled};
 use cyc_types::{Region, Ty};
@@ -22,7 +23,7 @@ fn last_end(teller: &Teller<'_>, name: usize) -> Option<Span> {
 /// Says why a region is not live.
 pub(crate) fn say_closed(teller: &mut Teller<'_>, region: Region) {
     let own = Part::Region(region);
-    match find_home(&teller.homes, region) {
+    match teller.homes.find(region) {
         Some(
             Home {
                 origin: Origin::Caller,
@@ -72,22 +73,24 @@ pub(crate) fn explain_closed(
 
 /// Where a region begins that has this home, if there is more to say of that than what it is called.
 fn beginning_of(region: Region, home: Option<Home>) -> &'static str {
-    match (region, home) {
-        (_, Some(Home { name: None, .. })) => "",
-        (Region::Heap, _) => "% lives for the whole run",
-        (Region::Unique, _) => "% stands apart from all regions",
-        (_, Some(home)) => match home.origin {
+    match home {
+        Some(home) => match home.origin {
+            _ if home.name.is_none() => "",
             Origin::Caller => "% comes from the caller",
             Origin::Block | Origin::Item => "% begins at %",
             Origin::Dynamic => "% is a dynamic region, declared at %",
         },
-        (_, None) => "",
+        None => match region {
+            Region::Heap => "% lives for the whole run",
+            Region::Unique => "% stands apart from all regions",
+            Region::Variable(_) => "",
+        },
     }
 }
 
 /// Says where a region begins behind a mark, if there is anything to say.
 fn say_beginning(teller: &mut Teller<'_>, mark: &str, region: Region) -> bool {
-    let home = find_home(&teller.homes, region);
+    let home = teller.homes.find(region);
     let text = beginning_of(region, home);
     if text.is_empty() {
         return false;
@@ -109,47 +112,50 @@ pub(crate) fn say_shorter(teller: &mut Teller<'_>, region: Region, other: Region
     if region != other {
         say_beginning(teller, if is_begun { ", " } else { ": " }, other);
     }
-    if let Some(home) = find_home(&teller.homes, region) {
-        let other_home = find_home(&teller.homes, other);
+    if let Some(home) = teller.homes.find(region) {
+        let other_home = teller.homes.find(other);
         teller.hint(advice_on_regions(home, other, other_home), &parts);
     }
 }
 
 /// What to do about a region of the function at hand that does not outlive another.
 fn advice_on_regions(home: Home, other: Region, other_home: Option<Home>) -> &'static str {
-    match (home.origin, other, other_home) {
-        (_, Region::Unique, _) => "",
-        (Origin::Caller, Region::Heap, _) => {
-            "a parameter's pointer may lead anywhere: write `H behind its mark to take heap pointers alone, or name one region on both sides, as in int *`r same(int *`r p)"
-        }
-        (Origin::Block, Region::Heap, _) => {
-            "a variable is gone when its block ends: make the object by new"
-        }
-        (_, Region::Heap, _) => {
-            "what is in % is gone when its region ends: make the object by new, or write the region into the type"
-        }
-        (
-            _,
-            _,
-            Some(
-                Home {
-                    origin: Origin::Dynamic,
-                    ..
-                },
-            ),
-        ) => {
-            "a dynamic region ends where its key is given back: only the heap is known to outlive it"
-        }
-        (Origin::Caller, _, Some(Home { name: Some(_), .. })) if home.name.is_some() => {
+    match other {
+        Region::Unique => "",
+        Region::Heap => match home.origin {
+            Origin::Caller => {
+                "a parameter's pointer may lead anywhere: write `H behind its mark to take heap pointers alone, or name one region on both sides, as in int *`r same(int *`r p)"
+            }
+            Origin::Block => "a variable is gone when its block ends: make the object by new",
+            Origin::Item | Origin::Dynamic => {
+                "what is in % is gone when its region ends: make the object by new, or write the region into the type"
+            }
+        },
+        Region::Variable(_) => match other_home {
+            Some(other) => advice_between(home, other),
+            None => "",
+        },
+    }
+}
+
+/// The same, where the other one is of the function at hand too.
+fn advice_between(home: Home, other: Home) -> &'static str {
+    if matches!(other.origin, Origin::Dynamic) {
+        return "a dynamic region ends where its key is given back: only the heap is known to outlive it";
+    }
+    match home.origin {
+        Origin::Caller if home.name.is_some() && other.name.is_some() => {
             "if it does at each call, declare so behind the parameters: % > %"
         }
-        (Origin::Caller, _, _) => {
+        Origin::Caller => {
             "name the regions of both types, as one, or as two with a constraint: `a > `b"
         }
-        (Origin::Block, _, _) => {
+        Origin::Block => {
             "a variable is gone when its block ends: make an object by new, or by rnew in the other region"
         }
-        (_, _, _) => "what is in % is gone when its block ends: make the object in %",
+        Origin::Item | Origin::Dynamic => {
+            "what is in % is gone when its block ends: make the object in %"
+        }
     }
 }
 
@@ -180,17 +186,28 @@ fn has_shape(of_type: &Ty, wanted: &Ty) -> bool {
     }
 }
 
+/// Whether a value is a pointer to what is no int.
+fn leads_further(given: Given<'_>) -> bool {
+    match given {
+        Given::Value(Ty::Pointer { target, .. }) => !matches!(**target, Ty::Int),
+        _ => false,
+    }
+}
+
 /// What to do about a value of another type than this, if there is anything to say.
 fn advice(given: Given<'_>, wanted: &Ty) -> &'static str {
-    match (given, wanted) {
-        (Given::Void, _) => "a function that returns no value is called by itself",
-        (Given::Int | Given::Value(Ty::Int), Ty::Pointer { .. }) => "write NULL for a null pointer",
-        (Given::Value(Ty::Pointer { target, .. }), Ty::Pointer { .. })
-            if !matches!(**target, Ty::Int) => {
-            "what a pointer leads to is not converted: put a value of that very type there"
-        }
-        (Given::Value(Ty::Pointer { .. }), Ty::Int) => "write *p for what p leads to",
-        _ => "",
+    if given.is_void() {
+        "a function that returns no value is called by itself"
+    } else if given.is_pointer() && matches!(wanted, Ty::Int) {
+        "write *p for what p leads to"
+    } else if !is_pointer(wanted) {
+        ""
+    } else if given.is_int() {
+        "write NULL for a null pointer"
+    } else if leads_further(given) {
+        "what a pointer leads to is not converted: put a value of that very type there"
+    } else {
+        ""
     }
 }
 

@@ -4,22 +4,41 @@ use crate::teller::{Part, Teller};
 use crate::written::{explain_region, explain_written};
 use cyc_heads::members;
 use cyc_syntax::{
-    BaseType, Constructor, Declaration, GlobalValue, Ident, Member, Parameters, WrittenType,
+    BaseType, Constructor, Declaration, GlobalValue, Ident, Member, Parameters, Tree, WrittenType,
 };
 use cyc_words::{Code, Span};
 
 const UNKNOWN: &str = "the parameters name no region `%: write it into the type of one";
 
+/// The words for a fault in the head of a declaration, or for a `main` that is missing.
+pub(crate) fn explain_heads(teller: &mut Teller<'_>, tree: &Tree) {
+    let start = Span { line: 1, column: 1 };
+    let text = "the program has no function main";
+    teller.say_of(Code::BadMain, start, text, &[]);
+    for i in 0..tree.declarations.len() {
+        explain_head(teller, &tree.declarations[..i], &tree.declarations[i]);
+    }
+}
+
 /// The words for a fault in the head of a declaration, behind these ones.
-pub(crate) fn explain_head(
-    teller: &mut Teller<'_>,
-    before: &[Declaration],
-    declaration: &Declaration,
-) {
+fn explain_head(teller: &mut Teller<'_>, before: &[Declaration], declaration: &Declaration) {
     teller.function = None;
     match declaration {
-        Declaration::Struct { name, fields, .. } => {
-            explain_twice(teller, *name, first_declared(before, *name, true));
+        Declaration::Struct {
+            name,
+            regions,
+            fields,
+        } => {
+            for other in before {
+                if let Declaration::Struct { name: other, .. } = other {
+                    explain_twice(teller, *name, *other);
+                }
+            }
+            for i in 0..regions.len() {
+                for j in 0..i {
+                    explain_twice(teller, regions[i], regions[j]);
+                }
+            }
             explain_fields(teller, fields);
         }
         Declaration::Exceptions { constructors } => explain_constructors(teller, constructors),
@@ -53,26 +72,21 @@ pub(crate) fn explain_head(
 
 // ---- names
 
-/// Where a struct of this name is first declared, or else a global or a function.
-fn first_declared(before: &[Declaration], name: Ident, is_struct: bool) -> Option<Span> {
-    for declaration in before {
-        let other = match declaration {
-            Declaration::Struct { name, .. } if is_struct => *name,
-            Declaration::Global { name, .. } | Declaration::Function { name, .. } if !is_struct => {
-                *name
-            }
-            _ => continue,
-        };
-        if other.name == name.name {
-            return Some(other.span);
-        }
-    }
-    None
-}
-
 /// The words for a global or a function whose name is there already.
 fn explain_named(teller: &mut Teller<'_>, before: &[Declaration], name: Ident) {
-    explain_twice(teller, name, first_declared(before, name, false));
+    for other in before {
+        match other {
+            Declaration::Global { name: other, .. } | Declaration::Function { name: other, .. } => {
+                explain_twice(teller, name, *other);
+            }
+            Declaration::Struct { .. } | Declaration::Exceptions { .. } => {}
+        }
+    }
+    explain_built_in(teller, name);
+}
+
+/// The words for a name that is declared twice, and only once in the text.
+fn explain_built_in(teller: &mut Teller<'_>, name: Ident) {
     let text = "`%` is there in each program";
     teller.say_of(Code::DeclaredTwice, name.span, text, &[Part::Name(name)]);
 }
@@ -81,10 +95,9 @@ fn explain_constructors(teller: &mut Teller<'_>, constructors: &[Constructor]) {
     for i in 0..constructors.len() {
         let name = constructors[i].name;
         for j in 0..i {
-            if constructors[j].name.name == name.name {
-                explain_twice(teller, name, Some(constructors[j].name.span));
-            }
+            explain_twice(teller, name, constructors[j].name);
         }
+        explain_built_in(teller, name);
     }
 }
 
@@ -94,9 +107,7 @@ fn explain_members(teller: &mut Teller<'_>, members: &[Member]) {
         let name = members[i].name;
         explain_written(teller, &members[i].of_type, UNKNOWN);
         for j in 0..i {
-            if members[j].name.name == name.name {
-                explain_twice(teller, name, Some(members[j].name.span));
-            }
+            explain_twice(teller, name, members[j].name);
         }
     }
 }
@@ -119,7 +130,7 @@ fn explain_fields(teller: &mut Teller<'_>, fields: &[Member]) {
 
 /// The words for what a function's effect and its constraints name.
 fn explain_asked(teller: &mut Teller<'_>, parameters: &Parameters) {
-    let unique = "`% is no region of a constraint";
+    let unique = "`% is no region of a constraint\nhint: leave the constraint out";
     for constraint in &parameters.constraints {
         explain_region(teller, constraint.longer, UNKNOWN, unique);
         explain_region(teller, constraint.shorter, UNKNOWN, unique);
@@ -174,7 +185,8 @@ fn initial(written: &WrittenType, value: Option<GlobalValue>) -> (Span, &'static
 fn explain_global(teller: &mut Teller<'_>, written: &WrittenType, value: Option<GlobalValue>) {
     let unknown = "no region `% is in scope here: only `H and `U are";
     explain_written(teller, written, unknown);
-    let text = "a global is an int or a pointer";
+    let text =
+        "a global is an int or a pointer\nhint: give the function what it needs as a parameter";
     teller.say_of(Code::TypeMismatch, written.span, text, &[]);
     let (span, found) = initial(written, value);
     let parts = [Part::Written(written), Part::Text(found)];

@@ -4,12 +4,12 @@ ghost use Rattle.cyc_words.specs.Fault.{memory_fault};
 ghost use Rattle.cyc_syntax.specs.TreeView.{view_declaration};
 ghost use Rattle.cyc_types.specs.typing.Programs.{IsRefusedProgram};
 
-use crate::bodies::words_in_body;
-use crate::declarations::explain_head;
+use crate::bodies::explain_body;
+use crate::declarations::explain_heads;
 use crate::teller::Teller;
-use cyc_check::check;
-use cyc_syntax::{Declaration, Tree};
-use cyc_words::{Code, Fault, Span};
+use cyc_check::refusal;
+use cyc_syntax::Tree;
+use cyc_words::Fault;
 use std::alloc::Global;
 
 /// A refusal, and the words for it, if there are any: lines without the last line feed. A last line that begins with `hint: ` says what to
@@ -26,47 +26,21 @@ pub fn explain(alloc: Global, tree: &Tree) -> Option<Explained>
     ensures { IfSome result (λ e. (e.fault ≡ memory_fault)
         ⊎ IsRefusedProgram tree.now.names (map view_declaration tree.now.declarations.items) e.fault) }
 {
-    let mut explained = refusal(alloc, tree)?;
-    explained.words = words_for(alloc, tree, explained.fault);
-    Some(explained)
-}
-
-/// The refusal of a tree, before there are words for it.
-fn refusal(alloc: Global, tree: &Tree) -> Option<Explained>
-    ensures { IfSome result (λ e. (e.fault ≡ memory_fault)
-        ⊎ IsRefusedProgram tree.now.names (map view_declaration tree.now.declarations.items) e.fault) }
-{
-    let Err(fault) = check(alloc, tree) else {
-        return None;
-    };
-    Some(Explained { fault, words: None })
+    match refusal(alloc, tree) {
+        Some(fault) => Some(Explained {
+            fault,
+            words: words_for(alloc, tree, fault),
+        }),
+        None => None,
+    }
 }
 
 /// The words for a fault in a head, or else in the body that it stands in.
 fn words_for(alloc: Global, tree: &Tree, fault: Fault) -> Option<Vec<u8>> {
     let mut teller = Teller::new(alloc, tree, fault);
-    let start = Span { line: 1, column: 1 };
-    teller.say_of(
-        Code::BadMain,
-        start,
-        "the program has no function main",
-        &[],
-    );
-    for i in 0..tree.declarations.len() {
-        explain_head(&mut teller, &tree.declarations[..i], &tree.declarations[i]);
-    }
+    explain_heads(&mut teller, tree);
     for declaration in &tree.declarations {
-        if let Declaration::Function {
-            result,
-            name,
-            parameters,
-            body,
-        } = declaration
-        {
-            if teller.is_from(body.span) && !teller.is_from(body.end) {
-                return words_in_body(alloc, tree, fault, result, *name, parameters, body);
-            }
-        }
+        explain_body(&mut teller, tree, declaration);
     }
     teller.into_words()
 }

@@ -1,12 +1,11 @@
 //! What the forms of an expression ask of their parts, in words where that is the fault.
-use crate::bodies::Walk;
-use crate::calls::{explain_call, explain_passed, values_of};
+use crate::calls::explain_call;
 use crate::conversions::explain_conversion;
 use crate::names::{Sort, explain_unknown};
 use crate::teller::{Part, Teller};
-use crate::values::{given, place_type, value_type};
-use crate::wanted::{Wanted, explain_content, explain_given, explain_value, wanted_by};
+use crate::wanted::{Wanted, explain_content, explain_given, explain_value, given, wanted_by};
 use crate::written::{explain_region, say_count};
+use cyc_check::{place_type, value_type};
 use cyc_forms::{Given, is_looking, span_inside, span_of};
 use cyc_scope::{Meaning, Scope};
 use cyc_syntax::{BinaryOperator, Expr, Ident, Initial, Operation, Postfix, PrefixOperator};
@@ -14,63 +13,18 @@ use cyc_types::Ty;
 use cyc_types::formation::arguments_or;
 use cyc_types::typed::{Lvalue, ValueType};
 use cyc_words::{Code, Span};
-use std::alloc::AllocError;
 
 const COMPARED: &str = "two ints, two thin pointers to one type, or a pointer and NULL";
-
-/// The words for a fault in what an expression asks of its parts.
-pub(crate) fn explain_expression(walk: &mut Walk<'_, '_>, expression: &Expr) {
-    let scope = &mut walk.scope;
-    let teller = &mut walk.teller;
-    match expression {
-        Expr::Variable { name } => explain_name(teller, scope, *name),
-        Expr::UniqueRegion { span } => {
-            let text =
-                "unique_region stands alone between the brackets of rnew, and is no value\nhint: write rnew(unique_region) and what the object is made of";
-            teller.say_of(Code::RegionOrKeyMisused, *span, text, &[]);
-        }
-        Expr::FreeKey { key, .. } => explain_key(teller, scope, *key),
-        Expr::Call {
-            function,
-            arguments,
-        } => explain_call(walk, *function, arguments),
-        Expr::NumberOfElements { pointer, .. } => {
-            explain_value(teller, scope, pointer, Wanted::Fat);
-        }
-        Expr::FreeUnique { pointer, .. } => explain_value(teller, scope, pointer, Wanted::Freed),
-        Expr::Chained { base, postfixes } => explain_chain(teller, scope, base, postfixes),
-        Expr::Prefixed {
-            span,
-            operator,
-            operand,
-        } => explain_prefixed(teller, scope, *operator, *span, operand),
-        Expr::New { value, .. } => explain_initial(teller, scope, value),
-        Expr::RegionNew { region, value, .. } => {
-            explain_value(teller, scope, region, Wanted::Handle);
-            explain_initial(teller, scope, value);
-        }
-        Expr::Binary { first, rest } => explain_binary(teller, scope, first, rest),
-        Expr::Assign { target, value } => {
-            explain_place(teller, scope, target);
-            explain_assigned(teller, scope, target, value);
-        }
-        Expr::Number { .. }
-        | Expr::Character { .. }
-        | Expr::Null { .. }
-        | Expr::HeapRegion { .. }
-        | Expr::Bracketed { .. } => {}
-    }
-}
 
 // ---- names and places
 
 /// The words for a name that is no value, or none that is read.
 pub(crate) fn explain_name(teller: &mut Teller<'_>, scope: &Scope<'_>, name: Ident) {
-    let parts = [Part::Name(name)];
+    let parts = [Part::Name(name), Part::Name(name)];
     match scope.meaning(name) {
         Meaning::Unknown => explain_unknown(teller, scope, Sort::Value, name),
         Meaning::Routine { .. } => {
-            let text = "% is a function, and no value";
+            let text = "% is a function, and no value\nhint: call it: %(..)";
             teller.say_of(Code::TypeMismatch, name.span, text, &parts);
         }
         Meaning::Variable {
@@ -84,40 +38,47 @@ pub(crate) fn explain_name(teller: &mut Teller<'_>, scope: &Scope<'_>, name: Ide
     }
 }
 
+/// The words for `unique_region` where it may not stand.
+pub(crate) fn explain_unique_region(teller: &mut Teller<'_>, span: Span) {
+    let text =
+        "unique_region stands alone between the brackets of rnew, and is no value\nhint: write rnew(unique_region) and what the object is made of";
+    teller.say_of(Code::RegionOrKeyMisused, span, text, &[]);
+}
+
 /// The words for what a name means at a place where a key is wanted.
 pub(crate) fn explain_key(teller: &mut Teller<'_>, scope: &Scope<'_>, name: Ident) {
     explain_name(teller, scope, name);
-    match scope.meaning(name) {
-        Meaning::Variable { of_type, .. } | Meaning::Fixed { of_type, .. } => {
-            explain_no_key(teller, name, Given::Value(of_type));
-        }
-        Meaning::Counter { .. } => explain_no_key(teller, name, Given::Int),
-        _ => {}
-    }
-}
-
-fn explain_no_key(teller: &mut Teller<'_>, name: Ident, given: Given<'_>) {
-    if !given.is_key() {
+    let found = match scope.meaning(name) {
+        Meaning::Variable { of_type, .. } | Meaning::Fixed { of_type, .. } => Given::Value(of_type),
+        _ => Given::Int,
+    };
+    if !found.is_key() {
         let text =
             "% is no key of a dynamic region: found %\nhint: a key is declared so: let NewDynamicRegion{<`k> key} = new_ukey();";
-        let parts = [Part::Name(name), Part::Given(given)];
+        let parts = [Part::Name(name), Part::Given(found)];
         teller.say_of(Code::RegionOrKeyMisused, name.span, text, &parts);
     }
 }
 
 /// The words for an expression that is no place.
 pub(crate) fn explain_place(teller: &mut Teller<'_>, scope: &Scope<'_>, expression: &Expr) {
-    if !teller.is_fault(Code::NotAPlace, span_of(expression)) {
-        return;
+    if teller.is_fault(Code::NotAPlace, span_of(expression)) {
+        match root_of(expression) {
+            Some(name) => {
+                let text = text_on_place(scope.meaning(name));
+                teller.say(text, &[Part::Name(name), Part::Name(name)]);
+            }
+            None => {
+                let text = "assign to a variable, *p, p->f or p[i]: these alone have an address";
+                teller.hint(text, &[]);
+            }
+        }
     }
-    let Some(name) = root_of(expression) else {
-        teller.hint(
-            "assign to a variable, *p, p->f or p[i]: these alone have an address",
-            &[],
-        );
-        return;
-    };
-    let text = match scope.meaning(name) {
+}
+
+/// Why a name that means this is no place.
+fn text_on_place(meaning: Meaning<'_>) -> &'static str {
+    match meaning {
         Meaning::Fixed { .. } => {
             "% is the handle of a region item: it is not assigned and has no address\nhint: copy it into a variable: region_t<`r> copy = %;"
         }
@@ -125,21 +86,25 @@ pub(crate) fn explain_place(teller: &mut Teller<'_>, scope: &Scope<'_>, expressi
             "% counts the elements: it is not assigned and has no address\nhint: copy it into a variable"
         }
         _ => "% is a function, and no variable",
-    };
-    teller.say(text, &[Part::Name(name), Part::Name(name)]);
+    }
 }
 
-/// The words for a value that is assigned to a place of another type.
-fn explain_assigned(teller: &mut Teller<'_>, scope: &mut Scope<'_>, target: &Expr, value: &Expr) {
+/// The words for a value that is assigned to no place, or to one of another type.
+pub(crate) fn explain_assigned(
+    teller: &mut Teller<'_>,
+    scope: &mut Scope<'_>,
+    target: &Expr,
+    value: &Expr,
+) {
     let span = span_of(value);
-    if !teller.is_at(span) {
-        return;
-    }
-    if let (Some(wanted), Some(found)) = (
-        place_type(scope, target),
-        value_type(scope, value, false),
-    ) {
-        explain_conversion(teller, scope, given(&found), &wanted, span);
+    explain_place(teller, scope, target);
+    if teller.is_at(span) {
+        if let (Some(wanted), Some(found)) = (
+            place_type(scope, target),
+            value_type(scope, value, false),
+        ) {
+            explain_conversion(teller, scope, given(&found), &wanted, span);
+        }
     }
 }
 
@@ -162,7 +127,8 @@ fn root_of(expression: &Expr) -> Option<Ident> {
 fn explain_address(teller: &mut Teller<'_>, scope: &Scope<'_>, operand: &Expr) {
     let span = span_inside(operand);
     explain_place(teller, scope, operand);
-    teller.say_of(Code::RegionOrKeyMisused, span, "a key has no address", &[]);
+    let text = "a key has no address\nhint: pass the key itself, which gives it away";
+    teller.say_of(Code::RegionOrKeyMisused, span, text, &[]);
     if let Some(name) = root_of(operand) {
         let parts = [Part::Name(name), Part::Name(name)];
         let text =
@@ -173,8 +139,8 @@ fn explain_address(teller: &mut Teller<'_>, scope: &Scope<'_>, operand: &Expr) {
 
 // ---- one operand
 
-/// What a prefix operator asks of its operand.
-fn explain_prefixed(
+/// What a prefix operator asks of what its operand leads to.
+pub(crate) fn explain_prefixed(
     teller: &mut Teller<'_>,
     scope: &mut Scope<'_>,
     operator: PrefixOperator,
@@ -182,12 +148,8 @@ fn explain_prefixed(
     operand: &Expr,
 ) {
     match operator {
-        PrefixOperator::Negate | PrefixOperator::Complement => {
-            explain_value(teller, scope, operand, Wanted::Int);
-        }
-        PrefixOperator::Not => explain_value(teller, scope, operand, Wanted::Tested),
+        PrefixOperator::Negate | PrefixOperator::Complement | PrefixOperator::Not => {}
         PrefixOperator::Dereference => {
-            explain_value(teller, scope, operand, Wanted::Pointer);
             if teller.is_at(span) {
                 if let Some(value) = value_type(scope, operand, true) {
                     if let Some(target) = target_of(&value) {
@@ -213,31 +175,44 @@ fn target_of(value: &ValueType) -> Option<&Ty> {
 // ---- postfixes
 
 /// What the postfixes behind an operand ask, one after the other.
-fn explain_chain(
+pub(crate) fn explain_chain(
     teller: &mut Teller<'_>,
     scope: &mut Scope<'_>,
     base: &Expr,
     postfixes: &[Postfix],
 ) {
     let start = span_of(base);
-    let Some(first) = value_type(scope, base, true) else {
-        return;
-    };
-    let mut value = first;
-    for postfix in postfixes {
-        explain_postfix(teller, scope, start, &value, postfix);
-        let Some(of_type) = type_behind(scope, &value, postfix) else {
-            return;
-        };
-        explain_content(teller, &of_type, start);
-        value = ValueType::Value { of_type };
+    if is_in_chain(teller, start, postfixes) {
+        let mut known = value_type(scope, base, true);
+        for postfix in postfixes {
+            let mut behind = None;
+            if let Some(value) = &known {
+                explain_postfix(teller, scope, start, value, postfix);
+                behind = type_behind(scope, value, postfix);
+            }
+            if let Some(ValueType::Value { of_type }) = &behind {
+                explain_content(teller, of_type, start);
+            }
+            known = behind;
+        }
     }
 }
 
-/// What a postfix asks of the pointer, which begins at this place, and of its index.
+/// Whether the fault is at the place where a chain of postfixes begins, or at a field's name.
+fn is_in_chain(teller: &Teller<'_>, start: Span, postfixes: &[Postfix]) -> bool {
+    let mut is_here = teller.is_at(start);
+    for postfix in postfixes {
+        if let Postfix::Field { name } = postfix {
+            is_here = is_here || teller.is_at(name.span);
+        }
+    }
+    is_here
+}
+
+/// What a postfix asks of the pointer, which begins at this place.
 fn explain_postfix(
     teller: &mut Teller<'_>,
-    scope: &mut Scope<'_>,
+    scope: &Scope<'_>,
     start: Span,
     pointer: &ValueType,
     postfix: &Postfix,
@@ -249,59 +224,61 @@ fn explain_postfix(
                 explain_unknown(teller, scope, Sort::Field(*number), *name);
             }
         }
-        Postfix::Index { index } => {
+        Postfix::Index { .. } => {
             explain_given(teller, scope, Wanted::Fat, given(pointer), start);
-            explain_value(teller, scope, index, Wanted::Int);
         }
     }
 }
 
 /// The type of what a postfix leads to.
-fn type_behind(scope: &Scope<'_>, pointer: &ValueType, postfix: &Postfix) -> Option<Ty> {
-    let target = target_of(pointer)?;
-    let Postfix::Field { name } = postfix else {
-        return target.share().ok();
-    };
-    let Ty::Struct { number, regions } = target else {
-        return None;
-    };
-    for field in scope.fields(*number) {
-        if field.name == name.name.number {
-            return field.of_type.substituted(scope.alloc(), regions).ok();
+fn type_behind(scope: &Scope<'_>, pointer: &ValueType, postfix: &Postfix) -> Option<ValueType> {
+    let of_type = match (target_of(pointer), postfix) {
+        (Some(target), Postfix::Index { .. }) => target.share().ok(),
+        (Some(Ty::Struct { number, regions }), Postfix::Field { name }) => {
+            let mut found = None;
+            for field in scope.fields(*number) {
+                if field.name == name.name.number {
+                    found = field.of_type.substituted(scope.alloc(), regions).ok();
+                }
+            }
+            found
         }
+        _ => None,
+    };
+    match of_type {
+        Some(of_type) => Some(ValueType::Value { of_type }),
+        None => None,
     }
-    None
 }
 
 // ---- operators of two operands
 
-/// What the operators of a chain ask, one after the other. All but sums of pointers give ints.
-fn explain_binary(
+/// What the operators of a chain ask of what stands to the left of each. All but sums of pointers give ints.
+pub(crate) fn explain_binary(
     teller: &mut Teller<'_>,
     scope: &mut Scope<'_>,
     first: &Expr,
     operations: &[Operation],
 ) {
-    let is_seen = match operations.first() {
-        Some(operation) => is_looking(operation.operator),
-        None => false,
-    };
-    let Some(value) = value_type(scope, first, is_seen) else {
-        return;
-    };
-    let mut left = value;
-    for operation in operations {
-        explain_operation(teller, scope, given(&left), span_of(first), operation);
-        if !matches!(
-            operation.operator,
-            BinaryOperator::Add | BinaryOperator::Subtract
-        ) {
-            left = ValueType::Value { of_type: Ty::Int };
+    let span = span_of(first);
+    let is_seen = matches!(operations.first(), Some(operation) if is_looking(operation.operator));
+    if teller.is_at(span) {
+        if let Some(value) = value_type(scope, first, is_seen) {
+            let mut left = given(&value);
+            for operation in operations {
+                explain_operation(teller, scope, left, span, operation);
+                if !matches!(
+                    operation.operator,
+                    BinaryOperator::Add | BinaryOperator::Subtract
+                ) {
+                    left = Given::Int;
+                }
+            }
         }
     }
 }
 
-/// What an operation asks of its left operand, in a chain that begins at this place, and of its right one.
+/// What an operation asks of its left operand, in a chain that begins at this place.
 fn explain_operation(
     teller: &mut Teller<'_>,
     scope: &mut Scope<'_>,
@@ -310,103 +287,110 @@ fn explain_operation(
     operation: &Operation,
 ) {
     let operator = operation.operator;
-    let right_span = span_of(&operation.operand);
-    let Some(right) = value_type(scope, &operation.operand, is_looking(operator)) else {
-        return;
-    };
-    let right = given(&right);
-    let (first, second) = wanted_by(operator);
-    explain_given(teller, scope, first, left, span);
-    explain_given(teller, scope, second, right, right_span);
-    if matches!(operator, BinaryOperator::Equal | BinaryOperator::NotEqual)
-        && teller.is_fault(Code::TypeMismatch, span)
-    {
-        teller.say("expected %, found ", &[Part::Text(COMPARED)]);
-        teller.say("% and ", &[Part::Given(left)]);
-        teller.say("%", &[Part::Given(right)]);
+    explain_given(teller, scope, wanted_by(operator).0, left, span);
+    if matches!(operator, BinaryOperator::Equal | BinaryOperator::NotEqual) {
+        if let Some(right) = value_type(scope, &operation.operand, true) {
+            explain_compared(teller, left, given(&right), span);
+        }
+    }
+}
+
+/// The words for two values that are not compared.
+fn explain_compared<'g>(teller: &mut Teller<'_>, left: Given<'g>, right: Given<'g>, span: Span) {
+    if teller.is_fault(Code::TypeMismatch, span) {
+        let parts = [Part::Text(COMPARED), Part::Given(left), Part::Given(right)];
+        teller.say("expected %, found % and %", &parts);
         teller.hint(advice_on_compared(left, right), &[]);
     }
 }
 
 /// What to do about two values that are not compared.
 fn advice_on_compared(left: Given<'_>, right: Given<'_>) -> &'static str {
-    match (left, right) {
-        (Given::Value(Ty::Pointer { .. }), Given::Value(Ty::Pointer { .. })) => {
-            "? pointers are not compared: put both into * variables of one type first"
-        }
-        (Given::Value(Ty::Pointer { .. }), _) | (_, Given::Value(Ty::Pointer { .. })) => {
-            "compare a pointer with NULL"
-        }
-        _ => "",
+    if left.is_pointer() && right.is_pointer() {
+        "? pointers are not compared: put both into * variables of one type first"
+    } else if left.is_pointer() || right.is_pointer() {
+        "compare a pointer with NULL"
+    } else {
+        ""
     }
 }
 
 // ---- new objects
 
-/// What a new object asks of what it is made of.
-fn explain_initial(teller: &mut Teller<'_>, scope: &mut Scope<'_>, initial: &Initial) {
-    match initial {
-        Initial::Plain { value } => explain_value(teller, scope, value, Wanted::Content),
-        Initial::Fields {
-            name,
-            regions,
-            values,
-        } => explain_fields(teller, scope, *name, regions, values),
-        Initial::Array {
-            length,
-            element,
-            ..
-        } => {
-            explain_value(teller, scope, length, Wanted::Int);
-            explain_value(teller, scope, element, Wanted::Content);
-        }
-    }
-}
-
 /// What a new struct asks.
-fn explain_fields(
+pub(crate) fn explain_fields(
     teller: &mut Teller<'_>,
     scope: &mut Scope<'_>,
     name: Ident,
     regions: &[Ident],
     expressions: &[Expr],
 ) {
-    let values = values_of(scope, expressions);
     explain_unknown(teller, scope, Sort::Struct, name);
     for region in regions {
         let unknown = "no region `% is in scope here";
-        let misused = "no struct has `% as a region argument";
+        let misused =
+            "no struct has `% as a region argument\nhint: name another region, or leave the regions out for `H";
         explain_region(teller, *region, unknown, misused);
     }
-    let Some(count) = scope.structs().parameters(name.name.number) else {
-        return;
-    };
-    let number = scope.structs().number(name.name.number);
-    let wanted = scope.fields(number).len();
-    if teller.is_fault(Code::TypeMismatch, name.span) {
-        if !regions.is_empty() && regions.len() != count {
-            say_count(teller, count, regions.len(), "region");
-        } else if wanted != expressions.len() {
-            say_count(teller, wanted, expressions.len(), "value");
+    if let Some(count) = scope.structs().parameters(name.name.number) {
+        if teller.is_fault(Code::TypeMismatch, name.span) {
+            explain_counts(
+                teller,
+                scope,
+                name,
+                (regions.len(), count),
+                expressions.len(),
+            );
         }
-    }
-    if let Ok(types) = field_types(scope, number, count, regions) {
-        explain_passed(teller, scope, expressions, &values, &types);
+        for i in 0..expressions.len() {
+            if teller.is_at(span_of(&expressions[i])) {
+                explain_field(teller, scope, (name, i), (count, regions), &expressions[i]);
+            }
+        }
     }
 }
 
-/// The types of the fields of the struct of this number with so many regions, which are these.
-fn field_types(
+/// The words for a struct with another number of regions, of which these are given and wanted, or of values.
+fn explain_counts(
+    teller: &mut Teller<'_>,
     scope: &Scope<'_>,
-    number: usize,
-    count: usize,
-    regions: &[Ident],
-) -> Result<Vec<Ty>, AllocError> {
-    let alloc = scope.alloc();
-    let arguments = arguments_or(alloc, scope.names(), count, regions)?;
-    let mut types = Vec::new(alloc);
-    for field in scope.fields(number) {
-        types.push(field.of_type.substituted(alloc, &arguments)?)?;
+    name: Ident,
+    regions: (usize, usize),
+    values: usize,
+) {
+    let number = scope.structs().number(name.name.number);
+    let wanted = scope.fields(number).len();
+    if regions.0 > 0 && regions.0 != regions.1 {
+        say_count(teller, regions.1, regions.0, "region");
+    } else if wanted != values {
+        say_count(teller, wanted, values, "value");
     }
-    Ok(types)
+}
+
+/// The words for the value of a field, which has this number in the struct of this name, with so many regions, which are these.
+fn explain_field(
+    teller: &mut Teller<'_>,
+    scope: &mut Scope<'_>,
+    field: (Ident, usize),
+    regions: (usize, &[Ident]),
+    expression: &Expr,
+) {
+    if let Some(value) = value_type(scope, expression, false) {
+        if let Some(wanted) = field_type(scope, field, regions) {
+            explain_conversion(teller, scope, given(&value), &wanted, span_of(expression));
+        }
+    }
+}
+
+/// The type of a field.
+fn field_type(scope: &Scope<'_>, field: (Ident, usize), regions: (usize, &[Ident])) -> Option<Ty> {
+    let alloc = scope.alloc();
+    let number = scope.structs().number(field.0.name.number);
+    match arguments_or(alloc, scope.names(), regions.0, regions.1) {
+        Ok(arguments) => match scope.fields(number).get(field.1) {
+            Some(field) => field.of_type.substituted(alloc, &arguments).ok(),
+            None => None,
+        },
+        Err(_) => None,
+    }
 }

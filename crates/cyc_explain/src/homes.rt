@@ -1,6 +1,8 @@
 //! Where the regions of a function begin, and their names.
-use cyc_types::Region;
+use cyc_syntax::{BaseType, Ident, Member, WrittenType};
+use cyc_types::{Region, RegionNames};
 use cyc_words::Span;
+use std::alloc::Global;
 
 /// What makes a region.
 #[derive(Clone, Copy)]
@@ -15,32 +17,118 @@ pub(crate) enum Origin {
     Dynamic,
 }
 
-/// A region: its number, its name, if it has one, and where the name is declared or else its block begins.
+/// A region: its name, if it has one, and where that is declared or else its block begins.
 #[derive(Clone, Copy)]
 pub(crate) struct Home {
-    pub(crate) region: usize,
     pub(crate) name: Option<usize>,
     pub(crate) span: Span,
     pub(crate) origin: Origin,
 }
 
-/// Where a region begins.
-pub(crate) fn find_home(homes: &[Home], region: Region) -> Option<Home> {
-    let Region::Variable(number) = region else {
-        return None;
-    };
-    for home in homes {
-        if home.region == number {
-            return Some(*home);
-        }
-    }
-    None
+/// The regions of a function up to the fault, each at the place of its number.
+#[derive(Drop)]
+pub(crate) struct Homes {
+    all: Vec<Home>,
+    /// Whether memory did not run out, so that none is left out.
+    pub(crate) is_whole: bool,
 }
 
-/// The name of a region, if it has one.
-pub(crate) fn find_name(homes: &[Home], region: Region) -> Option<usize> {
-    match find_home(homes, region) {
-        Some(home) => home.name,
-        None => None,
+impl Homes {
+    pub(crate) fn new(alloc: Global) -> Homes {
+        Homes {
+            all: Vec::new(alloc),
+            is_whole: true,
+        }
+    }
+
+    /// Where a region begins.
+    pub(crate) fn find(&self, region: Region) -> Option<Home> {
+        match region {
+            Region::Variable(number) => self.all.get(number).copied(),
+            Region::Heap | Region::Unique => None,
+        }
+    }
+
+    /// The name of a region, if it has one.
+    pub(crate) fn name(&self, region: Region) -> Option<usize> {
+        match self.find(region) {
+            Some(home) => home.name,
+            None => None,
+        }
+    }
+
+    /// Where the region of this name begins, the function's own apart.
+    pub(crate) fn find_named(&self, name: usize) -> Option<Span> {
+        let mut found = None;
+        for i in 1..self.all.len() {
+            if self.all[i].name == Some(name) {
+                found = Some(self.all[i].span);
+            }
+        }
+        found
+    }
+
+    /// Adds the next region.
+    pub(crate) fn add(&mut self, name: Option<Ident>, span: Span, origin: Origin) {
+        let name = match name {
+            Some(name) => Some(name.name.number),
+            None => None,
+        };
+        let is_added = self.all.push(Home { name, span, origin }).is_ok();
+        self.is_whole = is_added && self.is_whole;
+    }
+
+    // ---- the head
+
+    /// Adds the regions of a function of this name: its own, and those that its parameters name or leave out.
+    pub(crate) fn add_parameters(&mut self, names: &RegionNames, own: Ident, members: &[Member]) {
+        self.add(Some(own), own.span, Origin::Block);
+        for member in members {
+            self.add_type(names, &member.of_type);
+        }
+        for member in members {
+            if let BaseType::Key { region } = &member.of_type.base {
+                self.set_key(*region);
+            }
+        }
+    }
+
+    fn add_type(&mut self, names: &RegionNames, written: &WrittenType) {
+        match &written.base {
+            BaseType::Int => {}
+            BaseType::Struct { regions, .. } => {
+                for region in regions {
+                    self.add_named(names, *region);
+                }
+            }
+            BaseType::Handle { region } | BaseType::Key { region } => {
+                self.add_named(names, *region);
+            }
+        }
+        for mark in &written.marks {
+            match mark.region {
+                Some(region) => self.add_named(names, region),
+                None => self.add(None, written.span, Origin::Caller),
+            }
+        }
+    }
+
+    /// Adds the region of this name, where it is none that each function has, and not known yet.
+    fn add_named(&mut self, names: &RegionNames, name: Ident) {
+        let number = name.name.number;
+        let is_fixed = matches!(names.find(number), Some(Region::Heap | Region::Unique));
+        if !is_fixed && self.find_named(number).is_none() {
+            self.add(Some(name), name.span, Origin::Caller);
+        }
+    }
+
+    /// A parameter is the key of the region of this name.
+    fn set_key(&mut self, name: Ident) {
+        for i in 1..self.all.len() {
+            if self.all[i].name == Some(name.name.number) {
+                self.all[i].span = name.span;
+                self.all[i].origin = Origin::Dynamic;
+            }
+        }
     }
 }

@@ -86,40 +86,36 @@ pub(crate) fn explain_unknown(teller: &mut Teller<'_>, scope: &Scope<'_>, sort: 
     }
 }
 
-/// The words for a name that is declared twice, and first at this place.
-pub(crate) fn explain_twice(teller: &mut Teller<'_>, name: Ident, first: Option<Span>) {
-    if let Some(first) = first {
-        let parts = [Part::Name(name), Part::Place(first)];
-        teller.say_of(
-            Code::DeclaredTwice,
-            name.span,
-            "`%` is first declared at %",
-            &parts,
-        );
+/// The words for a name that is declared twice, where it is the name of this one before it.
+pub(crate) fn explain_twice(teller: &mut Teller<'_>, name: Ident, first: Ident) {
+    if first.name == name.name {
+        let parts = [Part::Name(name), Part::Place(first.span)];
+        let text = "`%` is first declared at %";
+        teller.say_of(Code::DeclaredTwice, name.span, text, &parts);
     }
 }
 
 /// The words for a region that is declared in a function which has one of this name.
 pub(crate) fn explain_region_twice(teller: &mut Teller<'_>, name: Ident) {
-    let number = name.name.number;
+    if teller.is_fault(Code::DeclaredTwice, name.span) {
+        explain_own_region(teller, name);
+        if let Some(first) = teller.homes.find_named(name.name.number) {
+            let text = "`% is first declared at %: a function declares a region's name once";
+            let parts = [Part::Name(name), Part::Place(first)];
+            teller.say_of(Code::DeclaredTwice, name.span, text, &parts);
+        }
+        let text = "`% is there in each function";
+        teller.say_of(Code::DeclaredTwice, name.span, text, &[Part::Name(name)]);
+    }
+}
+
+/// The words for a region that is declared with the name of its function.
+pub(crate) fn explain_own_region(teller: &mut Teller<'_>, name: Ident) {
     if let Some(function) = teller.function {
-        if function.name.number == number {
-            let text = "`% is the region of the variables of %";
+        if function.name == name.name {
             let parts = [Part::Name(name), Part::Name(function)];
+            let text = "`% is the region of the variables of %";
             teller.say_of(Code::DeclaredTwice, name.span, text, &parts);
         }
     }
-    let mut first = None;
-    for home in &teller.homes {
-        if home.name == Some(number) && first.is_none() {
-            first = Some(home.span);
-        }
-    }
-    if let Some(span) = first {
-        let text = "`% is first declared at %: a function declares a region's name once";
-        let parts = [Part::Name(name), Part::Place(span)];
-        teller.say_of(Code::DeclaredTwice, name.span, text, &parts);
-    }
-    let text = "`% is there in each function";
-    teller.say_of(Code::DeclaredTwice, name.span, text, &[Part::Name(name)]);
 }

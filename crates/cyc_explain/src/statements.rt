@@ -1,65 +1,37 @@
 //! What items and statements ask of their parts, in words where that is the fault.
-use crate::bodies::Walk;
 use crate::conversions::explain_conversion;
 use crate::expressions::{explain_key, explain_name, explain_place};
-use crate::names::{Sort, explain_region_twice, explain_unknown};
-use crate::scopes::{left_out_of, type_here};
+use crate::names::{Sort, explain_unknown};
 use crate::teller::{Part, Teller};
-use crate::values::{given, place_type, value_type};
-use crate::wanted::{Wanted, explain_content, explain_value};
+use crate::wanted::{Wanted, explain_content, explain_value, given};
 use crate::written::{explain_region, explain_written};
+use cyc_check::{place_type, value_type};
 use cyc_forms::types::{is_unique, region_of as region_of_type};
 use cyc_forms::{Given, span_of};
 use cyc_scope::{Meaning, Scope};
 use cyc_syntax::{BaseType, Expr, Ident, Stmt, WrittenType};
-use cyc_types::Ty;
-use cyc_types::formation::region_of;
+use cyc_types::formation::{region_of, type_written};
 use cyc_types::typed::Lvalue;
+use cyc_types::{Region, Ty};
 use cyc_words::{Code, Span};
 
 const UNKNOWN: &str = "no region `% is in scope here";
 
 // ---- statements
 
-/// The words for a fault in what a statement asks of its parts.
-pub(crate) fn explain_statement(walk: &mut Walk<'_, '_>, statement: &Stmt) {
-    let scope = &mut walk.scope;
-    let teller = &mut walk.teller;
-    match statement {
-        Stmt::If { condition, .. } | Stmt::While { condition, .. } => {
-            explain_value(teller, scope, condition, Wanted::Tested);
-        }
-        Stmt::Return { span, value } => explain_return(teller, scope, *span, value),
-        Stmt::Throw {
-            exception,
-            value,
-            ..
-        } => {
-            explain_exception(teller, scope, *exception);
-            if let Some(value) = value {
-                explain_value(teller, scope, value, Wanted::Int);
-            }
-        }
-        Stmt::Swap { left, right } => explain_swap(teller, scope, left, right),
-        Stmt::Labelled { label, .. } => explain_region_twice(teller, *label),
-        Stmt::Block { .. }
-        | Stmt::Empty { .. }
-        | Stmt::Expression { .. }
-        | Stmt::Break { .. }
-        | Stmt::Continue { .. }
-        | Stmt::Try { .. } => {}
-    }
-}
-
 /// The words for an exception that is not declared, or that is written with an int where it has none, or the other way round.
 pub(crate) fn explain_exception(teller: &mut Teller<'_>, scope: &Scope<'_>, exception: Ident) {
     explain_unknown(teller, scope, Sort::Exception, exception);
-    let parts = [Part::Name(exception)];
+    let parts = [
+        Part::Name(exception),
+        Part::Name(exception),
+        Part::Name(exception),
+    ];
     if let Some(known) = scope.exception(exception.name.number) {
         let text = if known.has_int {
-            "% has an int"
+            "% has an int\nhint: write it in brackets: throw new %(1), or case &%(n)"
         } else {
-            "% has no int"
+            "% has no int\nhint: leave out the brackets: throw new %, or case &%"
         };
         teller.say_of(Code::TypeMismatch, exception.span, text, &parts);
     }
@@ -76,31 +48,50 @@ fn explain_nothing(teller: &mut Teller<'_>, scope: &Scope<'_>, span: Span) {
     }
 }
 
-fn explain_return(
+/// The words for a `return` at this place of another value than the function has, or of none.
+pub(crate) fn explain_return(
     teller: &mut Teller<'_>,
     scope: &mut Scope<'_>,
     span: Span,
     value: &Option<Expr>,
 ) {
-    let Some(written) = value else {
-        explain_nothing(teller, scope, span);
-        return;
-    };
-    if let Some(found) = value_type(scope, written, false) {
-        match (scope.result_type(), teller.function) {
-            (Some(of_type), _) => {
-                explain_conversion(teller, scope, given(&found), of_type, span_of(written));
+    match value {
+        None => explain_nothing(teller, scope, span),
+        Some(written) => {
+            let here = span_of(written);
+            if teller.is_at(here) {
+                if let Some(found) = value_type(scope, written, false) {
+                    explain_returned(teller, scope, given(&found), here);
+                }
             }
-            (None, Some(function)) => {
-                let parts = [Part::Name(function)];
-                teller.say_of(Code::TypeMismatch, span, "% returns no value", &parts);
-            }
-            (None, None) => {}
+            explain_no_result(teller, scope, span);
         }
     }
 }
 
-fn explain_swap(teller: &mut Teller<'_>, scope: &mut Scope<'_>, left: &Expr, right: &Expr) {
+/// The words for a value at this place that is not converted to the function's result.
+fn explain_returned(teller: &mut Teller<'_>, scope: &Scope<'_>, value: Given<'_>, span: Span) {
+    if let Some(of_type) = scope.result_type() {
+        explain_conversion(teller, scope, value, of_type, span);
+    }
+}
+
+/// The words for a value that a function returns which has none.
+fn explain_no_result(teller: &mut Teller<'_>, scope: &Scope<'_>, span: Span) {
+    if let (None, Some(function)) = (scope.result_type(), teller.function) {
+        let text =
+            "% returns no value\nhint: write return alone, or a type before the function's name";
+        teller.say_of(Code::TypeMismatch, span, text, &[Part::Name(function)]);
+    }
+}
+
+/// The words for a swap of what are no places, or of places of two types.
+pub(crate) fn explain_swap(
+    teller: &mut Teller<'_>,
+    scope: &mut Scope<'_>,
+    left: &Expr,
+    right: &Expr,
+) {
     explain_place(teller, scope, left);
     explain_place(teller, scope, right);
     let span = span_of(left);
@@ -113,12 +104,27 @@ fn explain_swap(teller: &mut Teller<'_>, scope: &mut Scope<'_>, left: &Expr, rig
             Part::Given(Given::Value(&first)),
             Part::Given(Given::Value(&second)),
         ];
-        let text = "expected the same type, with the same regions, found % and %";
+        let text =
+            "expected the same type, with the same regions, found % and %\nhint: swap places of one type";
         teller.say_of(Code::TypeMismatch, span, text, &parts);
     }
 }
 
 // ---- items
+
+/// A written type in which this is left out.
+fn type_here(scope: &Scope<'_>, written: &WrittenType, left_out: Region) -> Option<Ty> {
+    let (structs, names) = (scope.structs(), scope.names());
+    type_written(scope.alloc(), structs, names, left_out, written).ok()
+}
+
+/// What is left out of the type of a local with this initial value.
+fn left_out_of(value: Given<'_>) -> Region {
+    match value {
+        Given::Value(Ty::Pointer { region, .. }) => *region,
+        _ => Region::Heap,
+    }
+}
 
 /// The words for a local.
 pub(crate) fn explain_local(
@@ -128,17 +134,25 @@ pub(crate) fn explain_local(
     value: &Option<Expr>,
 ) {
     explain_written_here(teller, scope, written);
-    let Some(value) = value else {
-        return;
-    };
-    let span = span_of(value);
-    if !teller.is_at(span) {
-        return;
+    if let Some(value) = value {
+        if teller.is_at(span_of(value)) {
+            if let Some(found) = value_type(scope, value, false) {
+                explain_initial_value(teller, scope, written, given(&found), span_of(value));
+            }
+        }
     }
-    let found = value_type(scope, value, false);
-    let of_type = type_here(scope, written, left_out_of(&found));
-    if let (Some(found), Some(of_type)) = (&found, &of_type) {
-        explain_conversion(teller, scope, given(found), of_type, span);
+}
+
+/// The words for a value at this place that is not converted to the type of the local which it is put into.
+fn explain_initial_value(
+    teller: &mut Teller<'_>,
+    scope: &Scope<'_>,
+    written: &WrittenType,
+    value: Given<'_>,
+    span: Span,
+) {
+    if let Some(of_type) = type_here(scope, written, left_out_of(value)) {
+        explain_conversion(teller, scope, value, &of_type, span);
     }
 }
 
@@ -157,7 +171,7 @@ pub(crate) fn explain_opened(
     region: Ident,
     key: Ident,
 ) {
-    let text = "the key % is not of `%";
+    let text = "the key % is not of `%\nhint: a region is opened by its own key";
     let parts = [Part::Name(key), Part::Name(region)];
     teller.say_of(Code::RegionOrKeyMisused, region.span, text, &parts);
     explain_region(teller, region, UNKNOWN, "");
@@ -172,7 +186,6 @@ pub(crate) fn explain_alias(
     written: &WrittenType,
     source: Ident,
 ) {
-    explain_region_twice(teller, region);
     explain_written_here(teller, scope, written);
     match scope.meaning(source) {
         Meaning::Variable {
@@ -181,13 +194,19 @@ pub(crate) fn explain_alias(
             ..
         } => {
             explain_lent_type(teller, scope, region, written, of_type);
-            let parts = [Part::Name(source), Part::Given(Given::Value(of_type))];
+            let parts = [
+                Part::Name(source),
+                Part::Given(Given::Value(of_type)),
+                Part::Name(source),
+            ];
             if let Lvalue::Global { .. } = target {
-                let text = "% is a global: only a local is lent";
+                let text =
+                    "% is a global: only a local is lent\nhint: swap it into a variable by :=: first";
                 teller.say_of(Code::UniqueShared, source.span, text, &parts);
             }
             if !is_unique(of_type) {
-                let text = "% is no unique pointer: found %";
+                let text =
+                    "% is no unique pointer: found %\nhint: only a unique pointer is lent: use % itself";
                 teller.say_of(Code::RegionOrKeyMisused, source.span, text, &parts);
             }
         }

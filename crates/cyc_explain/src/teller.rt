@@ -1,7 +1,6 @@
 //! Lines of words: a text, in whose gaps names, places, regions and types stand as a program writes them. Where memory runs out nothing is
 //! said. No call here stops, so who says something has no way out.
-use crate::homes::{Home, Origin, find_home};
-use crate::outline::Ending;
+use crate::homes::{Home, Homes, Origin};
 use cyc_forms::Given;
 use cyc_syntax::{BaseType, Declaration, Ident, Name, PointerKind, Tree, WrittenType};
 use cyc_types::{Region, Ty};
@@ -24,6 +23,13 @@ pub(crate) enum Part<'a> {
     Theirs(Region),
 }
 
+/// The end of a block that opens the dynamic region of this name.
+#[derive(Clone, Copy)]
+pub(crate) struct Ending {
+    pub(crate) name: usize,
+    pub(crate) span: Span,
+}
+
 /// The lines that are said of a fault, and what they name.
 #[derive(Drop)]
 pub(crate) struct Teller<'t> {
@@ -33,8 +39,10 @@ pub(crate) struct Teller<'t> {
     /// The function at hand, if there is one.
     pub(crate) function: Option<Ident>,
     /// Its regions, and those of a function that is called.
-    pub(crate) homes: Vec<Home>,
-    pub(crate) theirs: Vec<Home>,
+    pub(crate) homes: Homes,
+    pub(crate) theirs: Homes,
+    /// Where the block ends that stands around what is next.
+    pub(crate) block_end: Option<Span>,
     /// Where blocks end that open a dynamic region.
     pub(crate) endings: Vec<Ending>,
     bytes: Vec<u8>,
@@ -71,8 +79,9 @@ impl<'t> Teller<'t> {
             tree,
             fault,
             function: None,
-            homes: Vec::new(alloc),
-            theirs: Vec::new(alloc),
+            homes: Homes::new(alloc),
+            theirs: Homes::new(alloc),
+            block_end: None,
             endings: Vec::new(alloc),
             bytes: Vec::new(alloc),
             is_whole: true,
@@ -81,10 +90,12 @@ impl<'t> Teller<'t> {
 
     /// What was said, if anything was.
     pub(crate) fn into_words(self) -> Option<Vec<u8>> {
-        if self.is_whole && !self.bytes.is_empty() {
-            return Some(self.bytes);
+        let is_whole = self.is_whole && self.homes.is_whole && self.theirs.is_whole;
+        if is_whole && !self.bytes.is_empty() {
+            Some(self.bytes)
+        } else {
+            None
         }
-        None
     }
 
     // ---- the fault
@@ -103,6 +114,17 @@ impl<'t> Teller<'t> {
     pub(crate) fn is_from(&self, span: Span) -> bool {
         let fault = self.fault;
         span.line < fault.line || span.line == fault.line && span.column <= fault.column
+    }
+
+    /// Notes that the block around what is next opens the dynamic region of this name.
+    pub(crate) fn note_opened(&mut self, name: Ident) {
+        if let Some(span) = self.block_end {
+            let ending = Ending {
+                name: name.name.number,
+                span,
+            };
+            self.is_whole = self.endings.push(ending).is_ok() && self.is_whole;
+        }
     }
 
     // ---- texts
@@ -180,11 +202,11 @@ impl<'t> Teller<'t> {
             Part::Given(Given::Value(of_type)) => self.say_type(of_type),
             Part::Written(written) => self.say_written(written),
             Part::Region(region) => {
-                let home = find_home(&self.homes, region);
+                let home = self.homes.find(region);
                 self.say_region(region, home);
             }
             Part::Theirs(region) => {
-                let home = find_home(&self.theirs, region);
+                let home = self.theirs.find(region);
                 self.say_region(region, home);
             }
         }
@@ -216,22 +238,17 @@ impl<'t> Teller<'t> {
 
     /// A region by its name, if it has one.
     fn say_named(&mut self, region: Region, home: Option<Home>) {
-        match (region, home) {
-            (Region::Heap, _) => self.put(b"`H"),
-            (Region::Unique, _) => self.put(b"`U"),
-            (
-                _,
-                Some(
-                    Home {
-                        name: Some(name),
-                        ..
-                    },
-                ),
-            ) => {
-                self.put(b"`");
-                self.put_name(name);
+        match region {
+            Region::Heap => self.put(b"`H"),
+            Region::Unique => self.put(b"`U"),
+            Region::Variable(_) => {
+                if let Some(home) = home {
+                    if let Some(name) = home.name {
+                        self.put(b"`");
+                        self.put_name(name);
+                    }
+                }
             }
-            _ => {}
         }
     }
 
@@ -242,7 +259,7 @@ impl<'t> Teller<'t> {
             if i > 0 {
                 self.put(b",");
             }
-            let home = find_home(&self.homes, regions[i]);
+            let home = self.homes.find(regions[i]);
             self.say_named(regions[i], home);
         }
         self.put(close.as_bytes());

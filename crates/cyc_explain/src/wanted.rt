@@ -1,16 +1,28 @@
 //! What is asked of one value, and how that is said.
 use crate::conversions::explain_closed;
 use crate::teller::{Part, Teller};
-use crate::values::{given, value_type};
+use cyc_check::value_type;
 use cyc_forms::types::{is_key, is_struct, is_unique};
 use cyc_forms::{Given, span_of};
 use cyc_scope::Scope;
-use cyc_syntax::{BinaryOperator, Expr, PointerKind};
+use cyc_syntax::{BinaryOperator, Expr, PointerKind, PrefixOperator};
 use cyc_types::Ty;
+use cyc_types::typed::ValueType;
 use cyc_words::{Code, Span};
+
+/// What the rules ask of a type.
+pub(crate) fn given(value: &ValueType) -> Given<'_> {
+    match value {
+        ValueType::Void => Given::Void,
+        ValueType::Null => Given::Null,
+        ValueType::Value { of_type } => Given::Value(of_type),
+    }
+}
 
 #[derive(Clone, Copy)]
 pub(crate) enum Wanted {
+    /// What is asked of it, if anything, hangs on more than the value.
+    Nothing,
     /// A value with a type, to be put into a new object.
     Content,
     Int,
@@ -53,6 +65,7 @@ fn has_members(given: Given<'_>) -> bool {
 impl Wanted {
     fn text(self) -> &'static str {
         match self {
+            Wanted::Nothing => "",
             Wanted::Content => "a value with a type",
             Wanted::Int | Wanted::Measured => "int",
             Wanted::Tested | Wanted::Compared => "int or a pointer",
@@ -67,23 +80,36 @@ impl Wanted {
 
     /// What to do about a value of another type, if there is anything to say.
     fn advice(self, given: Given<'_>) -> &'static str {
-        match (self, given) {
-            (_, Given::Void) => "a function that returns no value is called by itself",
-            (Wanted::Content, Given::Null) => "put NULL into a variable of the type first",
-            (Wanted::Tested, Given::Null) => "compare the pointer with NULL by == or !=",
-            (Wanted::Fat, Given::Value(Ty::Pointer { .. })) => {
+        if given.is_void() {
+            "a function that returns no value is called by itself"
+        } else if given.is_pointer() {
+            self.advice_on_pointer(given)
+        } else if matches!(given, Given::Null) {
+            self.advice_on_null()
+        } else {
+            ""
+        }
+    }
+
+    fn advice_on_null(self) -> &'static str {
+        match self {
+            Wanted::Content => "put NULL into a variable of the type first",
+            Wanted::Tested => "compare the pointer with NULL by == or !=",
+            _ => "",
+        }
+    }
+
+    fn advice_on_pointer(self, given: Given<'_>) -> &'static str {
+        match self {
+            Wanted::Fat => {
                 "only a ? pointer has elements: declare it with ?, or write *p for what p leads to"
             }
-            (Wanted::Moved, Given::Value(Ty::Pointer { .. })) => {
-                "only a ? pointer that is not unique moves on: declare it with ?"
-            }
-            (Wanted::Measured, Given::Value(Ty::Pointer { .. })) => {
+            Wanted::Moved => "only a ? pointer that is not unique moves on: declare it with ?",
+            Wanted::Measured => {
                 "pointers have no order and no distance: keep the number of the element in an int"
             }
-            (Wanted::Int, Given::Value(Ty::Pointer { .. })) => "write *p for what p leads to",
-            (Wanted::Members, Given::Value(Ty::Pointer { .. })) if is_fat(given) => {
-                "take an element first: p[0]->f"
-            }
+            Wanted::Int => "write *p for what p leads to",
+            Wanted::Members if is_fat(given) => "take an element first: p[0]->f",
             _ => "",
         }
     }
@@ -99,6 +125,7 @@ impl Wanted {
     /// Whether a value of this type will do.
     fn allows(self, given: Given<'_>) -> bool {
         match self {
+            Wanted::Nothing => true,
             Wanted::Content => given.is_value(),
             Wanted::Int | Wanted::Measured => given.is_int(),
             Wanted::Tested => given.is_tested(),
@@ -110,6 +137,16 @@ impl Wanted {
             Wanted::Freed => !given.is_void(),
             Wanted::Handle => given.is_handle(),
         }
+    }
+}
+
+/// What a prefix operator asks of its operand.
+pub(crate) fn wanted_of(operator: PrefixOperator) -> Wanted {
+    match operator {
+        PrefixOperator::Negate | PrefixOperator::Complement => Wanted::Int,
+        PrefixOperator::Not => Wanted::Tested,
+        PrefixOperator::Dereference => Wanted::Pointer,
+        PrefixOperator::AddressOf => Wanted::Nothing,
     }
 }
 
@@ -164,11 +201,10 @@ pub(crate) fn explain_value(
     wanted: Wanted,
 ) {
     let span = span_of(expression);
-    if !teller.is_at(span) {
-        return;
-    }
-    if let Some(value) = value_type(scope, expression, wanted.is_looked_at()) {
-        explain_given(teller, scope, wanted, given(&value), span);
+    if teller.is_at(span) && !matches!(wanted, Wanted::Nothing) {
+        if let Some(value) = value_type(scope, expression, wanted.is_looked_at()) {
+            explain_given(teller, scope, wanted, given(&value), span);
+        }
     }
 }
 
@@ -179,7 +215,7 @@ pub(crate) fn explain_content(teller: &mut Teller<'_>, of_type: &Ty, span: Span)
         teller.say_of(
             Code::TypeMismatch,
             span,
-            "expected a value, found %",
+            "expected a value, found %\nhint: a struct is no value: read a field by ->",
             &parts,
         );
     }

@@ -1,4 +1,5 @@
 //! Words for types as they are written.
+use crate::names::explain_own_region;
 use crate::teller::{Part, Teller};
 use cyc_syntax::{BaseType, Declaration, Ident, PointerKind, WrittenType};
 use cyc_words::Code;
@@ -40,7 +41,10 @@ fn explain_shape(teller: &mut Teller<'_>, written: &WrittenType) {
         BaseType::Int | BaseType::Handle { .. } => {}
         BaseType::Key { .. } => {
             if !written.marks.is_empty() {
-                teller.say("no pointer leads to a key", &[]);
+                teller.say(
+                    "no pointer leads to a key\nhint: pass the key itself, which gives it away",
+                    &[],
+                );
             }
         }
         BaseType::Struct { name, regions } => {
@@ -51,8 +55,10 @@ fn explain_shape(teller: &mut Teller<'_>, written: &WrittenType) {
                 }
             }
             if !matches!(written.marks.first(), Some(mark) if mark.kind != PointerKind::Fat) {
-                let text = "% is a struct: only a * or @ pointer to it is a type";
-                teller.say(text, &[Part::Name(*name)]);
+                let text =
+                    "% is a struct: only a * or @ pointer to it is a type\nhint: make the struct by new and keep a pointer: struct % @p = new %{..};";
+                let parts = [Part::Name(*name), Part::Name(*name), Part::Name(*name)];
+                teller.say(text, &parts);
             }
         }
     }
@@ -63,11 +69,7 @@ pub(crate) fn explain_region(teller: &mut Teller<'_>, name: Ident, unknown: &str
     let parts = [Part::Name(name)];
     teller.say_of(Code::UnknownName, name.span, unknown, &parts);
     teller.say_of(Code::RegionOrKeyMisused, name.span, misused, &parts);
-    if let Some(function) = teller.function {
-        let parts = [Part::Name(name), Part::Name(function)];
-        let text = "`% is the region of the variables of %";
-        teller.say_of(Code::DeclaredTwice, name.span, text, &parts);
-    }
+    explain_own_region(teller, name);
 }
 
 /// The words for a written type that is none.
@@ -80,7 +82,7 @@ pub(crate) fn explain_written(teller: &mut Teller<'_>, written: &WrittenType, un
                     teller,
                     *region,
                     unknown,
-                    "no struct has `% as a region argument",
+                    "no struct has `% as a region argument\nhint: name another region, or leave the regions out for `H",
                 );
             }
         }

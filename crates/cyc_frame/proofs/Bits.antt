@@ -3,7 +3,7 @@ use Rattle.std.proofs.Common.{◌≡◌, ◌≢◌, ℕ, zero, suc, ◌+◌, ◌
 use Rattle.std.specs.Prelude.{bit_and, bit_or, bit_xor, nat_le, nat_lt, slice_index_or}
 use Rattle.std.specs.Int.{bit_at}
 use Rattle.std.proofs.lemmas.Nat.{one_shl}
-use Rattle.std.proofs.lemmas.Nat.Bits.{bit_at_and, bit_at_or, bit_at_xor, bit_at-lt, bit_at-zero, bit_at_ones, bit_at-pow_other}
+use Rattle.std.proofs.lemmas.Nat.Bits.{bit_at_and, bit_at_or, bit_at_xor, bit_at-lt, bit_at-zero, bit_at_ones, bit_at-pow_same, bit_at-pow_other}
 use Rattle.std.proofs.lemmas.Bool.{and_parts, and_from, leb-true, ltb-true, le-leb, lt-ltb, both_ways, cases_lt, cases_eq}
 use Rattle.cyc_plain.specs.Program.{Program, Routine, routine_at, no_routine}
 use Rattle.cyc_frame.specs.declared.live.TheConstants.{ALL_NUMBERS, MOST_CHOSEN}
@@ -35,7 +35,7 @@ no_bit a b j first second = bit_at_or a b j ∙ (ap (λ (n : ℕ). max n (bit_at
 
 pub unwritten : (w j : ℕ) → j < MOST_CHOSEN → bit_at w j ≡ 0 → bit_at (bit_xor ALL_NUMBERS w) j ≡ 1
 unwritten w j few is =
-    bit_at_xor ALL_NUMBERS w j ∙ (ap (λ (x : ℕ). (x + bit_at w j) % 2) (bit_at_ones 16 j few) ∙ ap (λ (x : ℕ). (1 + x) % 2) is)
+    bit_at_xor ALL_NUMBERS w j ∙ (ap (λ (x : ℕ). (x + bit_at w j) % 2) (bit_at_ones 32 j few) ∙ ap (λ (x : ℕ). (1 + x) % 2) is)
 
 -- nothing of the one is in the other
 pub apart_bits : (a b j : ℕ) → bit_and a b ≡ 0 → bit_at b j ≡ 1 → bit_at a j ≡ 1 → ⊥
@@ -118,17 +118,31 @@ pub no_masks : AreMasks [] 0
 no_masks = record {
   below = λ slot j has. absurd (let e : 0 ≡ 1 = sym (bit_at-zero j) ∙ has in omega (arith, e));
   one = λ a c j first second. absurd (let e : 0 ≡ 1 = sym (bit_at-zero j) ∙ first in omega (arith, e));
+  some = λ slot above. absurd (let e : 0 < 0 = above in omega (arith, e));
 }
 
 pub fewer : (masks : List ℕ) (next most : ℕ) → AreMasks masks next → next ≤ most → AreMasks masks most
-fewer masks next most are few = record { below = λ slot j has. omega (arith, are.below slot j has, few); one = are.one }
+fewer masks next most are few = record { below = λ slot j has. omega (arith, are.below slot j has, few); one = are.one; some = are.some }
 
-module _ (masks : List ℕ) (m next after : ℕ) (are : AreMasks masks next) (up : next ≤ after) (new : (j : ℕ) → bit_at m j ≡ 1 → (j ≡ next) × (next < after)) where
+module _ (masks : List ℕ) (m next after : ℕ) (are : AreMasks masks next) (up : next ≤ after) (new : (j : ℕ) → bit_at m j ≡ 1 → (j ≡ next) × (next < after))
+    (any : 0 < m → (j : ℕ) × (bit_at m j ≡ 1)) where
   of_last : (slot j : ℕ) → slot ≡ length masks → HasBit (masks ++ m ∷ []) slot j → bit_at m j ≡ 1
   of_last slot j same has = ap (λ (n : ℕ). bit_at n j) (sym (ap (mask_at (masks ++ m ∷ [])) same ∙ mask_last masks m)) ∙ has
 
   of_other : (slot j : ℕ) → slot ≢ length masks → HasBit (masks ++ m ∷ []) slot j → HasBit masks slot j
   of_other slot j apart has = ap (λ (n : ℕ). bit_at n j) (sym (mask_before masks m slot apart)) ∙ has
+
+  some_bit : (slot : ℕ) → 0 < mask_at (masks ++ m ∷ []) slot → (j : ℕ) × HasBit (masks ++ m ∷ []) slot j
+  some_bit slot above = elim (cases_eq slot (length masks)) [
+    | inl same ↦
+        let here : mask_at (masks ++ m ∷ []) slot ≡ m = ap (mask_at (masks ++ m ∷ [])) same ∙ mask_last masks m in
+        let (j, has) = any (subst (λ (n : ℕ). 0 < n) here above) in
+        (j, ap (λ (n : ℕ). bit_at n j) here ∙ has)
+    | inr apart ↦
+        let here : mask_at (masks ++ m ∷ []) slot ≡ mask_at masks slot = mask_before masks m slot apart in
+        let (j, has) = are.some slot (subst (λ (n : ℕ). 0 < n) here above) in
+        (j, ap (λ (n : ℕ). bit_at n j) here ∙ has)
+  ]
 
   more : AreMasks (masks ++ m ∷ []) after
   more = record {
@@ -146,13 +160,16 @@ module _ (masks : List ℕ) (m next after : ℕ) (are : AreMasks masks next) (up
         | inr c_other ↦ are.one a c j (of_other a j a_other first) (of_other c j c_other second)
       ]
     ];
+    some = some_bit;
   }
 
 pub none_more : (masks : List ℕ) (next : ℕ) → AreMasks masks next → AreMasks (masks ++ 0 ∷ []) next
-none_more masks next are = more masks 0 next next are (omega arith) (λ j is. absurd (let e : 0 ≡ 1 = sym (bit_at-zero j) ∙ is in omega (arith, e)))
+none_more masks next are =
+    more masks 0 next next are (omega arith) (λ j is. absurd (let e : 0 ≡ 1 = sym (bit_at-zero j) ∙ is in omega (arith, e)))
+    (λ above. absurd (omega (arith, above)))
 
 pub one_more : (masks : List ℕ) (next : ℕ) → AreMasks masks next → AreMasks (masks ++ 2 ^ next ∷ []) (next + 1)
-one_more masks next are = more masks (2 ^ next) next (next + 1) are (omega arith) new
+one_more masks next are = more masks (2 ^ next) next (next + 1) are (omega arith) new (λ above. (next, bit_at-pow_same next))
   where
     new : (j : ℕ) → bit_at (2 ^ next) j ≡ 1 → (j ≡ next) × (next < next + 1)
     new j is = elim (cases_eq j next) [

@@ -1,26 +1,24 @@
 -- Homes that come of a checked table are right.
-use Rattle.std.proofs.Common.{◌≡◌, ◌≢◌, ℕ, zero, suc, ◌+◌, ◌^◌, ◌<◌, ◌≤◌, List, [], ◌∷◌, ◌++◌, length, Some, None, refl, sym, ap, subst, ◌∙◌, arith, inl, inr}
-use Rattle.std.specs.Prelude.{bit_and}
-use Rattle.std.specs.Int.{bit_at, trailing_zeros, w32}
-use Rattle.std.proofs.lemmas.Nat.Bits.{bit_at-trailing_zeros}
-use Rattle.std.proofs.lemmas.Bool.{cases_eq, cases_lt}
+use Rattle.std.proofs.Common.{◌≡◌, ◌≢◌, ℕ, zero, suc, ◌+◌, ◌<◌, ◌≤◌, true, List, [], ◌∷◌, ◌++◌, length, Some, None, refl, sym, ap, subst, ◌∙◌, arith, inl, inr}
+use Rattle.std.specs.Prelude.{◌⊎◌, ◌==◌, ◌||◌, ◌&&◌, Bool, nat_lt, bit_and}
+use Rattle.std.specs.Int.{bit_at}
+use Rattle.std.proofs.lemmas.Bool.{cases_eq, and_parts, or_cases, ltb-true, eqb-true}
 use Rattle.std.proofs.lemmas.List.{length-append}
 use Rattle.std.proofs.lemmas.List.Sums.{sum_by-append}
 use Rattle.cyc_plain.specs.Program.{Routine, Program}
 use Rattle.cyc_frame.specs.declared.home.Home.{Home}
 use Rattle.cyc_frame.specs.declared.home.Home.TheVariants as homes
 use Rattle.cyc_frame.specs.declared.home.TheConstants.{FIRST_REGISTER, MOST_BOTH}
-use Rattle.cyc_frame.specs.declared.live.TheConstants.{MOST_CHOSEN}
+use Rattle.cyc_frame.specs.declared.live.TheConstants.{MOST_CHOSEN, MOST_REGISTERS}
 use Rattle.cyc_frame.specs.Homes.{Wanted, HasRegister, register_of, home_of, both_count, AreHomes}
 use Rattle.cyc_frame.specs.Masks.{mask_at, HasBit, AreMasks}
-use Rattle.cyc_frame.specs.Live.{IsSound}
-use Rattle.cyc_frame.specs.Allocation.{IsHomeOf, AreFirstHomes}
+use Rattle.cyc_frame.specs.Live.{IsSound, may_have}
+use Rattle.cyc_frame.specs.Allocation.{register_count, Suits, IsHomeOf, AreFirstHomes}
 use Rattle.cyc_frame.proofs.Bits.{apart_bits}
-use Rattle.cyc_frame.proofs.Lives.{wanted_bit, passed_bit, behind_bit, clause_bit, never_barred}
+use Rattle.cyc_frame.proofs.Lives.{wanted_bit, passed_bit, behind_bit, clause_bit, barred_bit}
 
-pub memory_home : (program : Program) (r : Routine) (masks : List ℕ) (slot : ℕ) → IsHomeOf program r masks slot homes.Memory
-memory_home program r masks slot = record {
-  register = λ k is. absurd (let e : None ≡ Some k = is in cc);
+pub memory_suits : (program : Program) (r : Routine) (slot : ℕ) → Suits program r slot homes.Memory
+memory_suits program r slot = record {
   entry = λ k is wanted. absurd (let e : None ≡ Some k = is in cc);
   behind = λ index function arguments count result at wanted. refl;
   clause = λ index first handler at wanted. refl;
@@ -28,120 +26,188 @@ memory_home program r masks slot = record {
   barred = λ index i at barred. refl;
 }
 
-module _ (program : Program) (r : Routine) (masks live : List ℕ) (kept : ℕ) (sound : IsSound program r masks live kept)
-    (are : AreMasks masks MOST_CHOSEN) (slot j : ℕ) (has : HasBit masks slot j)
-    (entered : Wanted program r slot 0 → slot < r.parameters) where
-  is_its : (k : ℕ) → Some (FIRST_REGISTER + j) ≡ Some k → (number : ℕ) × (k ≡ FIRST_REGISTER + number) × (number < MOST_CHOSEN) × HasBit masks slot number
-  is_its k is = (j, (let e : Some (FIRST_REGISTER + j) ≡ Some k = is in cc), are.below slot j has, has)
+pub memory_home : (program : Program) (r : Routine) (slot given : ℕ) → IsHomeOf program r slot given homes.Memory
+memory_home program r slot given = record {
+  suits = memory_suits program r slot;
+  register = λ k is. absurd (let e : None ≡ Some k = is in cc);
+}
 
-  pub both_home : IsHomeOf program r masks slot (homes.Both (FIRST_REGISTER + j))
-  both_home = record {
-    register = is_its;
+module _ (program : Program) (r : Routine) (masks live : List ℕ) (kept barred : ℕ) (sound : IsSound program r masks live kept barred)
+    (are : AreMasks masks MOST_CHOSEN) (slot j : ℕ) (has : HasBit masks slot j)
+    (free : bit_at barred j ≡ 1 → ⊥) (entered : Wanted program r slot 0 → slot < r.parameters) (register : ℕ) where
+  both_suits : Suits program r slot (homes.Both register)
+  both_suits = record {
     entry = λ k is wanted. entered wanted;
     behind = λ index function arguments count result at wanted. refl;
     clause = λ index first handler at wanted. refl;
     passed = λ index i at passed. refl;
-    barred = λ index i at barred. absurd (never_barred program r masks live kept sound slot j are has index i at barred);
+    barred = λ index i at is. absurd (free (barred_bit program r masks live kept barred sound slot j are has index i at is));
   }
 
-  pub register_home : (bit_at kept j ≡ 1 → ⊥) → IsHomeOf program r masks slot (homes.Register (FIRST_REGISTER + j))
-  register_home private = record {
-    register = is_its;
+  register_suits : (bit_at kept j ≡ 1 → ⊥) → Suits program r slot (homes.Register register)
+  register_suits private = record {
     entry = λ k is wanted. entered wanted;
     behind = λ index function arguments count result at wanted.
-        absurd (private (behind_bit program r masks live kept sound slot j are has index function arguments count result at wanted));
-    clause = λ index first handler at wanted. absurd (private (clause_bit program r masks live kept sound slot j are has index first handler at wanted));
-    passed = λ index i at passed. absurd (private (passed_bit program r masks live kept sound slot j are has index i at passed));
-    barred = λ index i at barred. absurd (never_barred program r masks live kept sound slot j are has index i at barred);
+        absurd (private (behind_bit program r masks live kept barred sound slot j are has index function arguments count result at wanted));
+    clause = λ index first handler at wanted. absurd (private (clause_bit program r masks live kept barred sound slot j are has index first handler at wanted));
+    passed = λ index i at passed. absurd (private (passed_bit program r masks live kept barred sound slot j are has index i at passed));
+    barred = λ index i at is. absurd (free (barred_bit program r masks live kept barred sound slot j are has index i at is));
   }
 
--- a slot with this mask, which has one bit at least: its number is that of the lowest
-module _ (program : Program) (r : Routine) (masks live : List ℕ) (kept : ℕ) (sound : IsSound program r masks live kept)
-    (are : AreMasks masks MOST_CHOSEN) (slot mask : ℕ) (is : mask ≡ mask_at masks slot) (some : mask ≡ 0 → ⊥) (small : mask < 2 ^ 32) where
-  some_bit : 0 < mask
-  some_bit = elim (cases_lt 0 mask) [
-    | inl above ↦ above
-    | inr none ↦ absurd (some (omega (arith, none)))
-  ]
+-- a slot that may have a register gets the next one
+module _ (program : Program) (r : Routine) (masks live : List ℕ) (kept barred : ℕ) (sound : IsSound program r masks live kept barred)
+    (are : AreMasks masks MOST_CHOSEN) (taken slot given : ℕ) (may : may_have masks live taken barred r.parameters slot ≡ true) (most : given < MOST_REGISTERS) where
+  abbrev IsFree : Type 0
+  IsFree = bit_and barred (mask_at masks slot) ≡ 0
 
-  lowest : bit_at mask (trailing_zeros w32 mask) ≡ 1
-  lowest = (bit_at-trailing_zeros w32 mask some_bit small).1
+  abbrev IsEntered : Type 0
+  IsEntered = (slot < r.parameters) ⊎ (bit_and (mask_at live 0) (mask_at masks slot) ≡ 0)
 
-  has_lowest : HasBit masks slot (trailing_zeros w32 mask)
-  has_lowest = subst (λ (n : ℕ). bit_at n (trailing_zeros w32 mask) ≡ 1) is lowest
+  facts : (0 < mask_at masks slot) × (bit_and barred (mask_at masks slot) ≡ 0) × IsEntered
+  facts =
+      let last : Bool = nat_lt slot r.parameters || bit_and (mask_at live 0) (mask_at masks slot) == 0 in
+      let free : Bool = bit_and barred (mask_at masks slot) == 0 in
+      let first = and_parts (nat_lt 0 (mask_at masks slot)) (nat_lt 0 (bit_and (mask_at masks slot) taken) && (free && last)) may in
+      let second = and_parts (nat_lt 0 (bit_and (mask_at masks slot) taken)) (free && last) first.1 in
+      let third = and_parts free last second.1 in (
+        ltb-true 0 (mask_at masks slot) first.0,
+        eqb-true (bit_and barred (mask_at masks slot)) 0 third.0,
+        entered third.1,
+      )
+    where
+      entered : (nat_lt slot r.parameters || bit_and (mask_at live 0) (mask_at masks slot) == 0) ≡ true → IsEntered
+      entered is = elim (or_cases (nat_lt slot r.parameters) (bit_and (mask_at live 0) (mask_at masks slot) == 0) is) [
+        | inl below ↦ inl (ltb-true slot r.parameters below)
+        | inr none ↦ inr (eqb-true (bit_and (mask_at live 0) (mask_at masks slot)) 0 none)
+      ]
 
   -- where the table does not have it where the function begins, it is not wanted there
-  pub never_entered : (first : ℕ) → first ≡ mask_at live 0 → bit_and first mask ≡ 0 → Wanted program r slot 0 → slot < r.parameters
-  never_entered first first_is none wanted =
-      absurd (apart_bits first mask (trailing_zeros w32 mask) none lowest
-      (subst (λ (n : ℕ). bit_at n (trailing_zeros w32 mask) ≡ 1) (sym first_is)
-      (wanted_bit program r masks live kept sound slot (trailing_zeros w32 mask) are has_lowest 0 wanted)))
+  only_parameters : (j : ℕ) → HasBit masks slot j → Wanted program r slot 0 → slot < r.parameters
+  only_parameters j has wanted = elim facts.2 [
+    | inl below ↦ below
+    | inr none ↦ absurd (apart_bits (mask_at live 0) (mask_at masks slot) j none has (wanted_bit program r masks live kept barred sound slot j are has 0 wanted))
+  ]
 
-  pub masked_both : (Wanted program r slot 0 → slot < r.parameters) → IsHomeOf program r masks slot (homes.Both (FIRST_REGISTER + trailing_zeros w32 mask))
-  masked_both entered = both_home program r masks live kept sound are slot (trailing_zeros w32 mask) has_lowest entered
+  is_next : (k : ℕ) → Some (FIRST_REGISTER + given) ≡ Some k → (k ≡ FIRST_REGISTER + given) × (given < MOST_REGISTERS)
+  is_next k is = ((let e : Some (FIRST_REGISTER + given) ≡ Some k = is in cc), most)
 
-  pub masked_register : (Wanted program r slot 0 → slot < r.parameters) → bit_and kept mask ≡ 0
-      → IsHomeOf program r masks slot (homes.Register (FIRST_REGISTER + trailing_zeros w32 mask))
-  masked_register entered none =
-      register_home program r masks live kept sound are slot (trailing_zeros w32 mask) has_lowest entered
-      (apart_bits kept mask (trailing_zeros w32 mask) none lowest)
+  pub next_both : IsHomeOf program r slot given (homes.Both (FIRST_REGISTER + given))
+  next_both =
+      let (j, has) = are.some slot facts.0 in
+      record {
+        suits = both_suits program r masks live kept barred sound are slot j has (apart_bits barred (mask_at masks slot) j facts.1 has) (only_parameters j has) (FIRST_REGISTER + given);
+        register = is_next;
+      }
+
+  pub next_register : bit_and kept (mask_at masks slot) ≡ 0 → IsHomeOf program r slot given (homes.Register (FIRST_REGISTER + given))
+  next_register none =
+      let (j, has) = are.some slot facts.0 in
+      record {
+        suits = register_suits program r masks live kept barred sound are slot j has (apart_bits barred (mask_at masks slot) j facts.1 has) (only_parameters j has) (FIRST_REGISTER + given)
+            (apart_bits kept (mask_at masks slot) j none has);
+        register = is_next;
+      }
 
 -- ---- homes of all slots
 
-module _ (program : Program) (r : Routine) (masks : List ℕ) where
-  home_before : (hs : List Home) (h : Home) (slot : ℕ) → slot ≢ length hs → home_of (hs ++ h ∷ []) slot ≡ home_of hs slot
-  home_before [] h zero apart = absurd (apart refl)
-  home_before [] h (suc slot) apart = refl
-  home_before (x ∷ hs) h zero apart = refl
-  home_before (x ∷ hs) h (suc slot) apart = home_before hs h slot (λ same. apart (ap suc same))
+home_before : (hs : List Home) (h : Home) (slot : ℕ) → slot ≢ length hs → home_of (hs ++ h ∷ []) slot ≡ home_of hs slot
+home_before [] h zero apart = absurd (apart refl)
+home_before [] h (suc slot) apart = refl
+home_before (x ∷ hs) h zero apart = refl
+home_before (x ∷ hs) h (suc slot) apart = home_before hs h slot (λ same. apart (ap suc same))
 
-  home_last : (hs : List Home) (h : Home) → home_of (hs ++ h ∷ []) (length hs) ≡ h
-  home_last [] h = refl
-  home_last (x ∷ hs) h = home_last hs h
+home_last : (hs : List Home) (h : Home) → home_of (hs ++ h ∷ []) (length hs) ≡ h
+home_last [] h = refl
+home_last (x ∷ hs) h = home_last hs h
 
-  pub no_homes : AreFirstHomes program r masks 0 0 []
-  no_homes = record { as_many = refl; each = λ slot. memory_home program r masks slot; both = refl; few = omega arith }
+-- a home with a register counts as one
+counted : (h : Home) (k : ℕ) → register_of h ≡ Some k → register_count h ≡ 1
+counted homes.Memory k is = absurd (let e : None ≡ Some k = is in cc)
+counted (homes.Both register) k is = refl
+counted (homes.Register register) k is = refl
 
-  pub more_homes : (hs : List Home) (h : Home) (count both : ℕ) → AreFirstHomes program r masks count both hs → IsHomeOf program r masks count h
-      → both + both_count h ≤ MOST_BOTH → AreFirstHomes program r masks (count + 1) (both + both_count h) (hs ++ h ∷ [])
-  more_homes hs h count both are home few = record {
-    as_many = omega (arith, length-append hs (h ∷ []), are.as_many);
-    each = λ slot. elim (cases_eq slot (length hs)) [
-      | inl same ↦
-          subst (IsHomeOf program r masks slot) (sym (ap (home_of (hs ++ h ∷ [])) same ∙ home_last hs h))
-          (subst (λ (n : ℕ). IsHomeOf program r masks n h) (sym (same ∙ are.as_many)) home)
-      | inr apart ↦ subst (IsHomeOf program r masks slot) (sym (home_before hs h slot apart)) (are.each slot)
-    ];
-    both = sum_by-append both_count hs (h ∷ []) ∙ omega (arith, are.both);
-    few = few;
+count_small : (h : Home) → (register_count h ≡ 0) ⊎ ((k : ℕ) × (register_of h ≡ Some k))
+count_small homes.Memory = inl refl
+count_small (homes.Both register) = inr (register, refl)
+count_small (homes.Register register) = inr (register, refl)
+
+module _ (program : Program) (r : Routine) where
+  pub no_homes : AreFirstHomes program r 0 0 0 []
+  no_homes = record {
+    as_many = refl;
+    each = λ slot. memory_suits program r slot;
+    within = λ slot k has. absurd (let e : None ≡ Some k = has in cc);
+    one = λ a c k has_a has_c. absurd (let e : None ≡ Some k = has_a in cc);
+    most = omega arith;
+    both = refl;
+    few = omega arith;
   }
 
-  module _ (numbered : AreMasks masks MOST_CHOSEN) (hs : List Home) (each : (slot : ℕ) → IsHomeOf program r masks slot (home_of hs slot)) where
-    one_slot : (a c k : ℕ) → HasRegister hs a k → HasRegister hs c k → a ≡ c
-    one_slot a c k has_a has_c =
-        let (j, k_is, j_few, j_bit) = (each a).register k has_a in
-        let (m, k_too, m_few, m_bit) = (each c).register k has_c in
-        let same : m ≡ j = omega (arith, k_is, k_too) in
-        numbered.one a c j j_bit (subst (HasBit masks c) same m_bit)
+  module _ (hs : List Home) (h : Home) (count given both : ℕ) (are : AreFirstHomes program r count given both hs) (home : IsHomeOf program r count given h) where
+    -- a slot with a register is the last one, which has the next register, or one before
+    which : (slot k : ℕ) → HasRegister (hs ++ h ∷ []) slot k
+        → ((slot ≡ length hs) × (k ≡ FIRST_REGISTER + given) × (given < MOST_REGISTERS) × (register_count h ≡ 1)) ⊎ ((slot ≢ length hs) × HasRegister hs slot k)
+    which slot k has = elim (cases_eq slot (length hs)) [
+      | inl same ↦
+          let its : register_of h ≡ Some k = sym (ap register_of (ap (home_of (hs ++ h ∷ [])) same ∙ home_last hs h)) ∙ has in
+          let next = home.register k its in
+          inl (same, next.0, next.1, counted h k its)
+      | inr apart ↦ inr (apart, sym (ap register_of (home_before hs h slot apart)) ∙ has)
+    ]
 
-    low_enough : (slot k : ℕ) → HasRegister hs slot k → FIRST_REGISTER ≤ k
-    low_enough slot k has = let (j, k_is, j_few, j_bit) = (each slot).register k has in omega (arith, k_is)
+    within_more : (slot k : ℕ) → HasRegister (hs ++ h ∷ []) slot k → (FIRST_REGISTER ≤ k) × (k < FIRST_REGISTER + (given + register_count h))
+    within_more slot k has = elim (which slot k has) [
+      | inl (same, next, few, counts) ↦ ((omega (arith, next)), (omega (arith, next, counts)))
+      | inr (apart, has_it) ↦ let before = are.within slot k has_it in (before.0, (omega (arith, before.1)))
+    ]
 
-    high_enough : (slot k : ℕ) → HasRegister hs slot k → k < 24
-    high_enough slot k has = let (j, k_is, j_few, j_bit) = (each slot).register k has in omega (arith, k_is, j_few)
+    one_more : (a c k : ℕ) → HasRegister (hs ++ h ∷ []) a k → HasRegister (hs ++ h ∷ []) c k → a ≡ c
+    one_more a c k has_a has_c = elim (which a k has_a) [
+      | inl (a_last, a_next, few, counts) ↦ elim (which c k has_c) [
+        | inl (c_last, c_next, c_few, c_counts) ↦ a_last ∙ sym c_last
+        | inr (c_apart, c_has) ↦ absurd (omega (arith, a_next, (are.within c k c_has).1))
+      ]
+      | inr (a_apart, a_has) ↦ elim (which c k has_c) [
+        | inl (c_last, c_next, c_few, c_counts) ↦ absurd (omega (arith, c_next, (are.within a k a_has).1))
+        | inr (c_apart, c_has) ↦ are.one a c k a_has c_has
+      ]
+    ]
 
-  pub are_homes : (both : ℕ) (hs : List Home) → AreMasks masks MOST_CHOSEN → AreFirstHomes program r masks r.slots both hs → AreHomes program r hs
-  are_homes both hs numbered are = record {
+    most_more : given + register_count h ≤ MOST_REGISTERS
+    most_more = elim (count_small h) [
+      | inl none ↦ omega (arith, none, are.most)
+      | inr (k, its) ↦ omega (arith, (home.register k its).1, counted h k its)
+    ]
+
+    pub more_homes : both + both_count h ≤ MOST_BOTH
+        → AreFirstHomes program r (count + 1) (given + register_count h) (both + both_count h) (hs ++ h ∷ [])
+    more_homes few = record {
+      as_many = omega (arith, length-append hs (h ∷ []), are.as_many);
+      each = λ slot. elim (cases_eq slot (length hs)) [
+        | inl same ↦
+            subst (Suits program r slot) (sym (ap (home_of (hs ++ h ∷ [])) same ∙ home_last hs h))
+            (subst (λ (n : ℕ). Suits program r n h) (sym (same ∙ are.as_many)) home.suits)
+        | inr apart ↦ subst (Suits program r slot) (sym (home_before hs h slot apart)) (are.each slot)
+      ];
+      within = within_more;
+      one = one_more;
+      most = most_more;
+      both = sum_by-append both_count hs (h ∷ []) ∙ omega (arith, are.both);
+      few = few;
+    }
+
+  pub are_homes : (given both : ℕ) (hs : List Home) → AreFirstHomes program r r.slots given both hs → AreHomes program r hs
+  are_homes given both hs are = record {
     as_many = are.as_many;
-    low = low_enough numbered hs are.each;
-    high = high_enough numbered hs are.each;
+    low = λ slot k has. (are.within slot k has).0;
+    high = λ slot k has. omega (arith, (are.within slot k has).1, are.most);
     few = omega (arith, are.both, are.few);
-    apart = λ index a c k has_a has_c wanted_a wanted_c. one_slot numbered hs are.each a c k has_a has_c;
-    made = λ index next a d k i at written led has_d has_a wanted. one_slot numbered hs are.each a d k has_a has_d;
-    moved = λ index destination source count a d k at from to has_a has_d. one_slot numbered hs are.each a d k has_a has_d;
-    alone = λ a c k both has_c. one_slot numbered hs are.each a c k (ap register_of both) has_c;
+    apart = λ index a c k has_a has_c wanted_a wanted_c. are.one a c k has_a has_c;
+    made = λ index next a d k i at written led has_d has_a wanted. are.one a d k has_a has_d;
+    moved = λ index destination source count a d k at from to has_a has_d. are.one a d k has_a has_d;
+    alone = λ a c k both has_c. are.one a c k (ap register_of both) has_c;
     entry = λ a k has wanted. (are.each a).entry k has wanted;
-    parameters = λ a c k has_a has_c below wanted. one_slot numbered hs are.each a c k has_a has_c;
+    parameters = λ a c k has_a has_c below wanted. are.one a c k has_a has_c;
     behind = λ index function arguments count result a at wanted. (are.each a).behind index function arguments count result at wanted;
     clause = λ index first handler a at wanted. (are.each a).clause index first handler at wanted;
     passed = λ index a i at passed. (are.each a).passed index i at passed;

@@ -1,5 +1,5 @@
 -- What a table that was checked says of each chosen slot: it misses no place where the slot is wanted.
-use Rattle.std.proofs.Common.{◌≡◌, ℕ, zero, suc, ◌+◌, true, false, ◌||◌, ◌&&◌, List, sym, ap, subst, ◌∙◌, arith, inl, inr}
+use Rattle.std.proofs.Common.{◌≡◌, ℕ, zero, suc, ◌+◌, true, false, ◌||◌, ◌&&◌, List, sym, subst, arith, inl, inr}
 use Rattle.std.specs.Prelude.{◌==◌, Bool, if◌then◌else◌, bit_and, bit_or, bit_xor}
 use Rattle.std.specs.Int.{bit_at}
 use Rattle.std.proofs.lemmas.Nat.Bits.{bit_at-zero}
@@ -89,6 +89,8 @@ module _ (masks : List ℕ) (slot j : ℕ) (has : HasBit masks slot j) where
   read_bit results (instructions.StoreGlobal global source) is = operand_bit source is
   read_bit results (instructions.Load destination address offset) is = operand_bit address is
   read_bit results (instructions.Store address offset source) is = operands_bit address source is
+  read_bit results (instructions.LoadByte destination address offset) is = operand_bit address is
+  read_bit results (instructions.StoreByte address offset source) is = operands_bit address source is
   read_bit results (instructions.Ask request) is = request_read_bit request is
   read_bit results (instructions.Leave first) is = among_bit masks first RECORD_WORDS slot j is has
   read_bit results (instructions.Throw tag value) is = operands_bit tag value is
@@ -117,7 +119,7 @@ module _ (masks : List ℕ) (slot j : ℕ) (has : HasBit masks slot j) where
 
   pub pass_bit : (program : Program) (i : Instruction) → passes program i slot ≡ true → bit_at (pass_mask masks program i) j ≡ 1
   pass_bit program (instructions.Call function arguments count result) is =
-      ranges_bit arguments count result (routine_at program function).results is
+      among_bit masks result (routine_at program function).results slot j is has
   pass_bit program i is = absurd (false≢true is)
 
   -- and that of what it writes has no bit of a slot that it does not write
@@ -136,25 +138,26 @@ module _ (masks : List ℕ) (slot j : ℕ) (has : HasBit masks slot j) where
     unwritten_bit (instructions.AddressOf destination taken count) apart = other_slot destination apart
     unwritten_bit (instructions.LoadGlobal destination global) apart = other_slot destination apart
     unwritten_bit (instructions.Load destination address offset) apart = other_slot destination apart
+    unwritten_bit (instructions.LoadByte destination address offset) apart = other_slot destination apart
     unwritten_bit (instructions.CountLexical destination) apart = other_slot destination apart
     unwritten_bit i apart = bit_at-zero j
 
 -- ---- a table that was checked
 
-module _ (program : Program) (r : Routine) (masks live : List ℕ) (kept : ℕ) (sound : IsSound program r masks live kept) where
+module _ (program : Program) (r : Routine) (masks live : List ℕ) (kept barred : ℕ) (sound : IsSound program r masks live kept barred) where
   -- what the check says of one instruction
   checked : (index : ℕ) (i : Instruction) → At r index i
       → (bit_or (needed_mask program r.results masks i index live) (mask_at live index) ≡ mask_at live index)
-      × (bit_or (kept_mask program masks i index live) kept ≡ kept) × (bar_mask masks i ≡ 0)
+      × (bit_or (kept_mask program masks i index live) kept ≡ kept) × (bit_or (bar_mask masks i) barred ≡ barred)
   unfolding is_sound_at
   checked index i at =
       let needed = needed_mask program r.results masks i index live in
       let saved = kept_mask program masks i index live in
-      let first = and_parts (is_within needed (mask_at live index)) (is_within saved kept && bar_mask masks i == 0) (sound index i at) in
-      let second = and_parts (is_within saved kept) (bar_mask masks i == 0) first.1 in (
+      let first = and_parts (is_within needed (mask_at live index)) (is_within saved kept && is_within (bar_mask masks i) barred) (sound index i at) in
+      let second = and_parts (is_within saved kept) (is_within (bar_mask masks i) barred) first.1 in (
         eqb-true (bit_or needed (mask_at live index)) (mask_at live index) first.0,
         eqb-true (bit_or saved kept) kept second.0,
-        eqb-true (bar_mask masks i) 0 second.1,
+        eqb-true (bit_or (bar_mask masks i) barred) barred second.1,
       )
 
   module _ (slot j : ℕ) (are : AreMasks masks MOST_CHOSEN) (has : HasBit masks slot j) where
@@ -194,7 +197,5 @@ module _ (program : Program) (r : Routine) (masks live : List ℕ) (kept : ℕ) 
     pub clause_bit : (index first handler : ℕ) → At r index (instructions.Try first handler) → Wanted program r slot handler → bit_at kept j ≡ 1
     clause_bit index first handler at wanted = lost_bit index (instructions.Try first handler) at (wanted_bit handler wanted)
 
-    pub never_barred : (index : ℕ) (i : Instruction) → At r index i → bars i slot ≡ true → ⊥
-    never_barred index i at is =
-        let e : 0 ≡ 1 = sym (bit_at-zero j) ∙ (ap (λ (n : ℕ). bit_at n j) (sym (checked index i at).2) ∙ bar_bit masks slot j has i is) in
-        omega (arith, e)
+    pub barred_bit : (index : ℕ) (i : Instruction) → At r index i → bars i slot ≡ true → bit_at barred j ≡ 1
+    barred_bit index i at is = bit_within (bar_mask masks i) barred j (checked index i at).2 (bar_bit masks slot j has i is)

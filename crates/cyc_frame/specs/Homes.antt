@@ -76,7 +76,7 @@ pub record AreHomes (program : Program) (r : Routine) (hs : List Home) : Type 0 
   -- where the function begins only parameters are wanted, and no two of them come to the register of one that is
   pub entry : (a k : ℕ) → HasRegister hs a k → Wanted program r a 0 → a < r.parameters
   pub parameters : (a c k : ℕ) → HasRegister hs a k → HasRegister hs c k → c < r.parameters → Wanted program r a 0 → a ≡ c
-  -- what is wanted behind a call or in a clause, and what calls pass, is in memory too
+  -- what is wanted behind a call or in a clause, and what calls return, is in memory too
   pub behind : (index function arguments count result a : ℕ) → At r index (instructions.Call function arguments count result)
       → Wanted program r a (suc index) → is_kept (home_of hs a) ≡ true
   pub clause : (index first handler a : ℕ) → At r index (instructions.Try first handler)

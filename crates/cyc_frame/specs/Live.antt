@@ -1,6 +1,7 @@
 -- A table of which chosen slots are wanted at each place, as it is checked, instruction by instruction: whatever made the table,
--- where the check holds everywhere it misses nothing. `kept` has those that are to be in memory too.
-use Rattle.std.specs.Prelude.{◌≡◌, ℕ, ◌+◌, Bool, true, ◌==◌, ◌&&◌, List, bit_and, bit_or, bit_xor}
+-- where the check holds everywhere it misses nothing. `kept` has those that are to be in memory too, and `barred` those that no
+-- register may have.
+use Rattle.std.specs.Prelude.{◌≡◌, ℕ, ◌+◌, Bool, true, ◌==◌, ◌&&◌, ◌||◌, nat_lt, List, bit_and, bit_or, bit_xor}
 use Rattle.cyc_plain.specs.declared.instruction.Instruction.{Instruction}
 use Rattle.cyc_plain.specs.declared.instruction.Instruction.TheVariants as instructions
 use Rattle.cyc_plain.specs.Program.{Routine, Program}
@@ -39,11 +40,18 @@ kept_mask program masks i index live = bit_or (pass_mask masks program i) (lost_
 abbrev pub is_within : (part whole : ℕ) → Bool
 is_within part whole = bit_or part whole == whole
 
-unfoldable pub is_sound_at : Program → (results : ℕ) → (masks : List ℕ) → Instruction → (index : ℕ) → List ℕ → (kept : ℕ) → Bool
-is_sound_at program results masks i index live kept =
+unfoldable pub is_sound_at : Program → (results : ℕ) → (masks : List ℕ) → Instruction → (index : ℕ) → List ℕ → (kept barred : ℕ) → Bool
+is_sound_at program results masks i index live kept barred =
     is_within (needed_mask program results masks i index live) (mask_at live index)
-    && (is_within (kept_mask program masks i index live) kept && bar_mask masks i == 0)
+    && (is_within (kept_mask program masks i index live) kept && is_within (bar_mask masks i) barred)
 
-abbrev pub IsSound : Program → Routine → (masks live : List ℕ) → (kept : ℕ) → Type 0
-IsSound program r masks live kept =
-    (index : ℕ) (i : Instruction) → At r index i → is_sound_at program r.results masks i index live kept ≡ true
+abbrev pub IsSound : Program → Routine → (masks live : List ℕ) → (kept barred : ℕ) → Type 0
+IsSound program r masks live kept barred =
+    (index : ℕ) (i : Instruction) → At r index i → is_sound_at program r.results masks i index live kept barred ≡ true
+
+-- A slot that is taken may have a register: nothing bars it, and where the function begins it is not wanted, or is a parameter.
+abbrev pub may_have : (masks live : List ℕ) → (taken barred parameters slot : ℕ) → Bool
+may_have masks live taken barred parameters slot =
+    nat_lt 0 (mask_at masks slot)
+    && (nat_lt 0 (bit_and (mask_at masks slot) taken)
+    && (bit_and barred (mask_at masks slot) == 0 && (nat_lt slot parameters || bit_and (mask_at live 0) (mask_at masks slot) == 0)))

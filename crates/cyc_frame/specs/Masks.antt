@@ -24,6 +24,7 @@ HasBit masks slot j = bit_at (mask_at masks slot) j ≡ 1
 pub record AreMasks (masks : List ℕ) (next : ℕ) : Type 0 where
   pub below : (slot j : ℕ) → HasBit masks slot j → j < next
   pub one : (a c j : ℕ) → HasBit masks a j → HasBit masks c j → a ≡ c
+  pub some : (slot : ℕ) → 0 < mask_at masks slot → (j : ℕ) × HasBit masks slot j
 
 abbrev pub operand_mask : List ℕ → Operand → ℕ
 operand_mask masks (operands.Slot number) = mask_at masks number
@@ -58,6 +59,9 @@ read_mask masks results (instructions.StoreGlobal global source) = operand_mask 
 read_mask masks results (instructions.Load destination address offset) = operand_mask masks address
 read_mask masks results (instructions.Store address offset source) =
     bit_or (operand_mask masks address) (operand_mask masks source)
+read_mask masks results (instructions.LoadByte destination address offset) = operand_mask masks address
+read_mask masks results (instructions.StoreByte address offset source) =
+    bit_or (operand_mask masks address) (operand_mask masks source)
 read_mask masks results (instructions.Ask request) = request_read_mask masks request
 read_mask masks results (instructions.Leave first) = range_mask masks first RECORD_WORDS
 read_mask masks results (instructions.Throw tag value) = bit_or (operand_mask masks tag) (operand_mask masks value)
@@ -77,6 +81,7 @@ write_mask masks program (instructions.ReadByte destination) = mask_at masks des
 write_mask masks program (instructions.AddressOf destination taken count) = mask_at masks destination
 write_mask masks program (instructions.LoadGlobal destination global) = mask_at masks destination
 write_mask masks program (instructions.Load destination address offset) = mask_at masks destination
+write_mask masks program (instructions.LoadByte destination address offset) = mask_at masks destination
 write_mask masks program (instructions.CountLexical destination) = mask_at masks destination
 write_mask masks program instruction = 0
 
@@ -98,8 +103,8 @@ bar_mask masks (instructions.Try first handler) = range_mask masks first RECORD_
 bar_mask masks (instructions.Leave first) = range_mask masks first RECORD_WORDS
 bar_mask masks instruction = 0
 
--- what it passes
+-- what it gets from another function
 abbrev pub pass_mask : List ℕ → Program → Instruction → ℕ
 pass_mask masks program (instructions.Call function arguments count result) =
-    bit_or (range_mask masks arguments count) (range_mask masks result (routine_at program function).results)
+    range_mask masks result (routine_at program function).results
 pass_mask masks program instruction = 0

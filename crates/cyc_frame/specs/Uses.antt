@@ -50,6 +50,8 @@ reads results (instructions.WriteByte source) slot = is_slot source slot
 reads results (instructions.StoreGlobal global source) slot = is_slot source slot
 reads results (instructions.Load destination address offset) slot = is_slot address slot
 reads results (instructions.Store address offset source) slot = is_slot address slot || is_slot source slot
+reads results (instructions.LoadByte destination address offset) slot = is_slot address slot
+reads results (instructions.StoreByte address offset source) slot = is_slot address slot || is_slot source slot
 reads results (instructions.Ask request) slot = request_reads request slot
 reads results (instructions.Leave first) slot = is_among first RECORD_WORDS slot
 reads results (instructions.Throw tag value) slot = is_slot tag slot || is_slot value slot
@@ -69,6 +71,7 @@ writes program (instructions.ReadByte destination) slot = destination == slot
 writes program (instructions.AddressOf destination taken count) slot = destination == slot
 writes program (instructions.LoadGlobal destination global) slot = destination == slot
 writes program (instructions.Load destination address offset) slot = destination == slot
+writes program (instructions.LoadByte destination address offset) slot = destination == slot
 writes program (instructions.Ask request) slot = request_writes request slot
 writes program (instructions.CountLexical destination) slot = destination == slot
 writes program (instructions.Try first handler) slot = is_among first RECORD_WORDS slot
@@ -95,8 +98,8 @@ bars (instructions.Try first handler) slot = is_among first RECORD_WORDS slot
 bars (instructions.Leave first) slot = is_among first RECORD_WORDS slot
 bars instruction slot = false
 
--- it passes the slot's word to another function, or gets it from there
+-- it gets the slot's word from another function
 abbrev pub passes : Program → Instruction → (slot : ℕ) → Bool
 passes program (instructions.Call function arguments count result) slot =
-    is_among arguments count slot || is_among result (routine_at program function).results slot
+    is_among result (routine_at program function).results slot
 passes program instruction slot = false

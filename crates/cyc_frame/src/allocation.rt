@@ -1,13 +1,14 @@
 //! A home for each slot of a function.
 ghost use Rattle.std.specs.Prelude.{◌≡◌, ◌+◌, ◌≤◌, length, IfOk};
 ghost use Rattle.cyc_plain.specs.Program.{routine_of};
-ghost use Rattle.cyc_frame.specs.Allocation.{AreFirstHomes, IsHomeOf};
+ghost use Rattle.cyc_frame.specs.Allocation.{AreFirstHomes, IsHomeOf, register_count};
 ghost use Rattle.cyc_frame.specs.Homes.{AreHomes, both_count};
 ghost use Rattle.cyc_frame.specs.Live.{IsSound};
 ghost use Rattle.cyc_frame.specs.Masks.{AreMasks};
 
+use crate::gains::gains_of;
 use crate::home::{FIRST_REGISTER, Home, MOST_BOTH};
-use crate::live::{self, MOST_CHOSEN};
+use crate::live::{Lives, MOST_CHOSEN, MOST_REGISTERS, is_sound, lives_of, may_have};
 use crate::masks::mask_at;
 use cyc_plain::{Function, Plain};
 use std::alloc::{AllocError, Global};
@@ -30,7 +31,7 @@ fn number(masks: &mut Vec<u32>, next: u32, is_chosen: bool) -> Result<u32, Alloc
 
 /// The masks of slots: those that are chosen get numbers in order, while there are some.
 #[tactic(auto, using(crate::proofs::Bits::no_masks, crate::proofs::Bits::fewer))]
-pub(crate) fn masks_of(alloc: Global, chosen: &[bool]) -> Result<Vec<u32>, AllocError>
+fn masks_of(alloc: Global, chosen: &[bool]) -> Result<Vec<u32>, AllocError>
     ensures { IfOk result (λ masks. AreMasks masks.items MOST_CHOSEN) }
 {
     let mut masks = Vec::new(alloc);
@@ -41,38 +42,45 @@ pub(crate) fn masks_of(alloc: Global, chosen: &[bool]) -> Result<Vec<u32>, Alloc
     Ok(masks)
 }
 
-/// The home of a slot, where so many have both already.
+/// The home of a slot, where so many registers are given already, and so many slots have both. A slot that is not taken
+/// stays in memory.
+#[tactic(auto, using(crate::proofs::Homes::memory_home))]
 fn home_of(
     plain: &Plain,
     function: &Function,
     masks: &[u32],
-    live: &[u32],
-    kept: u32,
+    lives: &Lives,
+    taken: u32,
     slot: usize,
+    given: usize,
     both: usize,
 ) -> Home
     requires numbered { AreMasks masks.now MOST_CHOSEN }
-    requires sound { IsSound plain.now (routine_of function.now) masks.now live.now kept }
+    requires sound { IsSound plain.now (routine_of function.now) masks.now lives.now.live.items lives.now.kept lives.now.barred }
     requires few { both ≤ MOST_BOTH }
-    ensures home { IsHomeOf plain.now (routine_of function.now) masks.now slot result }
+    ensures home { IsHomeOf plain.now (routine_of function.now) slot given result }
     ensures few { both + both_count result ≤ MOST_BOTH }
 {
-    let mask = mask_at(masks, slot);
-    let number = mask.trailing_zeros();
-    if mask == 0 || number >= MOST_CHOSEN {
+    if !may_have(function, masks, lives, taken, slot) || given >= MOST_REGISTERS {
         return Home::Memory;
     }
-    if slot >= function.parameters && mask_at(live, 0) & mask != 0 {
-        return Home::Memory;
-    }
-    let register = FIRST_REGISTER + number as u8;
-    if kept & mask == 0 {
+    let register = FIRST_REGISTER + given as u8;
+    if lives.kept & mask_at(masks, slot) == 0 {
         return Home::Register { register };
     }
     if both >= MOST_BOTH {
         return Home::Memory;
     }
     Home::Both { register }
+}
+
+fn registers_in(home: Home) -> usize
+    ensures { result ≡ register_count home }
+{
+    match home {
+        Home::Memory => 0,
+        Home::Both { .. } | Home::Register { .. } => 1,
+    }
 }
 
 fn both_in(home: Home) -> usize
@@ -90,17 +98,19 @@ fn homes_in(
     plain: &Plain,
     function: &Function,
     masks: &[u32],
-    live: &[u32],
-    kept: u32,
+    lives: &Lives,
+    taken: u32,
 ) -> Result<Vec<Home>, AllocError>
     requires numbered { AreMasks masks.now MOST_CHOSEN }
-    requires sound { IsSound plain.now (routine_of function.now) masks.now live.now kept }
+    requires sound { IsSound plain.now (routine_of function.now) masks.now lives.now.live.items lives.now.kept lives.now.barred }
     ensures { IfOk result (λ homes. AreHomes plain.now (routine_of function.now) homes.items) }
 {
-    let mut homes = Vec::new(alloc);
+    let mut homes = Vec::with_capacity(alloc, function.slots)?;
+    let mut given = 0;
     let mut both = 0;
     for slot in 0..function.slots {
-        let home = home_of(plain, function, masks, live, kept, slot, both);
+        let home = home_of(plain, function, masks, lives, taken, slot, given, both);
+        given += registers_in(home);
         both += both_in(home);
         homes.push(home)?;
     }
@@ -115,20 +125,20 @@ fn in_memory(alloc: Global, plain: &Plain, function: &Function) -> Result<Vec<Ho
     Ok(vec![in alloc; Home::Memory; function.slots]?)
 }
 
-/// A home for each slot of a function: those that are chosen get registers, in order, while there are some.
+/// A home for each slot of a function. Those that gain most by it get registers, in order, while there are some.
 pub(crate) fn allocate(
     alloc: Global,
     plain: &Plain,
     function: &Function,
-    chosen: &[bool],
 ) -> Result<Vec<Home>, AllocError>
     ensures { IfOk result (λ homes. AreHomes plain.now (routine_of function.now) homes.items) }
 {
-    let masks = masks_of(alloc, chosen)?;
-    let live = live::table(alloc, plain, function, &masks)?;
-    let kept = live::kept(plain, function, &masks, &live);
-    if !live::is_sound(plain, function, &masks, &live, kept) {
+    let gains = gains_of(alloc, function)?;
+    let masks = masks_of(alloc, &gains.chosen(alloc)?)?;
+    let lives = lives_of(alloc, plain, function, &masks, &gains.backward)?;
+    if !is_sound(plain, function, &masks, &lives) {
         return in_memory(alloc, plain, function);
     }
-    homes_in(alloc, plain, function, &masks, &live, kept)
+    let taken = gains.taken(&masks, &lives);
+    homes_in(alloc, plain, function, &masks, &lives, taken)
 }

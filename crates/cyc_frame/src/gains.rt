@@ -1,94 +1,46 @@
 //! Which slots are worth a register. Nothing is promised of the choice: homes are right whatever is chosen.
-use crate::allocation::masks_of;
 use crate::home::MOST_BOTH;
-use crate::live::{self, MOST_CHOSEN};
+use crate::live::{Lives, MOST_CHOSEN, MOST_REGISTERS};
 use crate::masks::mask_at;
-use cyc_plain::{Function, Instruction, Operand, Plain, Request};
+use cyc_plain::{Function, Instruction, Operand, Request};
 use std::alloc::{AllocError, Global};
 
-/// How often the best slots are looked at before those that are best then are taken.
-const LOOKS: usize = 4;
+/// How often the least gain is doubled at most, until no more slots have it than are looked at.
+const MOST_DOUBLINGS: u32 = 64;
 
-/// What a slot needs beside a register.
+/// How often the code reads, writes and passes a slot, by a guess of how often each place is executed.
 #[derive(Clone, Copy)]
-enum Need {
-    /// It has not been looked at.
-    Unknown,
-    Nothing,
-    /// It is wanted behind a call or in a clause, or passed.
-    Memory,
-    /// It cannot have a register.
-    NoRegister,
+struct Gain {
+    reads: u64,
+    writes: u64,
+    passes: u64,
 }
 
-/// How often the code reads and writes slots, by a guess of how often each place is executed.
+/// What registers for the slots of a function would gain.
 #[derive(Drop)]
-struct Gains {
-    reads: Vec<u64>,
-    writes: Vec<u64>,
+pub(crate) struct Gains {
+    slots: Vec<Gain>,
     calls: u64,
+    /// The places from which the code jumps backward, in order.
+    pub(crate) backward: Vec<usize>,
 }
 
+/// A place in the code.
+#[derive(Clone, Copy)]
+struct Place {
+    /// Where the code jumps backward to it, the place behind the last such jump, else 0.
+    end: usize,
+    /// How many loops end before it.
+    closing: u64,
+    is_reached: bool,
+}
+
+/// Where an instruction leads, but for the next one and to clauses.
 fn target_of(instruction: Instruction) -> Option<usize> {
     match instruction {
         Instruction::Jump { target } => Some(target),
         Instruction::Branch { target, .. } => Some(target),
         _ => None,
-    }
-}
-
-fn number_at(numbers: &[usize], place: usize) -> usize {
-    match numbers.get(place) {
-        Some(number) => *number,
-        None => 0,
-    }
-}
-
-fn weight_at(weights: &[u64], place: usize) -> u64 {
-    match weights.get(place) {
-        Some(weight) => *weight,
-        None => 0,
-    }
-}
-
-fn add(weights: &mut Vec<u64>, place: usize, weight: u64) {
-    if let Some(sum) = weights.get_mut(place) {
-        *sum = sum.saturating_add(weight);
-    }
-}
-
-fn add_operand(weights: &mut Vec<u64>, operand: Option<Operand>, weight: u64) {
-    match operand {
-        Some(Operand::Slot { number }) => add(weights, number, weight),
-        _ => {}
-    }
-}
-
-/// For each place to which the code jumps backward, the place behind the last such jump. For others 0.
-fn loop_ends(alloc: Global, code: &[Instruction]) -> Result<Vec<usize>, AllocError> {
-    let mut ends = vec![in alloc; 0; code.len()]?;
-    for index in 0..code.len() {
-        if let Some(target) = target_of(code[index]) {
-            if target <= index {
-                if let Some(end) = ends.get_mut(target) {
-                    *end = index + 1;
-                }
-            }
-        }
-    }
-    Ok(ends)
-}
-
-fn mark(marks: &mut Vec<bool>, place: usize) {
-    if let Some(is_marked) = marks.get_mut(place) {
-        *is_marked = true;
-    }
-}
-
-fn is_marked(marks: &[bool], place: usize) -> bool {
-    match marks.get(place) {
-        Some(is_marked) => *is_marked,
-        None => false,
     }
 }
 
@@ -104,37 +56,6 @@ fn goes_on(instruction: Instruction) -> bool {
     }
 }
 
-fn mark_behind(marks: &mut Vec<bool>, instruction: Instruction, index: usize) {
-    if goes_on(instruction) {
-        mark(marks, index.saturating_add(1));
-    }
-    if let Some(target) = target_of(instruction) {
-        mark(marks, target);
-    }
-    if let Instruction::Try { handler, .. } = instruction {
-        mark(marks, handler);
-    }
-}
-
-/// Which places may be executed. To where the code jumps backward, a way is taken for granted.
-fn reached_places(
-    alloc: Global,
-    code: &[Instruction],
-    ends: &[usize],
-) -> Result<Vec<bool>, AllocError> {
-    let mut reached = vec![in alloc; false; code.len()]?;
-    mark(&mut reached, 0);
-    for index in 0..code.len() {
-        if number_at(ends, index) > 0 {
-            mark(&mut reached, index);
-        }
-        if is_marked(&reached, index) {
-            mark_behind(&mut reached, code[index], index);
-        }
-    }
-    Ok(reached)
-}
-
 fn weight_in(depth: u64) -> u64 {
     match depth {
         0 => 1,
@@ -144,26 +65,6 @@ fn weight_in(depth: u64) -> u64 {
         4 => 10_000,
         _ => 100_000,
     }
-}
-
-/// How often each place may be executed: ten times for each loop round it, and never where no way leads.
-fn weights_of(alloc: Global, code: &[Instruction]) -> Result<Vec<u64>, AllocError> {
-    let ends = loop_ends(alloc, code)?;
-    let reached = reached_places(alloc, code, &ends)?;
-    let mut closing = vec![in alloc; 0u64; code.len()]?;
-    let mut weights = Vec::new(alloc);
-    let mut depth: u64 = 0;
-    for index in 0..code.len() {
-        depth = depth.saturating_sub(weight_at(&closing, index));
-        let end = number_at(&ends, index);
-        if end > 0 {
-            depth = depth.saturating_add(1);
-            add(&mut closing, end, 1);
-        }
-        let is_reached = is_marked(&reached, index);
-        weights.push(if is_reached { weight_in(depth) } else { 0 })?;
-    }
-    Ok(weights)
 }
 
 fn request_operands(request: Request) -> (Option<Operand>, Option<Operand>) {
@@ -191,6 +92,12 @@ fn operands_of(instruction: Instruction) -> (Option<Operand>, Option<Operand>) {
             source,
             ..
         } => (Some(address), Some(source)),
+        Instruction::LoadByte { address, .. } => (Some(address), None),
+        Instruction::StoreByte {
+            address,
+            source,
+            ..
+        } => (Some(address), Some(source)),
         Instruction::Ask { request } => request_operands(request),
         Instruction::Throw { tag, value } => (Some(tag), Some(value)),
         Instruction::Return { value } => (Some(Operand::Slot { number: value }), None),
@@ -209,38 +116,68 @@ fn destination_of(instruction: Instruction) -> Option<usize> {
         Instruction::AddressOf { destination, .. } => Some(destination),
         Instruction::LoadGlobal { destination, .. } => Some(destination),
         Instruction::Load { destination, .. } => Some(destination),
+        Instruction::LoadByte { destination, .. } => Some(destination),
         Instruction::CountLexical { destination } => Some(destination),
         _ => None,
     }
 }
 
-/// So many slots from one on.
-fn add_range(weights: &mut Vec<u64>, first: usize, count: usize, weight: u64) {
-    for slot in first..first.saturating_add(count) {
-        add(weights, slot, weight);
+fn mark(places: &mut Vec<Place>, index: usize) {
+    if let Some(place) = places.get_mut(index) {
+        place.is_reached = true;
     }
 }
 
-fn calls_in(instruction: Instruction, weight: u64) -> u64 {
-    match instruction {
-        Instruction::Call { .. } => weight,
-        _ => 0,
+fn mark_behind(places: &mut Vec<Place>, instruction: Instruction, index: usize) {
+    if goes_on(instruction) {
+        mark(places, index.saturating_add(1));
+    }
+    if let Some(target) = target_of(instruction) {
+        mark(places, target);
+    }
+    if let Instruction::Try { handler, .. } = instruction {
+        mark(places, handler);
     }
 }
 
-fn gains_of(alloc: Global, function: &Function) -> Result<Gains, AllocError> {
-    let weights = weights_of(alloc, &function.code)?;
-    let mut reads = vec![in alloc; 0u64; function.slots]?;
-    let mut writes = vec![in alloc; 0u64; function.slots]?;
-    let mut calls: u64 = 0;
-    for index in 0..function.code.len() {
-        let instruction = function.code[index];
-        let weight = weight_at(&weights, index);
+fn close(places: &mut Vec<Place>, end: usize) {
+    if let Some(place) = places.get_mut(end) {
+        place.closing = place.closing.saturating_add(1);
+    }
+}
+
+impl Gains {
+    fn read(&mut self, slot: usize, weight: u64) {
+        if let Some(gain) = self.slots.get_mut(slot) {
+            gain.reads = gain.reads.saturating_add(weight);
+        }
+    }
+
+    fn read_operand(&mut self, operand: Option<Operand>, weight: u64) {
+        if let Some(Operand::Slot { number }) = operand {
+            self.read(number, weight);
+        }
+    }
+
+    fn write(&mut self, slot: usize, weight: u64) {
+        if let Some(gain) = self.slots.get_mut(slot) {
+            gain.writes = gain.writes.saturating_add(weight);
+        }
+    }
+
+    fn pass(&mut self, slot: usize, weight: u64) {
+        if let Some(gain) = self.slots.get_mut(slot) {
+            gain.passes = gain.passes.saturating_add(weight);
+        }
+    }
+
+    /// An instruction that is executed so often.
+    fn add(&mut self, instruction: Instruction, weight: u64) {
         let (first, second) = operands_of(instruction);
-        add_operand(&mut reads, first, weight);
-        add_operand(&mut reads, second, weight);
+        self.read_operand(first, weight);
+        self.read_operand(second, weight);
         if let Some(slot) = destination_of(instruction) {
-            add(&mut writes, slot, weight);
+            self.write(slot, weight);
         }
         match instruction {
             Instruction::MoveWords {
@@ -248,143 +185,209 @@ fn gains_of(alloc: Global, function: &Function) -> Result<Gains, AllocError> {
                 source,
                 count,
             } => {
-                add_range(&mut reads, source, count, weight);
-                add_range(&mut writes, destination, count, weight);
+                for word in 0..count {
+                    self.read(source.saturating_add(word), weight);
+                    self.write(destination.saturating_add(word), weight);
+                }
+            }
+            Instruction::Call {
+                arguments,
+                count,
+                ..
+            } => {
+                for word in 0..count {
+                    self.pass(arguments.saturating_add(word), weight);
+                }
+                self.calls = self.calls.saturating_add(weight);
             }
             _ => {}
         }
-        calls = calls.saturating_add(calls_in(instruction, weight));
     }
-    Ok(Gains {
-        reads,
-        writes,
-        calls,
-    })
-}
 
-fn need_at(needs: &[Need], slot: usize) -> Need {
-    match needs.get(slot) {
-        Some(need) => *need,
-        None => Need::NoRegister,
-    }
-}
-
-/// What a register for this slot would save, where so many slots have both already.
-fn gain_at(gains: &Gains, needs: &[Need], slot: usize, both: usize) -> u64 {
-    let reads = weight_at(&gains.reads, slot);
-    match need_at(needs, slot) {
-        Need::NoRegister => 0,
-        Need::Memory => {
-            if both < MOST_BOTH {
-                reads.saturating_sub(gains.calls)
-            } else {
-                0
+    /// The places of a function's code, with where its loops begin and end.
+    fn places(&mut self, alloc: Global, code: &[Instruction]) -> Result<Vec<Place>, AllocError> {
+        let place = Place {
+            end: 0,
+            closing: 0,
+            is_reached: false,
+        };
+        let mut places = vec![in alloc; place; code.len()]?;
+        for index in 0..code.len() {
+            if let Some(target) = target_of(code[index]) {
+                if target <= index {
+                    self.backward.push(index)?;
+                    if let Some(place) = places.get_mut(target) {
+                        place.end = index + 1;
+                    }
+                }
             }
         }
-        _ => reads.saturating_add(weight_at(&gains.writes, slot)),
+        Ok(places)
     }
-}
 
-/// The slot, not chosen yet, that would gain most, if one would gain something.
-fn best_slot(gains: &Gains, needs: &[Need], chosen: &[bool], both: usize) -> Option<usize> {
-    let mut best = None;
-    let mut most: u64 = 0;
-    for slot in 0..chosen.len() {
-        let gain = gain_at(gains, needs, slot, both);
-        if !chosen[slot] && gain > most {
-            best = Some(slot);
-            most = gain;
+    /// What each slot gains: a place counts ten times for each loop round it, and nothing where no way leads. To where the
+    /// code jumps backward, a way is taken for granted.
+    fn weigh(&mut self, code: &[Instruction], places: &mut Vec<Place>) {
+        mark(places, 0);
+        let mut depth: u64 = 0;
+        for index in 0..code.len() {
+            let place = match places.get(index) {
+                Some(place) => *place,
+                None => return,
+            };
+            depth = depth.saturating_sub(place.closing);
+            if place.end > 0 {
+                depth = depth.saturating_add(1);
+                close(places, place.end);
+            }
+            if place.is_reached || place.end > 0 {
+                mark_behind(places, code[index], index);
+                self.add(code[index], weight_in(depth));
+            }
         }
     }
-    best
-}
 
-fn both_in(need: Need) -> usize {
-    match need {
-        Need::Memory => 1,
-        _ => 0,
+    /// What a register alone would save at most.
+    fn most_at(&self, slot: usize) -> u64 {
+        match self.slots.get(slot) {
+            Some(gain) => {
+                gain.reads
+                    .saturating_add(gain.writes)
+                    .saturating_sub(gain.passes)
+            }
+            None => 0,
+        }
     }
-}
 
-/// The slots that gain most, as far as is known.
-fn best_slots(alloc: Global, gains: &Gains, needs: &[Need]) -> Result<Vec<bool>, AllocError> {
-    let mut chosen = vec![in alloc; false; needs.len()]?;
-    let mut both: usize = 0;
-    for _ in 0..MOST_CHOSEN {
-        if let Some(slot) = best_slot(gains, needs, &chosen, both) {
-            both = both.saturating_add(both_in(need_at(needs, slot)));
+    /// What a register beside memory would save, which is read again behind each call.
+    fn beside_at(&self, slot: usize) -> u64 {
+        match self.slots.get(slot) {
+            Some(gain) => gain.reads.saturating_sub(self.calls),
+            None => 0,
+        }
+    }
+
+    fn count_from(&self, least: u64) -> u32 {
+        let mut count: u32 = 0;
+        for slot in 0..self.slots.len() {
+            if self.most_at(slot) >= least {
+                count = count.saturating_add(1);
+            }
+        }
+        count
+    }
+
+    /// The least gain that no more slots have than are looked at.
+    fn least(&self) -> u64 {
+        let mut least: u64 = 1;
+        for _ in 0..MOST_DOUBLINGS {
+            if self.count_from(least) <= MOST_CHOSEN {
+                break;
+            }
+            least = least.saturating_mul(2);
+        }
+        least
+    }
+
+    /// The slots that are looked at: those that gain most.
+    pub(crate) fn chosen(&self, alloc: Global) -> Result<Vec<bool>, AllocError> {
+        let least = self.least();
+        let mut chosen = vec![in alloc; false; self.slots.len()]?;
+        let mut left = MOST_CHOSEN.saturating_sub(self.count_from(least));
+        for slot in 0..self.slots.len() {
+            let most = self.most_at(slot);
+            let is_next = least > 1 && left > 0 && most >= least / 2 && most < least;
+            if is_next {
+                left = left.saturating_sub(1);
+            }
             if let Some(is_chosen) = chosen.get_mut(slot) {
-                *is_chosen = true;
+                *is_chosen = is_next || most >= least;
             }
         }
+        Ok(chosen)
     }
-    Ok(chosen)
-}
 
-fn need_of(mask: u32, kept: u32, barred: u32) -> Need {
-    if mask & barred != 0 {
-        Need::NoRegister
-    } else if mask & kept != 0 {
-        Need::Memory
-    } else {
-        Need::Nothing
+    /// What a register for this slot would save, where so many slots have both already.
+    fn gain_at(&self, slot: usize, mask: u32, lives: &Lives, both: usize) -> u64 {
+        if mask & lives.barred != 0 {
+            0
+        } else if mask & lives.kept == 0 {
+            self.most_at(slot)
+        } else if both < MOST_BOTH {
+            self.beside_at(slot)
+        } else {
+            0
+        }
     }
-}
 
-/// Finds what the chosen slots need.
-fn look_at(
-    alloc: Global,
-    plain: &Plain,
-    function: &Function,
-    chosen: &[bool],
-    needs: &mut Vec<Need>,
-) -> Result<(), AllocError> {
-    let masks = masks_of(alloc, chosen)?;
-    let live = live::table(alloc, plain, function, &masks)?;
-    let kept = live::kept(plain, function, &masks, &live);
-    let barred = live::barred(function, &masks);
-    for slot in 0..chosen.len() {
-        let mask = mask_at(&masks, slot);
-        if let Some(need) = needs.get_mut(slot) {
-            if mask != 0 {
-                *need = need_of(mask, kept, barred);
+    /// The mask of the slot, not taken yet, that would gain most. Where none would gain anything, 0.
+    fn best(&self, masks: &[u32], lives: &Lives, taken: u32, both: usize) -> u32 {
+        let mut best: u32 = 0;
+        let mut most: u64 = 0;
+        for slot in 0..self.slots.len() {
+            let mask = mask_at(masks, slot);
+            if mask != 0 && mask & taken == 0 {
+                let gain = self.gain_at(slot, mask, lives, both);
+                if gain > most {
+                    best = mask;
+                    most = gain;
+                }
             }
         }
+        best
     }
-    Ok(())
-}
 
-fn is_unknown(need: Need) -> bool {
-    match need {
-        Need::Unknown => true,
-        _ => false,
-    }
-}
-
-fn are_known(needs: &[Need], chosen: &[bool]) -> bool {
-    for slot in 0..chosen.len() {
-        if chosen[slot] && is_unknown(need_at(needs, slot)) {
-            return false;
+    /// The masks of all chosen slots that gain something, if there are registers for them.
+    fn all(&self, masks: &[u32], lives: &Lives) -> Option<u32> {
+        let mut taken: u32 = 0;
+        for slot in 0..self.slots.len() {
+            let mask = mask_at(masks, slot);
+            if mask != 0 && self.gain_at(slot, mask, lives, 0) > 0 {
+                taken = taken | mask;
+            }
+        }
+        let both = (taken & lives.kept).count_ones() as usize;
+        if taken.count_ones() as usize <= MOST_REGISTERS && both <= MOST_BOTH {
+            Some(taken)
+        } else {
+            None
         }
     }
-    true
+
+    /// The masks of those of the chosen slots that gain most.
+    pub(crate) fn taken(&self, masks: &[u32], lives: &Lives) -> u32 {
+        if let Some(taken) = self.all(masks, lives) {
+            return taken;
+        }
+        let mut taken: u32 = 0;
+        let mut both: usize = 0;
+        for _ in 0..MOST_REGISTERS {
+            let mask = self.best(masks, lives, taken, both);
+            if mask == 0 {
+                break;
+            }
+            if mask & lives.kept != 0 {
+                both = both.saturating_add(1);
+            }
+            taken = taken | mask;
+        }
+        taken
+    }
 }
 
-/// The slots of a function that are to have registers.
-pub(crate) fn choose(
-    alloc: Global,
-    plain: &Plain,
-    function: &Function,
-) -> Result<Vec<bool>, AllocError> {
-    let gains = gains_of(alloc, function)?;
-    let mut needs = vec![in alloc; Need::Unknown; function.slots]?;
-    let mut chosen = best_slots(alloc, &gains, &needs)?;
-    for _ in 0..LOOKS {
-        if are_known(&needs, &chosen) {
-            break;
-        }
-        look_at(alloc, plain, function, &chosen, &mut needs)?;
-        chosen = best_slots(alloc, &gains, &needs)?;
-    }
-    Ok(chosen)
+/// What registers for the slots of a function would gain.
+pub(crate) fn gains_of(alloc: Global, function: &Function) -> Result<Gains, AllocError> {
+    let none = Gain {
+        reads: 0,
+        writes: 0,
+        passes: 0,
+    };
+    let mut gains = Gains {
+        slots: vec![in alloc; none; function.slots]?,
+        calls: 0,
+        backward: Vec::new(alloc),
+    };
+    let mut places = gains.places(alloc, &function.code)?;
+    gains.weigh(&function.code, &mut places);
+    Ok(gains)
 }

@@ -9,7 +9,6 @@ ghost use Rattle.cyc_frame.specs.Layout.{AreFirstFrames, AreFrames, HasSmallFram
 use crate::allocation::allocate;
 use crate::frame::{Frame, MOST_FRAME_WORDS};
 use crate::frames::Frames;
-use crate::gains::choose;
 use cyc_plain::{Function, LAYOUT_WORDS, Plain};
 use cyc_words::{Code, Fault, Span};
 use std::alloc::{AllocError, Global};
@@ -35,8 +34,7 @@ fn frame_of(alloc: Global, plain: &Plain, function: &Function) -> Result<Frame, 
     ensures frame { IfOk result (λ frame. IsFrame (routine_of function.now) frame) }
     ensures homes { IfOk result (λ frame. AreHomes plain.now (routine_of function.now) frame.homes) }
 {
-    let chosen = choose(alloc, plain, function)?;
-    let homes = allocate(alloc, plain, function, &chosen)?;
+    let homes = allocate(alloc, plain, function)?;
     Ok(Frame {
         words: LAYOUT_WORDS + function.slots,
         return_address: 0,

@@ -99,6 +99,12 @@ pub(crate) fn read_mask(masks: &[u32], results: usize, instruction: Instruction)
             source,
             ..
         } => operand_mask(masks, address) | operand_mask(masks, source),
+        Instruction::LoadByte { address, .. } => operand_mask(masks, address),
+        Instruction::StoreByte {
+            address,
+            source,
+            ..
+        } => operand_mask(masks, address) | operand_mask(masks, source),
         Instruction::Ask { request } => request_read_mask(masks, request),
         Instruction::Leave { first } => range_mask(masks, first, RECORD_WORDS),
         Instruction::Throw { tag, value } => operand_mask(masks, tag) | operand_mask(masks, value),
@@ -130,6 +136,7 @@ pub(crate) fn write_mask(masks: &[u32], plain: &Plain, instruction: Instruction)
         Instruction::AddressOf { destination, .. } => mask_at(masks, destination),
         Instruction::LoadGlobal { destination, .. } => mask_at(masks, destination),
         Instruction::Load { destination, .. } => mask_at(masks, destination),
+        Instruction::LoadByte { destination, .. } => mask_at(masks, destination),
         Instruction::CountLexical { destination } => mask_at(masks, destination),
         _ => 0,
     }
@@ -173,20 +180,16 @@ pub(crate) fn bar_mask(masks: &[u32], instruction: Instruction) -> u32
     }
 }
 
-/// What it passes to another function, or gets from there.
+/// What it gets from another function.
 pub(crate) fn pass_mask(masks: &[u32], plain: &Plain, instruction: Instruction) -> u32
     ensures { result ≡ masks_of.pass_mask masks.now plain.now instruction }
 {
     match instruction {
         Instruction::Call {
             function,
-            arguments,
-            count,
             result,
-        } => {
-            range_mask(masks, arguments, count)
-                | range_mask(masks, result, results_of(plain, function))
-        }
+            ..
+        } => range_mask(masks, result, results_of(plain, function)),
         _ => 0,
     }
 }

@@ -30,6 +30,8 @@ immediate-listed ImmediateOp.Xor = (5, lit< tt, refl)
 memory-listed : (op : MemoryOp) → Contains memory_ops op
 memory-listed MemoryOp.LoadWord = (0, lit< tt, refl)
 memory-listed MemoryOp.StoreWord = (1, lit< tt, refl)
+memory-listed MemoryOp.LoadByte = (2, lit< tt, refl)
+memory-listed MemoryOp.StoreByte = (3, lit< tt, refl)
 
 branch-listed : (op : BranchOp) → Contains branch_ops op
 branch-listed BranchOp.Equal = (0, lit< tt, refl)

@@ -23,6 +23,8 @@ immediate-number_fits ImmediateOp.Xor = lit< tt
 pub memory-number_fits : (op : MemoryOp) → (memory op).number < 64
 memory-number_fits MemoryOp.LoadWord = lit< tt
 memory-number_fits MemoryOp.StoreWord = lit< tt
+memory-number_fits MemoryOp.LoadByte = lit< tt
+memory-number_fits MemoryOp.StoreByte = lit< tt
 
 pub branch-number_fits : (op : BranchOp) → (branch op).number < 64
 branch-number_fits BranchOp.Equal = lit< tt

@@ -34,6 +34,8 @@ selected_of-immediate ImmediateOp.Xor w e = by_opcode w _ e refl refl
 pub selected_of-memory : (op : MemoryOp) (w : ℕ) → field_of Opcode w ≡ (memory op).number → selected_of w ≡ Some (memory_in op w)
 selected_of-memory MemoryOp.LoadWord w e = by_opcode w _ e refl refl
 selected_of-memory MemoryOp.StoreWord w e = by_opcode w _ e refl refl
+selected_of-memory MemoryOp.LoadByte w e = by_opcode w _ e refl refl
+selected_of-memory MemoryOp.StoreByte w e = by_opcode w _ e refl refl
 
 pub selected_of-branch : (op : BranchOp) (w : ℕ) → field_of Opcode w ≡ (branch op).number → selected_of w ≡ Some (branch_in op w)
 selected_of-branch BranchOp.Equal w e = by_opcode w _ e refl refl

@@ -33,7 +33,7 @@ sign_branches-encodable w = let h = half_fits w in (h, (h, tt))
 
 opcodes-encodable : (w : ℕ) → AllEncodable opcodes w
 opcodes-encodable w = let h = half_fits w in
-    (h, (h, (h, (h, (h, (h, (h, (h, (h, (h, (h, (h, (h, (tt, (tt, tt)))))))))))))))
+    (h, (h, (h, (h, (h, (h, (h, (h, (h, (h, (h, (h, (h, (h, (h, (tt, (tt, tt)))))))))))))))))
 
 selected_of-encodable : (w : ℕ) (i : Instr) → selected_of w ≡ Some i → IsEncodable i
 selected_of-encodable w i e =

@@ -4,7 +4,7 @@ use Rattle.std.proofs.lemmas.Bool.{eqb-true}
 use Rattle.cyc_isa.specs.Uses.{names_result, writes}
 use Rattle.cyc_isa.specs.declared.instr.Instr.{Instr}
 use Rattle.cyc_isa.specs.declared.instr.Instr.TheVariants.{Immediate, LoadUpper, Memory, Branch, BranchZero, Jump, Shift, ShiftVariable, JumpRegister, JumpRegisterLink, Exception, MoveFrom, MultiplyDivide, Arithmetic}
-use Rattle.cyc_isa.specs.declared.instr.MemoryOp.TheVariants.{LoadWord, StoreWord}
+use Rattle.cyc_isa.specs.declared.instr.MemoryOp.TheVariants.{LoadWord, StoreWord, LoadByte, StoreByte}
 use Rattle.cyc_isa.specs.declared.instr.JumpOp.TheVariants.{Plain, AndLink}
 use Rattle.cyc_isa.specs.declared.instr.ExceptionOp.{ExceptionOp}
 use Rattle.cyc_isa.specs.declared.operand.TrapCode.{TrapCode}
@@ -21,6 +21,8 @@ one_result (Immediate op t s h) m n free first other = same t.number m n first o
 one_result (LoadUpper t h) m n free first other = same t.number m n first other
 one_result (Memory LoadWord t b h) m n free first other = same t.number m n first other
 one_result (Memory StoreWord t b h) m n free first other = cc
+one_result (Memory LoadByte t b h) m n free first other = same t.number m n first other
+one_result (Memory StoreByte t b h) m n free first other = cc
 one_result (Branch op l r h) m n free first other = cc
 one_result (BranchZero op s h) m n free first other = cc
 one_result (Jump Plain x) m n free first other = cc

@@ -5,7 +5,7 @@ use Rattle.cyc_isa.specs.Encoding.{word_of}
 use Rattle.cyc_isa.specs.Decoding.{register_of, decode_of}
 use Rattle.cyc_isa.specs.Effect.{immediate_result, arithmetic_result, high_result, low_result, branch_target, jump_target, branch_zero_taken}
 use Rattle.cyc_isa.specs.declared.instr.ImmediateOp.TheVariants as ImmediateOp
-use Rattle.cyc_isa.specs.declared.instr.MemoryOp.TheVariants.{LoadWord}
+use Rattle.cyc_isa.specs.declared.instr.MemoryOp.TheVariants.{LoadWord, LoadByte, StoreByte}
 use Rattle.cyc_isa.specs.declared.instr.BranchZeroOp.TheVariants.{Less}
 use Rattle.cyc_isa.specs.declared.instr.MultiplyDivideOp.TheVariants.{Multiply, Divide}
 use Rattle.cyc_isa.specs.declared.instr.ArithmeticOp.TheVariants as ArithmeticOp
@@ -21,6 +21,17 @@ addiu_decoded = refl
 -- lw $8, 4($29)
 lw_decoded : decode_of 0x8fa80004 ≡ Some (Memory LoadWord (register_of 8) (register_of 29) 4)
 lw_decoded = refl
+
+-- lbu $4, 1($8) and sb $9, 1($8)
+lbu_decoded : decode_of 0x91040001 ≡ Some (Memory LoadByte (register_of 4) (register_of 8) 1)
+lbu_decoded = refl
+
+sb_decoded : decode_of 0xa1090001 ≡ Some (Memory StoreByte (register_of 9) (register_of 8) 1)
+sb_decoded = refl
+
+-- lb $4, 1($8), whose sign would be extended, is no instruction
+lb_refused : decode_of 0x81040001 ≡ None
+lb_refused = refl
 
 -- jr $31, and the same with a register in its unused field rt
 jr_decoded : decode_of 0x03e00008 ≡ Some (JumpRegister (register_of 31))

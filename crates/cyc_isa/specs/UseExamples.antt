@@ -60,6 +60,14 @@ lw_uses = refl
 sw_uses : uses_of (decode_of 0xafa8fffc) ≡ uses (8 ∷ 29 ∷ []) ([])
 sw_uses = refl
 
+-- lbu $8, 5($29)
+lbu_uses : uses_of (decode_of 0x93a80005) ≡ uses (29 ∷ []) (8 ∷ [])
+lbu_uses = refl
+
+-- sb $8, -3($29)
+sb_uses : uses_of (decode_of 0xa3a8fffd) ≡ uses (8 ∷ 29 ∷ []) ([])
+sb_uses = refl
+
 -- beq $1, $31
 beq_uses : uses_of (decode_of 0x103f8000) ≡ uses (1 ∷ 31 ∷ []) ([])
 beq_uses = refl

@@ -3,7 +3,7 @@
 use Rattle.std.specs.Prelude.{ℕ, Bool, false, not, ◌==◌, ◌||◌, ◌&&◌}
 use Rattle.cyc_isa.specs.declared.instr.Instr.{Instr}
 use Rattle.cyc_isa.specs.declared.instr.Instr.TheVariants.{Immediate, LoadUpper, Memory, Branch, BranchZero, Jump, Shift, ShiftVariable, JumpRegister, JumpRegisterLink, Exception, MoveFrom, MultiplyDivide, Arithmetic}
-use Rattle.cyc_isa.specs.declared.instr.MemoryOp.TheVariants.{LoadWord, StoreWord}
+use Rattle.cyc_isa.specs.declared.instr.MemoryOp.TheVariants.{LoadWord, StoreWord, LoadByte, StoreByte}
 use Rattle.cyc_isa.specs.declared.instr.JumpOp.TheVariants.{Plain, AndLink}
 use Rattle.cyc_isa.specs.declared.instr.ExceptionOp.TheVariants.{Syscall, Break}
 
@@ -14,6 +14,8 @@ reads (Immediate op target source immediate) number = source.number == number
 reads (LoadUpper target immediate) number = false
 reads (Memory LoadWord target base offset) number = base.number == number
 reads (Memory StoreWord target base offset) number = target.number == number || base.number == number
+reads (Memory LoadByte target base offset) number = base.number == number
+reads (Memory StoreByte target base offset) number = target.number == number || base.number == number
 reads (Branch op left right offset) number = left.number == number || right.number == number
 reads (BranchZero op source offset) number = source.number == number
 reads (Jump op index) number = false
@@ -34,6 +36,8 @@ names_result (Immediate op target source immediate) number = target.number == nu
 names_result (LoadUpper target immediate) number = target.number == number
 names_result (Memory LoadWord target base offset) number = target.number == number
 names_result (Memory StoreWord target base offset) number = false
+names_result (Memory LoadByte target base offset) number = target.number == number
+names_result (Memory StoreByte target base offset) number = false
 names_result (Branch op left right offset) number = false
 names_result (BranchZero op source offset) number = false
 names_result (Jump Plain index) number = false

@@ -266,6 +266,8 @@ fn selected(word: u32) -> Option<Instr>
         0x0e => immediate(ImmediateOp::Xor, word),
         0x0f => load_upper(word),
         0x23 => memory(MemoryOp::LoadWord, word),
+        0x24 => memory(MemoryOp::LoadByte, word),
+        0x28 => memory(MemoryOp::StoreByte, word),
         0x2b => memory(MemoryOp::StoreWord, word),
         _ => return None,
     };

@@ -13,11 +13,13 @@ pub enum ImmediateOp {
     Xor,
 }
 
-/// A load or a store of a word.
+/// A load or a store, of a word or of a byte; `LoadByte` has zeros above the byte, `StoreByte` stores the low byte.
 #[derive(Clone, Copy, Debug, PartialEq, Eq)]
 pub enum MemoryOp {
     LoadWord,
     StoreWord,
+    LoadByte,
+    StoreByte,
 }
 
 /// A branch on two registers.

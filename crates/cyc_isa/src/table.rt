@@ -47,6 +47,8 @@ pub fn memory(op: MemoryOp) -> Code
     match op {
         MemoryOp::LoadWord => Code::new("lw", 0x23),
         MemoryOp::StoreWord => Code::new("sw", 0x2b),
+        MemoryOp::LoadByte => Code::new("lbu", 0x24),
+        MemoryOp::StoreByte => Code::new("sb", 0x28),
     }
 }
 

@@ -24,8 +24,10 @@ pub fn reads(instr: Instr, register: u8) -> bool
             base,
             ..
         } => match op {
-            MemoryOp::LoadWord => base.number == register,
-            MemoryOp::StoreWord => target.number == register || base.number == register,
+            MemoryOp::LoadWord | MemoryOp::LoadByte => base.number == register,
+            MemoryOp::StoreWord | MemoryOp::StoreByte => {
+                target.number == register || base.number == register
+            }
         },
         Instr::Branch { left, right, .. } => left.number == register || right.number == register,
         Instr::BranchZero { source, .. } => source.number == register,
@@ -58,8 +60,8 @@ fn names_result(instr: Instr, register: u8) -> bool
         Instr::Immediate { target, .. } => target.number == register,
         Instr::LoadUpper { target, .. } => target.number == register,
         Instr::Memory { op, target, .. } => match op {
-            MemoryOp::LoadWord => target.number == register,
-            MemoryOp::StoreWord => false,
+            MemoryOp::LoadWord | MemoryOp::LoadByte => target.number == register,
+            MemoryOp::StoreWord | MemoryOp::StoreByte => false,
         },
         Instr::Branch { .. } | Instr::BranchZero { .. } => false,
         Instr::Jump { op, .. } => match op {

@@ -8,9 +8,9 @@ use Rattle.cyc_plain.specs.declared.instruction.Operand.TheVariants as operands
 use Rattle.cyc_plain.specs.declared.instruction.Instruction.{Instruction}
 use Rattle.cyc_plain.specs.declared.instruction.Instruction.TheVariants as instructions
 use Rattle.cyc_store.specs.declared.range.TheConstants.{HEAP, UNIQUE}
-use Rattle.cyc_meaning.specs.Values.{words_of_kind, is_thin}
+use Rattle.cyc_meaning.specs.Values.{is_thin}
 use Rattle.cyc_lower.specs.Slots.{Starts, slot_of, with_counter, counter_of, field_of, global_of}
-use Rattle.cyc_lower.specs.ValueCode.{unary_operator, behind_left, operand_or, code_unless, slot_or, code_unless_slot, left_with, next_slot, move_of, reached_operand, followed_operand, span_in, conversion_code, span_of, null_of, count_code, low_byte, compute_code, pointer_code, test_code, copy_code, addressed_by, word_by_word, load_word, global_code, loaded_code, words_behind, address_of_code, are_as_wide, converts_there, passed_words, all_passed, converted_by, moved_by, followed_by, element_by, tested_by}
+use Rattle.cyc_lower.specs.ValueCode.{unary_operator, behind_left, operand_or, code_unless, slot_or, code_unless_slot, left_with, next_slot, move_of, reached_operand, followed_operand, span_in, conversion_code, span_of, null_of, count_code, low_byte, compute_code, pointer_code, test_code, copy_code, addressed_by, word_by_word, load_word, global_code, loaded_code, words_behind, address_of_code, are_as_wide, converts_there, passed_words, all_passed, kinds_passed, converted_by, moved_by, followed_by, element_by, tested_by}
 use Rattle.cyc_lower.specs.ObjectCode.{stored_by, object_code, array_code, free_code}
 use Rattle.cyc_lower.specs.ControlCode.{closing_code, counter_operand}
 
@@ -153,10 +153,10 @@ abbrev mutual
 
   -- A new object in the region of this handle. The elements of an array have a counter.
   pub made_code : (starts : Starts) → Initial → (handle : Operand) → (p d t : ℕ) → List Instruction
-  made_code starts (Plain kind a) handle p d t = expression_code starts a p t t ++ object_code handle (words_of_kind kind) d t
-  made_code starts (Fields cs) handle p d t = arguments_code starts cs p t ++ object_code handle (all_passed cs) d t
+  made_code starts (Plain kind a) handle p d t = expression_code starts a p t t ++ object_code handle (kind ∷ []) d t
+  made_code starts (Fields cs) handle p d t = arguments_code starts cs p t ++ object_code handle (kinds_passed cs) d t
   made_code starts (Array w level n kind a) handle p d t =
-      array_code starts (words_of_kind kind) (expression_code starts n p t t) (λ q. expression_code (with_counter starts (t + 2)) a q (t + 3) (t + 3)) handle p d t
+      array_code starts kind (expression_code starts n p t t) (λ q. expression_code (with_counter starts (t + 2)) a q (t + 3) (t + 3)) handle p d t
 
   -- each argument comes into the slots behind those of the one before
   pub arguments_code : (starts : Starts) → Arguments → (p t : ℕ) → List Instruction

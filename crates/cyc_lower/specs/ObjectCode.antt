@@ -1,5 +1,6 @@
 -- The code that makes objects and arrays, frees them, and swaps what they hold.
 use Rattle.std.specs.Prelude.{ℕ, zero, suc, ◌+◌, max, ◌==◌, if◌then◌else◌, List, [], ◌∷◌, ◌++◌, length, ◌-◌, ◌*◌}
+use Rattle.cyc_types.specs.declared.typed.Kind.{Kind}
 use Rattle.cyc_types.specs.TypedTrees.{Load, Unary, Binary, Word, Move, Store, Side, VariableSide, CellSide}
 use Rattle.cyc_plain.specs.declared.instruction.UnaryOperator.TheVariants as plain_unary
 use Rattle.cyc_plain.specs.declared.instruction.BinaryOperator.TheVariants as plain_binary
@@ -9,6 +10,7 @@ use Rattle.cyc_plain.specs.declared.instruction.Operand.TheVariants as operands
 use Rattle.cyc_plain.specs.declared.instruction.Request.TheVariants as requests
 use Rattle.cyc_plain.specs.declared.instruction.Instruction.{Instruction}
 use Rattle.cyc_plain.specs.declared.instruction.Instruction.TheVariants as instructions
+use Rattle.cyc_meaning.specs.Values.{words_of_kind, bytes_of_kind, begins, behind, bytes_from, words_for}
 use Rattle.cyc_meaning.specs.Operators.{array_size}
 use Rattle.cyc_lower.specs.Slots.{Starts}
 use Rattle.cyc_lower.specs.declared.operands.Condition.{Condition}
@@ -31,10 +33,30 @@ saved_code words address (operands.Word n) = instructions.Store (operands.Slot a
 abbrev pub stored_by : (address value : List Instruction) → (words slot : ℕ) → Operand → List Instruction
 stored_by address value words slot o = address ++ (value ++ saved_code words slot o)
 
--- A block is asked for in the region of this handle, and gets so many words, which stand in the slots from t on. Its address comes to the
--- slot behind them, and then to slot d.
-abbrev pub object_code : (handle : Operand) → (words d t : ℕ) → List Instruction
-object_code handle words d t =
+-- how many slots values of these kinds stand in
+abbrev pub slots_of_kinds : List Kind → ℕ
+slots_of_kinds [] = 0
+slots_of_kinds (kind ∷ ks) = words_of_kind kind + slots_of_kinds ks
+
+-- Values of these kinds, which stand in slots one behind the other, come to cells of the object whose address is in a slot, each where its
+-- kind begins behind so many bytes.
+abbrev pub cells_code : List Kind → (address at slot : ℕ) → List Instruction
+cells_code [] address at slot = []
+cells_code (kind ∷ ks) address at slot =
+    stores_code (words_of_kind kind) address (begins kind at) slot ++ cells_code ks address (behind kind at) (slot + words_of_kind kind)
+
+-- A block is asked for in the region of this handle, with a cell for each of these kinds, and gets the values that stand in the slots from t
+-- on. Its address comes to the slot behind them, and then to slot d.
+abbrev pub object_code : (handle : Operand) → List Kind → (d t : ℕ) → List Instruction
+object_code handle ks d t =
+    instructions.Ask (requests.Allocate (t + slots_of_kinds ks) handle (operands.Word (max 1 (words_for (bytes_from 0 ks)))))
+    ∷ cells_code ks (t + slots_of_kinds ks) 0 t
+    ++ instructions.Move d (operands.Slot (t + slots_of_kinds ks))
+    ∷ []
+
+-- the same where the cells are words one behind the other, by their number
+abbrev pub words_code : (handle : Operand) → (words d t : ℕ) → List Instruction
+words_code handle words d t =
     instructions.Ask (requests.Allocate (t + words) handle (operands.Word (max 1 words)))
     ∷ stores_code words (t + words) 0 t
     ++ instructions.Move d (operands.Slot (t + words))
@@ -42,45 +64,45 @@ object_code handle words d t =
 
 -- ---- arrays
 
--- the most elements that an array may have, of one word each or of three: those of 1000 words
-abbrev pub most_elements : (words : ℕ) → ℕ
-most_elements words = if words == 1 then 1000 else 333
+-- the most elements that an array may have, of 4 bytes each or of 12: those of 1000 words
+abbrev pub most_elements : (bytes : ℕ) → ℕ
+most_elements bytes = if bytes == 4 then 1000 else 333
 
--- The length of an array in slot t, whose elements have so many words, is tested, and comes to slot x, and 0, as the index, to slot y.
-abbrev pub measured_code : Starts → (words x y t : ℕ) → List Instruction
-measured_code starts words x y t =
-    guard_code starts array_size comparisons.GreaterOrEqualUnsigned (operands.Slot t) (operands.Word (most_elements words + 1))
+-- The length of an array in slot t, whose elements are of a kind, is tested, and comes to slot x, and 0, as the index, to slot y.
+abbrev pub measured_code : Starts → Kind → (x y t : ℕ) → List Instruction
+measured_code starts kind x y t =
+    guard_code starts array_size comparisons.GreaterOrEqualUnsigned (operands.Slot t) (operands.Word (most_elements (bytes_of_kind kind) + 1))
     ++ instructions.Move x (operands.Slot t)
     ∷ instructions.Move y (operands.Word 0)
     ∷ []
 
--- A block is asked for of so many words for each element that slot t counts, or of one where that is 0: their number comes to slot s, and
--- the address to t.
-abbrev pub asked_code : (handle : Operand) → (words s t : ℕ) → List Instruction
-asked_code handle words s t =
-    instructions.Binary plain_binary.Multiply t (operands.Slot t) (operands.Word words)
+-- A block is asked for of the words of as many elements as slot t counts, or of one where that is 0: their number comes to slot s, and the
+-- address to t.
+abbrev pub asked_code : (handle : Operand) → Kind → (s t : ℕ) → List Instruction
+asked_code handle kind s t =
+    instructions.Binary plain_binary.Multiply t (operands.Slot t) (operands.Word (words_of_kind kind))
     ∷ instructions.Unary plain_unary.Not s (operands.Slot t)
     ∷ instructions.Binary plain_binary.Add s (operands.Slot s) (operands.Slot t)
     ∷ instructions.Ask (requests.Allocate t handle (operands.Slot s))
     ∷ []
 
 -- a new array, whose length is in slot t: its address comes there, and its length and the index behind it
-abbrev pub begun_code : Starts → (handle : Operand) → (words t : ℕ) → List Instruction
-begun_code starts handle words t = measured_code starts words (t + 1) (t + 2) t ++ asked_code handle words (t + 3) t
+abbrev pub begun_code : Starts → (handle : Operand) → Kind → (t : ℕ) → List Instruction
+begun_code starts handle kind t = measured_code starts kind (t + 1) (t + 2) t ++ asked_code handle kind (t + 3) t
 
 -- The element in slot s and those behind it comes to its cell of the array at the address in slot t, by the index in slot y, which goes to
 -- the next one. The address of the cell comes to slot z.
-abbrev pub written_code : (words head y s z t : ℕ) → List Instruction
-written_code words head y s z t =
-    scale_of words z y
+abbrev pub written_code : Kind → (head y s z t : ℕ) → List Instruction
+written_code kind head y s z t =
+    scale_of (bytes_of_kind kind) z y
     ∷ instructions.Binary plain_binary.Add z (operands.Slot t) (operands.Slot z)
-    ∷ stores_code words z 0 s
+    ∷ stores_code (words_of_kind kind) z 0 s
     ++ instructions.Binary plain_binary.Add y (operands.Slot y) (operands.Word 1)
     ∷ instructions.Jump head
     ∷ []
 
-abbrev pub filled_code : (words head t : ℕ) → List Instruction
-filled_code words head t = written_code words head (t + 2) (t + 3) (t + 3 + words) t
+abbrev pub filled_code : Kind → (head t : ℕ) → List Instruction
+filled_code kind head t = written_code kind head (t + 2) (t + 3) (t + 3 + words_of_kind kind) t
 
 -- behind the last element the index in slot y is 0, and the pointer comes from slot t to slot d
 abbrev pub restarted_code : (d y t : ℕ) → List Instruction
@@ -94,15 +116,15 @@ abbrev pub last_element : (x y : ℕ) → Condition
 last_element x y = record { failing = comparisons.Equal; left = operands.Slot y; right = operands.Slot x }
 
 -- the elements of an array, of which the code of each one stands behind the head
-abbrev pub elements_code : (words : ℕ) → (element : List Instruction) → (head d t : ℕ) → List Instruction
-elements_code words element head d t =
-    instructions.Branch comparisons.Equal (operands.Slot (t + 2)) (operands.Slot (t + 1)) (head + 1 + length (element ++ filled_code words head t))
-    ∷ ((element ++ filled_code words head t) ++ ended_code d t)
+abbrev pub elements_code : Kind → (element : List Instruction) → (head d t : ℕ) → List Instruction
+elements_code kind element head d t =
+    instructions.Branch comparisons.Equal (operands.Slot (t + 2)) (operands.Slot (t + 1)) (head + 1 + length (element ++ filled_code kind head t))
+    ∷ ((element ++ filled_code kind head t) ++ ended_code d t)
 
 -- the code of the length stands at place p, and that of an element is made for its place
-abbrev pub array_code : Starts → (words : ℕ) → (count : List Instruction) → (element : ℕ → List Instruction) → (handle : Operand) → (p d t : ℕ) → List Instruction
-array_code starts words count element handle p d t =
-    count ++ (begun_code starts handle words t ++ elements_code words (element (p + length count + 7 + 1)) (p + length count + 7) d t)
+abbrev pub array_code : Starts → Kind → (count : List Instruction) → (element : ℕ → List Instruction) → (handle : Operand) → (p d t : ℕ) → List Instruction
+array_code starts kind count element handle p d t =
+    count ++ (begun_code starts handle kind t ++ elements_code kind (element (p + length count + 7 + 1)) (p + length count + 7) d t)
 
 -- the unique block at an address is freed, where that is not 0
 abbrev pub free_code : Operand → (p : ℕ) → List Instruction

@@ -1,10 +1,13 @@
 -- The slots of a function's locals, by their types: each has as many as its value has words, in the order of their
 -- numbers. Where every type has one word, a local's slot is its number. The fields of a struct begin likewise, by their types, and so do
 -- the globals of the plain program.
-use Rattle.std.specs.Prelude.{ℕ, zero, suc, ◌+◌, ◌*◌, List, [], ◌∷◌, ◌++◌, map, Option, Some, None, slice_get, unwrap_or}
+use Rattle.std.specs.Prelude.{ℕ, zero, suc, ◌+◌, ◌*◌, ◌/◌, List, [], ◌∷◌, ◌++◌, map, Option, Some, None, slice_get, unwrap_or}
 use Rattle.cyc_words.specs.Word.{add_of}
+use Rattle.cyc_types.specs.declared.typed.Kind.{Kind}
+use Rattle.cyc_types.specs.declared.typed.Kind.TheVariants as kinds
 use Rattle.cyc_types.specs.Types.{Ty, words_of}
 use Rattle.cyc_types.specs.TypedTrees.{StructType, GlobalVariable}
+use Rattle.cyc_meaning.specs.Values.{kind_of, bytes_of_kind}
 
 -- the first slot of a local of this number
 abbrev pub slot_in : List Ty → ℕ → ℕ
@@ -52,16 +55,25 @@ counted types slot = record { locals = types.locals; structs = types.structs; ra
 abbrev pub with_counter : Starts → (slot : ℕ) → Starts
 with_counter starts slot = record { locals = starts.locals; structs = starts.structs; raises = starts.raises; counters = starts.counters ++ slot ∷ []; globals = starts.globals; scopes = starts.scopes }
 
+-- where a cell of a kind begins, behind so many bytes: a word, since it is wrapped
+abbrev pub begins_word : Kind → (at : ℕ) → ℕ
+begins_word kinds.Int at = add_of at 3 / 4 * 4
+begins_word kinds.Nullable at = add_of at 3 / 4 * 4
+begins_word kinds.NonNull at = add_of at 3 / 4 * 4
+begins_word kinds.Fat at = add_of at 3 / 4 * 4
+begins_word kinds.Handle at = add_of at 3 / 4 * 4
+begins_word kinds.Key at = add_of at 3 / 4 * 4
+
 -- Where the field of this number begins, in bytes behind what is before its struct's fields: a word, since it is wrapped. No text has as
 -- many fields as that takes.
-abbrev pub bytes_from : (bytes : ℕ) → List Ty → (field : ℕ) → ℕ
-bytes_from bytes [] field = bytes
-bytes_from bytes (t ∷ ts) zero = bytes
-bytes_from bytes (t ∷ ts) (suc field) = bytes_from (add_of bytes (4 * words_of t)) ts field
+abbrev pub field_from : (bytes : ℕ) → List Ty → (field : ℕ) → ℕ
+field_from bytes [] field = bytes
+field_from bytes (t ∷ ts) zero = begins_word (kind_of t) bytes
+field_from bytes (t ∷ ts) (suc field) = field_from (add_of (begins_word (kind_of t) bytes) (bytes_of_kind (kind_of t))) ts field
 
 abbrev pub field_in : Option StructType → (field : ℕ) → ℕ
 field_in None field = 0
-field_in (Some s) field = bytes_from 0 s.fields field
+field_in (Some s) field = field_from 0 s.fields field
 
 -- by the number of the struct
 abbrev pub field_of : Starts → (number field : ℕ) → ℕ

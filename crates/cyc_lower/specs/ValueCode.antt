@@ -24,7 +24,7 @@ use Rattle.cyc_plain.specs.declared.instruction.Operand.TheVariants as operands
 use Rattle.cyc_plain.specs.declared.instruction.Instruction.{Instruction}
 use Rattle.cyc_plain.specs.declared.instruction.Instruction.TheVariants as instructions
 use Rattle.cyc_plain.specs.declared.limits.TheConstants.{GLOBALS_BASE}
-use Rattle.cyc_meaning.specs.Values.{words_of_kind}
+use Rattle.cyc_meaning.specs.Values.{words_of_kind, bytes_of_kind}
 use Rattle.cyc_meaning.specs.Operators.{null_exception, array_size, division_by_zero, array_bounds}
 use Rattle.cyc_meaning.specs.FrameCount.{words_of_all}
 use Rattle.cyc_lower.specs.Slots.{Starts, slot_of, global_of}
@@ -173,19 +173,19 @@ tested_code starts to o = []
 abbrev pub bounds_code : Starts → (index length : Operand) → List Instruction
 bounds_code starts index length = guard_code starts array_bounds comparisons.GreaterOrEqualUnsigned index length
 
--- an index that counts cells of so many words becomes a number of bytes
-abbrev pub scale_of : (words d m : ℕ) → Instruction
-scale_of words d m =
-    if words == 1
+-- an index that counts cells of so many bytes becomes a number of bytes
+abbrev pub scale_of : (bytes d m : ℕ) → Instruction
+scale_of bytes d m =
+    if bytes == 4
     then instructions.Binary plain_binary.ShiftLeft d (operands.Slot m) (operands.Word 2)
     else instructions.Binary plain_binary.Multiply d (operands.Slot m) (operands.Word 12)
 
--- The cell at an index has its address in slot t then: that of the first is in slot n, the index is in slot m, and each cell has one word or
--- three. A struct stands alone, where the source does not go wrong.
+-- The cell at an index has its address in slot t then: that of the first is in slot n, the index is in slot m, and each cell has so many
+-- bytes. A struct stands alone, where the source does not go wrong.
 abbrev pub stepped_code : (span : Option ℕ) → (n m t : ℕ) → List Instruction
 stepped_code None n m t = []
-stepped_code (Some words) n m t =
-    scale_of words (t + 2) m
+stepped_code (Some bytes) n m t =
+    scale_of bytes (t + 2) m
     ∷ instructions.Binary plain_binary.Add t (operands.Slot n) (operands.Slot (t + 2))
     ∷ []
 
@@ -199,7 +199,7 @@ reached_code starts span n m t = check_code starts null_exception (operands.Slot
 
 abbrev pub reached_operand : (span : Option ℕ) → (n t : ℕ) → Operand
 reached_operand None n t = operands.Slot n
-reached_operand (Some words) n t = operands.Slot t
+reached_operand (Some bytes) n t = operands.Slot t
 
 -- an access by a pointer in an operand, which is thin or fat
 abbrev pub followed_code : Starts → (thin : Bool) → (span : Option ℕ) → Operand → (t : ℕ) → List Instruction
@@ -212,9 +212,9 @@ followed_operand true span o t = o
 followed_operand false span (operands.Slot n) t = reached_operand span n t
 followed_operand false span (operands.Word w) t = operands.Word w
 
--- the words of the cells of a type, where it is none of structs
+-- the bytes of a cell of a type, where it is none of structs
 abbrev pub span_in : Ty → Option ℕ
-span_in t = option_map words_of_kind (target_of t)
+span_in t = option_map bytes_of_kind (target_of t)
 
 -- A thin pointer gets the length and the index of a fat one that leads to one cell. Of null the first word tells.
 abbrev pub widened_code : Operand → List Instruction
@@ -224,7 +224,7 @@ widened_code (operands.Word n) = []
 -- how long that is with a jump over it
 abbrev pub past_bounded : (span : Option ℕ) → ℕ
 past_bounded None = 2
-past_bounded (Some words) = 4
+past_bounded (Some bytes) = 4
 
 -- A fat pointer in slots becomes a thin one in the first of them, to the cell at its index. Null stays null, or raises an exception.
 abbrev pub thinned_code : Starts → (to : Kind) → (span : Option ℕ) → Operand → (p : ℕ) → List Instruction
@@ -234,7 +234,7 @@ thinned_code starts kinds.Nullable span (operands.Slot n) p =
 thinned_code starts to span o p = []
 
 -- A value is converted where it is, with as many words as before or not. The cells that it leads to, if it is a pointer to cells, have so
--- many words each.
+-- many bytes each.
 abbrev pub conversion_by : Starts → (as_wide : Bool) → (to : Kind) → (span : Option ℕ) → Operand → (p : ℕ) → List Instruction
 conversion_by starts true to span o p = tested_code starts to o
 conversion_by starts false kinds.Fat span o p = widened_code o
@@ -244,7 +244,7 @@ abbrev pub conversion_code : Starts → (from to : Kind) → (span : Option ℕ)
 conversion_code starts from to span o p = conversion_by starts (words_of_kind from == words_of_kind to) to span o p
 
 abbrev pub span_of : Expression → Option ℕ
-span_of a = option_map words_of_kind (target_by a)
+span_of a = option_map bytes_of_kind (target_by a)
 
 -- null is an operand also where its words change
 abbrev pub null_of : Expression → Option Operand
@@ -393,6 +393,14 @@ passed_words (Convert from to a) = words_of_kind to
 abbrev pub all_passed : Arguments → ℕ
 all_passed NoArguments = 0
 all_passed (MoreArguments c cs) = passed_words c + all_passed cs
+
+-- and the kind that it is passed with
+abbrev pub kind_passed : Converted → Kind
+kind_passed (Convert from to a) = to
+
+abbrev pub kinds_passed : Arguments → List Kind
+kinds_passed NoArguments = []
+kinds_passed (MoreArguments c cs) = kind_passed c ∷ kinds_passed cs
 
 -- code that brings a value, and its conversion where it is then
 abbrev pub converted_by : Starts → Option Operand → (code : List Instruction) → (from to : Kind) → (span : Option ℕ) → Operand → (p : ℕ) → List Instruction

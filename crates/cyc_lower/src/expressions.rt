@@ -394,7 +394,7 @@ impl Emitter {
         match initial {
             Initial::Plain { kind, value } => {
                 self.lower_expression(starts, value, free, free)?;
-                self.make_object(handle, words_of_kind(*kind), slot, free)
+                self.make_cell(handle, *kind, slot, free)
             }
             Initial::Fields { values } => {
                 let words = self.lower_arguments(starts, values, free)?;
@@ -424,7 +424,7 @@ impl Emitter {
         slot: usize,
         free: usize,
     ) -> Result<(), AllocError>
-        ensures { Appends result self.old self.new (elements_code (words_of_kind kind) (expression_code (with_counter (view_starts starts.now) (free + 2)) (view_expression element.now) (length self.old.code.items + 1) (free + 3) (free + 3)) (length self.old.code.items) slot free) }
+        ensures { Appends result self.old self.new (elements_code kind (expression_code (with_counter (view_starts starts.now) (free + 2)) (view_expression element.now) (length self.old.code.items + 1) (free + 3) (free + 3)) (length self.old.code.items) slot free) }
     {
         let behind = slot_behind(free, Kind::Fat)?;
         let counters = with_counter(starts, behind - 1)?;

@@ -3,16 +3,19 @@ ghost use Rattle.std.specs.Prelude.{◌≡◌, ◌+◌, ◌≤◌, ◌++◌, [],
 ghost use Rattle.cyc_types.specs.Types.{words_of};
 ghost use Rattle.cyc_types.specs.TypeView.{view_ty};
 ghost use Rattle.cyc_types.specs.TypedTreeView.{view_function};
+ghost use Rattle.cyc_words.specs.Word.{add_of};
+ghost use Rattle.cyc_meaning.specs.Values.{kind_of, bytes_of_kind};
 ghost use Rattle.cyc_meaning.specs.FrameCount.{words_of_all, frame_count};
-ghost use Rattle.cyc_lower.specs.Slots.{starts_from, bytes_from, field_of, slot_of, counter_of};
+ghost use Rattle.cyc_lower.specs.Slots.{starts_from, begins_word, field_from, field_of, slot_of, counter_of};
 ghost use Rattle.cyc_lower.specs.ValueCode.{slot_types, first_temporary};
 ghost use Rattle.cyc_frame_count.specs.Needs.{most_frame_count};
 ghost use Rattle.cyc_lower.specs.Emission.{view_starts};
 
+use crate::operands::{bytes_of_kind, kind_of};
 use crate::starts::Starts;
 use cyc_frame_count::words_of;
 use cyc_types::Ty;
-use cyc_types::typed::{Function, StructType};
+use cyc_types::typed::{Function, Kind, StructType};
 use std::alloc::{AllocError, Global};
 
 /// The first slot of the local of this number.
@@ -45,17 +48,42 @@ pub(crate) fn with_counter(starts: &Starts, slot: usize) -> Result<Vec<usize>, A
     Ok(counters)
 }
 
+/// Where a cell of a kind begins, behind so many bytes: at the next multiple of 4.
+fn begins_word(kind: Kind, at: u32) -> u32
+    ensures { result ≡ begins_word kind at }
+{
+    match kind {
+        Kind::Int | Kind::Nullable | Kind::NonNull | Kind::Fat | Kind::Handle | Kind::Key =>
+            at.wrapping_add(3) / 4 * 4,
+    }
+}
+
+/// The same of a cell of a type.
+fn begins_at(of_type: &Ty, at: u32) -> u32
+    ensures { result ≡ begins_word (kind_of (view_ty of_type.now)) at }
+{
+    begins_word(kind_of(of_type), at)
+}
+
+/// Where a cell of a type ends that begins there.
+fn ends_at(of_type: &Ty, begin: u32) -> u32
+    ensures { result ≡ add_of begin (bytes_of_kind (kind_of (view_ty of_type.now))) }
+{
+    begin.wrapping_add(bytes_of_kind(kind_of(of_type)) as u32)
+}
+
 /// How many bytes the field of this number is behind its struct.
 fn bytes_before(fields: &[Ty], field: usize) -> u32
-    ensures { result ≡ bytes_from 0 (map view_ty fields.now) field }
+    ensures { result ≡ field_from 0 (map view_ty fields.now) field }
 {
     let mut bytes: u32 = 0;
     let mut left = field;
     for of_type in fields {
+        let begin = begins_at(of_type, bytes);
         if left == 0 {
-            return bytes;
+            return begin;
         }
-        bytes = bytes.wrapping_add(4 * of_type.words());
+        bytes = ends_at(of_type, begin);
         left -= 1;
     }
     bytes

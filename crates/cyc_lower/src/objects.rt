@@ -1,12 +1,12 @@
 //! The code that makes objects and frees them, once their values stand in slots. No object has more words than a block of the store.
-ghost use Rattle.std.specs.Prelude.{◌≡◌, ◌+◌, ◌^◌, ◌<◌, ◌≤◌, length};
+ghost use Rattle.std.specs.Prelude.{◌≡◌, [], ◌∷◌, ◌+◌, ◌^◌, ◌<◌, ◌≤◌, length};
 ghost use Rattle.cyc_meaning.specs.Values.{words_of_kind};
-ghost use Rattle.cyc_lower.specs.ObjectCode.{asked_code, begun_code, free_code, last_element, measured_code, most_elements, object_code, restarted_code, stores_code, written_code};
+ghost use Rattle.cyc_lower.specs.ObjectCode.{asked_code, begun_code, free_code, last_element, measured_code, most_elements, object_code, words_code, restarted_code, stores_code, written_code};
 ghost use Rattle.cyc_lower.specs.Emission.{Appends, most_locals, view_starts};
 
 use crate::checks::ARRAY_SIZE;
 use crate::emitter::Emitter;
-use crate::operands::{Condition, slot_behind};
+use crate::operands::{Condition, bytes_of_kind, slot_behind};
 use crate::operators::{jump_if_zero, scale_of};
 use crate::starts::Starts;
 use cyc_frame_count::words_of_kind;
@@ -26,12 +26,12 @@ pub(crate) fn last_element(words: usize, index: usize) -> Condition
     }
 }
 
-/// How many elements an array may have, of so many words each: those of a block.
-fn most_elements(words: usize) -> u32
-    ensures most { result ≡ most_elements words }
+/// How many elements an array may have, of so many bytes each: those of a block.
+fn most_elements(bytes: usize) -> u32
+    ensures most { result ≡ most_elements bytes }
     ensures few { result ≤ 1000 }
 {
-    if words == 1 {
+    if bytes == 4 {
         MOST_BLOCK_WORDS
     } else {
         MOST_BLOCK_WORDS / 3
@@ -39,6 +39,20 @@ fn most_elements(words: usize) -> u32
 }
 
 impl Emitter {
+    /// An object with one cell, of a value of this kind, which stands in the slots from `free` on.
+    pub(crate) fn make_cell(
+        &mut self,
+        handle: Operand,
+        kind: Kind,
+        slot: usize,
+        free: usize,
+    ) -> Result<(), AllocError>
+        requires { free ≤ most_locals + length self.old.code.items }
+        ensures { Appends result self.old self.new (object_code handle (kind ∷ []) slot free) }
+    {
+        self.make_object(handle, words_of_kind(kind), slot, free)
+    }
+
     /// A block is asked for in the region of a handle, and gets so many words, which stand in the slots from `free` on. Its address
     /// comes to a slot. No object has more words than a block.
     pub(crate) fn make_object(
@@ -49,7 +63,7 @@ impl Emitter {
         free: usize,
     ) -> Result<(), AllocError>
         requires { free ≤ most_locals + length self.old.code.items }
-        ensures { Appends result self.old self.new (object_code handle words slot free) }
+        ensures { Appends result self.old self.new (words_code handle words slot free) }
     {
         if words > MOST_BLOCK_WORDS as usize {
             return Err(AllocError);
@@ -103,12 +117,12 @@ impl Emitter {
         index: usize,
         free: usize,
     ) -> Result<(), AllocError>
-        ensures { Appends result self.old self.new (measured_code (view_starts starts.now) (words_of_kind kind) length index free) }
+        ensures { Appends result self.old self.new (measured_code (view_starts starts.now) kind length index free) }
     {
         let count = Operand::Slot { number: free };
         let first = Operand::Word { word: 0 };
         let limit = Operand::Word {
-            word: most_elements(words_of_kind(kind)) + 1,
+            word: most_elements(bytes_of_kind(kind)) + 1,
         };
         self.guard(
             starts,
@@ -136,7 +150,7 @@ impl Emitter {
         size: usize,
         free: usize,
     ) -> Result<(), AllocError>
-        ensures { Appends result self.old self.new (asked_code handle (words_of_kind kind) size free) }
+        ensures { Appends result self.old self.new (asked_code handle kind size free) }
     {
         let count = Operand::Slot { number: free };
         let words = Operand::Slot { number: size };
@@ -177,7 +191,7 @@ impl Emitter {
         kind: Kind,
         free: usize,
     ) -> Result<(), AllocError>
-        ensures { Appends result self.old self.new (begun_code (view_starts starts.now) handle (words_of_kind kind) free) }
+        ensures { Appends result self.old self.new (begun_code (view_starts starts.now) handle kind free) }
     {
         let behind = slot_behind(free, Kind::Fat)?;
         self.measure_array(starts, kind, behind - 2, behind - 1, free)?;
@@ -194,13 +208,13 @@ impl Emitter {
         element: usize,
         free: usize,
     ) -> Result<(), AllocError>
-        ensures { Appends result self.old self.new (written_code (words_of_kind kind) head index element (element + words_of_kind kind) free) }
+        ensures { Appends result self.old self.new (written_code kind head index element (element + words_of_kind kind) free) }
     {
         let words = words_of_kind(kind);
         let address = slot_behind(element, kind)?;
         let number = Operand::Slot { number: index };
         let cell = Operand::Slot { number: address };
-        self.emit(scale_of(words, address, index))?;
+        self.emit(scale_of(bytes_of_kind(kind), address, index))?;
         self.emit(Instruction::Binary {
             operator: BinaryOperator::Add,
             destination: address,

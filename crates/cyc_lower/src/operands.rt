@@ -1,11 +1,11 @@
 //! Where the values of expressions stand.
-ghost use Rattle.std.specs.Prelude.{◌≡◌, ◌+◌, ◌≤◌, IfOk, option_map};
+ghost use Rattle.std.specs.Prelude.{◌≡◌, ◌+◌, ◌≤◌, IfOk, option_map, unwrap_or};
 ghost use Rattle.cyc_types.specs.TypedTreeView.{view_dereference, view_expression, operations_of};
 ghost use Rattle.cyc_types.specs.Types.{Value};
 ghost use Rattle.cyc_types.specs.TypedTrees.{type_of_place};
 ghost use Rattle.cyc_types.specs.TypeView.{view_ty, view_value_type};
-ghost use Rattle.cyc_meaning.specs.Parts.{target_of_value};
-ghost use Rattle.cyc_meaning.specs.Values.{is_thin, words_of_kind};
+ghost use Rattle.cyc_meaning.specs.Parts.{target_of, target_of_value};
+ghost use Rattle.cyc_meaning.specs.Values.{is_thin, kind_of, words_of_kind, bytes_of_kind};
 ghost use Rattle.cyc_lower.specs.ValueCode.{null_of, words_behind, reached_operand, span_in, span_of, is_in, index_of, are_as_wide, converts_there};
 ghost use Rattle.cyc_lower.specs.ExpressionCode.{operand_of, pointer_of, value_slot};
 ghost use Rattle.cyc_lower.specs.Emission.{most_locals, takes_operand, view_starts};
@@ -136,15 +136,42 @@ pub(crate) fn is_thin(kind: Kind) -> bool
     }
 }
 
-/// How many words the cells of a type have, where it is none of structs.
+/// What a cell of this type holds. No cell has a struct for its type.
+pub(crate) fn kind_of(of_type: &Ty) -> Kind
+    ensures { result ≡ kind_of (view_ty of_type.now) }
+{
+    match of_type {
+        Ty::Int | Ty::Struct { .. } => Kind::Int,
+        Ty::Pointer { kind, .. } => match kind {
+            PointerKind::Nullable => Kind::Nullable,
+            PointerKind::NonNull => Kind::NonNull,
+            PointerKind::Fat => Kind::Fat,
+        },
+        Ty::Handle { .. } => Kind::Handle,
+        Ty::Key { .. } => Kind::Key,
+    }
+}
+
+/// The bytes of a cell.
+pub(crate) fn bytes_of_kind(kind: Kind) -> usize
+    ensures bytes { result ≡ bytes_of_kind kind }
+    ensures few { result ≤ 12 }
+{
+    match kind {
+        Kind::Int | Kind::Nullable | Kind::NonNull | Kind::Handle | Kind::Key => 4,
+        Kind::Fat => 12,
+    }
+}
+
+/// How many bytes a cell of a type has, where it is none of structs.
 pub(crate) fn span_in(of_type: &Ty) -> Option<usize>
     ensures { result ≡ span_in (view_ty of_type.now) }
 {
     match of_type {
-        Ty::Int | Ty::Handle { .. } | Ty::Key { .. } => Some(1),
+        Ty::Int | Ty::Handle { .. } | Ty::Key { .. } => Some(4),
         Ty::Pointer { kind, .. } => match kind {
-            PointerKind::Fat => Some(3),
-            PointerKind::Nullable | PointerKind::NonNull => Some(1),
+            PointerKind::Fat => Some(12),
+            PointerKind::Nullable | PointerKind::NonNull => Some(4),
         },
         Ty::Struct { .. } => None,
     }
@@ -152,7 +179,7 @@ pub(crate) fn span_in(of_type: &Ty) -> Option<usize>
 
 /// The same of the cells that a value of a type leads to, where it is a pointer.
 fn span_behind(of_type: &Ty) -> Option<usize>
-    ensures { result ≡ option_map words_of_kind (target_of_value (Value (view_ty of_type.now))) }
+    ensures { result ≡ option_map bytes_of_kind (target_of_value (Value (view_ty of_type.now))) }
 {
     match of_type {
         Ty::Pointer { target, .. } => span_in(target),
@@ -160,19 +187,32 @@ fn span_behind(of_type: &Ty) -> Option<usize>
     }
 }
 
+/// How many words a variable of a type has: one, where it is a struct.
+fn words_in(of_type: &Ty) -> usize
+    ensures { result ≡ unwrap_or (option_map words_of_kind (target_of (view_ty of_type.now))) 1 }
+{
+    match of_type {
+        Ty::Pointer { kind, .. } => match kind {
+            PointerKind::Fat => 3,
+            PointerKind::Nullable | PointerKind::NonNull => 1,
+        },
+        Ty::Int | Ty::Handle { .. } | Ty::Key { .. } | Ty::Struct { .. } => 1,
+    }
+}
+
 /// How many words a variable has that a value of this type leads to.
 pub(crate) fn words_behind(of_type: &Ty) -> usize
     ensures { result ≡ words_behind (view_ty of_type.now) }
 {
-    match span_behind(of_type) {
-        Some(words) => words,
-        None => 1,
+    match of_type {
+        Ty::Pointer { target, .. } => words_in(target),
+        Ty::Int | Ty::Handle { .. } | Ty::Key { .. } | Ty::Struct { .. } => 1,
     }
 }
 
 /// Of what is at a place that a pointer leads to.
 fn span_at(place: &Dereference) -> Option<usize>
-    ensures { result ≡ option_map words_of_kind (target_of_value (Value (type_of_place (view_dereference place.now)))) }
+    ensures { result ≡ option_map bytes_of_kind (target_of_value (Value (type_of_place (view_dereference place.now)))) }
 {
     match place {
         Dereference::Target { of_type, .. }
@@ -183,7 +223,7 @@ fn span_at(place: &Dereference) -> Option<usize>
 
 /// Of what an expression gives, which may be nothing.
 fn span_given(of_type: &ValueType) -> Option<usize>
-    ensures { result ≡ option_map words_of_kind (target_of_value (view_value_type of_type.now)) }
+    ensures { result ≡ option_map bytes_of_kind (target_of_value (view_value_type of_type.now)) }
 {
     match of_type {
         ValueType::Void | ValueType::Null => None,

@@ -119,12 +119,12 @@ pub(crate) fn move_of(words: usize, destination: usize, source: Operand) -> Inst
     }
 }
 
-/// A number of bytes by an index that counts cells of so many words, which are one or three.
-pub(crate) fn scale_of(words: usize, destination: usize, index: usize) -> Instruction
-    ensures { result ≡ scale_of words destination index }
+/// A number of bytes by an index that counts cells of so many bytes, which are 4 or 12.
+pub(crate) fn scale_of(bytes: usize, destination: usize, index: usize) -> Instruction
+    ensures { result ≡ scale_of bytes destination index }
 {
     let left = Operand::Slot { number: index };
-    if words == 1 {
+    if bytes == 4 {
         return Instruction::Binary {
             operator: BinaryOperator::ShiftLeft,
             destination,

@@ -86,7 +86,7 @@ impl Emitter {
         Ok(())
     }
 
-    /// The address of the cell at an index comes to a slot, where there are cells of so many words.
+    /// The address of the cell at an index comes to a slot, where there are cells of so many bytes.
     fn step(
         &mut self,
         span: Option<usize>,
@@ -98,14 +98,14 @@ impl Emitter {
     {
         match span {
             None => Ok(()),
-            Some(words) => {
-                let bytes = slot_behind(slot, Kind::Fat)? - 1;
-                self.emit(scale_of(words, bytes, index))?;
+            Some(bytes) => {
+                let distance = slot_behind(slot, Kind::Fat)? - 1;
+                self.emit(scale_of(bytes, distance, index))?;
                 self.emit(Instruction::Binary {
                     operator: BinaryOperator::Add,
                     destination: slot,
                     left: Operand::Slot { number: first },
-                    right: Operand::Slot { number: bytes },
+                    right: Operand::Slot { number: distance },
                 })
             }
         }

@@ -5,6 +5,7 @@ pub mod ShapeLaws
 pub mod PhaseLaws
 pub mod RegisterLaws
 pub mod MemoryLaws
+pub mod Bytes
 -- the fast loop
 pub mod Operations
 -- words that are kept, and those that are left out

@@ -2,6 +2,7 @@
 
 ghost use Rattle.std.specs.Prelude.{◌≡◌, ◌<◌, ◌^◌};
 ghost use Rattle.cyc_words.specs.Word.{sign_extended};
+ghost use Rattle.cyc_words.specs.WordBytes.{word_of};
 ghost use Rattle.cyc_isa.specs.Effect.{immediate_result, load_upper_result, shift_result, arithmetic_result, high_result, low_result, branch_taken, branch_zero_taken, branch_target, jump_target, return_address};
 
 use cyc_isa::{ArithmeticOp, BranchOp, BranchZeroOp, ImmediateOp, MultiplyDivideOp, ShiftOp};
@@ -14,6 +15,14 @@ pub fn sign_extend(half: u16) -> u32
     ensures { result ≡ sign_extended half }
 {
     i32::from(half.cast_signed()).cast_unsigned()
+}
+
+/// The address of the word that holds the byte at an address.
+#[inline]
+pub fn word_of(address: u32) -> u32
+    ensures { result ≡ word_of address }
+{
+    address / 4 * 4
 }
 
 /// The result of an operation on a register and an immediate.

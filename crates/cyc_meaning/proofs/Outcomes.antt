@@ -12,7 +12,7 @@ use Rattle.cyc_types.specs.declared.typed.PointerOperator.TheVariants as pointer
 use Rattle.cyc_types.specs.Types.{Ty}
 use Rattle.cyc_types.specs.TypedTrees.{Lvalue, Expression, Number, NullPointer, HeapRegion, Counter, Copy, Move, Peek, Load, AddressOf, AddressOfCell, NumberOfElements, FreeUnique, FreeKey, Call, Unary, Binary, Assign, New, Dereference, Target, Member, Element, Placement, OnHeap, AsUnique, ByHandle, Initial, Plain, Fields, Array, Converted, Convert, Arguments, NoArguments, MoreArguments, Operations, NoOperations, ThenCompute, ThenTest, ThenPointer, ThenPointerPeek, Side, VariableSide, CellSide, Statement, Block, Empty, Evaluate, Swap, If, While, Break, Continue, Throw, Try, Items, NoItems, MoreItems, Execute, Declare, DeclareRegion, OpenRegion, DeclareAlias, DeclareKey, Clauses, NoClauses, Default, Case, StructType, Function, Program}
 use Rattle.cyc_types.specs.TypedTrees as typed
-use Rattle.cyc_meaning.specs.Values.{Value, Int, Null, Thin, Fat, Handle, Key, Operand, kind_of, is_kind, words_of_kind}
+use Rattle.cyc_meaning.specs.Values.{Value, Int, Null, Thin, Fat, Handle, Key, Operand, kind_of, is_kind, bytes_of_kind, words_for}
 use Rattle.cyc_meaning.specs.Operators.{Result, Gives, Raises, Misfits, is_zero, binary_result, unary_result, truth_of, decides}
 use Rattle.cyc_meaning.specs.Pointers.{element_count, pointer_result, result_kind, takes_kind, Reach, At, Stops, Nowhere, followed}
 use Rattle.cyc_meaning.specs.Conversion.{conversion}
@@ -229,7 +229,7 @@ beginning (Unique false) count level kind element stack e w = Fails
 
 making_array : {access : Bool} (owner : Owner) (level : ℕ) (kind : Kind) (element : Expression) (value : Value) (stack : List Entry) (e : Environment) (w : World) → Silent access stack e w (makes_array owner level kind element value stack e w)
 making_array owner level kind element (Int count) stack e w =
-    either (nat_le (count * words_of_kind kind) most_words) _ _ (Goes refl Keeps (λ h. h)) (Goes refl Keeps (λ h. h))
+    either (nat_le (words_for (count * bytes_of_kind kind)) most_words) _ _ (Goes refl Keeps (λ h. h)) (Goes refl Keeps (λ h. h))
 making_array owner level kind element value stack e w = Fails
 
 repeating : {access : Bool} (object count index level : ℕ) (kind : Kind) (element : Expression) (stack : List Entry) (e : Environment) (w : World) → Silent access stack e w (step_repeating object count index level kind element stack e w)

@@ -3,7 +3,7 @@ use Rattle.std.proofs.Common.{◌≡◌, [], ◌∷◌, Some, None, true, false,
 use Rattle.cyc_types.specs.declared.typed.Kind.TheVariants as kinds
 use Rattle.cyc_types.specs.declared.typed.Operator.TheVariants as operators
 use Rattle.cyc_types.specs.declared.typed.UnaryOperator.TheVariants as unary
-use Rattle.cyc_meaning.specs.Values.{Int, Null, Thin, Fat, Handle, Key, block_size}
+use Rattle.cyc_meaning.specs.Values.{Int, Null, Thin, Fat, Handle, Key, begins, behind, words_for, block_size}
 use Rattle.cyc_meaning.specs.Operators.{Gives, Raises, Misfits, is_zero, binary_result, unary_result}
 use Rattle.cyc_meaning.specs.Conversion.{conversion}
 use Rattle.cyc_words.specs.Demand.{region_pages, class_of, blocks_in_page, pages_for, class_pages, demand_of}
@@ -124,6 +124,16 @@ block_of_no_cells = refl
 
 block_of_two_cells : block_size (record { kind = kinds.Fat; content = None } ∷ record { kind = kinds.Int; content = None } ∷ []) ≡ 4
 block_of_two_cells = refl
+
+-- a cell of words begins at a multiple of 4, and a cell behind it at once
+rounded_up : begins kinds.Int 5 ≡ 8
+rounded_up = refl
+
+one_behind_another : begins kinds.Int (behind kinds.Fat 4) ≡ 16
+one_behind_another = refl
+
+a_word_begun : words_for 5 ≡ 2
+a_word_begun = refl
 
 open_regions_count : counted (
     record { sort = Heap; is_open = true; blocks = [] }

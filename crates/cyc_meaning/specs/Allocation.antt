@@ -5,7 +5,7 @@ use Rattle.std.specs.Prelude.{ℕ, zero, suc, ◌*◌, ◌==◌, true, nat_le, i
 use Rattle.cyc_types.specs.declared.typed.Kind.{Kind}
 use Rattle.cyc_types.specs.declared.typed.Kind.TheVariants as kinds
 use Rattle.cyc_types.specs.TypedTrees.{Expression, Placement, OnHeap, AsUnique, ByHandle, Initial, Plain, Fields, Array, Convert, Arguments, NoArguments, MoreArguments}
-use Rattle.cyc_meaning.specs.Values.{Value, Int, Thin, Fat, Handle, Operand, Cell, blank, words_of_kind, is_kind}
+use Rattle.cyc_meaning.specs.Values.{Value, Int, Thin, Fat, Handle, Operand, Cell, blank, bytes_of_kind, words_for, is_kind}
 use Rattle.cyc_meaning.specs.Operators.{array_size}
 use Rattle.cyc_meaning.specs.State.{Owner, InRegion, Unique, World, Access, Found, Closed, Missing, heap_number, cell_at, Environment, with_counter, ConvertTo, PlaceBy, BesideHandle, MakePlain, MakeFields, MakeArray, FillElement, Entry, Needs, Write, Evaluating, Writing, Beginning, Repeating, Throwing, State, Running}
 use Rattle.cyc_meaning.specs.Objects.{created}
@@ -59,7 +59,7 @@ begun Missing object count level kind element stack e w = wrong w
 -- The length is checked, and then the block is made. A length below 0, a word of 2 ^ 31 and more, is too long as well.
 abbrev pub makes_array : Owner → (level : ℕ) → Kind → (element : Expression) → Value → List Entry → Environment → World → State
 makes_array owner level kind element (Int count) stack e w =
-    if nat_le (count * words_of_kind kind) most_words
+    if nat_le (words_for (count * bytes_of_kind kind)) most_words
     then Running (Beginning owner count level kind element) stack e w
     else Running (Throwing array_size 0) stack e w
 makes_array owner level kind element value stack e w = wrong w

@@ -1,7 +1,7 @@
 -- Values, the cells that hold them, and the operands that wait with their kinds. There are no addresses: a pointer names an object
 -- by its number. The kinds of values and that a fat pointer takes three words are the Cyclone User's Manual's (1.0); the form is this
 -- project's own choice.
-use Rattle.std.specs.Prelude.{ℕ, ◌+◌, ◌==◌, ◌&&◌, Bool, true, false, max, List, [], ◌∷◌, map, Option, None}
+use Rattle.std.specs.Prelude.{ℕ, ◌+◌, ◌*◌, ◌/◌, ◌==◌, ◌&&◌, Bool, true, false, max, List, [], ◌∷◌, map, Option, None}
 use Rattle.cyc_types.specs.declared.typed.Kind.{Kind}
 use Rattle.cyc_types.specs.declared.typed.Kind.TheVariants as kinds
 use Rattle.cyc_syntax.specs.declared.tree.PointerKind.{PointerKind}
@@ -66,7 +66,7 @@ is_thin kinds.Nullable = true
 is_thin kinds.NonNull = true
 is_thin kind = false
 
--- the words of a cell: a fat pointer has three, any other value one
+-- the words of an operand: a fat pointer has three, any other value one
 abbrev pub words_of_kind : Kind → ℕ
 words_of_kind kinds.Int = 1
 words_of_kind kinds.Nullable = 1
@@ -89,10 +89,37 @@ kinds_of cells = map (λ (c : Cell). c.kind) cells
 abbrev pub blank : Kind → Cell
 blank kind = record { kind = kind; content = None }
 
-abbrev pub words_of_cells : List Cell → ℕ
-words_of_cells [] = 0
-words_of_cells (c ∷ cells) = words_of_kind c.kind + words_of_cells cells
+-- the bytes of a cell
+abbrev pub bytes_of_kind : Kind → ℕ
+bytes_of_kind kinds.Int = 4
+bytes_of_kind kinds.Nullable = 4
+bytes_of_kind kinds.NonNull = 4
+bytes_of_kind kinds.Fat = 12
+bytes_of_kind kinds.Handle = 4
+bytes_of_kind kinds.Key = 4
+
+-- where a cell of this kind begins, behind so many bytes of an object: at the next multiple of 4
+abbrev pub begins : Kind → (at : ℕ) → ℕ
+begins kinds.Int at = 4 * ((at + 3) / 4)
+begins kinds.Nullable at = 4 * ((at + 3) / 4)
+begins kinds.NonNull at = 4 * ((at + 3) / 4)
+begins kinds.Fat at = 4 * ((at + 3) / 4)
+begins kinds.Handle at = 4 * ((at + 3) / 4)
+begins kinds.Key at = 4 * ((at + 3) / 4)
+
+-- where it ends
+abbrev pub behind : Kind → (at : ℕ) → ℕ
+behind kind at = begins kind at + bytes_of_kind kind
+
+-- the bytes up to the end of cells of these kinds, which stand behind so many bytes
+abbrev pub bytes_from : (at : ℕ) → List Kind → ℕ
+bytes_from at [] = at
+bytes_from at (kind ∷ ks) = bytes_from (behind kind at) ks
+
+-- the words that have so many bytes
+abbrev pub words_for : (bytes : ℕ) → ℕ
+words_for bytes = (bytes + 3) / 4
 
 -- the words of a block of cells: at least one
 abbrev pub block_size : List Cell → ℕ
-block_size cells = max 1 (words_of_cells cells)
+block_size cells = max 1 (words_for (bytes_from 0 (kinds_of cells)))

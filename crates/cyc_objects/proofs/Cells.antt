@@ -1,24 +1,26 @@
--- Cells of live objects: their words can be read and are theirs, and one is written.
-use Rattle.std.proofs.Common.{◌≡◌, ℕ, zero, suc, ◌+◌, ◌*◌, ◌<◌, ◌≤◌, max, Bool, true, false, List, [], ◌∷◌, length, set, Option, None, Some, is_some, refl, sym, ap, subst, ◌∙◌, inl, inr, arith, add-zero, length-set}
+-- Cells of live objects: their bytes can be read and are theirs, and one is written.
+use Rattle.std.proofs.Common.{◌≡◌, ℕ, zero, suc, ◌+◌, ◌*◌, ◌/◌, ◌%◌, ◌<◌, ◌≤◌, max, Bool, true, false, List, [], ◌∷◌, length, set, Option, None, Some, is_some, refl, sym, ap, subst, ◌∙◌, inl, inr, arith, length-set}
 use Rattle.std.specs.Prelude.{◌==◌, ◌≢◌, ◌⊎◌, if◌then◌else◌, ◌&&◌, slice_get}
-use Rattle.std.proofs.lemmas.Bool.{cases_Bool, cond-false}
+use Rattle.std.proofs.lemmas.Bool.{cases_Bool, cases_lt, cond-false}
 use Rattle.cyc_types.specs.declared.typed.Kind.{Kind}
+use Rattle.cyc_words.specs.WordBytes.{word_of}
 use Rattle.cyc_words.specs.Demand.{class_of}
 use Rattle.cyc_store.specs.State.{Memory, put, AreWords, Block, StoreState, homes, word_at, has_saved, saved, room}
 use Rattle.cyc_store.specs.declared.range.TheConstants.{STORE_BASE, PAGE_WORDS, MOST_PAGES, UNIQUE}
 use Rattle.cyc_store.proofs.LookupLemmas.{cases_option, same_some}
 use Rattle.cyc_store.proofs.HolderLemmas.{covers_from}
 use Rattle.cyc_store.proofs.ServiceLemmas.{word-live, one_block}
-use Rattle.cyc_meaning.specs.Values.{Value, words_of_kind, Cell, kinds_of, words_of_cells, block_size}
+use Rattle.cyc_meaning.specs.Values.{Value, bytes_of_kind, begins, behind, bytes_from, words_for, Cell, kinds_of, block_size}
 use Rattle.cyc_meaning.specs.State.{Owner, InRegion, Unique, Object, World, Found, Closed, Located, located, is_open, is_live, cell_in, cell_at, Region, has_pages, written}
 use Rattle.cyc_meaning.specs.Objects.{is_live_in, live_in}
 use Rattle.cyc_meaning.proofs.ListLemmas.{map-set}
 use Rattle.cyc_meaning.proofs.WorldLaws.{cell_found}
 use Rattle.cyc_objects.specs.Tables.{Row, Variable, Placed, Tables}
-use Rattle.cyc_objects.specs.Words.{words_of_kinds, before, words_from, Points, IsPartOf, Is, IsContent, AreCells}
+use Rattle.cyc_objects.specs.Words.{bytes_of_kinds, before_from, before, byte_at, Points, IsPartOf, Holds, IsContent, AreCells, IsBeside}
 use Rattle.cyc_objects.specs.Related.{sort_of, lies_in, Alive, Stands, IsOutside, IsOfVariable, IsVariableAt, LiveVariable, Within, Related}
 use Rattle.cyc_objects.proofs.NumberLemmas.{slice_get-set_cases, slice_get-map}
-use Rattle.cyc_objects.proofs.Values.{words-kinds, before-inside, Is-same, IsContent-same, AreCells-same}
+use Rattle.cyc_objects.proofs.Places.{IsAligned, begins-least, begins-aligned, bytes-least, before-least, before-inside, before-aligned}
+use Rattle.cyc_objects.proofs.Values.{IsContent-same, AreCells-same}
 use Rattle.cyc_objects.proofs.Pointers.{same-row, fat-to_cell}
 use Rattle.cyc_objects.proofs.RegionLemmas.{sort-some, entry-found, lies-from, lies-home}
 
@@ -75,7 +77,7 @@ module _ {t : Tables} {w : World} {s : StoreState} (related : Related t w s) whe
 
   -- an element of a part that is there, by the kind of its cell
   pub element-found : {o start n p : ℕ} (i : ℕ) (at : Located) (part : IsPartOf t o start n p) → i < n → cell_at w o (start + i) ≡ Found at
-      → Points t o (start + i) (p + 4 * (i * words_of_kind at.cell.kind))
+      → Points t o (start + i) (p + i * bytes_of_kind at.cell.kind)
   element-found {o} {start} i at part below found =
       let (there, cell) = cell_found w o (start + i) at found in
       fat-to_cell i at.cell.kind part below
@@ -94,51 +96,46 @@ module _ {t : Tables} {w : World} {s : StoreState} (related : Related t w s) whe
 -- ---- one of several cells
 
 module _ (t : Tables) where
-  pub cell-among : (cells : List Cell) (m : ℕ → ℕ) (p k : ℕ) (c : Cell) → AreCells t cells m p → slice_get cells k ≡ Some c
-      → IsContent t c.kind c.content m (p + before k (kinds_of cells))
-  cell-among [] m p k c are found = absurd (let e : None ≡ Some c = found in cc)
-  cell-among (a ∷ cells) m p zero c are found =
-      subst (λ n. IsContent t c.kind c.content m n) (sym (add-zero p)) (subst (λ (z : Cell). IsContent t z.kind z.content m p) (same_some found) are.0)
-  cell-among (a ∷ cells) m p (suc k) c are found =
-      subst (λ n. IsContent t c.kind c.content m n) (behind p (words_of_kind a.kind) (before k (kinds_of cells)))
-      (cell-among cells m (p + words_of_kind a.kind) k c are.1 found)
-    where
-      behind : (a b c : ℕ) → a + b + c ≡ a + (b + c)
-      behind a b c = omega arith
+  pub cell-among : (cells : List Cell) (m : Memory) (a at k : ℕ) (c : Cell) → AreCells t cells m a at → slice_get cells k ≡ Some c
+      → IsContent t c.kind c.content m (a + before_from at k (kinds_of cells))
+  cell-among [] m a at k c are found = absurd (let e : None ≡ Some c = found in cc)
+  cell-among (d ∷ cells) m a at zero c are found =
+      subst (λ (z : Cell). IsContent t z.kind z.content m (a + begins d.kind at)) (same_some found) are.0
+  cell-among (d ∷ cells) m a at (suc k) c are found = cell-among cells m a (behind d.kind at) k c are.1 found
 
-  pub cells-set : (cells : List Cell) (m n : ℕ → ℕ) (p k : ℕ) (c : Cell) (v : Value) → AreCells t cells m p → slice_get cells k ≡ Some c
-      → Is t c.kind v n (p + before k (kinds_of cells))
-      → ((j : ℕ) → j < words_of_cells cells → (before k (kinds_of cells) ≤ j → j < before k (kinds_of cells) + words_of_kind c.kind → ⊥) → n (p + j) ≡ m (p + j))
-      → AreCells t (set cells k (record c { content = Some v })) n p
-  cells-set [] m n p k c v are found is same = absurd (let e : None ≡ Some c = found in cc)
-  cells-set (a ∷ cells) m n p zero c v are found is same =
-      let kind : words_of_kind a.kind ≡ words_of_kind c.kind = ap (λ (z : Cell). words_of_kind z.kind) (same_some found) in (
-        subst (λ i. Is t c.kind v n i) (add-zero p) is,
-        subst (λ i. AreCells t cells n (p + i)) kind
-            (AreCells-same t cells m n (p + words_of_kind a.kind) (p + words_of_kind a.kind)
-            (λ j below.
-            ap n (behind p (words_of_kind a.kind) j)
-            ∙ (same (words_of_kind a.kind + j) (omega (arith, below)) (λ low high. absurd (omega (arith, kind, high)))
-            ∙ ap m (sym (behind p (words_of_kind a.kind) j))))
+  -- the bytes of one change alone, and it holds another value
+  pub cells-set : (cells : List Cell) (m n : Memory) (a at k : ℕ) (c : Cell) (v : Value) → a % 4 ≡ 0 → AreWords m → AreWords n → AreCells t cells m a at
+      → slice_get cells k ≡ Some c → Holds t c.kind v n (a + before_from at k (kinds_of cells))
+      → ((x : ℕ) → a + at ≤ x → x < a + bytes_from at (kinds_of cells) → IsBeside c.kind (a + before_from at k (kinds_of cells)) x → byte_at n x ≡ byte_at m x)
+      → AreCells t (set cells k (record c { content = Some v })) n a at
+  cells-set [] m n a at k c v even old new are found is same = absurd (let e : None ≡ Some c = found in cc)
+  cells-set (d ∷ cells) m n a at zero c v even old new are found is same =
+      let kind : d.kind ≡ c.kind = ap (λ (z : Cell). z.kind) (same_some found) in (
+        subst (λ z. Holds t c.kind v n (a + begins z at)) kind is,
+        subst (λ z. AreCells t cells n a (behind z at)) kind
+            (AreCells-same t cells m n a (behind d.kind at) even old new
+            (λ x least less.
+            same x (omega (arith, least, begins-least d.kind at)) less
+            (inr (subst (λ z. a + begins d.kind at + bytes_of_kind z ≤ x) kind (omega (arith, least)))))
             are.1),
       )
-    where
-      behind : (a b j : ℕ) → a + b + j ≡ a + (b + j)
-      behind a b j = omega arith
-  cells-set (a ∷ cells) m n p (suc k) c v are found is same = (
-    IsContent-same t a.kind a.content m n p p (λ j below. same j (omega (arith, below)) (λ low high. absurd (omega (arith, below, low)))) are.0,
-    cells-set cells m n (p + words_of_kind a.kind) k c v are.1 found
-        (subst (λ i. Is t c.kind v n i) (sym (behind p (words_of_kind a.kind) (before k (kinds_of cells)))) is)
-        (λ j below out.
-        ap n (behind p (words_of_kind a.kind) j)
-        ∙ (same (words_of_kind a.kind + j) (omega (arith, below)) (λ low high. out (omega (arith, low)) (omega (arith, high)))
-        ∙ ap m (sym (behind p (words_of_kind a.kind) j)))),
-  )
-    where
-      behind : (a b j : ℕ) → a + b + j ≡ a + (b + j)
-      behind a b j = omega arith
+  cells-set (d ∷ cells) m n a at (suc k) c v even old new are found is same =
+      let later : begins d.kind at + bytes_of_kind d.kind ≤ before_from (behind d.kind at) k (kinds_of cells) =
+      before-least (behind d.kind at) k (kinds_of cells) in (
+        IsContent-same t d.kind d.content m n (a + begins d.kind at) old new (begins-aligned d.kind a at even)
+            (λ x least less.
+            same x (omega (arith, least, begins-least d.kind at)) (omega (arith, less, bytes-least (behind d.kind at) (kinds_of cells)))
+            (inl (omega (arith, less, later))))
+            are.0,
+        cells-set cells m n a (behind d.kind at) k c v even old new are.1 found is
+            (λ x least less out. same x (omega (arith, least, begins-least d.kind at)) less out),
+      )
 
 -- ---- how many unique objects of a class are live
+
+-- the words of a block of cells are said by their kinds
+abbrev pub size_of : List Kind → ℕ
+size_of ks = max 1 (words_for (bytes_from 0 ks))
 
 -- where an object is replaced by one of its owner and size
 class-same : (class : ℕ) (owner : Owner) (cells others : List Cell) → block_size cells ≡ block_size others
@@ -166,65 +163,73 @@ module _ {t : Tables} {w : World} {s : StoreState} (related : Related t w s) {o 
   abbrev block : Block
   block = record { address = stands.address; size = room h (block_size x.cells) }
 
-  place : p ≡ stands.address + 4 * before k (kinds_of x.cells)
+  kind-there : slice_get (kinds_of x.cells) k ≡ Some c.kind
+  kind-there = slice_get-map (λ (z : Cell). z.kind) x.cells k c at
+
+  aligned : stands.address % 4 ≡ 0
+  aligned = let placed = related.sound.regions.placed h stands.address block stands.found in placed.aligned
+
+  place : p ≡ stands.address + before k (kinds_of x.cells)
   place =
       let (same, kinds) = same-row points.row stands.row in
-      points.at ∙ (ap (λ a. a + 4 * before k points.kinds) same ∙ ap (λ ks. stands.address + 4 * before k ks) kinds)
+      points.at ∙ (ap (λ a. a + before k points.kinds) same ∙ ap (λ ks. stands.address + before k ks) kinds)
 
-  inside : before k (kinds_of x.cells) + words_of_kind c.kind ≤ room h (block_size x.cells)
+  inside : before k (kinds_of x.cells) + bytes_of_kind c.kind ≤ 4 * room h (block_size x.cells)
   inside =
-      let first : before k (kinds_of x.cells) + words_of_kind c.kind ≤ words_of_kinds (kinds_of x.cells) =
-      before-inside (kinds_of x.cells) k c.kind (slice_get-map (λ (z : Cell). z.kind) x.cells k c at) in
-      let enough : words_of_kinds (kinds_of x.cells) ≤ room h (block_size x.cells) = stands.enough in
+      let first : before k (kinds_of x.cells) + bytes_of_kind c.kind ≤ bytes_of_kinds (kinds_of x.cells) = before-inside 0 k (kinds_of x.cells) c.kind kind-there in
+      let enough : bytes_of_kinds (kinds_of x.cells) ≤ 4 * room h (block_size x.cells) = stands.enough in
       omega (arith, first, enough)
 
-  far : (j : ℕ) → p + 4 * j ≡ stands.address + 4 * (before k (kinds_of x.cells) + j)
-  far j = let e : p ≡ stands.address + 4 * before k (kinds_of x.cells) = place in omega (arith, e)
+  -- it stands where its kind may
+  pub cell-aligned : IsAligned c.kind p
+  cell-aligned = subst (IsAligned c.kind) (sym place) (before-aligned stands.address k (kinds_of x.cells) c.kind aligned kind-there)
 
-  -- its words lie in the store's range
-  pub cell-inside : (j : ℕ) → j < words_of_kind c.kind → (STORE_BASE ≤ p + 4 * j) × (p + 4 * j < STORE_BASE + 4 * (PAGE_WORDS * MOST_PAGES))
+  -- its bytes lie in the store's range
+  pub cell-inside : (j : ℕ) → j < bytes_of_kind c.kind → (STORE_BASE ≤ p + j) × (p + j < STORE_BASE + 4 * (PAGE_WORDS * MOST_PAGES))
   cell-inside j below =
       let placed = related.sound.regions.placed h stands.address block stands.found in
       let low : 536870912 ≤ stands.address = placed.low in
       let high : stands.address + 4 * room h (block_size x.cells) ≤ 536870912 + 4 * (1024 * s.pages) = placed.high in
       let most : s.pages ≤ 65536 = related.few in
-      let bound : before k (kinds_of x.cells) + words_of_kind c.kind ≤ room h (block_size x.cells) = inside in
-      let at : p + 4 * j ≡ stands.address + 4 * (before k (kinds_of x.cells) + j) = far j in
-      (omega (arith, low, at), omega (arith, high, most, bound, at, below))
+      let bound : before k (kinds_of x.cells) + bytes_of_kind c.kind ≤ 4 * room h (block_size x.cells) = inside in
+      let here : p ≡ stands.address + before k (kinds_of x.cells) = place in
+      (omega (arith, low, here), omega (arith, high, most, bound, here, below))
 
-  -- each of its words can be read
-  pub cell-live : (j : ℕ) → j < words_of_kind c.kind → word_at s (p + 4 * j) ≡ Some (s.memory (p + 4 * j))
+  -- the word of each of its bytes can be read
+  pub cell-live : (j : ℕ) → j < bytes_of_kind c.kind → word_at s (word_of (p + j)) ≡ Some (s.memory (word_of (p + j)))
   cell-live j below =
-      subst (λ n. word_at s n ≡ Some (s.memory n)) (sym (far j))
-      (word-live s related.sound h stands.address (before k (kinds_of x.cells) + j) block stands.found
-      (let bound : before k (kinds_of x.cells) + words_of_kind c.kind ≤ room h (block_size x.cells) = inside in omega (arith, below, bound)))
+      let bound : before k (kinds_of x.cells) + bytes_of_kind c.kind ≤ 4 * room h (block_size x.cells) = inside in
+      let here : p ≡ stands.address + before k (kinds_of x.cells) = place in
+      let even : stands.address % 4 ≡ 0 = aligned in
+      let word : 4 * ((p + j) / 4) ≡ stands.address + 4 * ((before k (kinds_of x.cells) + j) / 4) = omega (arith, here, even) in
+      subst (λ n. word_at s n ≡ Some (s.memory n)) (sym word)
+      (word-live s related.sound h stands.address ((before k (kinds_of x.cells) + j) / 4) block stands.found (omega (arith, below, bound)))
 
-  -- and they are what it holds
-  pub cell-read : IsContent t c.kind c.content (words_from s.memory p) 0
-  cell-read =
-      IsContent-same t c.kind c.content (words_from s.memory stands.address) (words_from s.memory p) (0 + before k (kinds_of x.cells)) 0
-      (λ j below. ap s.memory (from j))
-      (cell-among t x.cells (words_from s.memory stands.address) 0 k c stands.holds at)
-    where
-      from : (j : ℕ) → p + 4 * (0 + j) ≡ stands.address + 4 * (0 + before k (kinds_of x.cells) + j)
-      from j = let e : p ≡ stands.address + 4 * before k (kinds_of x.cells) = place in omega (arith, e)
+  -- and its bytes are what it holds
+  pub cell-read : IsContent t c.kind c.content s.memory p
+  cell-read = subst (IsContent t c.kind c.content s.memory) (sym place) (cell-among t x.cells s.memory stands.address 0 k c stands.holds at)
 
-  -- no word of another live object is one of these
-  apart : (i g j l : ℕ) (y : Object) → Alive t w i g y → (other : Stands t (homes s) s.memory g i y.cells) → i ≢ o
-      → j < room g (block_size y.cells) → l < words_of_kind c.kind → other.address + 4 * j ≢ p + 4 * l
-  apart i g j l y beside other away below short e =
-      let bound : before k (kinds_of x.cells) + words_of_kind c.kind ≤ room h (block_size x.cells) = inside in
-      let at : p + 4 * l ≡ stands.address + 4 * (before k (kinds_of x.cells) + l) = far l in
-      let (same, blocks) = one_block s related.sound g h other.address stands.address (other.address + 4 * j)
-      (record { address = other.address; size = room g (block_size y.cells) }) block other.found stands.found
-      (covers_from (record { address = other.address; size = room g (block_size y.cells) }) (other.address + 4 * j) (omega arith) (omega (arith, below)))
-      (covers_from block (other.address + 4 * j) (omega (arith, e, at)) (omega (arith, e, at, short, bound))) in
-      away (related.alone i o g h other.address y x (kinds_of y.cells) (kinds_of x.cells) beside alive other.row
-      (subst (λ a. slice_get t.rows o ≡ Some (Placed a (kinds_of x.cells))) (sym (ap (λ (b : Block). b.address) blocks)) stands.row))
+  -- a byte of another live object is none of these
+  apart : (i g b : ℕ) (y : Object) → Alive t w i g y → (other : Stands t (homes s) s.memory g i y.cells) → i ≢ o
+      → other.address ≤ b → b < other.address + 4 * room g (block_size y.cells) → IsBeside c.kind p b
+  apart i g b y beside other away low high = elim (cases_lt b p) [
+    | inl before ↦ inl before
+    | inr least ↦ elim (cases_lt b (p + bytes_of_kind c.kind)) [
+      | inl short ↦ absurd (
+          let bound : before k (kinds_of x.cells) + bytes_of_kind c.kind ≤ 4 * room h (block_size x.cells) = inside in
+          let here : p ≡ stands.address + before k (kinds_of x.cells) = place in
+          let (same, blocks) = one_block s related.sound g h other.address stands.address b
+          (record { address = other.address; size = room g (block_size y.cells) }) block other.found stands.found
+          (covers_from (record { address = other.address; size = room g (block_size y.cells) }) b low high)
+          (covers_from block b (omega (arith, least, here)) (omega (arith, short, here, bound))) in
+          away (related.alone i o g h other.address y x (kinds_of y.cells) (kinds_of x.cells) beside alive other.row
+          (subst (λ a. slice_get t.rows o ≡ Some (Placed a (kinds_of x.cells))) (sym (ap (λ (b : Block). b.address) blocks)) stands.row)))
+      | inr behind ↦ inr behind
+    ]
+  ]
 
   module _ (m : Memory) (v : Value) (words : AreWords m)
-      (others : (y : ℕ) → ((j : ℕ) → j < words_of_kind c.kind → y ≢ p + 4 * j) → m y ≡ s.memory y)
-      (value : Is t c.kind v (words_from m p) 0) where
+      (others : (b : ℕ) → IsBeside c.kind p b → byte_at m b ≡ byte_at s.memory b) (value : Holds t c.kind v m p) where
     abbrev now : Object
     now = record x { cells = set x.cells k (record c { content = Some v }) }
 
@@ -232,7 +237,7 @@ module _ {t : Tables} {w : World} {s : StoreState} (related : Related t w s) {o 
     kinds-now = map-set (λ (z : Cell). z.kind) x.cells k c (record c { content = Some v }) at refl
 
     size-now : block_size now.cells ≡ block_size x.cells
-    size-now = ap (λ n. max 1 n) (sym (words-kinds now.cells) ∙ (ap words_of_kinds kinds-now ∙ words-kinds x.cells))
+    size-now = ap size_of kinds-now
 
     before-written : (i g : ℕ) (y : Object) → Alive t (written w o k (record { object = x; cell = c }) v) i g y
         → ((i ≡ o) × (y ≡ now)) ⊎ ((i ≢ o) × Alive t w i g y)
@@ -259,21 +264,11 @@ module _ {t : Tables} {w : World} {s : StoreState} (related : Related t w s) {o 
       address = stands.address;
       row = stands.row ∙ ap (λ ks. Some (Placed stands.address ks)) (sym kinds-now);
       found = stands.found ∙ ap (λ n. Some (record { address = stands.address; size = room h n })) (sym size-now);
-      enough = subst (λ ks. words_of_kinds ks ≤ room h (block_size now.cells)) (sym kinds-now)
-          (subst (λ n. words_of_kinds (kinds_of x.cells) ≤ room h n) (sym size-now) stands.enough);
-      holds = cells-set t x.cells (words_from s.memory stands.address) (words_from m stands.address) 0 k c v stands.holds at
-          (Is-same t c.kind v (words_from m p) (words_from m stands.address) 0 (0 + before k (kinds_of x.cells)) (λ j below. ap m (sym (from j))) value)
-          (λ j below out. others (stands.address + 4 * (0 + j)) (λ l short e. out (low j l e) (high j l short e)));
+      enough = subst (λ ks. bytes_of_kinds ks ≤ 4 * room h (block_size now.cells)) (sym kinds-now)
+          (subst (λ n. bytes_of_kinds (kinds_of x.cells) ≤ 4 * room h n) (sym size-now) stands.enough);
+      holds = cells-set t x.cells s.memory m stands.address 0 k c v aligned related.sound.words words stands.holds at
+          (subst (Holds t c.kind v m) place value) (λ b least less out. others b (subst (λ q. IsBeside c.kind q b) (sym place) out));
     }
-      where
-        from : (j : ℕ) → p + 4 * (0 + j) ≡ stands.address + 4 * (0 + before k (kinds_of x.cells) + j)
-        from j = let e : p ≡ stands.address + 4 * before k (kinds_of x.cells) = place in omega (arith, e)
-
-        low : (j l : ℕ) → stands.address + 4 * (0 + j) ≡ p + 4 * l → before k (kinds_of x.cells) ≤ j
-        low j l e = let at : p + 4 * l ≡ stands.address + 4 * (before k (kinds_of x.cells) + l) = far l in omega (arith, e, at)
-
-        high : (j l : ℕ) → l < words_of_kind c.kind → stands.address + 4 * (0 + j) ≡ p + 4 * l → j < before k (kinds_of x.cells) + words_of_kind c.kind
-        high j l short e = let at : p + 4 * l ≡ stands.address + 4 * (before k (kinds_of x.cells) + l) = far l in omega (arith, e, at, short)
 
     stands-other : (i g : ℕ) (y : Object) → i ≢ o → Alive t w i g y → Stands t (homes s) m g i y.cells
     stands-other i g y away beside =
@@ -283,13 +278,12 @@ module _ {t : Tables} {w : World} {s : StoreState} (related : Related t w s) {o 
           row = st.row;
           found = st.found;
           enough = st.enough;
-          holds = AreCells-same t y.cells (words_from s.memory st.address) (words_from m st.address) 0 0
-              (λ j below. others (st.address + 4 * (0 + j)) (λ l short. apart i g (0 + j) l y beside st away (short-of st.enough j below) short))
-              st.holds;
+          holds =
+              let placed = related.sound.regions.placed g st.address (record { address = st.address; size = room g (block_size y.cells) }) st.found in
+              let enough : bytes_of_kinds (kinds_of y.cells) ≤ 4 * room g (block_size y.cells) = st.enough in
+              AreCells-same t y.cells s.memory m st.address 0 placed.aligned related.sound.words words
+              (λ b least less. others b (apart i g b y beside st away (omega (arith, least)) (omega (arith, less, enough)))) st.holds;
         }
-      where
-        short-of : {size : ℕ} → words_of_kinds (kinds_of y.cells) ≤ size → (j : ℕ) → j < words_of_cells y.cells → 0 + j < size
-        short-of enough j below = let e : words_of_kinds (kinds_of y.cells) ≡ words_of_cells y.cells = words-kinds y.cells in omega (arith, enough, below, e)
 
     -- a cell is written, in memory that is the same elsewhere
     pub related-written : Related t (written w o k (record { object = x; cell = c }) v) (record s { memory = m })

@@ -183,7 +183,7 @@ closed-behind {t} {w} s m n r related count there scope newest =
     subst (λ l. Related t (closed w n r) (record s { regions = l })) same
     (region-closed related n is.handle r s.memory there kept (scope-ends r.sort r.is_open scope) is.entry
     (subst (λ l. IsSound (record s { regions = l })) (down_to-lower m (suc m) s.regions (omega arith) ∙ sym same) after)
-    (record { words = λ h a b here stays j below. refl }))
+    (record { sound = related.sound; after = related.sound.words; words = λ h a b here stays j below. refl }))
 
 -- the store closes what the source has closed
 pub closed-at_once : {t : Tables} {w : World} {s : StoreState} (mark : ℕ) (c : Choice) → IsSound s → Related t w (closed_to s mark)
@@ -216,6 +216,8 @@ closed-at_once {t} {w} {s} mark c sound related none allowed = record {
 
     stay : WordsStay (closed_to s mark) (served s (CloseTo mark) c)
     stay = record {
+      sound = related.sound;
+      after = after.words;
       words = λ h a b here there j below.
           let inside : stores.covers b (b.address + 4 * j) ≡ true = covers_from b (b.address + 4 * j) (omega arith) (omega (arith, below)) in
           allowed.keeps (b.address + 4 * j) (record { handle = h; block = b })

@@ -1,21 +1,21 @@
 -- Comparing pointers: two words are equal where the pointers are, as long as both objects are live.
-use Rattle.std.proofs.Common.{◌≡◌, ℕ, ◌+◌, ◌*◌, ◌<◌, ◌≤◌, Bool, true, false, List, length, Some, refl, sym, ap, subst, ◌∙◌, inl, inr, arith}
+use Rattle.std.proofs.Common.{◌≡◌, ℕ, ◌+◌, ◌*◌, ◌<◌, ◌≤◌, Bool, true, false, length, Some, refl, sym, ap, subst, ◌∙◌, inl, inr, arith}
 use Rattle.std.specs.Prelude.{◌==◌, ◌&&◌, ◌⊎◌, if◌then◌else◌, slice_get}
-use Rattle.std.proofs.lemmas.Bool.{cases_eq, cases_lt, cases_Bool, cond-true, cond-false, and_from, eq-eqb, ne_eqb}
+use Rattle.std.proofs.lemmas.Bool.{cases_eq, cases_Bool, cond-true, cond-false, and_from, eq-eqb, ne_eqb}
 use Rattle.cyc_store.specs.State.{Block, StoreState, homes, covers, room}
 use Rattle.cyc_store.specs.declared.range.TheConstants.{STORE_BASE, PAGE_WORDS, MOST_PAGES}
 use Rattle.cyc_store.proofs.LookupLemmas.{cases_option}
 use Rattle.cyc_store.proofs.HolderLemmas.{covers_from}
 use Rattle.cyc_store.proofs.ServiceLemmas.{one_block}
 use Rattle.cyc_types.specs.declared.typed.Kind.{Kind}
-use Rattle.cyc_meaning.specs.Values.{Value, words_of_kind, kinds_of, block_size}
+use Rattle.cyc_meaning.specs.Values.{Value, bytes_of_kind, kinds_of, block_size}
 use Rattle.cyc_meaning.specs.State.{Object, World, Access, Found, Closed, Missing, is_live}
 use Rattle.cyc_meaning.specs.Objects.{found_object, object_at, both_found, compared}
 use Rattle.cyc_objects.specs.Tables.{Placed, Tables}
-use Rattle.cyc_objects.specs.Words.{words_of_kinds, before, Points}
+use Rattle.cyc_objects.specs.Words.{bytes_of_kinds, before, Points}
 use Rattle.cyc_objects.specs.Related.{Alive, Stands, LiveVariable, AreApart, Related}
 use Rattle.cyc_objects.proofs.NumberLemmas.{slice_get-there}
-use Rattle.cyc_objects.proofs.Values.{kind-some, before-inside, before-more}
+use Rattle.cyc_objects.proofs.Places.{bytes-some, before-inside, one-place}
 use Rattle.cyc_objects.proofs.Pointers.{same-row, not-null, one_address, ThinIs, thin_null, thin_cell}
 use Rattle.cyc_objects.proofs.Cells.{live-either, variable-outside}
 
@@ -25,19 +25,10 @@ same-cell {t} {o} {k} {q} {p} first second =
     let (address, kinds) = same-row first.row second.row in
     one-place first.kinds k q first.inside (subst (λ ks. q < length ks) (sym kinds) second.inside)
     (same-before p first.address second.address (before k first.kinds) (before q first.kinds) first.at
-    (second.at ∙ ap (λ ks. second.address + 4 * before q ks) (sym kinds)) address)
+    (second.at ∙ ap (λ ks. second.address + before q ks) (sym kinds)) address)
   where
-    same-before : (p a b m n : ℕ) → p ≡ a + 4 * m → p ≡ b + 4 * n → a ≡ b → m ≡ n
+    same-before : (p a b m n : ℕ) → p ≡ a + m → p ≡ b + n → a ≡ b → m ≡ n
     same-before p a b m n first second same = omega (arith, first, second, same)
-
-    one-place : (ks : List Kind) (k q : ℕ) → k < length ks → q < length ks → before k ks ≡ before q ks → k ≡ q
-    one-place ks k q first second same = elim (cases_lt k q) [
-      | inl less ↦ absurd (let e : before k ks < before q ks = before-more ks k q less (omega (arith, second)) in omega (arith, e, same))
-      | inr least ↦ elim (cases_lt q k) [
-        | inl more ↦ absurd (let e : before q ks < before k ks = before-more ks q k more (omega (arith, first)) in omega (arith, e, same))
-        | inr most ↦ omega (arith, least, most)
-      ]
-    ]
 
 module _ {t : Tables} {w : World} {s : StoreState} (related : Related t w s) where
   -- a pointer is to a word of its object's block
@@ -46,10 +37,10 @@ module _ {t : Tables} {w : World} {s : StoreState} (related : Related t w s) whe
   pointer-covered {o} {h} {k} {p} {x} alive points st =
       let (same, kinds) = same-row points.row st.row in
       let (kind, there) = slice_get-there points.kinds k points.inside in
-      let short : before k points.kinds + words_of_kind kind ≤ words_of_kinds points.kinds = before-inside points.kinds k kind there in
-      let some : 0 < words_of_kind kind = kind-some kind in
-      let enough : words_of_kinds points.kinds ≤ room h (block_size x.cells) = subst (λ ks. words_of_kinds ks ≤ room h (block_size x.cells)) (sym kinds) st.enough in
-      let at : p ≡ points.address + 4 * before k points.kinds = points.at in
+      let short : before k points.kinds + bytes_of_kind kind ≤ bytes_of_kinds points.kinds = before-inside 0 k points.kinds kind there in
+      let some : 0 < bytes_of_kind kind = bytes-some kind in
+      let enough : bytes_of_kinds points.kinds ≤ 4 * room h (block_size x.cells) = subst (λ ks. bytes_of_kinds ks ≤ 4 * room h (block_size x.cells)) (sym kinds) st.enough in
+      let at : p ≡ points.address + before k points.kinds = points.at in
       covers_from (record { address = st.address; size = room h (block_size x.cells) }) p
       (omega (arith, at, same))
       (omega (arith, at, same, short, some, enough))
@@ -77,10 +68,10 @@ module _ {t : Tables} {w : World} {s : StoreState} (related : Related t w s) whe
       let placed = related.sound.regions.placed h st.address (record { address = st.address; size = room h (block_size x.cells) }) st.found in
       let (same, kinds) = same-row points.row st.row in
       let (kind, there) = slice_get-there points.kinds k points.inside in
-      let short : before k points.kinds + words_of_kind kind ≤ words_of_kinds points.kinds = before-inside points.kinds k kind there in
-      let some : 0 < words_of_kind kind = kind-some kind in
-      let enough : words_of_kinds points.kinds ≤ room h (block_size x.cells) = subst (λ ks. words_of_kinds ks ≤ room h (block_size x.cells)) (sym kinds) st.enough in
-      let at : p ≡ points.address + 4 * before k points.kinds = points.at in
+      let short : before k points.kinds + bytes_of_kind kind ≤ bytes_of_kinds points.kinds = before-inside 0 k points.kinds kind there in
+      let some : 0 < bytes_of_kind kind = bytes-some kind in
+      let enough : bytes_of_kinds points.kinds ≤ 4 * room h (block_size x.cells) = subst (λ ks. bytes_of_kinds ks ≤ 4 * room h (block_size x.cells)) (sym kinds) st.enough in
+      let at : p ≡ points.address + before k points.kinds = points.at in
       let low : 536870912 ≤ st.address = placed.low in
       let high : st.address + 4 * room h (block_size x.cells) ≤ 536870912 + 4 * (1024 * s.pages) = placed.high in
       let most : s.pages ≤ 65536 = related.few in
@@ -90,11 +81,11 @@ module _ {t : Tables} {w : World} {s : StoreState} (related : Related t w s) whe
   pub pointer-outside : {o k p : ℕ} {x : Object} → LiveVariable t w o x → Points t o k p → (p < STORE_BASE) ⊎ (STORE_BASE + 4 * (PAGE_WORDS * MOST_PAGES) ≤ p)
   pointer-outside {o} {k} {p} {x} variable points =
       let (kind, there) = slice_get-there points.kinds k points.inside in
-      let short : before k points.kinds + words_of_kind kind ≤ words_of_kinds points.kinds = before-inside points.kinds k kind there in
-      let some : 0 < words_of_kind kind = kind-some kind in
-      let at : p ≡ points.address + 4 * before k points.kinds = points.at in
+      let short : before k points.kinds + bytes_of_kind kind ≤ bytes_of_kinds points.kinds = before-inside 0 k points.kinds kind there in
+      let some : 0 < bytes_of_kind kind = bytes-some kind in
+      let at : p ≡ points.address + before k points.kinds = points.at in
       elim (variable-outside related o points.address points.kinds x variable points.row) [
-        | inl below ↦ inl (let e : points.address + 4 * words_of_kinds points.kinds ≤ 536870912 = below in omega (arith, e, at, short, some))
+        | inl below ↦ inl (let e : points.address + bytes_of_kinds points.kinds ≤ 536870912 = below in omega (arith, e, at, short, some))
         | inr above ↦ inr (let e : 536870912 + 4 * (1024 * 65536) ≤ points.address = above in omega (arith, e, at))
       ]
 

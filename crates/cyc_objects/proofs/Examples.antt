@@ -1,7 +1,7 @@
 -- Worked examples: a stale pointer and a new one may be one word. A block is freed, or its region is closed; the store gives out its address
 -- and its handle again; and the relation holds before and after, by the lemmas on each service.
 use Rattle.std.proofs.Common.{◌≡◌, ℕ, ◌+◌, ◌^◌, ◌<◌, ◌≤◌, length, true, false, List, [], ◌∷◌, None, Some, refl, ap, arith, inr}
-use Rattle.std.specs.Prelude.{slice_get}
+use Rattle.std.specs.Prelude.{◌==◌, if◌then◌else◌, slice_get}
 use Rattle.cyc_types.specs.declared.typed.Kind.TheVariants as kinds
 use Rattle.cyc_store.specs.State.{StoreState, start, homes, sizes_in, block_at}
 use Rattle.cyc_store.specs.Services.{OpenLexical, CloseTo, Allocate, Free, Choice, served, block_of, IsPlaced, IsAllowed}
@@ -12,7 +12,7 @@ use Rattle.cyc_meaning.specs.Values.{Null, Thin, Handle, Cell, blank}
 use Rattle.cyc_meaning.specs.State.{Heap, Stack, Lexical, InRegion, Unique, World, Found, Closed, cell_at, new_region, opened_as, closed, variable, made, first_classes, counted}
 use Rattle.cyc_meaning.specs.Objects.{made_unique, freed}
 use Rattle.cyc_objects.specs.Tables.{Placed, Tables, with_row, with_handle}
-use Rattle.cyc_objects.specs.Words.{Points, Is}
+use Rattle.cyc_objects.specs.Words.{bytes_of_kinds, before, byte_at, Points, Is}
 use Rattle.cyc_objects.specs.Related.{lies_in, Related, taken, no_regions}
 use Rattle.cyc_objects.proofs.Pointers.{same-row}
 use Rattle.cyc_objects.proofs.Making.{allocated-unique}
@@ -175,6 +175,22 @@ live-lies_there = refl
 
 same-demand : counted (opened_as Lexical region_gone).regions ≡ sizes_in opened_twice.regions
 same-demand = refl
+
+-- ---- where cells stand
+
+-- a fat pointer between ints
+behind_fat : before 2 (kinds.Int ∷ kinds.Fat ∷ kinds.Int ∷ []) ≡ 16
+behind_fat = refl
+
+bytes_of_three : bytes_of_kinds (kinds.Int ∷ kinds.Fat ∷ kinds.Int ∷ []) ≡ 20
+bytes_of_three = refl
+
+-- the byte at the lowest address of a word is its highest one
+lowest-byte : byte_at (λ (x : ℕ). if x == 8 then 305419896 else 0) 8 ≡ 18
+lowest-byte = refl
+
+next-byte : byte_at (λ (x : ℕ). if x == 8 then 305419896 else 0) 9 ≡ 52
+next-byte = refl
 
 -- ---- what the relation refuses
 

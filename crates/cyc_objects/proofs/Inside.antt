@@ -9,13 +9,13 @@ use Rattle.cyc_store.specs.State.{Block, handle_of, StoreState, homes}
 use Rattle.cyc_store.specs.Services.{Allocate, BadHandle, BadSize, Choice, block_of, is_full, full_at, is_size, refusal, IsPlaced, IsAllowed}
 use Rattle.cyc_store.specs.declared.range.TheConstants.{STORE_BASE, PAGE_WORDS, MOST_PAGES, MOST_BLOCK_WORDS}
 use Rattle.cyc_store.proofs.ServiceLemmas.{then-none}
-use Rattle.cyc_meaning.specs.Values.{words_of_kind, Cell, kinds_of, block_size}
+use Rattle.cyc_meaning.specs.Values.{bytes_of_kind, Cell, kinds_of, block_size}
 use Rattle.cyc_meaning.specs.State.{Object, World, Found, Located, cell_at}
 use Rattle.cyc_objects.specs.Tables.{Row, Variable, Placed, Tables, with_row, first_tables, without_addresses}
-use Rattle.cyc_objects.specs.Words.{words_of_kinds, before, Points}
+use Rattle.cyc_objects.specs.Words.{bytes_of_kinds, before, Points}
 use Rattle.cyc_objects.specs.Related.{Alive, LiveVariable, AreApart, Related}
 use Rattle.cyc_objects.proofs.NumberLemmas.{slice_get-there, slice_get-last}
-use Rattle.cyc_objects.proofs.Values.{kind-some, before-inside}
+use Rattle.cyc_objects.proofs.Places.{bytes-some, before-inside}
 use Rattle.cyc_objects.proofs.Cells.{found-either}
 use Rattle.cyc_objects.proofs.Comparing.{pointer-outside}
 use Rattle.cyc_objects.proofs.Making.{room-fits}
@@ -24,7 +24,7 @@ use Rattle.cyc_objects.proofs.Start.{slice_get-image}
 -- a row of the store's, or of a variable that stands nowhere
 abbrev pub IsInside : Row → Type 0
 IsInside Variable = Unit {0}
-IsInside (Placed address kinds) = (STORE_BASE ≤ address) × (address + 4 * words_of_kinds kinds ≤ STORE_BASE + 4 * (PAGE_WORDS * MOST_PAGES))
+IsInside (Placed address kinds) = (STORE_BASE ≤ address) × (address + bytes_of_kinds kinds ≤ STORE_BASE + 4 * (PAGE_WORDS * MOST_PAGES))
 
 abbrev pub AreInside : Tables → Type 0
 AreInside t = (number : ℕ) (row : Row) → slice_get t.rows number ≡ Some row → IsInside row
@@ -42,7 +42,7 @@ start-inside program number row at =
     subst IsInside (sym same) tt
 
 -- a block that the store placed
-pub placed-inside : (pages : ℕ) (b : Block) (ks : List Kind) → IsPlaced pages b → pages ≤ MOST_PAGES → words_of_kinds ks ≤ b.size → IsInside (Placed b.address ks)
+pub placed-inside : (pages : ℕ) (b : Block) (ks : List Kind) → IsPlaced pages b → pages ≤ MOST_PAGES → bytes_of_kinds ks ≤ 4 * b.size → IsInside (Placed b.address ks)
 placed-inside pages b ks placed few fits =
     let low : 536870912 ≤ b.address = placed.low in
     let high : b.address + 4 * b.size ≤ 536870912 + 4 * (1024 * pages) = placed.high in
@@ -65,9 +65,9 @@ module _ {t : Tables} {w : World} {s : StoreState} (related : Related t w s) (in
   no-variable o k p x variable points =
       let (low, high) = inside o (Placed points.address points.kinds) points.row in
       let (kind, there) = slice_get-there points.kinds k points.inside in
-      let short : before k points.kinds + words_of_kind kind ≤ words_of_kinds points.kinds = before-inside points.kinds k kind there in
-      let some : 0 < words_of_kind kind = kind-some kind in
-      let at : p ≡ points.address + 4 * before k points.kinds = points.at in
+      let short : before k points.kinds + bytes_of_kind kind ≤ bytes_of_kinds points.kinds = before-inside 0 k points.kinds kind there in
+      let some : 0 < bytes_of_kind kind = bytes-some kind in
+      let at : p ≡ points.address + before k points.kinds = points.at in
       elim (pointer-outside related variable points) [
         | inl below ↦ omega (arith, low, below, at)
         | inr above ↦ omega (arith, high, above, at, short, some)

@@ -1,4 +1,6 @@
 -- what the proofs of the compiler cite
+pub mod Places
+pub mod Bytes
 pub mod Values
 pub mod Pointers
 pub mod RegionLemmas

@@ -2,7 +2,6 @@
 -- store is full is said by the source's demand.
 use Rattle.std.proofs.Common.{◌≡◌, ℕ, zero, suc, ◌+◌, ◌*◌, ◌^◌, ◌<◌, ◌≤◌, Bool, true, false, List, [], ◌∷◌, ◌++◌, length, set, None, Some, is_some, refl, sym, ap, subst, ◌∙◌, inl, inr, arith, length-set}
 use Rattle.std.specs.Prelude.{◌≢◌, ◌⊎◌, nat_lt, if◌then◌else◌, slice_get}
-use Rattle.std.proofs.Math.Nat.{le-max_right}
 use Rattle.std.proofs.lemmas.List.{length_push}
 use Rattle.std.proofs.lemmas.Bool.{cases_eq, cases_Bool, cond-true, cond-false}
 use Rattle.cyc_types.specs.declared.typed.Kind.{Kind}
@@ -20,7 +19,7 @@ use Rattle.cyc_store.proofs.CountLemmas.{class_of-bound, class_of-holds, live_in
 use Rattle.cyc_store.proofs.SlotCounts.{class-power}
 use Rattle.cyc_store.proofs.ServiceLemmas.{made-unique, made-in, served-sound}
 use Rattle.cyc_store.proofs.BlockLemmas.{serves-made}
-use Rattle.cyc_meaning.specs.Values.{Operand, Cell, kinds_of, words_of_cells, block_size}
+use Rattle.cyc_meaning.specs.Values.{Operand, Cell, kinds_of, block_size}
 use Rattle.cyc_meaning.specs.State.{Region, Owner, InRegion, Unique, Object, World, Found, Closed, found_region, region_at, has_pages, counted}
 use Rattle.cyc_meaning.specs.Objects as source
 use Rattle.cyc_meaning.specs.Objects.{class_of_cells, is_live_in, live_in, raised}
@@ -29,10 +28,11 @@ use Rattle.cyc_meaning.specs.Effects.{pages_of}
 use Rattle.cyc_meaning.proofs.NestingLemmas.{region_found}
 use Rattle.cyc_meaning.proofs.ListLemmas.{slice_get-append, slice_get-end}
 use Rattle.cyc_objects.specs.Tables.{Row, Placed, Tables, with_row}
-use Rattle.cyc_objects.specs.Words.{words_of_kinds, words_from, InRange, Points, IsPartOf, AreBlank}
+use Rattle.cyc_objects.specs.Words.{bytes_of_kinds, InRange, Points, IsPartOf, AreBlank}
 use Rattle.cyc_objects.specs.Related.{has_home, Regions, lies_in, Alive, Stands, Within, Related}
 use Rattle.cyc_objects.proofs.NumberLemmas.{slice_get-below, slice_get-there, slice_get-last, slice_get-set_same}
-use Rattle.cyc_objects.proofs.Values.{words-kinds, Grows-row, AreCells-blank, variable-grows}
+use Rattle.cyc_objects.proofs.Places.{size-enough}
+use Rattle.cyc_objects.proofs.Values.{Grows-row, AreCells-blank, variable-grows}
 use Rattle.cyc_objects.proofs.Pointers.{same-row, first-points, whole-part}
 use Rattle.cyc_objects.proofs.RegionLemmas.{sort-some, entry-found, counted-same, HasHome, home-found, with_size, Regions-made, lies-from, lies-home, lies-set, same_entry}
 use Rattle.cyc_objects.proofs.Serving.{block-made_in, block-made_unique, words-stay, Stands-served}
@@ -40,7 +40,7 @@ use Rattle.cyc_objects.proofs.Serving.{block-made_in, block-made_unique, words-s
 -- ---- sizes
 
 -- a block that the store placed is in the range of addresses
-pub placed-range : (pages : ℕ) (b : Block) (ks : List Kind) → IsPlaced pages b → pages ≤ MOST_PAGES → words_of_kinds ks ≤ b.size → InRange b.address ks
+pub placed-range : (pages : ℕ) (b : Block) (ks : List Kind) → IsPlaced pages b → pages ≤ MOST_PAGES → bytes_of_kinds ks ≤ 4 * b.size → InRange b.address ks
 placed-range pages b ks placed few fits = record {
   low = let low : 536870912 ≤ b.address = placed.low in omega (arith, low);
   high =
@@ -55,20 +55,17 @@ room-unique words = when_equal UNIQUE UNIQUE (2 ^ class_of words) words refl
 room-in : (g words : ℕ) → g ≢ UNIQUE → room g words ≡ words
 room-in g words other = when_other g UNIQUE (2 ^ class_of words) words other
 
-fits-block : (cells : List Cell) → words_of_kinds (kinds_of cells) ≤ block_size cells
-fits-block cells = subst (λ n. n ≤ block_size cells) (sym (words-kinds cells)) (le-max_right 1 (words_of_cells cells))
-
 -- a block has room for what was asked for
-pub room-fits : (g : ℕ) (cells : List Cell) → block_size cells ≤ page_words → words_of_kinds (kinds_of cells) ≤ room g (block_size cells)
+pub room-fits : (g : ℕ) (cells : List Cell) → block_size cells ≤ page_words → bytes_of_kinds (kinds_of cells) ≤ 4 * room g (block_size cells)
 room-fits g cells short = elim (cases_eq g UNIQUE) [
   | inl same ↦
-      subst (λ h. words_of_kinds (kinds_of cells) ≤ room h (block_size cells)) (sym same)
-      (subst (λ m. words_of_kinds (kinds_of cells) ≤ m) (sym (room-unique (block_size cells)))
-      (both (words_of_kinds (kinds_of cells)) (block_size cells) (2 ^ class_of (block_size cells)) (fits-block cells) (class_of-holds (block_size cells) short)))
-  | inr other ↦ subst (λ m. words_of_kinds (kinds_of cells) ≤ m) (sym (room-in g (block_size cells) other)) (fits-block cells)
+      subst (λ h. bytes_of_kinds (kinds_of cells) ≤ 4 * room h (block_size cells)) (sym same)
+      (subst (λ m. bytes_of_kinds (kinds_of cells) ≤ 4 * m) (sym (room-unique (block_size cells)))
+      (both (bytes_of_kinds (kinds_of cells)) (block_size cells) (2 ^ class_of (block_size cells)) (size-enough cells) (class_of-holds (block_size cells) short)))
+  | inr other ↦ subst (λ m. bytes_of_kinds (kinds_of cells) ≤ 4 * m) (sym (room-in g (block_size cells) other)) (size-enough cells)
 ]
   where
-    both : (k m n : ℕ) → k ≤ m → m ≤ n → k ≤ n
+    both : (k m n : ℕ) → k ≤ 4 * m → m ≤ n → k ≤ 4 * n
     both k m n first second = omega (arith, first, second)
 
 -- ---- how many unique objects of a class are live
@@ -92,7 +89,7 @@ live-last class (a ∷ xs) x =
 -- ---- an object more, wherever it is made
 
 module _ {t : Tables} {w : World} {s r : StoreState} (related : Related t w s) (x : Object) (a g : ℕ) (rs : List Region) (cs : List ℕ)
-    (blank : AreBlank x.cells) (enough : words_of_kinds (kinds_of x.cells) ≤ room g (block_size x.cells))
+    (blank : AreBlank x.cells) (enough : bytes_of_kinds (kinds_of x.cells) ≤ 4 * room g (block_size x.cells))
     (lies : lies_in t.handles rs x.owner ≡ Some g)
     (before : (owner : Owner) (h : ℕ) → lies_in t.handles rs owner ≡ Some h → lies_in t.handles w.regions owner ≡ Some h)
     (after : IsSound r) (keeps : Keeps s r)
@@ -116,7 +113,7 @@ module _ {t : Tables} {w : World} {s r : StoreState} (related : Related t w s) (
     row = row-new;
     found = found;
     enough = enough;
-    holds = AreCells-blank (with_row t (Placed a (kinds_of x.cells))) x.cells (words_from r.memory a) 0 blank;
+    holds = AreCells-blank (with_row t (Placed a (kinds_of x.cells))) x.cells r.memory a 0 blank;
   }
 
   -- no live object begins where the new one does
@@ -244,7 +241,7 @@ module _ {t : Tables} {w : World} {s : StoreState} (related : Related t w s) (n 
   allocated c blank none allowed =
       subst (Related (with_row t (Placed c.address (kinds_of cells))) (source.made_in w n r cells)) (sym (served-in c))
       (related-more related (record { owner = InRegion n; cells = cells }) c.address g (set w.regions n (with_size (block_size cells) r)) w.classes blank
-      (subst (λ m. words_of_kinds (kinds_of cells) ≤ m) (sym (room-in g (block_size cells) other)) (fits-block cells))
+      (subst (λ m. bytes_of_kinds (kinds_of cells) ≤ 4 * m) (sym (room-in g (block_size cells) other)) (size-enough cells))
       (lies-from t.handles (set w.regions n (with_size (block_size cells) r)) n g (with_size (block_size cells) r) (slice_get-set_same w.regions n r (with_size (block_size cells) r) there) kept entry)
       (λ owner h lies. lies-set t.handles w.regions n h (with_size (block_size cells) r) r owner there (λ e. e) lies)
       (subst IsSound (served-in c) (served-sound s (Allocate g (block_size cells)) c related.sound none allowed))

@@ -6,18 +6,26 @@ use Rattle.cyc_types.specs.declared.typed.Kind.{Kind}
 use Rattle.cyc_types.specs.declared.typed.Kind.TheVariants as kinds
 use Rattle.cyc_store.specs.State.{put}
 use Rattle.cyc_store.proofs.LookupLemmas.{when_other, same_some}
-use Rattle.cyc_meaning.specs.Values.{Value, Int, Null, Thin, Fat, is_thin, words_of_kind, kinds_of}
+use Rattle.cyc_meaning.specs.Values.{Value, Int, Null, Thin, Fat, is_thin, words_of_kind, bytes_of_kind, kinds_of}
 use Rattle.cyc_meaning.specs.Operators.{Gives, Raises, truth}
 use Rattle.cyc_meaning.specs.Pointers.{moved, element_count, null_test}
 use Rattle.cyc_meaning.specs.Conversion.{conversion}
 use Rattle.cyc_meaning.specs.Allocation.{blanks}
 use Rattle.cyc_objects.specs.Tables.{Row, Placed, Tables}
-use Rattle.cyc_objects.specs.Words.{words_of_kinds, before, InRange, Points, IsPartOf, Is}
+use Rattle.cyc_objects.specs.Words.{bytes_of_kinds, before, InRange, Points, IsPartOf, Is}
 use Rattle.cyc_objects.proofs.NumberLemmas.{slice_get-there}
-use Rattle.cyc_objects.proofs.Values.{before-all, before-part, Is-same}
+use Rattle.cyc_objects.proofs.Places.{before-all, before-first, before-part}
+use Rattle.cyc_objects.proofs.Values.{Is-same}
 
 pub same-row : {o : Option Row} {a b : ℕ} {ks ls : List Kind} → o ≡ Some (Placed a ks) → o ≡ Some (Placed b ls) → (a ≡ b) × (ks ≡ ls)
 same-row {o} {a} {b} {ks} {ls} p q = let e : Placed a ks ≡ Placed b ls = same_some (sym p ∙ q) in (cc, cc)
+
+-- the first cell of an object stands at its address
+first-at : (a : ℕ) (ks : List Kind) → a + before 0 ks ≡ a
+first-at a ks = ap (λ n. a + n) (before-first ks) ∙ add-zero a
+
+at-first : {w : ℕ} (a : ℕ) (ks : List Kind) → w ≡ a + before 0 ks → w ≡ a
+at-first a ks at = at ∙ first-at a ks
 
 module _ {t : Tables} where
   -- ---- addresses
@@ -26,33 +34,33 @@ module _ {t : Tables} where
   pub not-null : {o k w : ℕ} → Points t o k w → w ≢ 0
   not-null p e =
       let low : 0 < p.address = p.range.low in
-      let at : _ ≡ p.address + 4 * before _ p.kinds = p.at in
+      let at : _ ≡ p.address + before _ p.kinds = p.at in
       omega (arith, low, at, e)
 
   pub part-not-null : {o start n w : ℕ} → IsPartOf t o start n w → w ≢ 0
   part-not-null p e =
       let low : 0 < p.address = p.range.low in
-      let at : _ ≡ p.address + 4 * before _ p.kinds = p.at in
+      let at : _ ≡ p.address + before _ p.kinds = p.at in
       omega (arith, low, at, e)
 
   -- a cell has one address
   pub one_address : {o k v w : ℕ} → Points t o k v → Points t o k w → v ≡ w
   one_address {o} {k} p q =
       let (same, kinds) = same-row p.row q.row in
-      p.at ∙ (ap (λ a. a + 4 * before k p.kinds) same ∙ (ap (λ ks. q.address + 4 * before k ks) kinds ∙ sym q.at))
+      p.at ∙ (ap (λ a. a + before k p.kinds) same ∙ (ap (λ ks. q.address + before k ks) kinds ∙ sym q.at))
 
   -- an address is a word
   pub pointer-word : {o k w : ℕ} → Points t o k w → w < 2 ^ 32
   pointer-word {o} {k} {w} p =
-      let high : p.address + 4 * words_of_kinds p.kinds < 4294967296 = p.range.high in
-      let at : w ≡ p.address + 4 * before k p.kinds = p.at in
-      let all : before k p.kinds ≤ words_of_kinds p.kinds = before-all p.kinds k in
+      let high : p.address + bytes_of_kinds p.kinds < 4294967296 = p.range.high in
+      let at : w ≡ p.address + before k p.kinds = p.at in
+      let all : before k p.kinds ≤ bytes_of_kinds p.kinds = before-all 0 k p.kinds in
       omega (arith, high, at, all)
 
   -- ---- from one pointer to another
 
   -- the cell that a fat pointer stands at, where its index is below its length
-  pub thinned : {o start n w : ℕ} (i : ℕ) (part : IsPartOf t o start n w) → i < n → Points t o (start + i) (w + 4 * (i * words_of_kind part.kind))
+  pub thinned : {o start n w : ℕ} (i : ℕ) (part : IsPartOf t o start n w) → i < n → Points t o (start + i) (w + i * bytes_of_kind part.kind)
   thinned {o} {start} {n} {w} i part below = record {
     address = part.address;
     kinds = part.kinds;
@@ -60,20 +68,19 @@ module _ {t : Tables} where
     range = part.range;
     inside = let inside : start + n ≤ length part.kinds = part.inside in omega (arith, inside, below);
     at =
-        let at : w ≡ part.address + 4 * before start part.kinds = part.at in
-        let far : before (start + i) part.kinds ≡ before start part.kinds + i * words_of_kind part.kind =
+        let far : before (start + i) part.kinds ≡ before start part.kinds + i * bytes_of_kind part.kind =
         before-part part.kinds part.kind start i (λ j less. part.even j (omega (arith, less, below))) in
-        away w part.address (before start part.kinds) (before (start + i) part.kinds) (i * words_of_kind part.kind) at far;
+        away w part.address (before start part.kinds) (before (start + i) part.kinds) (i * bytes_of_kind part.kind) part.at far;
   }
     where
-      away : (w a b c d : ℕ) → w ≡ a + 4 * b → c ≡ b + d → w + 4 * d ≡ a + 4 * c
+      away : (w a b c d : ℕ) → w ≡ a + b → c ≡ b + d → w + d ≡ a + c
       away w a b c d at far = omega (arith, at, far)
 
   -- the same by the kind of that cell
   pub fat-to_cell : {o start n w : ℕ} (i : ℕ) (kind : Kind) (part : IsPartOf t o start n w) → i < n → slice_get part.kinds (start + i) ≡ Some kind
-      → Points t o (start + i) (w + 4 * (i * words_of_kind kind))
+      → Points t o (start + i) (w + i * bytes_of_kind kind)
   fat-to_cell {o} {start} {n} {w} i kind part below there =
-      subst (λ k. Points t o (start + i) (w + 4 * (i * words_of_kind k))) (same_some (sym (part.even i below) ∙ there)) (thinned i part below)
+      subst (λ k. Points t o (start + i) (w + i * bytes_of_kind k)) (same_some (sym (part.even i below) ∙ there)) (thinned i part below)
 
   -- a thin pointer as a part of one cell
   pub part-of-cell : {o k w : ℕ} → Points t o k w → IsPartOf t o k 1 w
@@ -94,24 +101,24 @@ module _ {t : Tables} where
       only k i below = omega (arith, below)
 
   -- the cells of an object, from the address of its first one
-  pub member-points : {o w : ℕ} (p : Points t o 0 w) (field : ℕ) → field < length p.kinds → Points t o field (w + 4 * before field p.kinds)
+  pub member-points : {o w : ℕ} (p : Points t o 0 w) (field : ℕ) → field < length p.kinds → Points t o field (w + before field p.kinds)
   member-points {o} {w} p field inside = record {
     address = p.address;
     kinds = p.kinds;
     row = p.row;
     range = p.range;
     inside = inside;
-    at = ap (λ n. n + 4 * before field p.kinds) (p.at ∙ add-zero p.address);
+    at = ap (λ n. n + before field p.kinds) (at-first p.address p.kinds p.at);
   }
 
   -- ---- pointers to a whole object
 
   -- the address of the first cell is that of the object
   pub first-row : {o w : ℕ} (p : Points t o 0 w) → slice_get t.rows o ≡ Some (Placed w p.kinds)
-  first-row p = p.row ∙ ap (λ a. Some (Placed a p.kinds)) (sym (p.at ∙ add-zero p.address))
+  first-row p = p.row ∙ ap (λ a. Some (Placed a p.kinds)) (sym (at-first p.address p.kinds p.at))
 
   pub part-row : {o n w : ℕ} (p : IsPartOf t o 0 n w) → slice_get t.rows o ≡ Some (Placed w p.kinds)
-  part-row p = p.row ∙ ap (λ a. Some (Placed a p.kinds)) (sym (p.at ∙ add-zero p.address))
+  part-row p = p.row ∙ ap (λ a. Some (Placed a p.kinds)) (sym (at-first p.address p.kinds p.at))
 
   -- ---- pointers to a new object
 
@@ -123,7 +130,7 @@ module _ {t : Tables} where
     row = row;
     range = range;
     inside = omega arith;
-    at = sym (add-zero a);
+    at = sym (first-at a (kind ∷ ks));
   }
 
   -- to all the cells of an array
@@ -137,7 +144,7 @@ module _ {t : Tables} where
     kind = kind;
     even = λ i below. ap (slice_get (kinds_of (blanks count kind))) (from_zero i) ∙ each count i below;
     inside = all count;
-    at = sym (add-zero a);
+    at = sym (first-at a (kinds_of (blanks count kind)));
   }
     where
       from_zero : (i : ℕ) → 0 + i ≡ i

@@ -1,21 +1,22 @@
 -- What a service leaves: live blocks are found as before, their words stay, and so objects stand where they stood.
-use Rattle.std.proofs.Common.{◌≡◌, ℕ, ◌+◌, ◌*◌, ◌<◌, ◌≤◌, true, List, [], ◌∷◌, ◌++◌, Option, None, Some, refl, sym, ap, subst, ◌∙◌, inl, inr, arith}
+use Rattle.std.proofs.Common.{◌≡◌, ℕ, ◌+◌, ◌-◌, ◌*◌, ◌/◌, ◌%◌, ◌<◌, ◌≤◌, true, List, [], ◌∷◌, ◌++◌, Option, None, Some, refl, sym, ap, subst, ◌∙◌, inl, inr, arith}
 use Rattle.std.specs.Prelude.{◌≢◌, slice_get}
 use Rattle.std.proofs.lemmas.Bool.{cases_eq}
 use Rattle.cyc_types.specs.declared.typed.Kind.{Kind}
 use Rattle.cyc_store.specs.Lookup.{lookup, without, changed}
-use Rattle.cyc_store.specs.State.{Block, address_of, Uniques, Home, handle_of, StoreState, homes, covers, block_in, block_at, with_block, made_in, made_unique, room}
-use Rattle.cyc_store.specs.Services.{Keeps}
+use Rattle.cyc_store.specs.State.{AreWords, Block, address_of, Uniques, Home, handle_of, StoreState, homes, covers, block_in, block_at, with_block, made_in, made_unique, room}
+use Rattle.cyc_store.specs.Services.{IsPlaced, Keeps}
 use Rattle.cyc_store.specs.Soundness.{IsSound}
 use Rattle.cyc_store.specs.declared.range.TheConstants.{UNIQUE}
 use Rattle.cyc_store.proofs.LookupLemmas.{lookup-here, lookup-there, lookup-append, lookup-changed_same, lookup-changed_other, lookup-without_other}
 use Rattle.cyc_store.proofs.HolderLemmas.{covers_from}
-use Rattle.cyc_meaning.specs.Values.{Cell, kinds_of, words_of_cells, block_size}
+use Rattle.cyc_meaning.specs.Values.{Cell, kinds_of, block_size}
 use Rattle.cyc_meaning.specs.State.{Object, World}
 use Rattle.cyc_objects.specs.Tables.{Placed, Tables, Grows}
-use Rattle.cyc_objects.specs.Words.{words_of_kinds, words_from}
+use Rattle.cyc_objects.specs.Words.{bytes_of_kinds, byte_at}
 use Rattle.cyc_objects.specs.Related.{Alive, Stands, Related}
-use Rattle.cyc_objects.proofs.Values.{words-kinds, AreCells-grows, AreCells-same}
+use Rattle.cyc_objects.proofs.Bytes.{byte-of_same}
+use Rattle.cyc_objects.proofs.Values.{AreCells-grows, AreCells-same}
 
 -- ---- live blocks are found as before
 
@@ -87,14 +88,18 @@ module _ (s : StoreState) (h a : ℕ) (b : Block) where
 
 -- the words of blocks that are live before and after stay
 pub record WordsStay (s r : StoreState) : Type 0 where
+  pub sound : IsSound s
+  pub after : AreWords r.memory
   pub words : (h a : ℕ) (b : Block) → block_at (homes s) h a ≡ Some b → block_at (homes r) h a ≡ Some b → (j : ℕ) → j < b.size
       → r.memory (b.address + 4 * j) ≡ s.memory (b.address + 4 * j)
 
-pub words-same : (s : StoreState) → WordsStay s s
-words-same s = record { words = λ h a b here there j below. refl }
+pub words-same : {s : StoreState} → IsSound s → WordsStay s s
+words-same sound = record { sound = sound; after = sound.words; words = λ h a b here there j below. refl }
 
 pub words-stay : {s r : StoreState} → IsSound s → IsSound r → Keeps s r → WordsStay s r
 words-stay {s} {r} sound after keeps = record {
+  sound = sound;
+  after = after.words;
   words = λ h a b here there j below.
       let inside : covers b (b.address + 4 * j) ≡ true = covers_from b (b.address + 4 * j) (omega arith) (omega (arith, below)) in
       keeps (b.address + 4 * j) (record { handle = h; block = b })
@@ -111,17 +116,23 @@ module _ {t u : Tables} {s r : StoreState} (grows : Grows t u) (stay : WordsStay
     row = grows.rows o (Placed st.address (kinds_of cells)) st.row;
     found = there;
     enough = st.enough;
-    holds = AreCells-grows grows cells (words_from r.memory st.address) 0
-        (AreCells-same t cells (words_from s.memory st.address) (words_from r.memory st.address) 0 0
-        (λ j below. stay.words h st.address (record { address = st.address; size = room h (block_size cells) }) st.found there (0 + j) (within j below))
-        st.holds);
+    holds = AreCells-grows grows cells r.memory st.address 0
+        (AreCells-same t cells s.memory r.memory st.address 0 placed.aligned stay.sound.words stay.after same st.holds);
   }
     where
-      within : (j : ℕ) → j < words_of_cells cells → 0 + j < room h (block_size cells)
-      within j below =
-          let e : words_of_kinds (kinds_of cells) ≡ words_of_cells cells = words-kinds cells in
-          let enough : words_of_kinds (kinds_of cells) ≤ room h (block_size cells) = st.enough in
-          omega (arith, below, e, enough)
+      placed : IsPlaced s.pages (record { address = st.address; size = room h (block_size cells) })
+      placed = stay.sound.regions.placed h st.address (record { address = st.address; size = room h (block_size cells) }) st.found
+
+      -- a byte of the cells is one of a word of their block
+      same : (x : ℕ) → st.address + 0 ≤ x → x < st.address + bytes_of_kinds (kinds_of cells) → byte_at r.memory x ≡ byte_at s.memory x
+      same x least less =
+          let enough : bytes_of_kinds (kinds_of cells) ≤ 4 * room h (block_size cells) = st.enough in
+          let even : st.address % 4 ≡ 0 = placed.aligned in
+          let word : 4 * (x / 4) ≡ st.address + 4 * ((x - st.address) / 4) = omega (arith, least, even) in
+          byte-of_same s.memory r.memory x
+          (subst (λ n. r.memory n ≡ s.memory n) (sym word)
+          (stay.words h st.address (record { address = st.address; size = room h (block_size cells) }) st.found there ((x - st.address) / 4)
+          (omega (arith, least, less, enough))))
 
 -- Where what is alive afterwards was alive before, and its block is found afterwards.
 module _ {t u : Tables} {w v : World} {s r : StoreState} (related : Related t w s) (grows : Grows t u) (stay : WordsStay s r)

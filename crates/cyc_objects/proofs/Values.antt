@@ -1,14 +1,15 @@
--- Values and their words: what stays said of a value when tables grow and words are copied, and where cells are.
-use Rattle.std.proofs.Common.{◌≡◌, ℕ, zero, suc, ◌+◌, ◌*◌, ◌<◌, ◌≤◌, List, [], ◌∷◌, length, Option, None, Some, refl, sym, ap, subst, ◌∙◌, arith, add-zero}
-use Rattle.std.specs.Prelude.{slice_get}
+-- Values and their words, cells and their bytes: what stays said of them when tables grow, and of equal words and bytes.
+use Rattle.std.proofs.Common.{◌≡◌, ℕ, ◌+◌, ◌*◌, ◌%◌, ◌<◌, ◌≤◌, List, [], ◌∷◌, Option, None, Some, sym, ap, subst, ◌∙◌, arith, add-zero}
 use Rattle.cyc_types.specs.declared.typed.Kind.{Kind}
 use Rattle.cyc_types.specs.declared.typed.Kind.TheVariants as kinds
-use Rattle.cyc_store.proofs.LookupLemmas.{same_some}
-use Rattle.cyc_meaning.specs.Values.{Value, Int, Null, Thin, Fat, Handle, Key, words_of_kind, Cell, blank, kinds_of, words_of_cells}
+use Rattle.cyc_store.specs.State.{Memory, AreWords}
+use Rattle.cyc_meaning.specs.Values.{Value, Int, Null, Thin, Fat, Handle, Key, words_of_kind, bytes_of_kind, begins, behind, bytes_from, Cell, kinds_of}
 use Rattle.cyc_meaning.proofs.ListLemmas.{slice_get-append}
 use Rattle.cyc_objects.specs.Tables.{Row, Placed, Tables, with_row, with_handle, Grows}
 use Rattle.cyc_objects.specs.Related.{IsVariableAt}
-use Rattle.cyc_objects.specs.Words.{words_of_kinds, before, Points, IsPartOf, Is, IsContent, AreCells, AreBlank}
+use Rattle.cyc_objects.specs.Words.{byte_at, words_from, Points, IsPartOf, Is, Holds, IsContent, AreCells, AreBlank}
+use Rattle.cyc_objects.proofs.Bytes.{word-of_bytes}
+use Rattle.cyc_objects.proofs.Places.{IsAligned, begins-least, begins-aligned, bytes-least}
 
 -- ---- tables that grow
 
@@ -64,13 +65,22 @@ module _ {t u : Tables} (grows : Grows t u) where
   Is-grows kinds.Key (Key region) m p is = grows.handles region (Some (m p)) is
   Is-grows kind v m p is = absurd is
 
-  pub IsContent-grows : (kind : Kind) (content : Option Value) (m : ℕ → ℕ) (p : ℕ) → IsContent t kind content m p → IsContent u kind content m p
-  IsContent-grows kind None m p is = tt
-  IsContent-grows kind (Some v) m p is = Is-grows kind v m p is
+  pub Holds-grows : (kind : Kind) (v : Value) (m : Memory) (a : ℕ) → Holds t kind v m a → Holds u kind v m a
+  Holds-grows kinds.Int v m a is = Is-grows kinds.Int v (words_from m a) 0 is
+  Holds-grows kinds.Nullable v m a is = Is-grows kinds.Nullable v (words_from m a) 0 is
+  Holds-grows kinds.NonNull v m a is = Is-grows kinds.NonNull v (words_from m a) 0 is
+  Holds-grows kinds.Fat v m a is = Is-grows kinds.Fat v (words_from m a) 0 is
+  Holds-grows kinds.Handle v m a is = Is-grows kinds.Handle v (words_from m a) 0 is
+  Holds-grows kinds.Key v m a is = Is-grows kinds.Key v (words_from m a) 0 is
 
-  pub AreCells-grows : (cells : List Cell) (m : ℕ → ℕ) (p : ℕ) → AreCells t cells m p → AreCells u cells m p
-  AreCells-grows [] m p are = tt
-  AreCells-grows (c ∷ cells) m p are = (IsContent-grows c.kind c.content m p are.0, AreCells-grows cells m (p + words_of_kind c.kind) are.1)
+  pub IsContent-grows : (kind : Kind) (content : Option Value) (m : Memory) (a : ℕ) → IsContent t kind content m a → IsContent u kind content m a
+  IsContent-grows kind None m a is = tt
+  IsContent-grows kind (Some v) m a is = Holds-grows kind v m a is
+
+  pub AreCells-grows : (cells : List Cell) (m : Memory) (a at : ℕ) → AreCells t cells m a at → AreCells u cells m a at
+  AreCells-grows [] m a at are = tt
+  AreCells-grows (c ∷ cells) m a at are =
+      (IsContent-grows c.kind c.content m (a + begins c.kind at) are.0, AreCells-grows cells m a (behind c.kind at) are.1)
 
 -- ---- words that are equal elsewhere
 
@@ -98,35 +108,73 @@ module _ (t : Tables) where
   Is-same kinds.Key (Key region) m n p q same is = is ∙ ap (λ w. Some (Some w)) (sym (first-same 1 m n p q (omega arith) same))
   Is-same kind v m n p q same is = absurd is
 
-  pub IsContent-same : (kind : Kind) (content : Option Value) (m n : ℕ → ℕ) (p q : ℕ)
-      → ((j : ℕ) → j < words_of_kind kind → n (q + j) ≡ m (p + j)) → IsContent t kind content m p → IsContent t kind content n q
-  IsContent-same kind None m n p q same is = tt
-  IsContent-same kind (Some v) m n p q same is = Is-same kind v m n p q same is
+-- ---- bytes that are equal
 
-  pub AreCells-same : (cells : List Cell) (m n : ℕ → ℕ) (p q : ℕ) → ((j : ℕ) → j < words_of_cells cells → n (q + j) ≡ m (p + j))
-      → AreCells t cells m p → AreCells t cells n q
-  AreCells-same [] m n p q same are = tt
-  AreCells-same (c ∷ cells) m n p q same are = (
-    IsContent-same c.kind c.content m n p q (λ j below. same j (omega (arith, below))) are.0,
-    AreCells-same cells m n (p + words_of_kind c.kind) (q + words_of_kind c.kind)
-        (λ j below.
-        ap n (behind q (words_of_kind c.kind) j) ∙ (same (words_of_kind c.kind + j) (omega (arith, below)) ∙ ap m (sym (behind p (words_of_kind c.kind) j))))
-        are.1,
+-- the words of a cell, where its bytes are equal
+words-same : (words : ℕ) (m n : Memory) (a : ℕ) → AreWords m → AreWords n → a % 4 ≡ 0
+    → ((x : ℕ) → a ≤ x → x < a + 4 * words → byte_at n x ≡ byte_at m x) → (j : ℕ) → j < words → n (a + 4 * (0 + j)) ≡ m (a + 4 * (0 + j))
+words-same words m n a old new even same j below =
+    word-of_bytes m n (a + 4 * (0 + j)) old new (omega (arith, even))
+    (λ i short. same (a + 4 * (0 + j) + i) (omega arith) (omega (arith, below, short)))
+
+module _ (t : Tables) where
+  -- a cell's words are the value that it holds, and a value's words a cell that holds it
+  pub Holds-words : (kind : Kind) (v : Value) (m : Memory) (a : ℕ) → Holds t kind v m a → Is t kind v (words_from m a) 0
+  Holds-words kinds.Int v m a is = is
+  Holds-words kinds.Nullable v m a is = is
+  Holds-words kinds.NonNull v m a is = is
+  Holds-words kinds.Fat v m a is = is
+  Holds-words kinds.Handle v m a is = is
+  Holds-words kinds.Key v m a is = is
+
+  pub Holds-of_words : (kind : Kind) (v : Value) (m : Memory) (a : ℕ) → Is t kind v (words_from m a) 0 → Holds t kind v m a
+  Holds-of_words kinds.Int v m a is = is
+  Holds-of_words kinds.Nullable v m a is = is
+  Holds-of_words kinds.NonNull v m a is = is
+  Holds-of_words kinds.Fat v m a is = is
+  Holds-of_words kinds.Handle v m a is = is
+  Holds-of_words kinds.Key v m a is = is
+
+  pub Holds-same : (kind : Kind) (v : Value) (m n : Memory) (a : ℕ) → AreWords m → AreWords n → IsAligned kind a
+      → ((x : ℕ) → a ≤ x → x < a + bytes_of_kind kind → byte_at n x ≡ byte_at m x) → Holds t kind v m a → Holds t kind v n a
+  Holds-same kinds.Int v m n a old new even same is =
+      Is-same t kinds.Int v (words_from m a) (words_from n a) 0 0 (words-same 1 m n a old new even same) is
+  Holds-same kinds.Nullable v m n a old new even same is =
+      Is-same t kinds.Nullable v (words_from m a) (words_from n a) 0 0 (words-same 1 m n a old new even same) is
+  Holds-same kinds.NonNull v m n a old new even same is =
+      Is-same t kinds.NonNull v (words_from m a) (words_from n a) 0 0 (words-same 1 m n a old new even same) is
+  Holds-same kinds.Fat v m n a old new even same is =
+      Is-same t kinds.Fat v (words_from m a) (words_from n a) 0 0 (words-same 3 m n a old new even same) is
+  Holds-same kinds.Handle v m n a old new even same is =
+      Is-same t kinds.Handle v (words_from m a) (words_from n a) 0 0 (words-same 1 m n a old new even same) is
+  Holds-same kinds.Key v m n a old new even same is =
+      Is-same t kinds.Key v (words_from m a) (words_from n a) 0 0 (words-same 1 m n a old new even same) is
+
+  pub IsContent-same : (kind : Kind) (content : Option Value) (m n : Memory) (a : ℕ) → AreWords m → AreWords n → IsAligned kind a
+      → ((x : ℕ) → a ≤ x → x < a + bytes_of_kind kind → byte_at n x ≡ byte_at m x) → IsContent t kind content m a → IsContent t kind content n a
+  IsContent-same kind None m n a old new even same is = tt
+  IsContent-same kind (Some v) m n a old new even same is = Holds-same kind v m n a old new even same is
+
+  pub AreCells-same : (cells : List Cell) (m n : Memory) (a at : ℕ) → a % 4 ≡ 0 → AreWords m → AreWords n
+      → ((x : ℕ) → a + at ≤ x → x < a + bytes_from at (kinds_of cells) → byte_at n x ≡ byte_at m x) → AreCells t cells m a at → AreCells t cells n a at
+  AreCells-same [] m n a at even old new same are = tt
+  AreCells-same (c ∷ cells) m n a at even old new same are = (
+    IsContent-same c.kind c.content m n (a + begins c.kind at) old new (begins-aligned c.kind a at even)
+        (λ x least less.
+        same x (omega (arith, least, begins-least c.kind at)) (omega (arith, less, bytes-least (behind c.kind at) (kinds_of cells))))
+        are.0,
+    AreCells-same cells m n a (behind c.kind at) even old new (λ x least less. same x (omega (arith, least, begins-least c.kind at)) less) are.1,
   )
-    where
-      behind : (a b j : ℕ) → a + b + j ≡ a + (b + j)
-      behind a b j = omega arith
 
-  -- cells that hold nothing may have any words
-  pub AreCells-blank : (cells : List Cell) (m : ℕ → ℕ) (p : ℕ) → AreBlank cells → AreCells t cells m p
-  AreCells-blank [] m p blank = tt
-  AreCells-blank (c ∷ cells) m p blank = (
-    subst (λ (o : Option Value). IsContent t c.kind o m p) (sym blank.0) tt,
-    AreCells-blank cells m (p + words_of_kind c.kind) blank.1,
+  -- cells that hold nothing may have any bytes
+  pub AreCells-blank : (cells : List Cell) (m : Memory) (a at : ℕ) → AreBlank cells → AreCells t cells m a at
+  AreCells-blank [] m a at blank = tt
+  AreCells-blank (c ∷ cells) m a at blank = (
+    subst (λ (o : Option Value). IsContent t c.kind o m (a + begins c.kind at)) (sym blank.0) tt,
+    AreCells-blank cells m a (behind c.kind at) blank.1,
   )
 
--- ---- where cells are
-
+-- every value has a word
 pub kind-some : (kind : Kind) → 0 < words_of_kind kind
 kind-some kinds.Int = omega arith
 kind-some kinds.Nullable = omega arith
@@ -134,54 +182,3 @@ kind-some kinds.NonNull = omega arith
 kind-some kinds.Fat = omega arith
 kind-some kinds.Handle = omega arith
 kind-some kinds.Key = omega arith
-
-pub words-kinds : (cells : List Cell) → words_of_kinds (kinds_of cells) ≡ words_of_cells cells
-words-kinds [] = refl
-words-kinds (c ∷ cells) = ap (λ n. words_of_kind c.kind + n) (words-kinds cells)
-
--- a cell ends before the object does
-pub before-inside : (ks : List Kind) (k : ℕ) (kind : Kind) → slice_get ks k ≡ Some kind → before k ks + words_of_kind kind ≤ words_of_kinds ks
-before-inside [] k kind found = absurd (let e : None ≡ Some kind = found in cc)
-before-inside (a ∷ ks) zero kind found = let e : words_of_kind a ≡ words_of_kind kind = ap words_of_kind (same_some found) in omega (arith, e)
-before-inside (a ∷ ks) (suc k) kind found =
-    let rest : before k ks + words_of_kind kind ≤ words_of_kinds ks = before-inside ks k kind found in omega (arith, rest)
-
--- a cell begins where the one before it ends
-pub before-next : (ks : List Kind) (k : ℕ) (kind : Kind) → slice_get ks k ≡ Some kind → before (suc k) ks ≡ before k ks + words_of_kind kind
-before-next [] k kind found = absurd (let e : None ≡ Some kind = found in cc)
-before-next (a ∷ ks) zero kind found = let e : words_of_kind a ≡ words_of_kind kind = ap words_of_kind (same_some found) in omega (arith, e)
-before-next (a ∷ ks) (suc k) kind found =
-    let rest : before (suc k) ks ≡ before k ks + words_of_kind kind = before-next ks k kind found in omega (arith, rest)
-
--- no place comes back: a later cell begins behind an earlier one
-pub before-more : (ks : List Kind) (k i : ℕ) → k < i → i ≤ length ks → before k ks < before i ks
-before-more [] k i less below = absurd (omega (arith, less, below))
-before-more (a ∷ ks) k zero less below = absurd (omega (arith, less))
-before-more (a ∷ ks) zero (suc i) less below = let some : 0 < words_of_kind a = kind-some a in omega (arith, some)
-before-more (a ∷ ks) (suc k) (suc i) less below =
-    let rest : before k ks < before i ks = before-more ks k i (omega (arith, less)) (omega (arith, below)) in omega (arith, rest)
-
-pub before-all : (ks : List Kind) (k : ℕ) → before k ks ≤ words_of_kinds ks
-before-all [] zero = omega arith
-before-all [] (suc k) = omega arith
-before-all (a ∷ ks) zero = omega arith
-before-all (a ∷ ks) (suc k) = let rest : before k ks ≤ words_of_kinds ks = before-all ks k in omega (arith, rest)
-
--- the cells of a part stand at equal distances
-pub before-part : (ks : List Kind) (kind : Kind) (start i : ℕ) → ((j : ℕ) → j < i → slice_get ks (start + j) ≡ Some kind)
-    → before (start + i) ks ≡ before start ks + i * words_of_kind kind
-before-part ks kind start zero even = ap (λ n. before n ks) (add-zero start) ∙ none (before start ks) (words_of_kind kind)
-  where
-    none : (m n : ℕ) → m ≡ m + 0 * n
-    none m n = omega arith
-before-part ks kind start (suc i) even =
-    ap (λ n. before n ks) (next start i)
-    ∙ (before-next ks (start + i) kind (even i (omega arith))
-    ∙ (ap (λ n. n + words_of_kind kind) (before-part ks kind start i (λ j below. even j (omega (arith, below))))
-    ∙ more (before start ks) i (words_of_kind kind)))
-  where
-    next : (m n : ℕ) → m + suc n ≡ suc (m + n)
-    next m n = omega arith
-
-    more : (m n d : ℕ) → m + n * d + d ≡ m + suc n * d
-    more m n d = omega arith

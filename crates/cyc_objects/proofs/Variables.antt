@@ -1,5 +1,5 @@
 -- Variables and their regions: what is declared, assigned, opened and closed there leaves the store as it is.
-use Rattle.std.proofs.Common.{◌≡◌, ℕ, ◌+◌, ◌<◌, max, Bool, true, false, List, [], ◌∷◌, ◌++◌, length, set, Option, None, Some, refl, sym, ap, subst, ◌∙◌, inl, inr, arith, length-set}
+use Rattle.std.proofs.Common.{◌≡◌, ℕ, ◌+◌, ◌<◌, Bool, true, false, List, [], ◌∷◌, ◌++◌, length, set, Option, None, Some, refl, sym, ap, subst, ◌∙◌, inl, inr, arith, length-set}
 use Rattle.std.specs.Prelude.{slice_get}
 use Rattle.std.proofs.lemmas.List.{length_push}
 use Rattle.cyc_types.specs.declared.typed.Kind.{Kind}
@@ -10,13 +10,12 @@ use Rattle.cyc_meaning.specs.Values.{Value, Cell, kinds_of, block_size}
 use Rattle.cyc_meaning.specs.State.{Sort, Heap, Globals, Stack, Lexical, Dynamic, Region, Owner, InRegion, Unique, Object, World, heap_number, has_pages, new_region, opened_as, closed, variable, made, written}
 use Rattle.cyc_meaning.proofs.ListLemmas.{slice_get-append, slice_get-end, map-set}
 use Rattle.cyc_objects.specs.Tables.{Row, Variable, Placed, Tables, with_row, with_handle}
-use Rattle.cyc_objects.specs.Words.{words_of_kinds}
 use Rattle.cyc_objects.specs.Related.{sort_of, lies_in, Alive, IsOfVariable, IsVariableAt, HasKinds, Within, Related}
 use Rattle.cyc_objects.proofs.NumberLemmas.{slice_get-below, slice_get-there, slice_get-last, slice_get-set_cases}
-use Rattle.cyc_objects.proofs.Values.{words-kinds, Grows-same, Grows-row, Grows-handle, variable-grows}
+use Rattle.cyc_objects.proofs.Values.{Grows-same, Grows-row, Grows-handle, variable-grows}
 use Rattle.cyc_objects.proofs.RegionLemmas.{regions-length, Regions-variables, shut, Regions-shut, lies-home, lies-set, lies-last}
 use Rattle.cyc_objects.proofs.Serving.{words-same, objects-inherited, alone-inherited}
-use Rattle.cyc_objects.proofs.Cells.{variable-alone, variable-elsewhere, live_in-set}
+use Rattle.cyc_objects.proofs.Cells.{variable-alone, variable-elsewhere, size_of, live_in-set}
 use Rattle.cyc_objects.proofs.Making.{live-last}
 
 pub shut-home : (sort : Sort) (flag : Bool) → has_pages sort false ≡ true → has_pages sort flag ≡ true
@@ -73,8 +72,8 @@ module _ {t : Tables} {w : World} {s : StoreState} (related : Related t w s) whe
       | inl old ↦ variable-grows (Grows-row t row) o (related.variables o m y old owner is)
       | inr new ↦ (row, row-new o new.0, outside)
     ];
-    objects = objects-inherited related (Grows-row t row) (words-same s) before (λ o h a ks y b alive placed at. at);
-    alone = alone-inherited related (Grows-row t row) (words-same s) before (λ o h a ks y b alive placed at. at);
+    objects = objects-inherited related (Grows-row t row) (words-same related.sound) before (λ o h a ks y b alive placed at. at);
+    alone = alone-inherited related (Grows-row t row) (words-same related.sound) before (λ o h a ks y b alive placed at. at);
   }
     where
       row-new : (o : ℕ) → o ≡ length w.objects → slice_get (t.rows ++ row ∷ []) o ≡ Some row
@@ -115,16 +114,15 @@ module _ {t : Tables} {w : World} {s : StoreState} (related : Related t w s) whe
       | inl here ↦ subst (IsVariableAt t) (sym here.0) (related.variables o n x there (sym (ap (λ (z : Object). z.owner) here.1) ∙ owner) entry)
       | inr other ↦ related.variables i n y other.1 owner entry
     ];
-    objects = objects-inherited related (Grows-same t) (words-same s) before (λ i h a ks y b alive placed found. found);
-    alone = alone-inherited related (Grows-same t) (words-same s) before (λ i h a ks y b alive placed found. found);
+    objects = objects-inherited related (Grows-same t) (words-same related.sound) before (λ i h a ks y b alive placed found. found);
+    alone = alone-inherited related (Grows-same t) (words-same related.sound) before (λ i h a ks y b alive placed found. found);
   }
     where
       kinds : kinds_of (set x.cells k (record c { content = Some v })) ≡ kinds_of x.cells
       kinds = map-set (λ (z : Cell). z.kind) x.cells k c (record c { content = Some v }) at refl
 
       size : block_size (set x.cells k (record c { content = Some v })) ≡ block_size x.cells
-      size =
-          ap (λ n. max 1 n) (sym (words-kinds (set x.cells k (record c { content = Some v }))) ∙ (ap words_of_kinds kinds ∙ words-kinds x.cells))
+      size = ap size_of kinds
 
       before : (i h : ℕ) (y : Object) → Alive t (written w o k (record { object = x; cell = c }) v) i h y → Alive t w i h y
       before i h y alive = elim (slice_get-set_cases w.objects o i x (record x { cells = set x.cells k (record c { content = Some v }) }) y there alive.at) [
@@ -155,8 +153,8 @@ module _ {t : Tables} {w : World} {s : StoreState} (related : Related t w s) whe
     owned = λ o y at. further y.owner (related.owned o y at);
     shapes = related.shapes;
     variables = λ o n y at owner entry. related.variables o n y at owner (older o n y at owner entry);
-    objects = objects-inherited related (Grows-handle t None) (words-same s) before (λ o h a ks y b alive row found. found);
-    alone = alone-inherited related (Grows-handle t None) (words-same s) before (λ o h a ks y b alive row found. found);
+    objects = objects-inherited related (Grows-handle t None) (words-same related.sound) before (λ o h a ks y b alive row found. found);
+    alone = alone-inherited related (Grows-handle t None) (words-same related.sound) before (λ o h a ks y b alive row found. found);
   }
     where
       before : (o h : ℕ) (y : Object) → Alive (with_handle t None) (opened_as sort w) o h y → Alive t w o h y
@@ -184,8 +182,8 @@ module _ {t : Tables} {w : World} {s : StoreState} (related : Related t w s) whe
     owned = λ o y at. subst (λ m. Within m y.owner) (sym (length-set w.regions n (shut r))) (related.owned o y at);
     shapes = related.shapes;
     variables = related.variables;
-    objects = objects-inherited related (Grows-same t) (words-same s) before (λ o h a ks y b alive row found. found);
-    alone = alone-inherited related (Grows-same t) (words-same s) before (λ o h a ks y b alive row found. found);
+    objects = objects-inherited related (Grows-same t) (words-same related.sound) before (λ o h a ks y b alive row found. found);
+    alone = alone-inherited related (Grows-same t) (words-same related.sound) before (λ o h a ks y b alive row found. found);
   }
     where
       before : (o h : ℕ) (y : Object) → Alive t (closed w n r) o h y → Alive t w o h y

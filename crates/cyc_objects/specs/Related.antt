@@ -13,7 +13,7 @@ use Rattle.cyc_meaning.specs.State.{Sort, Heap, Globals, Stack, Lexical, Dynamic
 use Rattle.cyc_meaning.specs.Nesting.{is_scope}
 use Rattle.cyc_meaning.specs.Objects.{live_in}
 use Rattle.cyc_objects.specs.Tables.{Row, Variable, Placed, Tables}
-use Rattle.cyc_objects.specs.Words.{words_of_kinds, words_from, Points, AreCells}
+use Rattle.cyc_objects.specs.Words.{bytes_of_kinds, Points, AreCells}
 
 -- ---- regions
 
@@ -69,19 +69,19 @@ pub record Alive (t : Tables) (w : World) (number handle : ℕ) (x : Object) : T
   pub at : slice_get w.objects number ≡ Some x
   pub lies : lies_in t.handles w.regions x.owner ≡ Some handle
 
--- Cells stand in the block that begins at the address of their row, and the words there are theirs.
+-- Cells stand in the block that begins at the address of their row, and the bytes there are theirs.
 pub record Stands (t : Tables) (rs : List Home) (memory : Memory) (handle number : ℕ) (cells : List Cell) : Type 0 where
   pub address : ℕ
   pub row : slice_get t.rows number ≡ Some (Placed address (kinds_of cells))
   pub found : block_at rs handle address ≡ Some (record { address = address; size = room handle (block_size cells) })
-  pub enough : words_of_kinds (kinds_of cells) ≤ room handle (block_size cells)
-  pub holds : AreCells t cells (words_from memory address) 0
+  pub enough : bytes_of_kinds (kinds_of cells) ≤ 4 * room handle (block_size cells)
+  pub holds : AreCells t cells memory address 0
 
 -- ---- variables
 
 -- A variable whose address is taken stands outside the store's range: a global before it, any other behind it.
 abbrev pub IsOutside : (address : ℕ) → List Kind → Type 0
-IsOutside address ks = (address + 4 * words_of_kinds ks ≤ STORE_BASE) ⊎ (STORE_BASE + 4 * (PAGE_WORDS * MOST_PAGES) ≤ address)
+IsOutside address ks = (address + bytes_of_kinds ks ≤ STORE_BASE) ⊎ (STORE_BASE + 4 * (PAGE_WORDS * MOST_PAGES) ≤ address)
 
 abbrev pub IsOfVariable : Row → Type 0
 IsOfVariable Variable = Unit {0}

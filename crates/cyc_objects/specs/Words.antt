@@ -1,21 +1,35 @@
--- Which words a value is. Words are a function and a place in it, so that slots, globals and the store are spoken of alike. Nothing here
--- asks whether what a pointer leads to is live: a pointer keeps its words when its object is closed or freed.
-use Rattle.std.specs.Prelude.{◌≡◌, ℕ, ◌+◌, ◌*◌, ◌^◌, ◌<◌, ◌≤◌, List, [], ◌∷◌, take, length, Option, Some, None, slice_get}
+-- Which words a value is, and which bytes a cell. Words are a function and a place in it, so that slots, globals and the store are spoken
+-- of alike; a cell of an object stands at an address. Nothing here asks whether what a pointer leads to is live: a pointer keeps its words
+-- when its object is closed or freed.
+use Rattle.std.specs.Prelude.{◌≡◌, ◌⊎◌, ℕ, zero, suc, ◌+◌, ◌*◌, ◌%◌, ◌^◌, ◌<◌, ◌≤◌, List, [], ◌∷◌, length, Option, Some, None, slice_get}
+use Rattle.cyc_words.specs.WordBytes.{byte_in, word_of}
 use Rattle.cyc_types.specs.declared.typed.Kind.{Kind}
 use Rattle.cyc_types.specs.declared.typed.Kind.TheVariants as kinds
 use Rattle.cyc_store.specs.State.{Memory}
-use Rattle.cyc_meaning.specs.Values.{Value, Int, Null, Thin, Fat, Handle, Key, words_of_kind, Cell}
+use Rattle.cyc_meaning.specs.Values.{Value, Int, Null, Thin, Fat, Handle, Key, bytes_of_kind, begins, behind, bytes_from, Cell}
 use Rattle.cyc_objects.specs.Tables.{Placed, Tables}
 
 -- ---- cells one behind the other
 
-abbrev pub words_of_kinds : List Kind → ℕ
-words_of_kinds [] = 0
-words_of_kinds (kind ∷ ks) = words_of_kind kind + words_of_kinds ks
+-- the bytes of an object with cells of these kinds, up to the end of the last
+abbrev pub bytes_of_kinds : List Kind → ℕ
+bytes_of_kinds ks = bytes_from 0 ks
 
--- the words before the cell of this number
+-- where the cell of this number begins, among cells that stand behind so many bytes
+abbrev pub before_from : (at : ℕ) → (offset : ℕ) → List Kind → ℕ
+before_from at offset [] = at
+before_from at zero (kind ∷ ks) = begins kind at
+before_from at (suc offset) (kind ∷ ks) = before_from (behind kind at) offset ks
+
+-- the bytes before the cell of this number
 abbrev pub before : (offset : ℕ) → List Kind → ℕ
-before offset ks = words_of_kinds (take offset ks)
+before offset ks = before_from 0 offset ks
+
+-- ---- memory
+
+-- the byte at an address
+abbrev pub byte_at : Memory → (address : ℕ) → ℕ
+byte_at memory address = byte_in (memory (word_of address)) (address % 4)
 
 -- the words of memory from an address on
 abbrev pub words_from : Memory → (address : ℕ) → ℕ → ℕ
@@ -27,7 +41,7 @@ words_from memory address = λ (k : ℕ). memory (address + 4 * k)
 -- cell wraps, also where the object is no more.
 pub record InRange (address : ℕ) (ks : List Kind) : Type 0 where
   pub low : 0 < address
-  pub high : address + 4 * words_of_kinds ks < 2 ^ 32
+  pub high : address + bytes_of_kinds ks < 2 ^ 32
 
 -- the address of a cell of an object
 pub record Points (t : Tables) (object offset word : ℕ) : Type 0 where
@@ -36,7 +50,7 @@ pub record Points (t : Tables) (object offset word : ℕ) : Type 0 where
   pub row : slice_get t.rows object ≡ Some (Placed address kinds)
   pub range : InRange address kinds
   pub inside : offset < length kinds
-  pub at : word ≡ address + 4 * before offset kinds
+  pub at : word ≡ address + before offset kinds
 
 -- The address of the first of `count` cells of an object from `start` on, which have one kind. There may be none, and then the address
 -- may be that behind the object.
@@ -48,7 +62,7 @@ pub record IsPartOf (t : Tables) (object start count word : ℕ) : Type 0 where
   pub kind : Kind
   pub even : (i : ℕ) → i < count → slice_get kinds (start + i) ≡ Some kind
   pub inside : start + count ≤ length kinds
-  pub at : word ≡ address + 4 * before start kinds
+  pub at : word ≡ address + before start kinds
 
 -- ---- values
 
@@ -66,15 +80,31 @@ Is t kinds.Handle (Handle region) words place = slice_get t.handles region ≡ S
 Is t kinds.Key (Key region) words place = slice_get t.handles region ≡ Some (Some (words place))
 Is t kind value words place = ⊥
 
--- a cell that holds nothing yet may have any words
-abbrev pub IsContent : Tables → Kind → Option Value → (words : ℕ → ℕ) → (place : ℕ) → Type 0
-IsContent t kind None words place = Unit {0}
-IsContent t kind (Some value) words place = Is t kind value words place
+-- ---- cells
 
--- the words from a place on are those of cells, one behind the other
-abbrev pub AreCells : Tables → List Cell → (words : ℕ → ℕ) → (place : ℕ) → Type 0
-AreCells t [] words place = Unit {0}
-AreCells t (c ∷ cells) words place = IsContent t c.kind c.content words place × AreCells t cells words (place + words_of_kind c.kind)
+-- the cell of a kind at an address holds a value: its words are there
+abbrev pub Holds : Tables → Kind → Value → Memory → (address : ℕ) → Type 0
+Holds t kinds.Int value memory address = Is t kinds.Int value (words_from memory address) 0
+Holds t kinds.Nullable value memory address = Is t kinds.Nullable value (words_from memory address) 0
+Holds t kinds.NonNull value memory address = Is t kinds.NonNull value (words_from memory address) 0
+Holds t kinds.Fat value memory address = Is t kinds.Fat value (words_from memory address) 0
+Holds t kinds.Handle value memory address = Is t kinds.Handle value (words_from memory address) 0
+Holds t kinds.Key value memory address = Is t kinds.Key value (words_from memory address) 0
+
+-- a cell that holds nothing yet may have any bytes
+abbrev pub IsContent : Tables → Kind → Option Value → Memory → (address : ℕ) → Type 0
+IsContent t kind None memory address = Unit {0}
+IsContent t kind (Some value) memory address = Holds t kind value memory address
+
+-- cells one behind the other, which stand behind so many bytes of an object at an address
+abbrev pub AreCells : Tables → List Cell → Memory → (address at : ℕ) → Type 0
+AreCells t [] memory address at = Unit {0}
+AreCells t (c ∷ cells) memory address at =
+    IsContent t c.kind c.content memory (address + begins c.kind at) × AreCells t cells memory address (behind c.kind at)
+
+-- the byte of an address is none of the cell's at another
+abbrev pub IsBeside : Kind → (cell address : ℕ) → Type 0
+IsBeside kind cell address = (address < cell) ⊎ (cell + bytes_of_kind kind ≤ address)
 
 -- cells that hold nothing yet
 abbrev pub AreBlank : List Cell → Type 0

@@ -5,12 +5,13 @@ ghost use Rattle.std.specs.Prelude.{◌≡◌, ◌≢◌, ◌⊎◌, ℕ, suc, �
 ghost use Rattle.cyc_types.specs.declared.typed.Kind.{Kind};
 ghost use Rattle.cyc_types.specs.declared.typed.Kind.TheVariants as kinds;
 ghost use Rattle.cyc_types.specs.TypedTrees.{Program};
+ghost use Rattle.cyc_words.specs.WordBytes.{word_of};
 ghost use Rattle.cyc_words.specs.Demand.{page_words};
 ghost use Rattle.cyc_store.specs.State.{Memory, AreWords, StoreState, start, word_at};
 ghost use Rattle.cyc_store.specs.Services.{OpenLexical, CloseTo, OpenDynamic, CloseDynamic, Allocate, Free, Choice, served, full_at, is_size, refusal, IsAllowed};
 ghost use Rattle.cyc_store.specs.Soundness.{IsSound};
 ghost use Rattle.cyc_store.specs.declared.range.TheConstants.{MOST_PAGES, UNIQUE};
-ghost use Rattle.cyc_meaning.specs.Values.{Value, Int, is_thin, words_of_kind, Cell, kinds_of, block_size};
+ghost use Rattle.cyc_meaning.specs.Values.{Value, Int, is_thin, words_of_kind, bytes_of_kind, Cell, kinds_of, block_size};
 ghost use Rattle.cyc_meaning.specs.Operators.{Gives, truth};
 ghost use Rattle.cyc_meaning.specs.Pointers.{moved, null_test};
 ghost use Rattle.cyc_meaning.specs.Conversion.{conversion};
@@ -20,7 +21,7 @@ ghost use Rattle.cyc_meaning.specs.Objects.{compared, made_in, made_unique, free
 ghost use Rattle.cyc_meaning.specs.Allocation.{blanks};
 ghost use Rattle.cyc_meaning.specs.Effects.{pages_of};
 ghost use Rattle.cyc_objects.specs.Tables.{Row, Placed, Tables, with_row, with_handle, Grows, first_tables};
-ghost use Rattle.cyc_objects.specs.Words.{words_from, Points, IsPartOf, Is, IsContent, AreBlank};
+ghost use Rattle.cyc_objects.specs.Words.{byte_at, Points, IsPartOf, Is, Holds, IsContent, IsBeside, AreBlank};
 ghost use Rattle.cyc_objects.specs.Related.{has_home, IsOfVariable, HasKinds, Alive, LiveVariable, AreApart, AreGlobals, Related, scopes, IsNewest, closed_to};
 
 /// What words are stays said of them when more objects are made and more regions opened, and of equal words elsewhere.
@@ -45,7 +46,7 @@ pub fn pointers_convert()
         → Is t from v words place → conversion kinds.Fat v ≡ Gives u
         → others other ≡ words place → others (other + 1) ≡ 1 → others (other + 2) ≡ 0 → Is t kinds.Fat u others other }
     ensures thinned { (t : Tables) (object start count word index : ℕ) (part : IsPartOf t object start count word) → index < count
-        → Points t object (start + index) (word + 4 * (index * words_of_kind part.kind)) }
+        → Points t object (start + index) (word + index * bytes_of_kind part.kind) }
 {}
 
 /// Arithmetic of a fat pointer changes its third word alone, and a pointer is null where its first word is 0.
@@ -72,24 +73,24 @@ pub fn starts_related()
         → 1 ≤ pages → pages ≤ MOST_PAGES → Related (first_tables globals) (first_world program input) (start pages memory) }
 {}
 
-/// A cell that the source finds is one of the store's objects, or of a variable. One of the store's that a pointer leads to can be read,
-/// word by word, and its words are what it holds; that of a fat pointer is found by the words of such a cell. A cell of the store's that
-/// is written leaves the relation, if memory is the same but for its words.
+/// A cell that the source finds is one of the store's objects, or of a variable. Of one of the store's that a pointer leads to the word of
+/// each byte can be read, and its bytes are what it holds; that of a fat pointer is found by the bytes of such a cell. A cell of the
+/// store's that is written leaves the relation, if memory is the same but for its bytes.
 pub fn cells_are_read_and_written()
     ensures either { (t : Tables) (w : World) (s : StoreState) (object offset : ℕ) (at : Located) → Related t w s → cell_at w object offset ≡ Found at
         → ((handle : ℕ) × Alive t w object handle at.object) ⊎ LiveVariable t w object at.object }
     ensures live { (t : Tables) (w : World) (s : StoreState) (object offset word handle : ℕ) (at : Located) → Related t w s → cell_at w object offset ≡ Found at
         → Alive t w object handle at.object → Points t object offset word
-        → (j : ℕ) → j < words_of_kind at.cell.kind → word_at s (word + 4 * j) ≡ Some (s.memory (word + 4 * j)) }
+        → (j : ℕ) → j < bytes_of_kind at.cell.kind → word_at s (word_of (word + j)) ≡ Some (s.memory (word_of (word + j))) }
     ensures read { (t : Tables) (w : World) (s : StoreState) (object offset word handle : ℕ) (at : Located) → Related t w s → cell_at w object offset ≡ Found at
-        → Alive t w object handle at.object → Points t object offset word → IsContent t at.cell.kind at.cell.content (words_from s.memory word) 0 }
+        → Alive t w object handle at.object → Points t object offset word → IsContent t at.cell.kind at.cell.content s.memory word }
     ensures element { (t : Tables) (w : World) (s : StoreState) (object start count word index : ℕ) (at : Located) → Related t w s
         → IsPartOf t object start count word → index < count → cell_at w object (start + index) ≡ Found at
-        → Points t object (start + index) (word + 4 * (index * words_of_kind at.cell.kind)) }
+        → Points t object (start + index) (word + index * bytes_of_kind at.cell.kind) }
     ensures written { (t : Tables) (w : World) (s : StoreState) (object offset word handle : ℕ) (at : Located) (m : Memory) (v : Value) → Related t w s
         → cell_at w object offset ≡ Found at → Alive t w object handle at.object → Points t object offset word → AreWords m
-        → ((y : ℕ) → ((j : ℕ) → j < words_of_kind at.cell.kind → y ≢ word + 4 * j) → m y ≡ s.memory y)
-        → Is t at.cell.kind v (words_from m word) 0 → Related t (written w object offset at v) (record s { memory = m }) }
+        → ((x : ℕ) → IsBeside at.cell.kind word x → byte_at m x ≡ byte_at s.memory x)
+        → Holds t at.cell.kind v m word → Related t (written w object offset at v) (record s { memory = m }) }
 {}
 
 /// An object that is made, with blank cells, stands in the block that the store chose, whichever it chose, and the address of the block is

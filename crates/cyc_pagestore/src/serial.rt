@@ -42,7 +42,11 @@ pub(crate) fn is_within(pool: &Pool, page: u32, offset: u32) -> bool
     let owner = PageNo {
         number: pool.owner(page),
     };
-    pool.is_serial_same(page, owner)
+    // most regions have one page, which is its own owner: no second header is looked at
+    if owner.number == page.number {
+        return true;
+    }
+    pool.serial(page) == pool.serial(owner)
 }
 
 /// Numbers all pages anew: each has the number of its owner and one as its serial, and a page that has none of its words

@@ -1,8 +1,9 @@
 -- In a run the slots of the calls under way lie one below the other.
-use Rattle.std.proofs.Common.{ℕ, zero, suc, List, [], ◌∷◌, Option, None, Some, sym, subst}
+use Rattle.std.proofs.Common.{ℕ, zero, suc, ◌%◌, List, [], ◌∷◌, Option, None, Some, sym, subst}
 use Rattle.std.specs.Prelude.{◌==◌, if◌then◌else◌}
 use Rattle.cyc_words.specs.Ending.{Uncaught}
 use Rattle.cyc_words.specs.Word.{signed, add_of}
+use Rattle.cyc_words.specs.WordBytes.{with_byte, word_of}
 use Rattle.cyc_words.specs.Simulation.{Run}
 use Rattle.cyc_store.specs.State.{StoreState}
 use Rattle.cyc_store.specs.Services as services
@@ -14,7 +15,7 @@ use Rattle.cyc_plain.specs.Requests.{destination_of}
 use Rattle.cyc_plain.specs.Program.{Program, routine_at}
 use Rattle.cyc_plain.specs.State.{put, Handler, Open, Caught, Activation, Frame, Configuration, State, Running, Ended, Stuck, place_of}
 use Rattle.cyc_plain.specs.Memory.{slots_end, IsBelow, AreBelow, LieBelow, Range, OfGlobals, OfStore, OfSlots, range_of, global_at, slot_at, memory_at, with_global, with_slot, with_word}
-use Rattle.cyc_plain.specs.Step.{Choice, MayLie, gives, operand_word, returns, loads, saves, advanced, asks, is_intact, tries, closes, lands, throws, finishes, call_in, callee_of, called, performed, executed, instruction_at, step, Step, start, machine}
+use Rattle.cyc_plain.specs.Step.{Choice, MayLie, gives, operand_word, returns, loads, saves, loads_byte, saves_byte, advanced, asks, is_intact, tries, closes, lands, throws, finishes, call_in, callee_of, called, performed, executed, instruction_at, step, Step, start, machine}
 use Rattle.cyc_plain.proofs.RunLaws.{limited_either, if_either}
 use Rattle.cyc_plain.proofs.MemoryLaws.{waiting-below}
 
@@ -43,6 +44,14 @@ module _ (program : Program) (choice : Choice) (c : Configuration) (lie : AreBel
   saved : (address word : ℕ) (found : Option ℕ) → LieBelow program (saves program c address word found)
   saved address word None = tt
   saved address word (Some old) = written address word (range_of address)
+
+  loaded_byte : (destination address : ℕ) (found : Option ℕ) → LieBelow program (loads_byte c destination address found)
+  loaded_byte destination address None = tt
+  loaded_byte destination address (Some word) = lie
+
+  saved_byte : (address byte : ℕ) (found : Option ℕ) → LieBelow program (saves_byte program c address byte found)
+  saved_byte address byte None = tt
+  saved_byte address byte (Some old) = written (word_of address) (with_byte old (address % 4) byte) (range_of (word_of address))
 
   served : (destination : ℕ) (call : Call) (o : Option Refusal) → LieBelow program (asks choice.serving c destination call o)
   served destination call None = lie
@@ -103,6 +112,8 @@ module _ (program : Program) (choice : Choice) (c : Configuration) (lie : AreBel
   performs (instructions.Load destination address offset) may = loaded destination (memory_at program c (add_of (operand_word c.active.slots address) offset))
   performs (instructions.Store address offset source) may =
       saved (add_of (operand_word c.active.slots address) offset) (operand_word c.active.slots source) (memory_at program c (add_of (operand_word c.active.slots address) offset))
+  performs (instructions.LoadByte destination address offset) may = loaded_byte destination (add_of (operand_word c.active.slots address) offset) (memory_at program c (word_of (add_of (operand_word c.active.slots address) offset)))
+  performs (instructions.StoreByte address offset source) may = saved_byte (add_of (operand_word c.active.slots address) offset) (operand_word c.active.slots source % 256) (memory_at program c (word_of (add_of (operand_word c.active.slots address) offset)))
   performs (instructions.Ask request) may = served (destination_of request) (call_in c.active.slots request) (refusal c.store (call_in c.active.slots request))
   performs (instructions.Try first handler) may = tried first handler c.active.handlers
   performs (instructions.Leave first) may = closed first c.active.handlers

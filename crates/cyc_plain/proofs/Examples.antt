@@ -271,6 +271,21 @@ store_before_the_block_is_stuck = refl
 load_at_no_multiple_of_4_is_stuck : status_of (after_with_block 1 (program (instructions.Load 0 (Word 0x20000000) 2 ∷ Return 0 ∷ []))) ≡ Failed
 load_at_no_multiple_of_4_is_stuck = refl
 
+byte_at_the_lowest_address_is_the_high_one : status_of (after_with_block 3 (program (instructions.Store (Word 0x20000000) 4 (Word 0x41424344) ∷ instructions.LoadByte 0 (Word 0x20000004) 0 ∷ Return 0 ∷ []))) ≡ Ended (Returned (pos 0x41))
+byte_at_the_lowest_address_is_the_high_one = refl
+
+byte_at_the_highest_address_is_the_low_one : status_of (after_with_block 3 (program (instructions.Store (Word 0x20000000) 4 (Word 0x41424344) ∷ instructions.LoadByte 0 (Word 0x20000004) 3 ∷ Return 0 ∷ []))) ≡ Ended (Returned (pos 0x44))
+byte_at_the_highest_address_is_the_low_one = refl
+
+low_byte_is_stored_and_the_others_stay : status_of (after_with_block 4 (program (instructions.Store (Word 0x20000000) 4 (Word 0x12345678) ∷ instructions.StoreByte (Word 0x20000006) 0 (Word 0x341) ∷ instructions.Load 0 (Word 0x20000000) 4 ∷ Return 0 ∷ []))) ≡ Ended (Returned (pos 0x12344178))
+low_byte_is_stored_and_the_others_stay = refl
+
+byte_behind_the_block_is_stuck : status_of (after_with_block 1 (program (instructions.LoadByte 0 (Word 0x20000000) 8 ∷ Return 0 ∷ []))) ≡ Failed
+byte_behind_the_block_is_stuck = refl
+
+byte_stored_before_the_block_is_stuck : status_of (after_with_block 1 (program (instructions.StoreByte (Word 0x20000000) 0xffffffff (Word 7) ∷ Return 0 ∷ []))) ≡ Failed
+byte_stored_before_the_block_is_stuck = refl
+
 words_may_overlap : status_of (after 5 1 (program (Move 0 (Word 5) ∷ Move 1 (Word 6) ∷ instructions.MoveWords 1 0 2 ∷ Binary binary.Subtract 0 (Slot 1) (Slot 2) ∷ Return 0 ∷ [])) []) ≡ Ended (Returned (negsuc 0))
 words_may_overlap = refl
 

@@ -1,11 +1,12 @@
 -- In a run of a well-formed program every place is in its function's code.
-use Rattle.std.proofs.Common.{◌≡◌, ℕ, zero, suc, ◌+◌, ◌-◌, ◌<◌, Bool, true, false, List, [], ◌∷◌, length, Option, None, Some, slice_get, refl, sym, ap, subst, ◌∙◌, arith, inl, inr}
+use Rattle.std.proofs.Common.{◌≡◌, ℕ, zero, suc, ◌+◌, ◌-◌, ◌%◌, ◌<◌, Bool, true, false, List, [], ◌∷◌, length, Option, None, Some, slice_get, refl, sym, ap, subst, ◌∙◌, arith, inl, inr}
 use Rattle.std.proofs.lemmas.Bool.{cases_lt}
 use Rattle.std.proofs.lemmas.Option.{get_or_from_slice_get}
 use Rattle.std.specs.Prelude.{All, IsSomeAnd, ◌==◌, if◌then◌else◌, ◌⊎◌}
 use Rattle.std.specs.List.{AllByRecursion}
 use Rattle.cyc_words.specs.Ending.{Uncaught, Full}
 use Rattle.cyc_words.specs.Word.{signed, add_of}
+use Rattle.cyc_words.specs.WordBytes.{with_byte, word_of}
 use Rattle.cyc_store.specs.State.{StoreState}
 use Rattle.cyc_store.specs.Services as services
 use Rattle.cyc_store.specs.Services.{Call, Refusal, refusal}
@@ -20,8 +21,8 @@ use Rattle.cyc_words.specs.Simulation.{Run}
 use Rattle.cyc_plain.specs.Program.{Routine, Program, no_routine, routine_at}
 use Rattle.cyc_plain.specs.State.{put, Handler, Open, Caught, Activation, Frame, Configuration, State, Running, Ended, Stuck, status_of, place_of}
 use Rattle.cyc_plain.specs.Memory.{Range, OfGlobals, OfStore, OfSlots, range_of, global_at, slot_at, put_or, with_waiting, memory_at, with_global, with_slot, with_word}
-use Rattle.cyc_plain.specs.Step.{Choice, gives, operand_word, returns, loads, saves, advanced, asks, is_intact, tries, closes, lands, throws, finishes, call_in, call_of, asked, performed, executed, instruction_at, step, Step, start, machine}
-use Rattle.cyc_plain.specs.WellFormed.{IsInRange, IsRoutine, IsWellFormed, leaves, DividesByZero, AsksForNoWord, AsksInVain, AsksForHandlers}
+use Rattle.cyc_plain.specs.Step.{Choice, gives, operand_word, returns, loads, saves, loads_byte, saves_byte, advanced, asks, is_intact, tries, closes, lands, throws, finishes, call_in, call_of, asked, performed, executed, instruction_at, step, Step, start, machine}
+use Rattle.cyc_plain.specs.WellFormed.{IsInRange, IsRoutine, IsWellFormed, leaves, DividesByZero, AsksAt, AsksForNoWord, AsksInVain, AsksForHandlers}
 use Rattle.cyc_plain.proofs.RunLaws.{limited_either, if_either}
 
 -- ---- lists
@@ -123,6 +124,10 @@ module _ (program : Program) (well : IsWellFormed program) (choice : Choice) (c 
   loaded destination None next = tt
   loaded destination (Some word) next = (next, handling, waiting)
 
+  loaded_byte : (destination address : ℕ) (found : Option ℕ) → IsPlacedAt program c.active.function (c.active.next + 1) → IsPlaced program (loads_byte c destination address found)
+  loaded_byte destination address None next = tt
+  loaded_byte destination address (Some word) next = (next, handling, waiting)
+
   written : (address word : ℕ) (range : Range) → IsPlacedAt program c.active.function (c.active.next + 1) → IsPlaced program (Running (advanced (with_word program c address word range)))
   written address word OfGlobals next = go (global_at program address)
     where
@@ -139,6 +144,10 @@ module _ (program : Program) (well : IsWellFormed program) (choice : Choice) (c 
   saved : (address word : ℕ) (found : Option ℕ) → IsPlacedAt program c.active.function (c.active.next + 1) → IsPlaced program (saves program c address word found)
   saved address word None next = tt
   saved address word (Some old) next = written address word (range_of address) next
+
+  saved_byte : (address byte : ℕ) (found : Option ℕ) → IsPlacedAt program c.active.function (c.active.next + 1) → IsPlaced program (saves_byte program c address byte found)
+  saved_byte address byte None next = tt
+  saved_byte address byte (Some old) next = written (word_of address) (with_byte old (address % 4) byte) (range_of (word_of address)) next
 
   served : (destination : ℕ) (call : Call) (o : Option Refusal) → IsPlacedAt program c.active.function (c.active.next + 1) → IsPlaced program (asks choice.serving c destination call o)
   served destination call None next = (next, handling, waiting)
@@ -189,6 +198,10 @@ module _ (program : Program) (well : IsWellFormed program) (choice : Choice) (c 
       loaded destination (memory_at program c (add_of (operand_word c.active.slots address) offset)) (behind (instructions.Load destination address offset) at refl)
   performs (instructions.Store address offset source) at range =
       saved (add_of (operand_word c.active.slots address) offset) (operand_word c.active.slots source) (memory_at program c (add_of (operand_word c.active.slots address) offset)) (behind (instructions.Store address offset source) at refl)
+  performs (instructions.LoadByte destination address offset) at range =
+      loaded_byte destination (add_of (operand_word c.active.slots address) offset) (memory_at program c (word_of (add_of (operand_word c.active.slots address) offset))) (behind (instructions.LoadByte destination address offset) at refl)
+  performs (instructions.StoreByte address offset source) at range =
+      saved_byte (add_of (operand_word c.active.slots address) offset) (operand_word c.active.slots source % 256) (memory_at program c (word_of (add_of (operand_word c.active.slots address) offset))) (behind (instructions.StoreByte address offset source) at refl)
   performs (instructions.Unary operator destination operand) at range = (behind _ at refl, handling, waiting)
   performs (instructions.Binary operator destination left right) at range =
       if_either (IsPlaced program) (has_no_result operator (operand_word c.active.slots right)) (Stuck c.output c.input) (gives c destination (binary_result operator (operand_word c.active.slots left) (operand_word c.active.slots right))) tt (behind (instructions.Binary operator destination left right) at refl, handling, waiting)
@@ -250,19 +263,11 @@ divides : (program : Program) (c : Configuration) (operator : BinaryOperator) (d
 divides program c operator destination left right true is at failed = inl (operator, destination, left, right, at, is)
 divides program c operator destination left right false is at failed = absurd (not_failed c failed)
 
--- a load or a store, of what is found at an address
-loads_stop : (program : Program) (c : Configuration) (destination : ℕ) (base : Operand) (offset : ℕ) (found : Option ℕ) → memory_at program c (add_of (operand_word c.active.slots base) offset) ≡ found
-    → instruction_at program (place_of (Running c)) ≡ Some (instructions.Load destination base offset) → status_of (loads c destination found) ≡ simulation.Failed → Stops program (Running c)
-loads_stop program c destination base offset None is at failed =
-    inr (inl (instructions.Load destination base offset, add_of (operand_word c.active.slots base) offset, at, refl, is))
-loads_stop program c destination base offset (Some word) is at failed = absurd (not_failed c failed)
-
-saves_stop : (program : Program) (c : Configuration) (base : Operand) (offset : ℕ) (source : Operand) (found : Option ℕ) → memory_at program c (add_of (operand_word c.active.slots base) offset) ≡ found
-    → instruction_at program (place_of (Running c)) ≡ Some (instructions.Store base offset source)
-    → status_of (saves program c (add_of (operand_word c.active.slots base) offset) (operand_word c.active.slots source) found) ≡ simulation.Failed → Stops program (Running c)
-saves_stop program c base offset source None is at failed =
-    inr (inl (instructions.Store base offset source, add_of (operand_word c.active.slots base) offset, at, refl, is))
-saves_stop program c base offset source (Some old) is at failed = absurd (not_failed c failed)
+-- a load or a store, by what is found at the address
+access_stops : (program : Program) (c : Configuration) (i : Instruction) (address : ℕ) (found : Option ℕ) (after : Option ℕ → State) → memory_at program c address ≡ found → instruction_at program (place_of (Running c)) ≡ Some i
+    → AsksAt c address i → ((word : ℕ) → status_of (after (Some word)) ≡ simulation.Running) → status_of (after found) ≡ simulation.Failed → Stops program (Running c)
+access_stops program c i address None after is at asks goes failed = inr (inl (i, address, at, asks, is))
+access_stops program c i address (Some word) after is at asks goes failed = absurd (not_failed c (sym (goes word) ∙ failed))
 
 -- a call of the store
 asks_stop : (program : Program) (choice : Choice) (c : Configuration) (destination : ℕ) (call : Call) (o : Option Refusal) → refusal c.store call ≡ o → asked program (Running c) ≡ Some call
@@ -312,9 +317,13 @@ fails program choice c (instructions.StoreGlobal global source) at range failed 
 fails program choice c (instructions.CountLexical destination) at range failed = absurd (not_failed c failed)
 fails program choice c (instructions.MoveWords destination source count) at range failed = absurd (not_failed c failed)
 fails program choice c (instructions.Load destination address offset) at range failed =
-    loads_stop program c destination address offset (memory_at program c (add_of (operand_word c.active.slots address) offset)) refl at failed
+    access_stops program c (instructions.Load destination address offset) (add_of (operand_word c.active.slots address) offset) (memory_at program c (add_of (operand_word c.active.slots address) offset)) (loads c destination) refl at refl (λ word. refl) failed
 fails program choice c (instructions.Store address offset source) at range failed =
-    saves_stop program c address offset source (memory_at program c (add_of (operand_word c.active.slots address) offset)) refl at failed
+    access_stops program c (instructions.Store address offset source) (add_of (operand_word c.active.slots address) offset) (memory_at program c (add_of (operand_word c.active.slots address) offset)) (saves program c (add_of (operand_word c.active.slots address) offset) (operand_word c.active.slots source)) refl at refl (λ word. refl) failed
+fails program choice c (instructions.LoadByte destination address offset) at range failed =
+    access_stops program c (instructions.LoadByte destination address offset) (word_of (add_of (operand_word c.active.slots address) offset)) (memory_at program c (word_of (add_of (operand_word c.active.slots address) offset))) (loads_byte c destination (add_of (operand_word c.active.slots address) offset)) refl at refl (λ word. refl) failed
+fails program choice c (instructions.StoreByte address offset source) at range failed =
+    access_stops program c (instructions.StoreByte address offset source) (word_of (add_of (operand_word c.active.slots address) offset)) (memory_at program c (word_of (add_of (operand_word c.active.slots address) offset))) (saves_byte program c (add_of (operand_word c.active.slots address) offset) (operand_word c.active.slots source % 256)) refl at refl (λ word. refl) failed
 
 fails_placed : (program : Program) (choice : Choice) (s : State) → IsWellFormed program → IsPlaced program s → status_of s ≡ simulation.Running → status_of (step program choice s) ≡ simulation.Failed → Stops program s
 fails_placed program choice (Running c) well ((inside, next), handling, waiting) running failed =

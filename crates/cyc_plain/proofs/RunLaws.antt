@@ -1,9 +1,10 @@
 -- Laws of the plain machine.
-use Rattle.std.proofs.Common.{◌≡◌, ℕ, zero, suc, ◌≤◌, Bool, true, false, List, [], ◌∷◌, ◌++◌, drop, Option, Some, None, refl, sym, ap, subst, ◌∙◌, arith, append_assoc}
+use Rattle.std.proofs.Common.{◌≡◌, ℕ, zero, suc, ◌%◌, ◌≤◌, Bool, true, false, List, [], ◌∷◌, ◌++◌, drop, Option, Some, None, refl, sym, ap, subst, ◌∙◌, arith, append_assoc}
 use Rattle.std.specs.Prelude.{◌==◌, if◌then◌else◌}
 use Rattle.std.proofs.lemmas.Bool.{le-leb, and_from}
 use Rattle.cyc_words.specs.Ending.{Ending, Uncaught, Full}
 use Rattle.cyc_words.specs.Word.{signed, add_of}
+use Rattle.cyc_words.specs.WordBytes.{with_byte, word_of}
 use Rattle.cyc_words.specs.Prefix.{IsPrefix}
 use Rattle.cyc_words.proofs.PrefixLemmas.{IsPrefix-refl, IsPrefix-append}
 use Rattle.cyc_store.specs.State.{StoreState}
@@ -20,7 +21,7 @@ use Rattle.cyc_words.specs.Simulation.{Status, IsLawful, Run}
 use Rattle.cyc_plain.specs.Program.{Program, routine_at}
 use Rattle.cyc_plain.specs.State.{Words, AreWords, put, Handler, Open, Caught, Activation, Frame, Configuration, State, Running, Ended, Stuck, output_of, input_of, status_of, place_of}
 use Rattle.cyc_plain.specs.Memory.{IsBelow, Range, OfGlobals, OfStore, OfSlots, range_of, global_at, slot_at, memory_at, with_global, with_slot, with_word}
-use Rattle.cyc_plain.specs.Step.{Choice, IsAllowed, MayServe, MayLie, gives, operand_word, returns, loads, saves, advanced, asks, is_intact, tries, closes, lands, throws, finishes, call_in, call_of, asked, callee_of, called, performed, executed, instruction_at, step, is_within, limited, limited_step, Step, start, machine}
+use Rattle.cyc_plain.specs.Step.{Choice, IsAllowed, MayServe, MayLie, gives, operand_word, returns, loads, saves, loads_byte, saves_byte, advanced, asks, is_intact, tries, closes, lands, throws, finishes, call_in, call_of, asked, callee_of, called, performed, executed, instruction_at, step, is_within, limited, limited_step, Step, start, machine}
 use Rattle.cyc_words.proofs.Simulation.{Run-grows, Run-stays}
 
 -- ---- limits
@@ -92,6 +93,14 @@ saved : (program : Program) (c : Configuration) (address word : ℕ) (found : Op
 saved program c address word None = same c
 saved program c address word (Some old) = written program c address word (range_of address)
 
+loaded_byte : (c : Configuration) (destination address : ℕ) (found : Option ℕ) → GoesOn c (loads_byte c destination address found)
+loaded_byte c destination address None = same c
+loaded_byte c destination address (Some word) = same c
+
+saved_byte : (program : Program) (c : Configuration) (address byte : ℕ) (found : Option ℕ) → GoesOn c (saves_byte program c address byte found)
+saved_byte program c address byte None = same c
+saved_byte program c address byte (Some old) = written program c (word_of address) (with_byte old (address % 4) byte) (range_of (word_of address))
+
 served : (serving : services.Choice) (c : Configuration) (destination : ℕ) (call : Call) (o : Option Refusal) → GoesOn c (asks serving c destination call o)
 served serving c destination call None = same c
 served serving c destination call (Some services.BadMark) = same c
@@ -147,6 +156,8 @@ performs program choice c (instructions.StoreGlobal global source) = same c
 performs program choice c (instructions.Load destination address offset) = loaded c destination _
 performs program choice c (instructions.Store address offset source) =
     saved program c (add_of (operand_word c.active.slots address) offset) (operand_word c.active.slots source) (memory_at program c (add_of (operand_word c.active.slots address) offset))
+performs program choice c (instructions.LoadByte destination address offset) = loaded_byte c destination (add_of (operand_word c.active.slots address) offset) (memory_at program c (word_of (add_of (operand_word c.active.slots address) offset)))
+performs program choice c (instructions.StoreByte address offset source) = saved_byte program c (add_of (operand_word c.active.slots address) offset) (operand_word c.active.slots source % 256) (memory_at program c (word_of (add_of (operand_word c.active.slots address) offset)))
 performs program choice c (instructions.AddressOf destination slot count) = same c
 performs program choice c (instructions.Ask request) =
     served choice.serving c (destination_of request) (call_in c.active.slots request) (refusal c.store (call_in c.active.slots request))

@@ -6,6 +6,8 @@ use Rattle.std.proofs.lemmas.Bool.{cases_lt}
 use Rattle.std.proofs.lemmas.List.{get_or_past}
 use Rattle.cyc_words.specs.Ending.{Uncaught}
 use Rattle.cyc_words.specs.Word.{IsWord, signed, add_of}
+use Rattle.cyc_words.specs.WordBytes.{byte_in, with_byte, word_of}
+use Rattle.cyc_words.proofs.WordBytesLemmas.{byte-small, with_byte-word}
 use Rattle.cyc_words.proofs.WordLemmas.{IsWord-add_of, IsWord-sub_of, IsWord-shl_of, IsWord-sar_of, IsWord-div_of, IsWord-rem_of, IsWord-slt_of, IsWord-bit_and, IsWord-bit_or, IsWord-bit_xor}
 use Rattle.cyc_store.specs.Services as services
 use Rattle.cyc_store.specs.Services.{Call, Answer, Refusal, refusal, answer}
@@ -26,7 +28,7 @@ use Rattle.cyc_plain.specs.Program.{Program, CodePlace, no_routine, routine_at}
 use Rattle.cyc_plain.specs.declared.limits.TheConstants.{RECORD_WORDS}
 use Rattle.cyc_plain.specs.State.{Words, AreWords, put, copied, Handler, Open, Caught, Activation, Frame, Configuration, State, Running, Ended, Stuck, place_of, HoldsWords}
 use Rattle.cyc_plain.specs.Memory.{Range, OfGlobals, OfStore, OfSlots, range_of, global_at, slot_at, word_or, word_waiting, put_or, with_waiting, word_in, memory_at, with_global, with_slot, with_word}
-use Rattle.cyc_plain.specs.Step.{Choice, IsAllowed, IsServed, MayServe, HasAnswerWords, gives, operand_word, returns, loads, saves, advanced, told, asks, is_intact, tries, closes, lands, throws, finishes, call_in, call_of, performed, executed, instruction_at, step, start, machine}
+use Rattle.cyc_plain.specs.Step.{Choice, IsAllowed, IsServed, MayServe, HasAnswerWords, gives, operand_word, returns, loads, saves, loads_byte, saves_byte, advanced, told, asks, is_intact, tries, closes, lands, throws, finishes, call_in, call_of, performed, executed, instruction_at, step, start, machine}
 use Rattle.cyc_plain.specs.WellFormed.{IsOfWord, HasWord, HasWords}
 use Rattle.cyc_plain.proofs.RunLaws.{limited_either, if_either}
 use Rattle.cyc_plain.proofs.Placed.{holds_at}
@@ -153,6 +155,12 @@ module _ (program : Program) (choice : Choice) (allowed : AreWords choice.conten
   loaded destination None is_word = tt
   loaded destination (Some word) is_word = given destination word is_word
 
+  loaded_byte : (destination address : ℕ) (found : Option ℕ) → HoldsWords (loads_byte c destination address found)
+  loaded_byte destination address None = tt
+  loaded_byte destination address (Some word) =
+      let small : byte_in word (address % 4) < 256 = byte-small word (address % 4) in
+      given destination (byte_in word (address % 4)) (omega (arith, small))
+
   written : (address word : ℕ) (range : Range) → IsWord word → HoldsWords (Running (advanced (with_word program c address word range)))
   written address word OfGlobals w = go (global_at program address)
     where
@@ -169,6 +177,11 @@ module _ (program : Program) (choice : Choice) (allowed : AreWords choice.conten
   saved : (address word : ℕ) (found : Option ℕ) → IsWord word → HoldsWords (saves program c address word found)
   saved address word None w = tt
   saved address word (Some old) w = written address word (range_of address) w
+
+  saved_byte : (address byte : ℕ) (found : Option ℕ) → AreWordsOf found → byte < 256 → HoldsWords (saves_byte program c address byte found)
+  saved_byte address byte None w small = tt
+  saved_byte address byte (Some old) w small =
+      written (word_of address) (with_byte old (address % 4) byte) (range_of (word_of address)) (with_byte-word old (address % 4) byte w small)
 
   served : (destination : ℕ) (call : Call) (o : Option Refusal) → (o ≡ None → IsServed c.store call choice.serving) → HoldsWords (asks choice.serving c destination call o)
   served destination call None serves =
@@ -242,6 +255,11 @@ module _ (program : Program) (choice : Choice) (allowed : AreWords choice.conten
   performs (instructions.Store address offset source) (first, second, third) serves =
       let at : ℕ = add_of (operand_word c.active.slots address) offset in
       saved at (operand_word c.active.slots source) (memory_at program c at) (known source third)
+  performs (instructions.LoadByte destination address offset) w serves =
+      loaded_byte destination (add_of (operand_word c.active.slots address) offset) (memory_at program c (word_of (add_of (operand_word c.active.slots address) offset)))
+  performs (instructions.StoreByte address offset source) w serves =
+      let at : ℕ = (add_of (operand_word c.active.slots address) offset) in
+      saved_byte at (operand_word c.active.slots source % 256) (memory_at program c (word_of at)) (found_word (word_of at) (range_of (word_of at))) (omega arith)
   performs (instructions.Ask request) w serves =
       served (destination_of request) (call_in c.active.slots request) (refusal c.store (call_in c.active.slots request)) serves
   performs (instructions.Try first handler) w serves = tried first handler c.active.handlers

@@ -2,6 +2,7 @@
 -- relation, since nothing is said of the choice but that it is allowed.
 use Rattle.std.specs.Prelude.{◌≡◌, ℕ, zero, suc, ◌+◌, ◌-◌, ◌*◌, ◌%◌, ◌^◌, Bool, ◌==◌, ◌&&◌, nat_le, List, [], ◌∷◌, ◌++◌, drop, Option, Some, None, unwrap_or, slice_get, slice_index, if◌then◌else◌}
 use Rattle.cyc_words.specs.Word.{IsWord, signed, add_of}
+use Rattle.cyc_words.specs.WordBytes.{byte_in, with_byte, word_of}
 use Rattle.cyc_words.specs.Ending.{Returned, Uncaught, Full}
 use Rattle.cyc_store.specs.State.{StoreState, lexical_count}
 use Rattle.cyc_store.specs.Services as services
@@ -83,6 +84,17 @@ loads c destination None = Stuck c.output c.input
 abbrev pub saves : Program → Configuration → (address word : ℕ) → Option ℕ → State
 saves program c address word (Some old) = Running (advanced (with_memory program c address word))
 saves program c address word None = Stuck c.output c.input
+
+-- A byte of the word at its address comes to a slot, or a byte comes into that word, whose others stay.
+
+abbrev pub loads_byte : Configuration → (destination address : ℕ) → Option ℕ → State
+loads_byte c destination address (Some word) = gives c destination (byte_in word (address % 4))
+loads_byte c destination address None = Stuck c.output c.input
+
+abbrev pub saves_byte : Program → Configuration → (address byte : ℕ) → Option ℕ → State
+saves_byte program c address byte (Some old) =
+    Running (advanced (with_memory program c (word_of address) (with_byte old (address % 4) byte)))
+saves_byte program c address byte None = Stuck c.output c.input
 
 -- the call of the store that a request is
 abbrev pub call_in : Words → Request → Call
@@ -210,6 +222,13 @@ performed program choice c (instructions.Load destination address offset) =
 performed program choice c (instructions.Store address offset source) =
     saves program c (add_of (operand_word c.active.slots address) offset) (operand_word c.active.slots source)
     (memory_at program c (add_of (operand_word c.active.slots address) offset))
+performed program choice c (instructions.LoadByte destination address offset) =
+    loads_byte c destination (add_of (operand_word c.active.slots address) offset)
+    (memory_at program c (word_of (add_of (operand_word c.active.slots address) offset)))
+performed program choice c (instructions.StoreByte address offset source) =
+    saves_byte program c (add_of (operand_word c.active.slots address) offset)
+    (operand_word c.active.slots source % 256)
+    (memory_at program c (word_of (add_of (operand_word c.active.slots address) offset)))
 performed program choice c (instructions.Ask request) =
     asks choice.serving c (destination_of request) (call_in c.active.slots request)
     (refusal c.store (call_in c.active.slots request))

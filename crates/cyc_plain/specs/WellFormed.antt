@@ -1,6 +1,7 @@
 -- A well-formed plain program: all that it names is there, and its frames have room.
 use Rattle.std.specs.Prelude.{◌≡◌, ◌≢◌, ℕ, ◌+◌, ◌-◌, ◌<◌, ◌≤◌, Bool, true, false, length, sum_by, All, IsSomeAnd, Option, Some, None, slice_get}
 use Rattle.cyc_words.specs.Word.{IsWord, add_of}
+use Rattle.cyc_words.specs.WordBytes.{word_of}
 use Rattle.cyc_store.specs.Services.{Call, Refusal, Full, refusal}
 use Rattle.cyc_plain.specs.declared.instruction.Instruction.{Instruction}
 use Rattle.cyc_plain.specs.declared.instruction.Instruction.TheVariants as instructions
@@ -85,6 +86,8 @@ IsInRange program r (instructions.StoreGlobal global source) =
     (global < length program.globals) × IsOperand r source
 IsInRange program r (instructions.Load destination address offset) = (destination < r.slots) × IsOperand r address
 IsInRange program r (instructions.Store address offset source) = IsOperand r address × IsOperand r source
+IsInRange program r (instructions.LoadByte destination address offset) = (destination < r.slots) × IsOperand r address
+IsInRange program r (instructions.StoreByte address offset source) = IsOperand r address × IsOperand r source
 IsInRange program r (instructions.Ask request) = IsRequestInRange r request
 IsInRange program r (instructions.CountLexical destination) = destination < r.slots
 IsInRange program r (instructions.Try first handler) = IsTryInRange r first handler
@@ -138,6 +141,8 @@ HasWord (instructions.WriteByte source) = IsOfWord source
 HasWord (instructions.StoreGlobal global source) = IsOfWord source
 HasWord (instructions.Load destination address offset) = IsOfWord address × IsWord offset
 HasWord (instructions.Store address offset source) = IsOfWord address × IsWord offset × IsOfWord source
+HasWord (instructions.LoadByte destination address offset) = IsOfWord address × IsWord offset
+HasWord (instructions.StoreByte address offset source) = IsOfWord address × IsWord offset × IsOfWord source
 HasWord (instructions.Ask request) = IsArgumentOfWord (first_operand request) × IsArgumentOfWord (second_operand request)
 HasWord (instructions.Throw tag value) = IsOfWord tag × IsOfWord value
 HasWord (instructions.Uncaught tag value) = IsWord tag × IsOfWord value
@@ -162,11 +167,15 @@ DividesByZero program (Running c) =
 DividesByZero program (Ended ending output input) = ⊥
 DividesByZero program (Stuck output input) = ⊥
 
--- an instruction that asks for the word of memory at this address
+-- an instruction that asks for the word of memory at this address, or for a byte of it
 abbrev pub AsksAt : Configuration → (address : ℕ) → Instruction → Type 0
 AsksAt c address (instructions.Load destination base offset) =
     add_of (operand_word c.active.slots base) offset ≡ address
 AsksAt c address (instructions.Store base offset source) = add_of (operand_word c.active.slots base) offset ≡ address
+AsksAt c address (instructions.LoadByte destination base offset) =
+    word_of (add_of (operand_word c.active.slots base) offset) ≡ address
+AsksAt c address (instructions.StoreByte base offset source) =
+    word_of (add_of (operand_word c.active.slots base) offset) ≡ address
 AsksAt c address instruction = ⊥
 
 -- the instruction to be executed next asks for a word that memory does not have

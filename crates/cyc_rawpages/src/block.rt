@@ -118,6 +118,7 @@ impl Block {
     }
 
     /// Writes the word at an index, and a 0 at each place before it and in a stretch behind it where none was written.
+    #[cold]
     #[inline(never)]
     fn set_far_word(&mut self, index: usize, word: u32)
         requires { index < length self.old.words }

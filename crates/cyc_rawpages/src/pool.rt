@@ -200,22 +200,6 @@ impl Pool {
         low as u64 + 0x1_0000_0000 * high as u64
     }
 
-    /// Whether two pages have the same serial.
-    #[inline]
-    pub fn is_serial_same(&self, page: PageNo, other: PageNo) -> bool
-        requires { (page.number < self.now.pages) × (other.number < self.now.pages) }
-        ensures { result ≡ (slice_index self.now.serials page.number == slice_index self.now.serials other.number) }
-    {
-        let low = self.block.head(header_at(page.number, LOW));
-        let other_low = self.block.head(header_at(other.number, LOW));
-        if low != other_low {
-            return false;
-        }
-        let high = self.block.head(header_at(page.number, HIGH));
-        let other_high = self.block.head(header_at(other.number, HIGH));
-        high == other_high
-    }
-
     /// Sets the serial of a page.
     #[inline]
     pub fn set_serial(&mut self, page: PageNo, serial: u64)

@@ -6,7 +6,6 @@ use Rattle.cyc_words.specs.Word.{IsWord, add_of, sign_extended}
 use Rattle.cyc_words.proofs.WordLemmas.{sign_extended_low}
 use Rattle.cyc_isa.specs.Effect.{memory_address}
 use Rattle.cyc_isa.specs.declared.instr.Instr.{Instr}
-use Rattle.cyc_isa.specs.declared.instr.MemoryOp.TheVariants.{LoadWord, StoreWord}
 use Rattle.cyc_isa.specs.Decoding.{register_of}
 use Rattle.cyc_machine.specs.State.{globals_length, words_per_call}
 use Rattle.cyc_machine.specs.declared.constants.TheConstants.{RETURN_ADDRESS}
@@ -18,21 +17,21 @@ use Rattle.cyc_plain.specs.Program.{Program, routine_at}
 use Rattle.cyc_plain.specs.State as states
 use Rattle.cyc_plain.specs.Memory.{memory_at, with_memory}
 use Rattle.cyc_plain.specs.State.{Words, put, copied, Configuration}
-use Rattle.cyc_plain.specs.Step.{advanced, instruction_at, operand_word, performed, loads, saves}
+use Rattle.cyc_plain.specs.Step.{advanced, gives, instruction_at, operand_word, performed, loads, saves, loads_byte, saves_byte}
 use Rattle.cyc_plain.specs.WellFormed.{IsOperand, IsOfWord, IsWellFormed, IsMoveInRange}
 use Rattle.cyc_plain.proofs.MemoryLaws.{memory-left}
 use Rattle.cyc_plain.proofs.SlotLaws.{put-same, put-other, copied-below, copied-above}
-use Rattle.cyc_plain.proofs.RunLaws.{zeros, zeros_at}
+use Rattle.cyc_plain.proofs.RunLaws.{zeros, zeros_at, calls_nothing}
 use Rattle.cyc_frame.specs.Homes.{AreHomes}
 use Rattle.cyc_frame.specs.Layout.{AreFrames, frame_at}
-use Rattle.cyc_frame.specs.Uses.{is_among, is_crossing, is_slot, reads}
+use Rattle.cyc_frame.specs.Uses.{is_among, is_crossing, is_slot, leads, reads, writes}
 use Rattle.cyc_frame.specs.Frame.{Frame}
 use Rattle.cyc_select.specs.declared.constants.TheConstants.{FIRST, SECOND, ZERO, CALLS, FRAME, HANDLERS, REGIONS}
 use Rattle.cyc_select.specs.Labelled.{Labelled, IsFormed}
 use Rattle.cyc_select.specs.Machine as labelled
 use Rattle.cyc_select.specs.Machine.{State, Running}
 use Rattle.cyc_select.specs.Numbers.{fits_signed}
-use Rattle.cyc_select.specs.Selection.{value_register, is_kept, made_in, keep_code, keep_count, slot_offset, load_words, store_all, result_registers, ordinary, all_moved, moves, moves_count, move_words_count, operand_code, operand_register, operation_of, far_plan, address_code, address_register, near_half, at_address, address_count, operand_count, body, body_count, instruction_line}
+use Rattle.cyc_select.specs.Selection.{value_register, is_kept, made_in, keep_code, keep_count, slot_offset, load_words, store_all, result_registers, ordinary, all_moved, moves, moves_count, move_words_count, operand_code, operand_register, operation_of, far_plan, address_code, address_register, near_half, at_address, address_count, operand_count, body, body_count, instruction_line, load_at, store_at, count_of}
 use Rattle.cyc_select.proofs.Blocks.{ValuesSame, all_same, lasting_same, Keeps, puts_keeps}
 use Rattle.cyc_select.proofs.Cells.{IsCell}
 use Rattle.cyc_select.proofs.Computing.{IsHeld, operand_puts, operation_leaves, not_second, first_scratch, second_scratch, first_aside, second_aside, scratch_writable, made_scratch}
@@ -45,10 +44,10 @@ use Rattle.cyc_select.proofs.Moves.{is_ahead, moved, moved_copied, are_moved}
 use Rattle.cyc_select.proofs.Returns.{same_slots, stored}
 use Rattle.cyc_select.proofs.Simple.{Agrees, gets, gives_made}
 use Rattle.cyc_select.proofs.Standing.{Standing, slot_cell, slot_word_is, standing_registers, standing_at}
-use Rattle.cyc_select.proofs.Places.{IsWordAt, placed, walk_read, walk_write, is_found}
+use Rattle.cyc_select.proofs.Places.{Sort, OfBlock, OfCell, IsWordAt, placed, walk_read, walk_write, is_found}
 use Rattle.cyc_select.proofs.Values.{Caches, caches_past, moved_caches, unbarred, barred_kept, among, not_among, next_led}
-use Rattle.cyc_select.proofs.Views.{Contents}
-use Rattle.cyc_select.proofs.Walks.{Stands, stands_first, stands_behind, after_r, after_w, Walk, now_at, now_is, walk_end, walk_few, walk_from, walk_block}
+use Rattle.cyc_select.proofs.Views.{Contents, Width, OneWord, OneByte, load_op, store_op, word_place, loaded_part, stored_word}
+use Rattle.cyc_select.proofs.Walks.{stored_is_word, Stands, stands_first, stands_behind, after_r, after_w, Walk, now_at, now_is, walk_end, walk_few, walk_from, walk_block}
 
 -- ---- several words in registers
 
@@ -339,13 +338,22 @@ module _ (program : Program) (well : IsWellFormed program) (frames : List Frame)
 
   -- ---- a load
 
+  -- an instruction that loads a word or a byte
+  record IsLoad (width : Width) (i : Instruction) (destination : ℕ) (address : Operand) (offset : ℕ) : Type 0 where
+    pub at : IsAt i
+    pub free : calls_nothing i ≡ true
+    pub needs : (slot : ℕ) → is_slot address slot ≡ true → reads (routine_at program c.active.function).results i slot ≡ true
+    pub given : ((slot : ℕ) → slot ≢ destination → writes program i slot ≡ false) × (writes program i destination ≡ true) × (leads i c.active.next (c.active.next + 1) ≡ true)
+    pub does : (word : ℕ) → memory_at program c (word_place width (add_of (word_in address) offset)) ≡ Some word → performed program zeros c i ≡ gives c destination (loaded_part width (add_of (word_in address) offset) word)
+    pub count : count_of program frames c.active.function i ≡ address_count frame address offset + 1 + keep_count frame destination
+
   -- of a word that is there
-  loaded_goes : (destination : ℕ) (address : Operand) (offset word : ℕ) → IsAt (plain.Load destination address offset) → destination < slots → IsThere address → IsWord offset
-      → memory_at program c (add_of (word_in address) offset) ≡ Some word
-      → Stands code here (body program frames c.active.function here (plain.Load destination address offset)) → Goes 1 here (here + (address_count frame address offset + 1 + keep_count frame destination)) (Running run)
-  loaded_goes destination address offset word at_i below there fits found stands =
+  loaded_goes : (width : Width) (i : Instruction) (destination : ℕ) (address : Operand) (offset word : ℕ) → IsLoad width i destination address offset → destination < slots → IsThere address → IsWord offset
+      → memory_at program c (word_place width (add_of (word_in address) offset)) ≡ Some word
+      → Stands code here (load_at frame (load_op width) destination address offset) → Goes 1 here (here + (address_count frame address offset + 1 + keep_count frame destination)) (Running run)
+  loaded_goes width i destination address offset word loads_it below there fits found stands =
       let is : List Instr = address_code frame address offset in
-      let last : List Instr = at_address frame LoadWord (made_in frame destination) address offset ∷ keep_code frame destination in
+      let last : List Instr = at_address frame (load_op width) (made_in frame destination) address offset ∷ keep_code frame destination in
       let hi : ℕ = here + (address_count frame address offset + 1 + keep_count frame destination) in
       let long : length is ≡ address_count frame address offset = length_address frame address offset in
       let q : Words = after_r is r w in
@@ -353,56 +361,103 @@ module _ (program : Program) (well : IsWellFormed program) (frames : List Frame)
       let register : ℕ = address_register frame address offset in
       let target : ℕ = made_in frame destination % 32 in
       let a : ℕ = add_of (word_in address) offset in
-      let address_held = held (plain.Load destination address offset) at_i address (λ slot is. is) there in
+      let address_held = held i loads_it.at address loads_it.needs there in
       let scratch = made_scratch globals_length (words_per_call * calls) program (routine_at program c.active.function) frame homes_right destination in
       let reaches = is_addressed globals_length (words_per_call * calls) frame (r FRAME) w r c.active.slots r w s.zero_is refl refl (λ n low high. refl) address offset address_held fits in
-      let its = is_found program well frames fit addresses pages calls few c r w base (r RETURN_ADDRESS) (suc (length c.frames)) s a word found in
-      let there_is : IsWordAt its.sort globals_length (words_per_call * calls) v (memory_address (q (register % 32)) (near_half offset)) word =
-      subst (λ (x : ℕ). IsWordAt its.sort globals_length (words_per_call * calls) v x word) (sym reaches.comes)
-      (subst (λ (x : Contents). IsWordAt its.sort globals_length (words_per_call * calls) x a word) (sym reaches.keeps.memory) its.at) in
+      let its = is_found program well frames fit addresses pages calls few c r w base (r RETURN_ADDRESS) (suc (length c.frames)) s (word_place width a) word found in
+      let part : ℕ = loaded_part width a word in
+      let there_is : IsWordAt its.sort globals_length (words_per_call * calls) v (word_place width (memory_address (q (register % 32)) (near_half offset))) word =
+      subst (λ (x : ℕ). IsWordAt its.sort globals_length (words_per_call * calls) v (word_place width x) word) (sym reaches.comes)
+      (subst (λ (x : Contents). IsWordAt its.sort globals_length (words_per_call * calls) x (word_place width a) word) (sym reaches.keeps.memory) its.at) in
       let behind = stands_behind code here is last stands in
-      let p : Words = put q (made_in frame destination % 32) word in
+      let p : Words = put q (made_in frame destination % 32) part in
       let agrees : Agrees program well frames fit code formed addresses pages calls few c run r w base now s caches target p = record {
-        zero_same = put-other q target 0 word scratch.not_zero ∙ reaches.keeps.zero;
-        base_same = put-other q target FRAME word scratch.not_base ∙ reaches.keeps.base;
-        left_same = put-other q target CALLS word scratch.not_left ∙ reaches.keeps.left;
-        back_same = put-other q target RETURN_ADDRESS word scratch.not_back ∙ reaches.keeps.back;
-        lasts_same = lasting_same p q (put-other q target HANDLERS word scratch.not_newest) (put-other q target REGIONS word scratch.not_counted) ∙ reaches.keeps.lasts;
-        values_same = λ n low high other. put-other q target n word other ∙ all_same q r reaches.keeps.values n low high;
+        zero_same = put-other q target 0 part scratch.not_zero ∙ reaches.keeps.zero;
+        base_same = put-other q target FRAME part scratch.not_base ∙ reaches.keeps.base;
+        left_same = put-other q target CALLS part scratch.not_left ∙ reaches.keeps.left;
+        back_same = put-other q target RETURN_ADDRESS part scratch.not_back ∙ reaches.keeps.back;
+        lasts_same = lasting_same p q (put-other q target HANDLERS part scratch.not_newest) (put-other q target REGIONS part scratch.not_counted) ∙ reaches.keeps.lasts;
+        values_same = λ n low high other. put-other q target n part other ∙ all_same q r reaches.keeps.values n low high;
       } in
       walk_few code formed addresses globals_length (words_per_call * calls) 1 (length is + suc (keep_count frame destination)) here hi c.output _ (Running run) (omega arith)
       (walk_block code formed addresses globals_length (words_per_call * calls) is (suc (keep_count frame destination)) here here hi c.output c.input _ r w run now (stands_first code here is last stands) reaches.keeps.safe (omega arith)
       (λ d before.
-      walk_read code formed addresses globals_length (words_per_call * calls) its.sort (keep_count frame destination) (here + length is) (here + length is) hi c.output c.input _ q v d (register_of (made_in frame destination)) (register_of register) (near_half offset) word before behind.0 (omega arith)
+      walk_read code formed addresses globals_length (words_per_call * calls) width its.sort (keep_count frame destination) (here + length is) (here + length is) hi c.output c.input _ q v d (register_of (made_in frame destination)) (register_of register) (near_half offset) word before behind.0 (omega arith)
       (scratch_writable globals_length (words_per_call * calls) target scratch) there_is
       (λ e later.
       walk_from code formed addresses globals_length (words_per_call * calls) (keep_count frame destination) (suc (here + length is)) (here + length is + 1) hi c.output _ (Running e) (omega arith)
       (walk_few code formed addresses globals_length (words_per_call * calls) (keep_count frame destination) (0 + keep_count frame destination) (here + length is + 1) hi c.output _ (Running e) (omega arith)
-      (gives_made program well frames fit code formed addresses pages calls few c run r w base now s caches (plain.Load destination address offset) at_i refl destination word c.input
-      (gets program well frames fit code formed addresses pages calls few c run r w base now s caches destination) below (ap (loads c destination) found) s.input
+      (gives_made program well frames fit code formed addresses pages calls few c run r w base now s caches i loads_it.at loads_it.free destination part c.input
+      loads_it.given below (loads_it.does word found) s.input
       (here + length is + 1) (address_count frame address offset + 1 + keep_count frame destination) p e
-      (now_is code formed addresses globals_length (words_per_call * calls) (here + length is + 1) c.output c.input p v p w e refl reaches.keeps.memory later)
+      (now_is code formed addresses globals_length (words_per_call * calls) (here + length is + 1) c.output c.input (put q target (loaded_part width (memory_address (q (register % 32)) (near_half offset)) word)) v p w e
+      (ap (λ (x : ℕ). put q target (loaded_part width x word)) reaches.comes) reaches.keeps.memory later)
       [] agrees (record { safe = tt; memory = refl; zero = refl; base = refl; left = refl; back = refl; lasts = refl; values = λ n low high other. refl })
-      (put-same q target word) (omega (arith, long)) (omega arith) behind.1)))))
+      (put-same q target part) (omega (arith, long)) loads_it.count behind.1)))))
 
   pub load_goes : (destination : ℕ) (address : Operand) (offset : ℕ) → IsAt (plain.Load destination address offset) → destination < slots → IsThere address → IsWord offset
       → (performed program zeros c (plain.Load destination address offset) ≡ states.Stuck c.output c.input → ⊥)
       → Stands code here (body program frames c.active.function here (plain.Load destination address offset)) → Goes 1 here (here + (address_count frame address offset + 1 + keep_count frame destination)) (Running run)
-  load_goes destination address offset at_i below there fits never stands = go (memory_at program c (add_of (word_in address) offset)) refl
+  load_goes destination address offset at_i below there fits never stands = go (memory_at program c (word_place OneWord (add_of (word_in address) offset))) refl
     where
-      go : (o : Option ℕ) → memory_at program c (add_of (word_in address) offset) ≡ o → Goes 1 here (here + (address_count frame address offset + 1 + keep_count frame destination)) (Running run)
-      go (Some word) found = loaded_goes destination address offset word at_i below there fits found stands
+      loads_it : IsLoad OneWord (plain.Load destination address offset) destination address offset
+      loads_it = record {
+        at = at_i;
+        free = refl;
+        needs = λ slot is. is;
+        given = gets program well frames fit code formed addresses pages calls few c run r w base now s caches destination;
+        does = λ word found. ap (loads c destination) found;
+        count = omega arith;
+      }
+
+      go : (o : Option ℕ) → memory_at program c (word_place OneWord (add_of (word_in address) offset)) ≡ o → Goes 1 here (here + (address_count frame address offset + 1 + keep_count frame destination)) (Running run)
+      go (Some word) found = loaded_goes OneWord (plain.Load destination address offset) destination address offset word loads_it below there fits found stands
       go None found = absurd (never (ap (loads c destination) found))
+
+  pub load_byte_goes : (destination : ℕ) (address : Operand) (offset : ℕ) → IsAt (plain.LoadByte destination address offset) → destination < slots → IsThere address → IsWord offset
+      → (performed program zeros c (plain.LoadByte destination address offset) ≡ states.Stuck c.output c.input → ⊥)
+      → Stands code here (body program frames c.active.function here (plain.LoadByte destination address offset)) → Goes 1 here (here + (address_count frame address offset + 1 + keep_count frame destination)) (Running run)
+  load_byte_goes destination address offset at_i below there fits never stands = go (memory_at program c (word_place OneByte (add_of (word_in address) offset))) refl
+    where
+      loads_it : IsLoad OneByte (plain.LoadByte destination address offset) destination address offset
+      loads_it = record {
+        at = at_i;
+        free = refl;
+        needs = λ slot is. is;
+        given = gets program well frames fit code formed addresses pages calls few c run r w base now s caches destination;
+        does = λ word found. ap (loads_byte c destination (add_of (word_in address) offset)) found;
+        count = omega arith;
+      }
+
+      go : (o : Option ℕ) → memory_at program c (word_place OneByte (add_of (word_in address) offset)) ≡ o → Goes 1 here (here + (address_count frame address offset + 1 + keep_count frame destination)) (Running run)
+      go (Some word) found = loaded_goes OneByte (plain.LoadByte destination address offset) destination address offset word loads_it below there fits found stands
+      go None found = absurd (never (ap (loads_byte c destination (add_of (word_in address) offset)) found))
 
   -- ---- a store
 
-  saved_goes : (address : Operand) (offset : ℕ) (source : Operand) (old : ℕ) → IsAt (plain.Store address offset source) → IsThere address → IsWord offset → IsThere source
-      → memory_at program c (add_of (word_in address) offset) ≡ Some old
-      → Stands code here (body program frames c.active.function here (plain.Store address offset source)) → Goes 1 here (here + (address_count frame address offset + operand_count frame source + 1)) (Running run)
-  saved_goes address offset source old at_i there fits from_there found stands =
+  -- an instruction that stores a word or a byte
+  record IsStore (width : Width) (i : Instruction) (address : Operand) (offset : ℕ) (source : Operand) : Type 0 where
+    pub at : IsAt i
+    pub free : calls_nothing i ≡ true
+    pub needs : (slot : ℕ) → (is_slot address slot || is_slot source slot) ≡ true → reads (routine_at program c.active.function).results i slot ≡ true
+    pub apart : (slot : ℕ) → writes program i slot ≡ false
+    pub led : leads i c.active.next (c.active.next + 1) ≡ true
+    pub does : (old : ℕ) → memory_at program c (word_place width (add_of (word_in address) offset)) ≡ Some old
+        → performed program zeros c i ≡ states.Running (advanced (with_memory program c (word_place width (add_of (word_in address) offset)) (stored_word width (add_of (word_in address) offset) old (word_in source))))
+    pub count : count_of program frames c.active.function i ≡ address_count frame address offset + operand_count frame source + 1
+
+  -- what memory has is a word
+  word_at_is : (sort : Sort) (a word : ℕ) → IsWordAt sort globals_length (words_per_call * calls) w a word → IsWord word
+  word_at_is OfBlock a word (live, is) = is
+  word_at_is OfCell a word (cell, is) = subst IsWord is (now.w_words a)
+
+  saved_goes : (width : Width) (i : Instruction) (address : Operand) (offset : ℕ) (source : Operand) (old : ℕ) → IsStore width i address offset source → IsThere address → IsWord offset → IsThere source
+      → memory_at program c (word_place width (add_of (word_in address) offset)) ≡ Some old
+      → Stands code here (store_at frame (store_op width) address offset source) → Goes 1 here (here + (address_count frame address offset + operand_count frame source + 1)) (Running run)
+  saved_goes width i address offset source old stores_it there fits from_there found stands =
       let is : List Instr = address_code frame address offset in
       let js : List Instr = operand_code frame SECOND source in
-      let last : List Instr = at_address frame StoreWord (operand_register frame SECOND source) address offset ∷ [] in
+      let last : List Instr = at_address frame (store_op width) (operand_register frame SECOND source) address offset ∷ [] in
       let hi : ℕ = here + (address_count frame address offset + operand_count frame source + 1) in
       let long : length is ≡ address_count frame address offset = length_address frame address offset in
       let more : length js ≡ operand_count frame source = length_operand frame SECOND source in
@@ -411,9 +466,10 @@ module _ (program : Program) (well : IsWellFormed program) (frames : List Frame)
       let register : ℕ = address_register frame address offset in
       let from : ℕ = operand_register frame SECOND source in
       let a : ℕ = add_of (word_in address) offset in
-      let word : ℕ = word_in source in
-      let address_held = held (plain.Store address offset source) at_i address (λ slot is. or_left (is_slot address slot) (is_slot source slot) is) there in
-      let source_held = held (plain.Store address offset source) at_i source (λ slot is. or_right (is_slot address slot) (is_slot source slot) is) from_there in
+      let place : ℕ = word_place width a in
+      let word : ℕ = stored_word width a old (word_in source) in
+      let address_held = held i stores_it.at address (λ slot is. stores_it.needs slot (or_left (is_slot address slot) (is_slot source slot) is)) there in
+      let source_held = held i stores_it.at source (λ slot is. stores_it.needs slot (or_right (is_slot address slot) (is_slot source slot) is)) from_there in
       let reaches = is_addressed globals_length (words_per_call * calls) frame (r FRAME) w r c.active.slots r w s.zero_is refl refl (λ n low high. refl) address offset address_held fits in
       let second = operand_puts globals_length (words_per_call * calls) frame (r FRAME) w r c.active.slots q v (reaches.keeps.zero ∙ s.zero_is) reaches.keeps.base reaches.keeps.memory (all_same q r reaches.keeps.values) SECOND refl source source_held in
       let keeps = puts_keeps globals_length (words_per_call * calls) js q v SECOND _ _ FIRST (second_scratch globals_length (words_per_call * calls)) (second_aside globals_length (words_per_call * calls) FIRST) second in
@@ -422,24 +478,26 @@ module _ (program : Program) (well : IsWellFormed program) (frames : List Frame)
       let same : u ≡ w = keeps.memory ∙ reaches.keeps.memory in
       let comes : memory_address (p (register % 32)) (near_half offset) ≡ a =
       ap (λ (x : ℕ). memory_address x (near_half offset)) (second.others (register % 32) (below_32 register) (not_in_second globals_length (words_per_call * calls) frame (r FRAME) w r c.active.slots r w s.zero_is refl refl (λ n low high. refl) address offset address_held)) ∙ reaches.comes in
-      let its = is_found program well frames fit addresses pages calls few c r w base (r RETURN_ADDRESS) (suc (length c.frames)) s a old found in
-      let there_is : IsWordAt its.sort globals_length (words_per_call * calls) u (memory_address (p (register % 32)) (near_half offset)) old =
-      subst (λ (x : ℕ). IsWordAt its.sort globals_length (words_per_call * calls) u x old) (sym comes)
-      (subst (λ (x : Contents). IsWordAt its.sort globals_length (words_per_call * calls) x a old) (sym same) its.at) in
-      let x : Contents = placed its.sort u (memory_address (p (register % 32)) (near_half offset)) (p (from % 32)) in
-      let puts : x ≡ placed its.sort w a word =
-      ap (λ (y : Contents). placed its.sort y (memory_address (p (register % 32)) (near_half offset)) (p (from % 32))) same
-      ∙ (ap (λ (n : ℕ). placed its.sort w n (p (from % 32))) comes ∙ ap (placed its.sort w a) second.result) in
-      let c' : Configuration = with_memory program c a word in
+      let its = is_found program well frames fit addresses pages calls few c r w base (r RETURN_ADDRESS) (suc (length c.frames)) s place old found in
+      let there_is : IsWordAt its.sort globals_length (words_per_call * calls) u (word_place width (memory_address (p (register % 32)) (near_half offset))) old =
+      subst (λ (x : ℕ). IsWordAt its.sort globals_length (words_per_call * calls) u (word_place width x) old) (sym comes)
+      (subst (λ (x : Contents). IsWordAt its.sort globals_length (words_per_call * calls) x place old) (sym same) its.at) in
+      let x : Contents = placed its.sort u (word_place width (memory_address (p (register % 32)) (near_half offset))) (stored_word width (memory_address (p (register % 32)) (near_half offset)) old (p (from % 32))) in
+      let puts : x ≡ placed its.sort w place word =
+      ap (λ (y : Contents). placed its.sort y (word_place width (memory_address (p (register % 32)) (near_half offset))) (stored_word width (memory_address (p (register % 32)) (near_half offset)) old (p (from % 32)))) same
+      ∙ (ap (λ (n : ℕ). placed its.sort w (word_place width n) (stored_word width n old (p (from % 32)))) comes ∙ ap (λ (n : ℕ). placed its.sort w place (stored_word width a old n)) second.result) in
+      let was_word : IsWord old = word_at_is its.sort place old its.at in
+      let is_word : IsWord word = stored_is_word width a old (word_in source) was_word (operand_is_word program well frames fit code formed addresses pages calls few c run r w base now s caches source source_held) in
+      let c' : Configuration = with_memory program c place word in
       let d : Configuration = advanced c' in
-      let left = memory-left program c a word in
-      let one = its.standing word (operand_is_word program well frames fit code formed addresses pages calls few c run r w base now s caches source source_held) in
-      let two = standing_registers program well frames fit addresses pages calls few c' r (placed its.sort w a word) base (r RETURN_ADDRESS) (suc (length c.frames)) c'.active.slots one p (keeps.zero ∙ reaches.keeps.zero) (keeps.base ∙ reaches.keeps.base) (keeps.left ∙ reaches.keeps.left) (keeps.lasts ∙ reaches.keeps.lasts) in
-      let three = standing_at program well frames fit addresses pages calls few c' p (placed its.sort w a word) base (r RETURN_ADDRESS) (suc (length c.frames)) c'.active.slots two d refl refl refl refl refl refl one.input in
-      let with_back = subst (λ (b : ℕ). Standing program frames addresses pages calls d p (placed its.sort w a word) base b (suc (length c.frames)) d.active.slots) (sym (keeps.back ∙ reaches.keeps.back)) three in
-      let with_depth = subst (λ (n : ℕ). Standing program frames addresses pages calls d p (placed its.sort w a word) base (p RETURN_ADDRESS) (suc n) d.active.slots) (sym left.depth) with_back in
+      let left = memory-left program c place word in
+      let one = its.standing word is_word in
+      let two = standing_registers program well frames fit addresses pages calls few c' r (placed its.sort w place word) base (r RETURN_ADDRESS) (suc (length c.frames)) c'.active.slots one p (keeps.zero ∙ reaches.keeps.zero) (keeps.base ∙ reaches.keeps.base) (keeps.left ∙ reaches.keeps.left) (keeps.lasts ∙ reaches.keeps.lasts) in
+      let three = standing_at program well frames fit addresses pages calls few c' p (placed its.sort w place word) base (r RETURN_ADDRESS) (suc (length c.frames)) c'.active.slots two d refl refl refl refl refl refl one.input in
+      let with_back = subst (λ (b : ℕ). Standing program frames addresses pages calls d p (placed its.sort w place word) base b (suc (length c.frames)) d.active.slots) (sym (keeps.back ∙ reaches.keeps.back)) three in
+      let with_depth = subst (λ (n : ℕ). Standing program frames addresses pages calls d p (placed its.sort w place word) base (p RETURN_ADDRESS) (suc n) d.active.slots) (sym left.depth) with_back in
       let four = subst (λ (y : Contents). Standing program frames addresses pages calls d p y base (p RETURN_ADDRESS) (suc (length d.frames)) d.active.slots) (sym puts) with_depth in
-      let next : here + length is + length js + 1 ≡ instruction_line program frames c.active.function (c.active.next + 1) = omega (arith, line_next program frames c.active.function c.active.next (plain.Store address offset source) at_i, long, more) in
+      let next : here + length is + length js + 1 ≡ instruction_line program frames c.active.function (c.active.next + 1) = omega (arith, line_next program frames c.active.function c.active.next i stores_it.at, stores_it.count, long, more) in
       let line : here + length is + length js + 1 ≡ instruction_line program frames d.active.function d.active.next =
       next
       ∙ (ap (λ (f : ℕ). instruction_line program frames f (c.active.next + 1)) (sym left.function)
@@ -451,10 +509,10 @@ module _ (program : Program) (well : IsWellFormed program) (frames : List Frame)
       (λ e before.
       walk_block code formed addresses globals_length (words_per_call * calls) js 1 (here + length is) (here + length is) hi c.output c.input _ q v e before (stands_first code (here + length is) js last behind) second.safe (omega arith)
       (λ f after.
-      walk_write code formed addresses globals_length (words_per_call * calls) its.sort 0 (here + length is + length js) (here + length is + length js) hi c.output c.input _ p u f (register_of from) (register_of register) (near_half offset) old after at_last.0 (omega arith) there_is
+      walk_write code formed addresses globals_length (words_per_call * calls) width its.sort 0 (here + length is + length js) (here + length is + length js) hi c.output c.input _ p u f (register_of from) (register_of register) (near_half offset) old after at_last.0 (omega arith) there_is
       (λ g later.
       walk_end code formed addresses globals_length (words_per_call * calls) (suc (here + length is + length js)) hi c.output _ (Running g) (omega (arith, long, more))
-      (reached program well frames fit code formed addresses pages calls few c zeros (plain.Store address offset source) (states.Running d) (Running g) (zeros_at program c (plain.Store address offset source) at_i refl) at_i (ap (saves program c a word) found)
+      (reached program well frames fit code formed addresses pages calls few c zeros i (states.Running d) (Running g) (zeros_at program c i stores_it.at stores_it.free) stores_it.at (stores_it.does old found)
       (within program well frames fit code formed addresses pages calls few d four.laid.paged four.deep)
       (inl (record {
         run = g;
@@ -470,16 +528,47 @@ module _ (program : Program) (well : IsWellFormed program) (frames : List Frame)
         caches =
             subst (λ (n : ℕ). Caches program frames n d.active.next p d.active.slots) (sym left.function)
             (subst (λ (n : ℕ). Caches program frames c.active.function n p d.active.slots) (ap (λ (n : ℕ). n + 1) (sym left.next))
-            (caches_past program frames c.active.function homes_right c.active.next (c.active.next + 1) r p c.active.slots d.active.slots (plain.Store address offset source) at_i (next_led c.active.next)
-            (λ slot k has. refl) (λ slot k has. its.values word slot k has)
+            (caches_past program frames c.active.function homes_right c.active.next (c.active.next + 1) r p c.active.slots d.active.slots i stores_it.at stores_it.led
+            (λ slot k has. stores_it.apart slot) (λ slot k has. its.values word slot k has)
             (λ n low high. all_same p q keeps.values n low high ∙ all_same q r reaches.keeps.values n low high) caches));
       })))))))
 
   pub store_goes : (address : Operand) (offset : ℕ) (source : Operand) → IsAt (plain.Store address offset source) → IsThere address → IsWord offset → IsThere source
       → (performed program zeros c (plain.Store address offset source) ≡ states.Stuck c.output c.input → ⊥)
       → Stands code here (body program frames c.active.function here (plain.Store address offset source)) → Goes 1 here (here + (address_count frame address offset + operand_count frame source + 1)) (Running run)
-  store_goes address offset source at_i there fits from_there never stands = go (memory_at program c (add_of (word_in address) offset)) refl
+  store_goes address offset source at_i there fits from_there never stands = go (memory_at program c (word_place OneWord (add_of (word_in address) offset))) refl
     where
-      go : (o : Option ℕ) → memory_at program c (add_of (word_in address) offset) ≡ o → Goes 1 here (here + (address_count frame address offset + operand_count frame source + 1)) (Running run)
-      go (Some old) found = saved_goes address offset source old at_i there fits from_there found stands
+      stores_it : IsStore OneWord (plain.Store address offset source) address offset source
+      stores_it = record {
+        at = at_i;
+        free = refl;
+        needs = λ slot is. is;
+        apart = λ slot. refl;
+        led = next_led c.active.next;
+        does = λ old found. ap (saves program c (add_of (word_in address) offset) (word_in source)) found;
+        count = omega arith;
+      }
+
+      go : (o : Option ℕ) → memory_at program c (word_place OneWord (add_of (word_in address) offset)) ≡ o → Goes 1 here (here + (address_count frame address offset + operand_count frame source + 1)) (Running run)
+      go (Some old) found = saved_goes OneWord (plain.Store address offset source) address offset source old stores_it there fits from_there found stands
       go None found = absurd (never (ap (saves program c (add_of (word_in address) offset) (word_in source)) found))
+
+  pub store_byte_goes : (address : Operand) (offset : ℕ) (source : Operand) → IsAt (plain.StoreByte address offset source) → IsThere address → IsWord offset → IsThere source
+      → (performed program zeros c (plain.StoreByte address offset source) ≡ states.Stuck c.output c.input → ⊥)
+      → Stands code here (body program frames c.active.function here (plain.StoreByte address offset source)) → Goes 1 here (here + (address_count frame address offset + operand_count frame source + 1)) (Running run)
+  store_byte_goes address offset source at_i there fits from_there never stands = go (memory_at program c (word_place OneByte (add_of (word_in address) offset))) refl
+    where
+      stores_it : IsStore OneByte (plain.StoreByte address offset source) address offset source
+      stores_it = record {
+        at = at_i;
+        free = refl;
+        needs = λ slot is. is;
+        apart = λ slot. refl;
+        led = next_led c.active.next;
+        does = λ old found. ap (saves_byte program c (add_of (word_in address) offset) (word_in source % 256)) found;
+        count = omega arith;
+      }
+
+      go : (o : Option ℕ) → memory_at program c (word_place OneByte (add_of (word_in address) offset)) ≡ o → Goes 1 here (here + (address_count frame address offset + operand_count frame source + 1)) (Running run)
+      go (Some old) found = saved_goes OneByte (plain.StoreByte address offset source) address offset source old stores_it there fits from_there found stands
+      go None found = absurd (never (ap (saves_byte program c (add_of (word_in address) offset) (word_in source % 256)) found))

@@ -1,7 +1,7 @@
 -- Calls: a new frame below the caller's, or the end of a run that has no room for one.
 use Rattle.std.proofs.Common.{◌≡◌, ◌≢◌, ℕ, zero, suc, ◌+◌, ◌-◌, ◌*◌, ◌%◌, ◌<◌, ◌≤◌, Bool, true, false, not, List, [], ◌∷◌, ◌++◌, length, Some, slice_get, refl, sym, ap, subst, ◌∙◌, arith, inl, inr}
 use Rattle.std.specs.Prelude.{◌==◌, if◌then◌else◌, nat_le}
-use Rattle.std.proofs.lemmas.Bool.{cases_eq, cases_lt, eq-eqb, ne_eqb, and_right, lt-leb, or_left}
+use Rattle.std.proofs.lemmas.Bool.{cases_eq, cases_lt, eq-eqb, ne_eqb, and_right, lt-leb}
 use Rattle.cyc_select.specs.declared.constants.TheConstants.{CALLS, FRAME, HANDLERS, REGIONS}
 use Rattle.cyc_machine.specs.declared.constants.TheConstants.{RETURN_ADDRESS}
 use Rattle.cyc_words.specs.Ending.{Full}
@@ -21,7 +21,6 @@ use Rattle.cyc_plain.specs.WellFormed.{IsWellFormed, IsCallInRange}
 use Rattle.cyc_plain.proofs.RunLaws.{zeros, limited-full, called_at}
 use Rattle.cyc_plain.proofs.SlotLaws.{put-same, put-other, copied-inside, copied-above}
 use Rattle.cyc_frame.specs.Homes.{AreHomes}
-use Rattle.cyc_frame.specs.Uses.{is_among}
 use Rattle.cyc_frame.specs.Layout.{AreFrames, frame_at, slot_word}
 use Rattle.cyc_frame.specs.Frame.{Frame}
 use Rattle.cyc_select.specs.declared.code.Line.{Line}
@@ -30,11 +29,11 @@ use Rattle.cyc_select.specs.declared.code.Line.TheVariants as lines
 use Rattle.cyc_select.specs.Labelled.{Labelled, IsFormed, AreAddresses}
 use Rattle.cyc_select.specs.Machine as labelled
 use Rattle.cyc_select.specs.Machine.{State, Running, Ended}
-use Rattle.cyc_select.specs.Selection.{value_register, is_kept, slot_offset, small, minus, store, add_immediate, push_frame, copies, ordinary, syscall, calling_code, function_line, instruction_line}
+use Rattle.cyc_select.specs.Selection.{value_register, slot_offset, small, minus, store, add_immediate, push_frame, copies, ordinary, syscall, calling_code, function_line, instruction_line}
 use Rattle.cyc_select.proofs.Cells.{IsCell}
 use Rattle.cyc_select.proofs.Lines.{line_first}
 use Rattle.cyc_select.proofs.Operations.{add_small, take_small}
-use Rattle.cyc_select.proofs.Values.{Caches, among}
+use Rattle.cyc_select.proofs.Values.{Caches}
 use Rattle.cyc_select.proofs.Views.{Contents, written}
 use Rattle.cyc_select.proofs.Walks.{Stands, stands_front, stands_back, after_r, after_w, Walk, now_at, walk_end, walk_few, walk_block, walk_branch, walk_call, walk_full}
 use Rattle.cyc_select.proofs.Copies.{Copied, copied_all}
@@ -65,15 +64,14 @@ call_last code caller callee here label arguments count stands =
 
 module _ (program : Program) (well : IsWellFormed program) (frames : List Frame) (fit : AreFrames program frames) (code : Labelled) (formed : IsFormed code) (addresses : ℕ → ℕ) (pages calls : ℕ) (few : calls ≤ 4096)
     (lie : AreAddresses code addresses) (c : Configuration) (run : labelled.Configuration) (r : Words) (w : Contents) (base : ℕ)
-    (now : At program well frames fit code formed addresses pages calls few (instruction_line program frames c.active.function c.active.next) c.output c.input r w run)
+    (here : ℕ) (now : At program well frames fit code formed addresses pages calls few here c.output c.input r w run)
     (s : Standing program frames addresses pages calls c r w base (r RETURN_ADDRESS) (suc (length c.frames)) c.active.slots)
     (callee arguments count result : ℕ) (at_i : instruction_at program (states.place_of (states.Running c)) ≡ Some (plain.Call callee arguments count result))
     (in_range : IsCallInRange program (routine_at program c.active.function) callee arguments count result)
     (inside : behind_line program frames c.active.function c.active.next callee arguments count result < length code.lines)
-    (stands : Stands code (instruction_line program frames c.active.function c.active.next) (calling_code (frame_at frames c.active.function) (frame_at frames callee) (instruction_line program frames c.active.function c.active.next) (function_line program frames callee) arguments count)) where
-  abbrev here : ℕ
-  here = instruction_line program frames c.active.function c.active.next
-
+    (stands : Stands code here (calling_code (frame_at frames c.active.function) (frame_at frames callee) here (function_line program frames callee) arguments count))
+    (here_is : here + (7 + 2 * count) ≡ behind_line program frames c.active.function c.active.next callee arguments count result)
+    (there : (slot : ℕ) → slot < count → w.words (base + slot_offset (frame_at frames c.active.function) (arguments + slot)) ≡ c.active.slots (arguments + slot)) where
   abbrev mine : Frame
   mine = frame_at frames c.active.function
 
@@ -112,15 +110,9 @@ module _ (program : Program) (well : IsWellFormed program) (frames : List Frame)
       subst (λ (n : ℕ). slice_get code.lines (here + 3 + 3 + n) ≡ Some (lines.Call (function_line program frames callee))) (length_ordinary passed)
       (stands_back code (here + 3 + 3) (ordinary passed) call_line at_passed).0
 
-  -- the homes of the callee's slots, and of the caller's: what is passed lives in memory
+  -- the homes of the callee's slots
   its_right : AreHomes program (routine_at program callee) (frame_at frames callee).homes
   its_right = fit.homes callee in_range.function_in_range
-
-  argument_kept : (slot : ℕ) → slot < count → is_kept mine (arguments + slot) ≡ true
-  argument_kept slot below =
-      (fit.homes c.active.function s.known).passed c.active.next (arguments + slot) (plain.Call callee arguments count result) at_i
-      (or_left (is_among arguments count (arguments + slot)) (is_among result (routine_at program callee).results (arguments + slot))
-      (among arguments count (arguments + slot) (omega arith) (omega (arith, below))))
 
   -- ---- no room
 
@@ -204,6 +196,14 @@ module _ (program : Program) (well : IsWellFormed program) (frames : List Frame)
     s1 = subst (λ (x : Contents). Standing program frames addresses pages calls c r x base (r RETURN_ADDRESS) (suc (length c.frames)) c.active.slots) (sym saved)
         (standing_return program well frames fit addresses pages calls few c r w base (r RETURN_ADDRESS) (suc (length c.frames)) c.active.slots s (r RETURN_ADDRESS) refl)
 
+    -- the arguments are in memory as before
+    argument_there : (slot : ℕ) → slot < count → w1.words (base + slot_offset mine (arguments + slot)) ≡ c.active.slots (arguments + slot)
+    argument_there slot below =
+        ap (λ (m : Contents). m.words (base + slot_offset mine (arguments + slot))) saved
+        ∙ (put-other w.words (base + 4 * mine.return_address) (base + slot_offset mine (arguments + slot)) (r RETURN_ADDRESS)
+        (λ e. (fit.each c.active.function s.known).beside (arguments + slot) (omega (arith, below, in_range.arguments_in_range)) (omega (arith, e)))
+        ∙ there slot below)
+
     callee_cell : (word : ℕ) → word < its.words → IsCell globals_length (words_per_call * calls) (low + 4 * word)
     callee_cell word below = inr ((omega (arith, low_is, here_lies.2)), (omega (arith, low_is, here_lies.1, deeper, room)), (omega (arith, low_is, here_lies.0, below)))
 
@@ -240,7 +240,7 @@ module _ (program : Program) (well : IsWellFormed program) (frames : List Frame)
     }
 
     line_is : here + 3 + 3 + length passed + 1 ≡ behind_line program frames c.active.function c.active.next callee arguments count result
-    line_is = omega (arith, length-copies mine its arguments 0 count)
+    line_is = omega (arith, length-copies mine its arguments 0 count, here_is)
 
     above_kept : (a : ℕ) → base ≤ a → w2.words a ≡ w1.words a
     above_kept a over = copied_now.outside a (inr over)
@@ -257,7 +257,7 @@ module _ (program : Program) (well : IsWellFormed program) (frames : List Frame)
           let zero_slot : slot ≡ 0 + slot = omega arith in
           ap (λ (x : ℕ). w2.words (low + slot_offset its x)) zero_slot
           ∙ (copied_now.inside slot argument
-          ∙ (s1.holds (arguments + slot) (omega (arith, argument, in_range.arguments_in_range)) (argument_kept slot argument)
+          ∙ (argument_there slot argument
           ∙ sym (ap (copied c.active.slots arguments count choice.contents 0) zero_slot ∙ copied-inside c.active.slots choice.contents arguments count 0 slot argument)))
       | inr new ↦ sym (copied-above c.active.slots choice.contents arguments count 0 slot (omega (arith, new)))
     ]
@@ -316,7 +316,7 @@ module _ (program : Program) (well : IsWellFormed program) (frames : List Frame)
         ∙ (copied_now.values slot k below (ap (value_register its) (sym zero_slot) ∙ has)
         (λ i i_below there.
         its_right.parameters slot i k has (ap (value_register its) (let e : i ≡ 0 + i = omega arith in e) ∙ there) (let takes = in_range.takes in omega (arith, takes, i_below)) wanted)
-        ∙ (s1.holds (arguments + slot) (omega (arith, below, in_range.arguments_in_range)) (argument_kept slot below)
+        ∙ (argument_there slot below
         ∙ sym (ap (copied c.active.slots arguments count choice.contents 0) zero_slot ∙ copied-inside c.active.slots choice.contents arguments count 0 slot below)))
 
     -- its slots lie below the caller's
@@ -361,8 +361,8 @@ module _ (program : Program) (well : IsWellFormed program) (frames : List Frame)
         walk_end code formed addresses globals_length (words_per_call * calls) (suc (here + 3 + 3 + length passed)) (here + (7 + 2 * count)) c.output _ (Running g) (omega (arith, length-copies mine its arguments 0 count))
         (enters g called)))))
 
-  pub call_goes : Goes 1 here (here + (7 + 2 * count)) (Running run)
-  call_goes = elim (cases_eq (r CALLS) 0) [
+  pub calling_goes : Goes 1 here (here + (7 + 2 * count)) (Running run)
+  calling_goes = elim (cases_eq (r CALLS) 0) [
     | inl none ↦
         let stays : (if not (r CALLS == r 0) then here + 3 else here + 1) ≡ here + 1 = ap (λ (b : Bool). if not b then here + 3 else here + 1) (eq-eqb (r CALLS) (r 0) (none ∙ sym s.zero_is)) in
         walk_branch code formed addresses globals_length (words_per_call * calls) 0 here here (here + (7 + 2 * count)) c.output c.input _ r w run (conditions.Registers branch.NotEqual (register_of CALLS) (register_of 0)) (here + 3) (here + 1) now stands.0 (omega arith) stays

@@ -26,7 +26,7 @@ use Rattle.cyc_select.specs.declared.plan.Test.{Test}
 use Rattle.cyc_select.specs.declared.plan.Test.TheVariants as tests
 use Rattle.cyc_select.specs.Plans.{arithmetic_plan, immediate_plan, immediate_or, zero_plan, differs_plan, equal_plan, unary_plan, binary_plan}
 use Rattle.cyc_select.specs.Numbers.{fits_signed, negated_half, is_word, is_zero_word}
-use Rattle.cyc_select.specs.Selection.{value_register, is_kept, fetch_from, fetch_count, keep_code, keep_count, give_to, give_code, give_count_to, give_count, move_to, move_count_to, move_count, moves_count, move_words_count, load_words, load_all, store_all, moves, all_moved, moved_code, result_registers, argument_code, argument_count, service_number, answer_code, small, or_immediate, load_upper, constant, is_tested, word_code, load_code, operand_code, operand_register, made_in, operation_code, outcome_code, operands_code, operation_of, computed_code, plan_code, test_code, loads_code, divided_code, store_slot, add_immediate, minus, word_count, load_count, operand_count, far_plan, address_code, address_count, operation_count, outcome_count, count_of_operation, plan_count, test_count, divide_count, operator_count, regions_code, regions_count}
+use Rattle.cyc_select.specs.Selection.{value_register, is_kept, fetch_from, fetch_count, keep_code, keep_count, give_to, give_code, give_count_to, give_count, move_to, move_count_to, move_count, moves_count, move_words_count, spill, spills, spill_count, spills_count, load_words, load_all, store_all, moves, all_moved, moved_code, result_registers, argument_code, argument_count, service_number, answer_code, small, or_immediate, load_upper, constant, is_tested, word_code, load_code, operand_code, operand_register, made_in, operation_code, outcome_code, operands_code, operation_of, computed_code, plan_code, test_code, loads_code, divided_code, store_slot, add_immediate, minus, word_count, load_count, operand_count, far_plan, address_code, address_count, operation_count, outcome_count, count_of_operation, plan_count, test_count, divide_count, operator_count, regions_code, regions_count}
 
 -- ---- few
 
@@ -351,6 +351,30 @@ moves_next f destination source count word below =
     ap (moves_count f (destination + word) (source + word)) left
     ∙ ap (λ (n : ℕ). move_count f (destination + word) (operands.Slot (source + word)) + moves_count f n (suc (source + word)) (count - (word + 1))) to
     ∙ ap (λ (n : ℕ). move_count f (destination + word) (operands.Slot (source + word)) + moves_count f (destination + (word + 1)) n (count - (word + 1))) from
+
+pub length_spills : (f : Frame) (slot count : ℕ) → length (spills f slot count) ≡ spills_count f slot count
+length_spills f slot zero = refl
+length_spills f slot (suc count) = omega (arith, length-append (spill f slot) (spills f (suc slot) count), one (is_kept f slot), length_spills f (suc slot) count)
+  where
+    one : (b : Bool) → length (if b then [] else store_slot f (made_in f slot) slot ∷ []) ≡ (if b then 0 else 1)
+    one true = refl
+    one false = refl
+
+pub spills_few : (f : Frame) (slot count : ℕ) → spills_count f slot count ≤ count
+spills_few f slot zero = omega arith
+spills_few f slot (suc count) = omega (arith, one (is_kept f slot), spills_few f (suc slot) count)
+  where
+    one : (b : Bool) → (if b then 0 else 1) ≤ 1
+    one true = omega arith
+    one false = omega arith
+
+-- one slot more
+pub spills_next : (f : Frame) (slot count word : ℕ) → word < count
+    → spills_count f (slot + word) (count - word) ≡ spill_count f (slot + word) + spills_count f (slot + (word + 1)) (count - (word + 1))
+spills_next f slot count word below =
+    let left : count - word ≡ suc (count - (word + 1)) = omega (arith, below) in
+    let to : suc (slot + word) ≡ slot + (word + 1) = omega arith in
+    ap (spills_count f (slot + word)) left ∙ ap (λ (n : ℕ). spill_count f (slot + word) + spills_count f n (count - (word + 1))) to
 
 -- no more registers than words
 pub registers_few : (count : ℕ) → length (result_registers count) ≤ count

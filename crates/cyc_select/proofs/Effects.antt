@@ -4,9 +4,10 @@ use Rattle.std.specs.Prelude.{◌==◌, if◌then◌else◌, slice_get, unwrap_o
 use Rattle.std.proofs.lemmas.Bool.{cases_eq, eq-eqb, ne_eqb, or_from, and_left, and_right, not_from_true}
 use Rattle.cyc_words.specs.Ending as ending
 use Rattle.cyc_words.specs.Word.{signed}
+use Rattle.cyc_words.specs.WordBytes.{byte_in, with_byte, word_of}
 use Rattle.cyc_isa.specs.declared.instr.Instr.{Instr}
 use Rattle.cyc_isa.specs.declared.instr.Instr.TheVariants.{Immediate, LoadUpper, Memory, Branch, BranchZero, Jump, Shift, ShiftVariable, JumpRegister, JumpRegisterLink, Exception, MoveFrom, MultiplyDivide, Arithmetic}
-use Rattle.cyc_isa.specs.declared.instr.MemoryOp.TheVariants.{LoadWord, StoreWord}
+use Rattle.cyc_isa.specs.declared.instr.MemoryOp.TheVariants.{LoadWord, StoreWord, LoadByte, StoreByte}
 use Rattle.cyc_isa.specs.declared.instr.MoveFromOp.TheVariants.{High, Low}
 use Rattle.cyc_isa.specs.declared.instr.MultiplyDivideOp.TheVariants.{Multiply, Divide}
 use Rattle.cyc_isa.specs.declared.instr.ExceptionOp.TheVariants.{Syscall}
@@ -33,7 +34,7 @@ use Rattle.cyc_select.specs.Selection.{service_number}
 use Rattle.cyc_select.specs.Machine.{Configuration, State, Running, core_of, memory_of, machine_of, world_of, from_world, settled, Performs, word_in}
 use Rattle.cyc_select.specs.Machine as labelled
 use Rattle.cyc_select.proofs.Cells.{IsCell, IsLive, cell, place_of-data, place_of-stack}
-use Rattle.cyc_select.proofs.Views.{Contents, saved_in, View, answered_registers, does_r, does_w, IsSafe, IsWritable, moved, live_place, view_put, view_product, view_store, view_saved}
+use Rattle.cyc_select.proofs.Views.{Contents, saved_in, View, Width, OneWord, OneByte, load_op, store_op, word_place, loaded_part, stored_word, answered_registers, does_r, does_w, IsSafe, IsWritable, moved, live_place, view_put, view_product, view_store, view_saved}
 
 -- what is performed without an event leaves this
 performs_to : (c : Configuration) (i : Instr) (left : machines.State) (next : State) → executes (machine_of c) i ≡ Does Ran left → left.phase ≡ phases.Running
@@ -62,6 +63,29 @@ divides a b nonzero least = or_from (b == 0) (a == 2 ^ 31 && b == 2 ^ 32 - 1) (n
   | inr other ↦ and_left (a == 2 ^ 31) (b == 2 ^ 32 - 1) (ne_eqb a (2 ^ 31) other)
 ])
 
+-- a load goes on where its word has a place, and a store where that is none of text
+module _ (c : Configuration) (base : Register) (offset : ℕ) where
+  abbrev goes_to : Width → Place
+  goes_to width = place_of (memory_of c) (word_place width (memory_address (word_in c base.number) offset))
+
+  load_performs : (width : Width) (target : Register) (next : State) → not (is_aligned (word_place width (memory_address (word_in c base.number) offset))) ≡ false → is_nowhere (goes_to width) ≡ false → is_dead (memory_of c) (goes_to width) ≡ false
+      → Performs c (Memory (load_op width) target base offset) next → next ≡ Running (moved c (Memory (load_op width) target base offset))
+  load_performs OneWord target next aligned there live goes =
+      let i : Instr = Memory LoadWord target base offset in
+      performs_to c i (after (machine_of c) i) next (executes-performs (machine_of c) i (no_cause false _ _ _ false refl aligned there live refl)) refl goes
+  load_performs OneByte target next aligned there live goes =
+      let i : Instr = Memory LoadByte target base offset in
+      performs_to c i (after (machine_of c) i) next (executes-performs (machine_of c) i (no_cause false _ _ _ false refl aligned there live refl)) refl goes
+
+  store_performs : (width : Width) (source : Register) (next : State) → not (is_aligned (word_place width (memory_address (word_in c base.number) offset))) ≡ false → is_nowhere (goes_to width) ≡ false → is_dead (memory_of c) (goes_to width) ≡ false → is_text (goes_to width) ≡ false
+      → Performs c (Memory (store_op width) source base offset) next → next ≡ Running (moved c (Memory (store_op width) source base offset))
+  store_performs OneWord source next aligned there live apart goes =
+      let i : Instr = Memory StoreWord source base offset in
+      performs_to c i (after (machine_of c) i) next (executes-performs (machine_of c) i (no_cause false _ _ _ _ refl aligned there live apart)) refl goes
+  store_performs OneByte source next aligned there live apart goes =
+      let i : Instr = Memory StoreByte source base offset in
+      performs_to c i (after (machine_of c) i) next (executes-performs (machine_of c) i (no_cause false _ _ _ _ refl aligned there live apart)) refl goes
+
 -- a cell has a place that can be written
 module _ (globals stack : ℕ) (c : Configuration) (r : Words) (w : Contents) (view : View globals stack c r w) where
   stands : (a : ℕ) → IsCell globals stack a → (is_nowhere (place_of (memory_of c) a) ≡ false) × (is_dead (memory_of c) (place_of (memory_of c) a) ≡ false) × (is_text (place_of (memory_of c) a) ≡ false)
@@ -76,8 +100,8 @@ module _ (globals stack : ℕ) (c : Configuration) (r : Words) (w : Contents) (v
   aligned a (inl (fine, from, below)) = not_from_true (is_aligned a) (eq-eqb (a % 4) 0 fine)
   aligned a (inr (fine, from, below)) = not_from_true (is_aligned a) (eq-eqb (a % 4) 0 fine)
 
-  at_cell : (base : Register) (offset : ℕ) → IsCell globals stack (memory_address (r base.number) offset) → IsCell globals stack (memory_address (word_in c base.number) offset)
-  at_cell base offset at = subst (λ (n : ℕ). IsCell globals stack (memory_address n offset)) (sym (view.reg base.number base.in_range)) at
+  at_cell : (width : Width) (base : Register) (offset : ℕ) → IsCell globals stack (word_place width (memory_address (r base.number) offset)) → IsCell globals stack (word_place width (memory_address (word_in c base.number) offset))
+  at_cell width base offset at = subst (λ (n : ℕ). IsCell globals stack (word_place width (memory_address n offset))) (sym (view.reg base.number base.in_range)) at
 
   same_address : (base : Register) (offset : ℕ) → memory_address (word_in c base.number) offset ≡ memory_address (r base.number) offset
   same_address base offset = ap (λ (n : ℕ). memory_address n offset) (view.reg base.number base.in_range)
@@ -85,22 +109,28 @@ module _ (globals stack : ℕ) (c : Configuration) (r : Words) (w : Contents) (v
   both : (a b : Register) (f : ℕ → ℕ → ℕ) → f (word_in c a.number) (word_in c b.number) ≡ f (r a.number) (r b.number)
   both a b f = ap (λ (n : ℕ). f n (word_in c b.number)) (view.reg a.number a.in_range) ∙ ap (f (r a.number)) (view.reg b.number b.in_range)
 
+  load_performed : (width : Width) (target base : Register) (offset : ℕ) (next : State) → IsCell globals stack (word_place width (memory_address (r base.number) offset)) → Performs c (Memory (load_op width) target base offset) next
+      → next ≡ Running (moved c (Memory (load_op width) target base offset))
+  load_performed width target base offset next at goes =
+      let a : ℕ = word_place width (memory_address (word_in c base.number) offset) in
+      let there = stands a (at_cell width base offset at) in
+      load_performs c base offset width target next (aligned a (at_cell width base offset at)) there.0 there.1 goes
+
+  store_performed : (width : Width) (source base : Register) (offset : ℕ) (next : State) → IsCell globals stack (word_place width (memory_address (r base.number) offset)) → Performs c (Memory (store_op width) source base offset) next
+      → next ≡ Running (moved c (Memory (store_op width) source base offset))
+  store_performed width source base offset next at goes =
+      let a : ℕ = word_place width (memory_address (word_in c base.number) offset) in
+      let there = stands a (at_cell width base offset at) in
+      store_performs c base offset width source next (aligned a (at_cell width base offset at)) there.0 there.1 there.2 goes
+
   -- it goes on to the next line
   pub performed : (i : Instr) (next : State) → IsSafe globals stack i r → Performs c i next → next ≡ Running (moved c i)
   performed (Immediate op target source half) next safe goes = performs_to c (Immediate op target source half) (after (machine_of c) (Immediate op target source half)) next refl refl goes
   performed (LoadUpper target half) next safe goes = performs_to c (LoadUpper target half) (after (machine_of c) (LoadUpper target half)) next refl refl goes
-  performed (Memory LoadWord target base offset) next (writable, at) goes =
-      let a : ℕ = memory_address (word_in c base.number) offset in
-      let there = stands a (at_cell base offset at) in
-      let fine = executes-performs (machine_of c) (Memory LoadWord target base offset)
-      (no_cause false _ _ _ false refl (aligned a (at_cell base offset at)) there.0 there.1 refl) in
-      performs_to c (Memory LoadWord target base offset) (after (machine_of c) (Memory LoadWord target base offset)) next fine refl goes
-  performed (Memory StoreWord source base offset) next at goes =
-      let a : ℕ = memory_address (word_in c base.number) offset in
-      let there = stands a (at_cell base offset at) in
-      let fine = executes-performs (machine_of c) (Memory StoreWord source base offset)
-      (no_cause false _ _ _ _ refl (aligned a (at_cell base offset at)) there.0 there.1 there.2) in
-      performs_to c (Memory StoreWord source base offset) (after (machine_of c) (Memory StoreWord source base offset)) next fine refl goes
+  performed (Memory LoadWord target base offset) next (writable, at) goes = load_performed OneWord target base offset next at goes
+  performed (Memory StoreWord source base offset) next at goes = store_performed OneWord source base offset next at goes
+  performed (Memory LoadByte target base offset) next (writable, at) goes = load_performed OneByte target base offset next at goes
+  performed (Memory StoreByte source base offset) next at goes = store_performed OneByte source base offset next at goes
   performed (ShiftVariable op destination source by) next safe goes = performs_to c (ShiftVariable op destination source by) (after (machine_of c) (ShiftVariable op destination source by)) next refl refl goes
   performed (MoveFrom High destination) next safe goes = performs_to c (MoveFrom High destination) (after (machine_of c) (MoveFrom High destination)) next refl refl goes
   performed (MoveFrom Low destination) next safe goes = performs_to c (MoveFrom Low destination) (after (machine_of c) (MoveFrom Low destination)) next refl refl goes
@@ -132,6 +162,19 @@ module _ (globals stack : ℕ) (c : Configuration) (r : Words) (w : Contents) (v
       (ap (cell (memory_of c)) (same_address base offset) ∙ view.mem (memory_address (r base.number) offset) at)
   moved_view (Memory StoreWord source base offset) at =
       view_store globals stack c r w view (memory_address (r base.number) offset) (memory_address (word_in c base.number) offset) (word_in c source.number) (r source.number) (c.line + 1) at (same_address base offset) (view.reg source.number source.in_range)
+  moved_view (Memory LoadByte target base offset) (writable, at) =
+      let here : ℕ = memory_address (word_in c base.number) offset in
+      let a : ℕ = memory_address (r base.number) offset in
+      view_put globals stack c r w view target.number (byte_in (cell (memory_of c) (word_of here)) (here % 4)) (byte_in (w.words (word_of a)) (a % 4)) (c.line + 1) target.in_range writable
+      (ap (λ (x : ℕ). byte_in (cell (memory_of c) (word_of x)) (x % 4)) (same_address base offset) ∙ ap (λ (v : ℕ). byte_in v (a % 4)) (view.mem (word_of a) at))
+  moved_view (Memory StoreByte source base offset) at =
+      let here : ℕ = memory_address (word_in c base.number) offset in
+      let a : ℕ = memory_address (r base.number) offset in
+      view_store globals stack c r w view (word_of a) (word_of here) (with_byte (cell (memory_of c) (word_of here)) (here % 4) (word_in c source.number % 256)) (with_byte (w.words (word_of a)) (a % 4) (r source.number % 256)) (c.line + 1) at
+      (ap (λ (x : ℕ). word_of x) (same_address base offset))
+      (ap (λ (x : ℕ). with_byte (cell (memory_of c) (word_of x)) (x % 4) (word_in c source.number % 256)) (same_address base offset)
+      ∙ (ap (λ (v : ℕ). with_byte v (a % 4) (word_in c source.number % 256)) (view.mem (word_of a) at)
+      ∙ ap (λ (n : ℕ). with_byte (w.words (word_of a)) (a % 4) (n % 256)) (view.reg source.number source.in_range)))
   moved_view (ShiftVariable op destination source by) safe =
       view_put globals stack c r w view destination.number (shift_result op (word_in c source.number) (word_in c by.number)) (shift_result op (r source.number) (r by.number)) (c.line + 1) destination.in_range safe
       (both source by (shift_result op))
@@ -167,41 +210,56 @@ module _ (globals stack : ℕ) (c : Configuration) (r : Words) (w : Contents) (v
   lies_aligned : (a word : ℕ) → IsLive w.store a word → not (is_aligned a) ≡ false
   lies_aligned a word live = not_from_true (is_aligned a) (eq-eqb (a % 4) 0 live.aligned)
 
-  at_live : (base : Register) (offset word : ℕ) → IsLive w.store (memory_address (r base.number) offset) word → IsLive w.store (memory_address (word_in c base.number) offset) word
-  at_live base offset word live = subst (λ (n : ℕ). IsLive w.store (memory_address n offset) word) (sym (view.reg base.number base.in_range)) live
+  at_live : (width : Width) (base : Register) (offset word : ℕ) → IsLive w.store (word_place width (memory_address (r base.number) offset)) word → IsLive w.store (word_place width (memory_address (word_in c base.number) offset)) word
+  at_live width base offset word live = subst (λ (n : ℕ). IsLive w.store (word_place width (memory_address n offset)) word) (sym (view.reg base.number base.in_range)) live
 
-  pub loads_live : (target base : Register) (offset word : ℕ) (next : State) → IsLive w.store (memory_address (r base.number) offset) word → Performs c (Memory LoadWord target base offset) next
-      → next ≡ Running (moved c (Memory LoadWord target base offset))
-  loads_live target base offset word next at goes =
-      let a : ℕ = memory_address (word_in c base.number) offset in
-      let there = lives a word (at_live base offset word at) in
-      let fine = executes-performs (machine_of c) (Memory LoadWord target base offset)
-      (no_cause false _ _ _ false refl (lies_aligned a word (at_live base offset word at)) there.0 there.1 refl) in
-      performs_to c (Memory LoadWord target base offset) (after (machine_of c) (Memory LoadWord target base offset)) next fine refl goes
-
-  pub stores_live : (source base : Register) (offset word : ℕ) (next : State) → IsLive w.store (memory_address (r base.number) offset) word → Performs c (Memory StoreWord source base offset) next
-      → next ≡ Running (moved c (Memory StoreWord source base offset))
-  stores_live source base offset word next at goes =
-      let a : ℕ = memory_address (word_in c base.number) offset in
-      let there = lives a word (at_live base offset word at) in
-      let fine = executes-performs (machine_of c) (Memory StoreWord source base offset)
-      (no_cause false _ _ _ _ refl (lies_aligned a word (at_live base offset word at)) there.0 there.1 there.2) in
-      performs_to c (Memory StoreWord source base offset) (after (machine_of c) (Memory StoreWord source base offset)) next fine refl goes
-
-  pub loaded_view : (target base : Register) (offset word : ℕ) → IsWritable target.number → IsLive w.store (memory_address (r base.number) offset) word
-      → View globals stack (moved c (Memory LoadWord target base offset)) (put r target.number word) w
-  loaded_view target base offset word writable at =
-      let a : ℕ = memory_address (word_in c base.number) offset in
-      let live = at_live base offset word at in
+  -- the word is found there
+  live_cell : (a word : ℕ) → IsLive w.store a word → cell (memory_of c) a ≡ word
+  live_cell a word live =
       let found : word_at c.store a ≡ Some word = ap (λ (s : StoreState). word_at s a) view.store ∙ live.there in
-      view_put globals stack c r w view target.number (cell (memory_of c) a) word (c.line + 1) target.in_range writable
-      (ap (loaded (memory_of c)) (live_place globals stack c r w view a word live) ∙ ap (λ (o : Option ℕ). unwrap_or o 0) found)
+      ap (loaded (memory_of c)) (live_place globals stack c r w view a word live) ∙ ap (λ (o : Option ℕ). unwrap_or o 0) found
 
-  pub saved_view : (source base : Register) (offset old : ℕ) → IsLive w.store (memory_address (r base.number) offset) old
-      → View globals stack (moved c (Memory StoreWord source base offset)) r (saved_in w (memory_address (r base.number) offset) (r source.number))
-  saved_view source base offset old at =
+  pub loads_live : (width : Width) (target base : Register) (offset word : ℕ) (next : State) → IsLive w.store (word_place width (memory_address (r base.number) offset)) word → Performs c (Memory (load_op width) target base offset) next
+      → next ≡ Running (moved c (Memory (load_op width) target base offset))
+  loads_live width target base offset word next at goes =
+      let a : ℕ = word_place width (memory_address (word_in c base.number) offset) in
+      let live = at_live width base offset word at in
+      let there = lives a word live in
+      load_performs c base offset width target next (lies_aligned a word live) there.0 there.1 goes
+
+  pub stores_live : (width : Width) (source base : Register) (offset word : ℕ) (next : State) → IsLive w.store (word_place width (memory_address (r base.number) offset)) word → Performs c (Memory (store_op width) source base offset) next
+      → next ≡ Running (moved c (Memory (store_op width) source base offset))
+  stores_live width source base offset word next at goes =
+      let a : ℕ = word_place width (memory_address (word_in c base.number) offset) in
+      let live = at_live width base offset word at in
+      let there = lives a word live in
+      store_performs c base offset width source next (lies_aligned a word live) there.0 there.1 there.2 goes
+
+  pub loaded_view : (width : Width) (target base : Register) (offset word : ℕ) → IsWritable target.number → IsLive w.store (word_place width (memory_address (r base.number) offset)) word
+      → View globals stack (moved c (Memory (load_op width) target base offset)) (put r target.number (loaded_part width (memory_address (r base.number) offset) word)) w
+  loaded_view OneWord target base offset word writable at =
+      let a : ℕ = memory_address (word_in c base.number) offset in
+      view_put globals stack c r w view target.number (cell (memory_of c) a) word (c.line + 1) target.in_range writable (live_cell a word (at_live OneWord base offset word at))
+  loaded_view OneByte target base offset word writable at =
+      let here : ℕ = memory_address (word_in c base.number) offset in
+      let a : ℕ = memory_address (r base.number) offset in
+      view_put globals stack c r w view target.number (byte_in (cell (memory_of c) (word_of here)) (here % 4)) (byte_in word (a % 4)) (c.line + 1) target.in_range writable
+      (ap (λ (v : ℕ). byte_in v (here % 4)) (live_cell (word_of here) word (at_live OneByte base offset word at))
+      ∙ ap (λ (n : ℕ). byte_in word (memory_address n offset % 4)) (view.reg base.number base.in_range))
+
+  pub saved_view : (width : Width) (source base : Register) (offset old : ℕ) → IsLive w.store (word_place width (memory_address (r base.number) offset)) old
+      → View globals stack (moved c (Memory (store_op width) source base offset)) r (saved_in w (word_place width (memory_address (r base.number) offset)) (stored_word width (memory_address (r base.number) offset) old (r source.number)))
+  saved_view OneWord source base offset old at =
       view_saved globals stack c r w view (memory_address (r base.number) offset) old (memory_address (word_in c base.number) offset) (word_in c source.number) (r source.number) (c.line + 1) at
       (ap (λ (n : ℕ). memory_address n offset) (view.reg base.number base.in_range)) (view.reg source.number source.in_range)
+  saved_view OneByte source base offset old at =
+      let here : ℕ = memory_address (word_in c base.number) offset in
+      let a : ℕ = memory_address (r base.number) offset in
+      view_saved globals stack c r w view (word_of a) old (word_of here) (with_byte (cell (memory_of c) (word_of here)) (here % 4) (word_in c source.number % 256)) (with_byte old (a % 4) (r source.number % 256)) (c.line + 1) at
+      (ap (λ (n : ℕ). word_of (memory_address n offset)) (view.reg base.number base.in_range))
+      (ap (λ (v : ℕ). with_byte v (here % 4) (word_in c source.number % 256)) (live_cell (word_of here) old (at_live OneByte base offset old at))
+      ∙ (ap (λ (n : ℕ). with_byte old (memory_address n offset % 4) (word_in c source.number % 256)) (view.reg base.number base.in_range)
+      ∙ ap (λ (n : ℕ). with_byte old (a % 4) (n % 256)) (view.reg source.number source.in_range)))
 
 -- ---- services
 

@@ -11,7 +11,7 @@ use Rattle.cyc_frame.specs.declared.home.Home.{Home}
 use Rattle.cyc_frame.specs.declared.home.Home.TheVariants as homes
 use Rattle.cyc_select.specs.declared.code.Line.TheVariants as lines
 use Rattle.cyc_select.specs.declared.code.Line.{Line}
-use Rattle.cyc_select.specs.Selection.{made_in, value_register, load, store_slot, slot_offset, copies, move_to, moves, reload, reloads_from, ordinary}
+use Rattle.cyc_select.specs.Selection.{made_in, value_register, load, store_slot, slot_offset, copies, spill, spills, move_to, moves, reload, reloads_from, ordinary}
 
 -- one argument more is copied
 pub copied : (caller callee : Frame) (source slot count : ℕ) (all old new : List Line) → slot < count
@@ -55,6 +55,21 @@ moved_next frame destination source count word all old new below is before =
     ∙ ordinary_append one (moves frame (suc (destination + word)) (suc (source + word)) (count - (word + 1)))
     ∙ ap (λ (n : ℕ). ordinary one ++ ordinary (moves frame n (suc (source + word)) (count - (word + 1)))) to
     ∙ ap (λ (n : ℕ). ordinary one ++ ordinary (moves frame (destination + (word + 1)) n (count - (word + 1)))) from)
+    before
+
+-- one slot more is spilled
+pub spilled_next : (frame : Frame) (slot count word : ℕ) (all old new : List Line) → word < count
+    → new ≡ old ++ ordinary (spill frame (slot + word))
+    → old ++ ordinary (spills frame (slot + word) (count - word)) ≡ all
+    → new ++ ordinary (spills frame (slot + (word + 1)) (count - (word + 1))) ≡ all
+spilled_next frame slot count word all old new below is before =
+    let left : count - word ≡ suc (count - (word + 1)) = omega (arith, below) in
+    let to : suc (slot + word) ≡ slot + (word + 1) = omega arith in
+    goes_on all old new (ordinary (spill frame (slot + word))) (ordinary (spills frame (slot + (word + 1)) (count - (word + 1))))
+    (ordinary (spills frame (slot + word) (count - word))) is
+    (ap (λ (n : ℕ). ordinary (spills frame (slot + word) n)) left
+    ∙ ordinary_append (spill frame (slot + word)) (spills frame (suc (slot + word)) (count - (word + 1)))
+    ∙ ap (λ (n : ℕ). ordinary (spill frame (slot + word)) ++ ordinary (spills frame n (count - (word + 1)))) to)
     before
 
 -- one register more is read again

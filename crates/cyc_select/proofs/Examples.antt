@@ -9,7 +9,8 @@ use Rattle.cyc_plain.specs.declared.instruction.Comparison.TheVariants.{Equal, G
 use Rattle.cyc_plain.specs.declared.instruction.BinaryOperator.TheVariants.{Add, ShiftLeft}
 use Rattle.cyc_plain.specs.Program.{Program}
 use Rattle.cyc_frame.specs.Frame.{Frame}
-use Rattle.cyc_select.specs.Selection.{body_count, load_word, store_word}
+use Rattle.cyc_isa.specs.declared.instr.MemoryOp.TheVariants.{LoadWord, LoadByte, StoreByte}
+use Rattle.cyc_select.specs.Selection.{body_count, load_at, store_at}
 
 abbrev nothing : Program
 nothing = record { functions = []; globals = []; main = 0 }
@@ -35,13 +36,13 @@ element_of_a_fat_pointer :
 element_of_a_fat_pointer = refl
 
 -- an offset that fits costs no line
-near_load : length (load_word frame 0 (Slot 1) 32767) ≡ 3
+near_load : length (load_at frame LoadWord 0 (Slot 1) 32767) ≡ 3
 near_load = refl
 
-far_load : length (load_word frame 0 (Slot 1) 32768) ≡ 5
+far_load : length (load_at frame LoadByte 0 (Slot 1) 32768) ≡ 5
 far_load = refl
 
-far_store : length (store_word frame (Slot 1) 32768 (Slot 2)) ≡ 5
+far_store : length (store_at frame StoreByte (Slot 1) 32768 (Slot 2)) ≡ 5
 far_store = refl
 
 three_words : lines_of (MoveWords 0 3 3 ∷ []) ≡ 6

@@ -16,7 +16,8 @@ use Rattle.cyc_plain.specs.declared.instruction.Operand.{Operand}
 use Rattle.cyc_plain.specs.declared.instruction.Operand.TheVariants as operands
 use Rattle.cyc_isa.specs.Decoding.{register_of}
 use Rattle.cyc_isa.specs.declared.instr.BranchOp.TheVariants as branch
-use Rattle.cyc_isa.specs.declared.instr.MemoryOp.TheVariants.{LoadWord, StoreWord}
+use Rattle.cyc_isa.specs.declared.instr.MemoryOp.{MemoryOp}
+use Rattle.cyc_isa.specs.declared.instr.MemoryOp.TheVariants.{LoadWord, StoreWord, LoadByte, StoreByte}
 use Rattle.cyc_isa.specs.declared.instr.MoveFromOp.{MoveFromOp}
 use Rattle.cyc_machine.specs.declared.constants.TheConstants.{ARGUMENT, END_UNCAUGHT, PUT_BYTE, SECOND_ARGUMENT, SERVICE}
 use Rattle.cyc_plain.specs.Program.{Routine, Program, CodePlace, no_routine, routine_at}
@@ -46,7 +47,7 @@ use Rattle.cyc_select.specs.declared.plan.Test.TheVariants as tests
 use Rattle.cyc_select.specs.Plans.{unary_plan, binary_plan, test_of}
 use Rattle.cyc_select.specs.Labelled.{Labelled, IsFormed, IsFormedLine}
 use Rattle.cyc_select.specs.Numbers.{fits_signed, is_zero_word}
-use Rattle.cyc_select.specs.Selection.{value_register, is_kept, load_from, fetch_from, move_to, keep_code, give_to, give_code, load_words, reloads_from, reloads, opened_code, made_in, slot_offset, ordinary, result_registers, argument_code, service_number, answer_code, unwound_code, far_plan, address_code, near_half, at_address, copies, load_all, store_all, moves, all_moved, store_slot, pop_frame, load_upper, constant, or_immediate, is_tested, part_of, plan_count, small, syscall, add_immediate, minus, upper_of_global, at_global, word_code, load_code, load_count, operand_code, operand_register, operands_code, operation_code, outcome_code, operation_of, computed_code, plan_code, test_code, branch_line, quotient_code, loads_code, divided_code, divide_code, divide_count, ending_code, ending_count, operator_code, operator_count, body, behind, body_count, count_of, function_count, functions_count, function_line, instruction_line, code_lines, function_lines, start_lines, select_of, regions_code}
+use Rattle.cyc_select.specs.Selection.{value_register, is_kept, load_from, fetch_from, move_to, keep_code, give_to, give_code, load_words, reloads_from, reloads, opened_code, made_in, slot_offset, ordinary, result_registers, argument_code, service_number, answer_code, unwound_code, far_plan, address_code, near_half, at_address, copies, load_all, store_all, moves, all_moved, store_slot, pop_frame, load_upper, constant, or_immediate, is_tested, part_of, plan_count, small, syscall, add_immediate, minus, upper_of_global, at_global, word_code, load_code, load_count, operand_code, operand_register, operands_code, operation_code, outcome_code, operation_of, computed_code, plan_code, test_code, branch_line, quotient_code, loads_code, divided_code, divide_code, divide_count, ending_code, ending_count, operator_code, operator_count, body, behind, body_count, count_of, function_count, functions_count, function_line, instruction_line, code_lines, function_lines, start_lines, select_of, regions_code, load_at, store_at, spill, spills, spills_count, calling_code}
 use Rattle.cyc_select.proofs.Lines.{line_first}
 use Rattle.cyc_select.proofs.Plans.{AllOfTest, all_unary, all_binary, all_test}
 use Rattle.cyc_select.proofs.Counts.{operation_some, move_some, move_words_some, give_some, length_registers, answer_few, service_small}
@@ -134,6 +135,8 @@ count_some program frames function (plain.StoreGlobal global source) in_range = 
 count_some program frames function (plain.MoveWords destination source count) in_range = move_words_some (frame_at frames function) destination source count in_range.some in_range.few
 count_some program frames function (plain.Load destination address offset) in_range = omega arith
 count_some program frames function (plain.Store address offset source) in_range = omega arith
+count_some program frames function (plain.LoadByte destination address offset) in_range = omega arith
+count_some program frames function (plain.StoreByte address offset source) in_range = omega arith
 count_some program frames function (plain.Ask request) in_range = omega arith
 count_some program frames function (plain.CountLexical destination) in_range = give_some (frame_at frames function) destination
 count_some program frames function (plain.Try first handler) in_range = omega arith
@@ -228,6 +231,18 @@ module _ (program : Program) (well : IsWellFormed program) (words : HasWords pro
     stores_formed slot [] fits = tt
     stores_formed slot (source ∷ sources) fits = ((refl, slot_fits slot (omega (arith, fits))), stores_formed (suc slot) sources (omega (arith, fits)))
 
+    formed_append : (xs ys : List Instr) → Formed (ordinary xs) → Formed (ordinary ys) → Formed (ordinary (xs ++ ys))
+    formed_append [] ys first second = second
+    formed_append (x ∷ xs) ys (one, rest) second = (one, formed_append xs ys rest second)
+
+    spills_formed : (slot count : ℕ) → slot + count ≤ slots → Formed (ordinary (spills frame slot count))
+    spills_formed slot zero fits = tt
+    spills_formed slot (suc count) fits = formed_append (spill frame slot) (spills frame (suc slot) count) (one (is_kept frame slot)) (spills_formed (suc slot) count (omega (arith, fits)))
+      where
+        one : (b : Bool) → Formed (ordinary (if b then [] else store_slot frame (made_in frame slot) slot ∷ []))
+        one true = tt
+        one false = ((refl, slot_fits slot (omega (arith, fits))), tt)
+
     copies_formed : (callee : Frame) (callee_slots : ℕ) → callee.words ≤ 256 → ((slot : ℕ) → slot < callee_slots → slot_word callee slot < callee.words)
         → (source slot count : ℕ) → source + count ≤ slots → slot + count ≤ callee_slots → Formed (ordinary (copies frame callee source slot count))
     copies_formed callee callee_slots small inside source slot zero source_fits slot_fits = tt
@@ -239,10 +254,6 @@ module _ (program : Program) (well : IsWellFormed program) (words : HasWords pro
             copies_formed callee callee_slots small inside (suc source) (suc slot) count (omega (arith, source_fits)) (omega (arith, slot_fits)),
           ),
         )
-
-    formed_append : (xs ys : List Instr) → Formed (ordinary xs) → Formed (ordinary ys) → Formed (ordinary (xs ++ ys))
-    formed_append [] ys first second = second
-    formed_append (x ∷ xs) ys (one, rest) second = (one, formed_append xs ys rest second)
 
     regions_formed : (request : Request) → Formed (ordinary (regions_code request))
     regions_formed (requests.OpenLexical destination) = ((refl, (omega arith)), tt)
@@ -409,6 +420,18 @@ module _ (program : Program) (well : IsWellFormed program) (words : HasWords pro
         (move_formed destination (operands.Slot source) (omega (arith, to)) ((omega (arith, from)), tt))
         (moves_formed (suc destination) (suc source) count (omega (arith, to)) (omega (arith, from)))
 
+    load_formed_at : (op : MemoryOp) (destination : ℕ) (address : Operand) (offset : ℕ) → destination < slots → IsThere address → IsWord offset → Formed (load_at frame op destination address offset)
+    load_formed_at op destination address offset below there near =
+        formed_append (address_code frame address offset) (at_address frame op (made_in frame destination) address offset ∷ keep_code frame destination) (address_formed address offset there near)
+        ((refl, near_fits offset), keep_formed destination below)
+
+    store_formed_at : (op : MemoryOp) (address : Operand) (offset : ℕ) (source : Operand) → IsThere address → IsWord offset → IsThere source → Formed (store_at frame op address offset source)
+    store_formed_at op address offset source there near also =
+        let js : List Instr = operand_code frame SECOND source in
+        let last : List Instr = at_address frame op (operand_register frame SECOND source) address offset ∷ [] in
+        formed_append (address_code frame address offset) (js ++ last) (address_formed address offset there near)
+        (formed_append js last (operand_formed SECOND source also) ((refl, near_fits offset), tt))
+
     body_formed : (i : Instruction) (n : ℕ) → IsInRange program (routine_at program function) i → HasWord i → n + body_count program frames function i ≤ length (select_of program frames).lines → Formed (body program frames function n i)
     body_formed (plain.Move destination source) n (a, b) fits long = move_formed destination source a (b, fits)
     body_formed (plain.Unary operator destination operand) n (a, b) fits long =
@@ -421,7 +444,10 @@ module _ (program : Program) (well : IsWellFormed program) (words : HasWords pro
         (test_formed test (all_test IsThere zero_there IsPlanThere (λ op l r outcome x y. (x, y, tt)) (λ op l half outcome small x. (x, zero_there, small)) comparison left right (a, fits) (b, also)))
         (branch_formed test (instruction_line program frames function target) (target_known function target below), tt)
     body_formed (plain.Call callee arguments count result) n in_range fits long =
-        let its = fit.each callee in_range.function_in_range in (
+        let its = fit.each callee in_range.function_in_range in
+        let spilled : ℕ = n + spills_count frame arguments count in
+        all_front (IsFormedLine (length (select_of program frames).lines)) (ordinary (spills frame arguments count)) (calling_code frame (frame_at frames callee) spilled (function_line program frames callee) arguments count)
+        (spills_formed arguments count in_range.arguments_in_range) (
           (omega (arith, long)),
           (
             (refl, (omega arith)),
@@ -479,14 +505,10 @@ module _ (program : Program) (well : IsWellFormed program) (words : HasWords pro
             (words_formed source (result_registers count) (omega (arith, registers, in_range.source_in_range)))
             (stores_formed destination (result_registers count) (omega (arith, registers, in_range.destination_in_range)))
         go false = moves_formed destination source count in_range.destination_in_range in_range.source_in_range
-    body_formed (plain.Load destination address offset) n (a, b) (fits, near) long =
-        formed_append (address_code frame address offset) (at_address frame LoadWord (made_in frame destination) address offset ∷ keep_code frame destination) (address_formed address offset (b, fits) near)
-        ((refl, near_fits offset), keep_formed destination a)
-    body_formed (plain.Store address offset source) n (a, b) (fits, near, also) long =
-        let js : List Instr = operand_code frame SECOND source in
-        let last : List Instr = at_address frame StoreWord (operand_register frame SECOND source) address offset ∷ [] in
-        formed_append (address_code frame address offset) (js ++ last) (address_formed address offset (a, fits) near)
-        (formed_append js last (operand_formed SECOND source (b, also)) ((refl, near_fits offset), tt))
+    body_formed (plain.Load destination address offset) n (a, b) (fits, near) long = load_formed_at LoadWord destination address offset a (b, fits) near
+    body_formed (plain.Store address offset source) n (a, b) (fits, near, also) long = store_formed_at StoreWord address offset source (a, fits) near (b, also)
+    body_formed (plain.LoadByte destination address offset) n (a, b) (fits, near) long = load_formed_at LoadByte destination address offset a (b, fits) near
+    body_formed (plain.StoreByte address offset source) n (a, b) (fits, near, also) long = store_formed_at StoreByte address offset source (a, fits) near (b, also)
     body_formed (plain.Ask request) n in_range (fits, also) long =
         let js : List Instr = argument_code frame SECOND_ARGUMENT (second_operand request) in
         let last : List Instr = small SERVICE (service_number request) ∷ syscall ∷ (regions_code request ++ answer_code frame request) in
@@ -565,6 +587,8 @@ module _ (program : Program) (well : IsWellFormed program) (words : HasWords pro
     behind_formed (plain.MoveWords destination source count) in_range = tt
     behind_formed (plain.Load destination address offset) in_range = tt
     behind_formed (plain.Store address offset source) in_range = tt
+    behind_formed (plain.LoadByte destination address offset) in_range = tt
+    behind_formed (plain.StoreByte address offset source) in_range = tt
     behind_formed (plain.Ask request) in_range = tt
     behind_formed (plain.CountLexical destination) in_range = tt
     behind_formed (plain.Try first handler) in_range = tt

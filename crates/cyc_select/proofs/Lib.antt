@@ -27,6 +27,7 @@ pub mod Lines
 pub mod Views
 pub mod Cells
 pub mod Copies
+pub mod Passing
 pub mod Moves
 pub mod Effects
 pub mod Operations

@@ -10,7 +10,7 @@ use Rattle.cyc_plain.specs.declared.instruction.Instruction.{Instruction}
 use Rattle.cyc_plain.specs.declared.instruction.Instruction.TheVariants as plain
 use Rattle.cyc_plain.specs.Requests.{second_operand}
 use Rattle.cyc_plain.specs.Program.{Program, Routine, no_routine, routine_at, operator_size, instruction_size, size}
-use Rattle.cyc_plain.specs.WellFormed.{IsMoveInRange, IsRoutine, IsWellFormed}
+use Rattle.cyc_plain.specs.WellFormed.{IsCallInRange, IsMoveInRange, IsRoutine, IsWellFormed}
 use Rattle.cyc_plain.specs.declared.limits.TheConstants.{GREATEST_VALUE, MOST_SIZE}
 use Rattle.cyc_frame.specs.declared.frame.TheConstants.{MOST_FRAME_WORDS}
 use Rattle.cyc_frame.specs.Homes.{AreHomes}
@@ -20,7 +20,7 @@ use Rattle.cyc_select.specs.declared.constants.TheConstants.{START_LINES}
 use Rattle.cyc_select.specs.Selection.{reload_count, ending_count, count_of, function_count, functions_count, function_line, instruction_line, code_lines, function_lines}
 use Rattle.cyc_select.specs.Plans.{test_of}
 use Rattle.cyc_select.specs.Emission.{AreReached, AreFew, most_lines, instruction_lines, function_starts, AreReady, AreTables}
-use Rattle.cyc_select.proofs.Counts.{move_small, move_words_small, give_small, keep_few, argument_small, regions_small, word_small, load_small, operand_small, address_small, unary_small, test_small, operator_small}
+use Rattle.cyc_select.proofs.Counts.{move_small, move_words_small, spills_few, give_small, keep_few, argument_small, regions_small, word_small, load_small, operand_small, address_small, unary_small, test_small, operator_small}
 
 abbrev no_frame : Frame
 no_frame = record { words = 0; return_address = 0; first_slot = 0; homes = [] }
@@ -50,7 +50,7 @@ count_small program frames function fit few (plain.Unary operator destination op
 count_small program frames function fit few (plain.Binary operator destination left right) = omega (arith, operator_small (frame_at frames function) operator destination left right, operator_fits operator)
 count_small program frames function fit few (plain.Jump target) = omega arith
 count_small program frames function fit few (plain.Branch comparison left right target) = omega (arith, test_small (frame_at frames function) (test_of comparison left right))
-count_small program frames function fit few (plain.Call f a n r) = omega (arith, few f, fit)
+count_small program frames function fit few (plain.Call f a n r) = omega (arith, few f, fit, spills_few (frame_at frames function) a n)
 count_small program frames function fit few (plain.Return v) = omega (arith, few function, ending_small program function)
 count_small program frames function fit few (plain.ReadByte destination) = omega (arith, give_small (frame_at frames function) destination)
 count_small program frames function fit few (plain.WriteByte source) = omega (arith, load_small source)
@@ -59,7 +59,9 @@ count_small program frames function fit few (plain.LoadGlobal destination global
 count_small program frames function fit few (plain.StoreGlobal global source) = omega (arith, operand_small (frame_at frames function) source)
 count_small program frames function fit few (plain.MoveWords destination source count) = omega (arith, move_words_small (frame_at frames function) destination source count)
 count_small program frames function fit few (plain.Load destination address offset) = omega (arith, address_small (frame_at frames function) address offset, keep_few (frame_at frames function) destination)
+count_small program frames function fit few (plain.LoadByte destination address offset) = omega (arith, address_small (frame_at frames function) address offset, keep_few (frame_at frames function) destination)
 count_small program frames function fit few (plain.Store address offset source) = omega (arith, address_small (frame_at frames function) address offset, operand_small (frame_at frames function) source)
+count_small program frames function fit few (plain.StoreByte address offset source) = omega (arith, address_small (frame_at frames function) address offset, operand_small (frame_at frames function) source)
 count_small program frames function fit few (plain.Ask request) = omega (arith, regions_small request, argument_small (second_operand request))
 count_small program frames function fit few (plain.CountLexical destination) = omega (arith, give_small (frame_at frames function) destination)
 count_small program frames function fit few (plain.Try first handler) = omega (arith, fit)
@@ -147,6 +149,11 @@ module _ (program : Program) (frames : List Frame) (function : ℕ) (fit : AreFr
   target_small =
       slots_end (routine_at program function) (frame_at frames function) (fit.each function known) (destination + count)
       (omega (arith, in_range.destination_in_range))
+
+pub arguments_small : (program : Program) (frames : List Frame) (function : ℕ) → AreFrames program frames → function < length program.functions
+    → (callee arguments count result : ℕ) → IsCallInRange program (routine_at program function) callee arguments count result → arguments + count ≤ MOST_FRAME_WORDS
+arguments_small program frames function fit known callee arguments count result in_range =
+    slots_end (routine_at program function) (frame_at frames function) (fit.each function known) (arguments + count) (omega (arith, in_range.arguments_in_range))
 
 -- ---- tables
 

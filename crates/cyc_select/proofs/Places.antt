@@ -6,7 +6,7 @@ use Rattle.std.proofs.lemmas.Bool.{cases_eq, ltb-true, or_cases}
 use Rattle.cyc_words.specs.Word.{IsWord}
 use Rattle.cyc_isa.specs.Effect.{memory_address}
 use Rattle.cyc_isa.specs.declared.instr.Instr.TheVariants.{Memory}
-use Rattle.cyc_isa.specs.declared.instr.MemoryOp.TheVariants.{LoadWord, StoreWord}
+use Rattle.cyc_isa.specs.declared.instr.MemoryOp.TheVariants.{LoadWord, StoreWord, LoadByte, StoreByte}
 use Rattle.cyc_isa.specs.declared.operand.Register.{Register}
 use Rattle.cyc_machine.specs.State.{data_base, stack_end, globals_length, words_per_call}
 use Rattle.cyc_store.specs.State.{StoreState}
@@ -34,7 +34,7 @@ use Rattle.cyc_select.proofs.Cells.{IsCell, IsLive}
 use Rattle.cyc_select.proofs.Standing.{Chain, Lies, chain_kept, chain_lies, AreRecords, IsBeyond, IsNewest, AreBased, based_here, kept_in, Standing, lies, word_cell, global_cell, standing_at, standing_slot, standing_global, standing_saved}
 use Rattle.cyc_select.proofs.Stores.{laid_live}
 use Rattle.cyc_select.proofs.Values.{barred_kept, unbarred}
-use Rattle.cyc_select.proofs.Views.{Contents, written, saved_in, IsWritable}
+use Rattle.cyc_select.proofs.Views.{Contents, written, saved_in, IsWritable, Width, OneWord, OneByte, load_op, store_op, word_place, loaded_part, stored_word}
 use Rattle.cyc_select.proofs.Walks.{Walk, Now, now_is, walk_few, walk_from, walk_block, walk_load, walk_save}
 
 -- ---- the two sorts of words
@@ -54,33 +54,56 @@ placed OfBlock w a word = saved_in w a word
 placed OfCell w a word = written w a word
 
 module _ (code : Labelled) (formed : IsFormed code) (addresses : ℕ → ℕ) (globals stack : ℕ) where
+  -- the lines by which a word of the data range or the stack comes to a register, or is written
+  cell_read : (width : Width) (n k lo hi : ℕ) (out input : List ℕ) (Goal : State → Type 0) (r : Words) (w : Contents) (c : labelled.Configuration) (target base : Register) (offset : ℕ)
+      → Now code formed addresses globals stack k out input r w c → slice_get code.lines k ≡ Some (lines.Ordinary (Memory (load_op width) target base offset)) → lo ≤ k → IsWritable target.number → IsCell globals stack (word_place width (memory_address (r base.number) offset))
+      → ((d : labelled.Configuration) → Now code formed addresses globals stack (k + 1) out input (put r target.number (loaded_part width (memory_address (r base.number) offset) (w.words (word_place width (memory_address (r base.number) offset))))) w d → Walk code formed addresses globals stack n (k + 1) hi out Goal (Running d))
+      → Walk code formed addresses globals stack (1 + n) lo hi out Goal (Running c)
+  cell_read OneWord n k lo hi out input Goal r w c target base offset now stands from writable cell rest =
+      walk_block code formed addresses globals stack (Memory LoadWord target base offset ∷ []) n k lo hi out input Goal r w c now (stands, tt) ((writable, cell), tt) from rest
+  cell_read OneByte n k lo hi out input Goal r w c target base offset now stands from writable cell rest =
+      walk_block code formed addresses globals stack (Memory LoadByte target base offset ∷ []) n k lo hi out input Goal r w c now (stands, tt) ((writable, cell), tt) from rest
+
+  cell_written : (width : Width) (n k lo hi : ℕ) (out input : List ℕ) (Goal : State → Type 0) (r : Words) (w : Contents) (c : labelled.Configuration) (source base : Register) (offset : ℕ)
+      → Now code formed addresses globals stack k out input r w c → slice_get code.lines k ≡ Some (lines.Ordinary (Memory (store_op width) source base offset)) → lo ≤ k → IsCell globals stack (word_place width (memory_address (r base.number) offset))
+      → ((d : labelled.Configuration) → Now code formed addresses globals stack (k + 1) out input r (written w (word_place width (memory_address (r base.number) offset)) (stored_word width (memory_address (r base.number) offset) (w.words (word_place width (memory_address (r base.number) offset))) (r source.number))) d → Walk code formed addresses globals stack n (k + 1) hi out Goal (Running d))
+      → Walk code formed addresses globals stack (1 + n) lo hi out Goal (Running c)
+  cell_written OneWord n k lo hi out input Goal r w c source base offset now stands from cell rest =
+      walk_block code formed addresses globals stack (Memory StoreWord source base offset ∷ []) n k lo hi out input Goal r w c now (stands, tt) (cell, tt) from rest
+  cell_written OneByte n k lo hi out input Goal r w c source base offset now stands from cell rest =
+      walk_block code formed addresses globals stack (Memory StoreByte source base offset ∷ []) n k lo hi out input Goal r w c now (stands, tt) (cell, tt) from rest
+
   -- one comes to a register
-  pub walk_read : (sort : Sort) (n k lo hi : ℕ) (out input : List ℕ) (Goal : State → Type 0) (r : Words) (w : Contents) (c : labelled.Configuration) (target base : Register) (offset word : ℕ)
-      → Now code formed addresses globals stack k out input r w c → slice_get code.lines k ≡ Some (lines.Ordinary (Memory LoadWord target base offset)) → lo ≤ k → IsWritable target.number
-      → IsWordAt sort globals stack w (memory_address (r base.number) offset) word
-      → ((d : labelled.Configuration) → Now code formed addresses globals stack (k + 1) out input (put r target.number word) w d → Walk code formed addresses globals stack n (suc k) hi out Goal (Running d))
+  pub walk_read : (width : Width) (sort : Sort) (n k lo hi : ℕ) (out input : List ℕ) (Goal : State → Type 0) (r : Words) (w : Contents) (c : labelled.Configuration) (target base : Register) (offset word : ℕ)
+      → Now code formed addresses globals stack k out input r w c → slice_get code.lines k ≡ Some (lines.Ordinary (Memory (load_op width) target base offset)) → lo ≤ k → IsWritable target.number
+      → IsWordAt sort globals stack w (word_place width (memory_address (r base.number) offset)) word
+      → ((d : labelled.Configuration) → Now code formed addresses globals stack (k + 1) out input (put r target.number (loaded_part width (memory_address (r base.number) offset) word)) w d → Walk code formed addresses globals stack n (suc k) hi out Goal (Running d))
       → Walk code formed addresses globals stack (suc n) lo hi out Goal (Running c)
-  walk_read OfBlock n k lo hi out input Goal r w c target base offset word now stands from writable (live, is_word) rest =
-      walk_load code formed addresses globals stack n k lo hi out input Goal r w c target base offset word now stands from writable live is_word rest
-  walk_read OfCell n k lo hi out input Goal r w c target base offset word now stands from writable (cell, is) rest =
+  walk_read width OfBlock n k lo hi out input Goal r w c target base offset word now stands from writable (live, is_word) rest =
+      walk_load code formed addresses globals stack width n k lo hi out input Goal r w c target base offset word now stands from writable live is_word rest
+  walk_read width OfCell n k lo hi out input Goal r w c target base offset word now stands from writable (cell, is) rest =
       walk_few code formed addresses globals stack (suc n) (1 + n) lo hi out Goal (Running c) (omega arith)
-      (walk_block code formed addresses globals stack (Memory LoadWord target base offset ∷ []) n k lo hi out input Goal r w c now (stands, tt) ((writable, cell), tt) from
+      (cell_read width n k lo hi out input Goal r w c target base offset now stands from writable cell
       (λ d later.
       walk_from code formed addresses globals stack n (k + 1) (suc k) hi out Goal (Running d) (omega arith)
-      (rest d (now_is code formed addresses globals stack (k + 1) out input (put r target.number (w.words (memory_address (r base.number) offset))) w (put r target.number word) w d (ap (put r target.number) is) refl later))))
+      (rest d (now_is code formed addresses globals stack (k + 1) out input (put r target.number (loaded_part width (memory_address (r base.number) offset) (w.words (word_place width (memory_address (r base.number) offset))))) w (put r target.number (loaded_part width (memory_address (r base.number) offset) word)) w d
+      (ap (λ (v : ℕ). put r target.number (loaded_part width (memory_address (r base.number) offset) v)) is) refl later))))
 
   -- one is written
-  pub walk_write : (sort : Sort) (n k lo hi : ℕ) (out input : List ℕ) (Goal : State → Type 0) (r : Words) (w : Contents) (c : labelled.Configuration) (source base : Register) (offset old : ℕ)
-      → Now code formed addresses globals stack k out input r w c → slice_get code.lines k ≡ Some (lines.Ordinary (Memory StoreWord source base offset)) → lo ≤ k
-      → IsWordAt sort globals stack w (memory_address (r base.number) offset) old
-      → ((d : labelled.Configuration) → Now code formed addresses globals stack (k + 1) out input r (placed sort w (memory_address (r base.number) offset) (r source.number)) d → Walk code formed addresses globals stack n (suc k) hi out Goal (Running d))
+  pub walk_write : (width : Width) (sort : Sort) (n k lo hi : ℕ) (out input : List ℕ) (Goal : State → Type 0) (r : Words) (w : Contents) (c : labelled.Configuration) (source base : Register) (offset old : ℕ)
+      → Now code formed addresses globals stack k out input r w c → slice_get code.lines k ≡ Some (lines.Ordinary (Memory (store_op width) source base offset)) → lo ≤ k
+      → IsWordAt sort globals stack w (word_place width (memory_address (r base.number) offset)) old
+      → ((d : labelled.Configuration) → Now code formed addresses globals stack (k + 1) out input r (placed sort w (word_place width (memory_address (r base.number) offset)) (stored_word width (memory_address (r base.number) offset) old (r source.number))) d → Walk code formed addresses globals stack n (suc k) hi out Goal (Running d))
       → Walk code formed addresses globals stack (suc n) lo hi out Goal (Running c)
-  walk_write OfBlock n k lo hi out input Goal r w c source base offset old now stands from (live, is_word) rest =
-      walk_save code formed addresses globals stack n k lo hi out input Goal r w c source base offset old now stands from live rest
-  walk_write OfCell n k lo hi out input Goal r w c source base offset old now stands from (cell, is) rest =
+  walk_write width OfBlock n k lo hi out input Goal r w c source base offset old now stands from (live, is_word) rest =
+      walk_save code formed addresses globals stack width n k lo hi out input Goal r w c source base offset old now stands from live rest
+  walk_write width OfCell n k lo hi out input Goal r w c source base offset old now stands from (cell, is) rest =
       walk_few code formed addresses globals stack (suc n) (1 + n) lo hi out Goal (Running c) (omega arith)
-      (walk_block code formed addresses globals stack (Memory StoreWord source base offset ∷ []) n k lo hi out input Goal r w c now (stands, tt) (cell, tt) from
-      (λ d later. walk_from code formed addresses globals stack n (k + 1) (suc k) hi out Goal (Running d) (omega arith) (rest d later)))
+      (cell_written width n k lo hi out input Goal r w c source base offset now stands from cell
+      (λ d later.
+      walk_from code formed addresses globals stack n (k + 1) (suc k) hi out Goal (Running d) (omega arith)
+      (rest d (now_is code formed addresses globals stack (k + 1) out input r (written w (word_place width (memory_address (r base.number) offset)) (stored_word width (memory_address (r base.number) offset) (w.words (word_place width (memory_address (r base.number) offset))) (r source.number))) r (written w (word_place width (memory_address (r base.number) offset)) (stored_word width (memory_address (r base.number) offset) old (r source.number))) d refl
+      (ap (λ (v : ℕ). written w (word_place width (memory_address (r base.number) offset)) (stored_word width (memory_address (r base.number) offset) v (r source.number))) is) later))))
 
 -- ---- slots that have an address live in memory
 

@@ -7,6 +7,7 @@ use Rattle.cyc_machine.specs.declared.constants.TheConstants.{RETURN_ADDRESS}
 use Rattle.cyc_words.specs.Ending.{Ending}
 use Rattle.std.proofs.lemmas.List.{get_or_past}
 use Rattle.cyc_words.specs.Word.{IsWord, sub_of}
+use Rattle.cyc_isa.specs.declared.instr.Instr.{Instr}
 use Rattle.cyc_isa.specs.declared.instr.MoveFromOp.{MoveFromOp}
 use Rattle.cyc_isa.specs.declared.instr.MoveFromOp.TheVariants.{High, Low}
 use Rattle.cyc_isa.specs.declared.instr.MultiplyDivideOp.TheVariants.{Divide}
@@ -37,7 +38,8 @@ use Rattle.cyc_select.specs.Machine.{State, Running, Ended, IsReturnPoint, machi
 use Rattle.cyc_select.specs.declared.constants.TheConstants.{HANDLERS}
 use Rattle.cyc_select.specs.declared.code.Line.{Line}
 use Rattle.cyc_select.specs.declared.code.Line.TheVariants as lines
-use Rattle.cyc_select.specs.Selection.{reload_count, recorded_code, caught_code, opened_code, body, behind, body_count, behind_count, ordinary, calling_code, function_line, divide_code, divide_count, plan_code, plan_count, is_tested, part_of, count_of, operator_count, instruction_line}
+use Rattle.cyc_select.specs.Selection.{reload_count, recorded_code, caught_code, opened_code, body, behind, body_count, behind_count, ordinary, spills, spills_count, calling_code, function_line, divide_code, divide_count, plan_code, plan_count, is_tested, part_of, count_of, operator_count, instruction_line}
+use Rattle.cyc_select.proofs.Counts.{length_spills}
 use Rattle.cyc_select.proofs.Lines.{line_next}
 use Rattle.cyc_select.specs.Numbers.{is_plain_divisor}
 use Rattle.cyc_select.specs.Plans.{binary_plan}
@@ -50,10 +52,11 @@ use Rattle.cyc_select.proofs.Walks.{Stands, stands_front, stands_back, stands_un
 use Rattle.cyc_select.proofs.Standing.{IsNewest, Standing, behind_line}
 use Rattle.cyc_select.proofs.Matches.{At, Ready, Matches, Reached}
 use Rattle.cyc_select.proofs.Simple.{address_goes, move_goes, unary_goes, binary_goes, divide_goes, jump_goes, branch_goes, read_goes, write_goes, load_global_goes, count_lexical_goes, store_global_goes, uncaught_goes}
-use Rattle.cyc_select.proofs.Accesses.{move_words_goes, load_goes, store_goes}
+use Rattle.cyc_select.proofs.Accesses.{move_words_goes, load_goes, store_goes, load_byte_goes, store_byte_goes}
 use Rattle.cyc_select.proofs.Requests.{ask_goes}
 use Rattle.cyc_select.proofs.Handlers.{catch_goes, leave_goes, throw_goes, try_goes}
-use Rattle.cyc_select.proofs.Calls.{call_last, call_goes}
+use Rattle.cyc_select.proofs.Calls.{length_ordinary, call_last}
+use Rattle.cyc_select.proofs.Passing.{call_goes}
 use Rattle.cyc_select.proofs.Returns.{return_goes, behind_goes}
 
 -- ---- the lines of each place
@@ -108,14 +111,19 @@ module _ (program : Program) (well : IsWellFormed program) (words : HasWords pro
       → IsReturnPoint code (behind_line program frames function index callee arguments count result)
   returns_to function index callee arguments count result at =
       let line : ℕ = instruction_line program frames function index in
-      let calling : List Line = calling_code (frame_at frames function) (frame_at frames callee) line (function_line program frames callee) arguments count in
+      let spilled : ℕ = line + spills_count (frame_at frames function) arguments count in
+      let calling : List Line = calling_code (frame_at frames function) (frame_at frames callee) spilled (function_line program frames callee) arguments count in
+      let before : List Instr = spills (frame_at frames function) arguments count in
+      let long_spills : length (ordinary before) ≡ spills_count (frame_at frames function) arguments count = length_ordinary before ∙ length_spills (frame_at frames function) arguments count in
       record {
         inside = below_of_get code.lines _ _ (behind_stands function index callee arguments count result at).0;
-        call = line + 6 + 2 * count;
+        call = spilled + 6 + 2 * count;
         label = function_line program frames callee;
         behind = omega arith;
-        calls = call_last code (frame_at frames function) (frame_at frames callee) line (function_line program frames callee) arguments count
-            (stands_front code line calling (behind program frames function (plain.Call callee arguments count result)) (stand function index (plain.Call callee arguments count result) at));
+        calls = call_last code (frame_at frames function) (frame_at frames callee) spilled (function_line program frames callee) arguments count
+            (subst (λ (n : ℕ). Stands code (line + n) calling) long_spills
+            (stands_back code line (ordinary before) calling
+            (stands_front code line (ordinary before ++ calling) (behind program frames function (plain.Call callee arguments count result)) (stand function index (plain.Call callee arguments count result) at))));
       }
 
   in_range_of : (function index : ℕ) (i : Instruction) → instruction_at program (record { function = function; index = index }) ≡ Some i → IsInRange program (routine_at program function) i
@@ -283,7 +291,7 @@ module _ (program : Program) (well : IsWellFormed program) (words : HasWords pro
     instruction_goes (plain.Jump target) at below fits stands = jump_goes program well frames fit code formed addresses pages calls few c run r w base now s caches target at stands
     instruction_goes (plain.Branch comparison left right target) at (a, b, below) (fits, also) stands = branch_goes program well frames fit code formed addresses pages calls few c run r w base now s caches comparison left right target at (a, fits) (b, also) stands
     instruction_goes (plain.Call callee arguments count result) at in_range fits stands =
-        call_goes program well frames fit code formed addresses pages calls few lie c run r w base now s callee arguments count result at in_range (returns_to c.active.function c.active.next callee arguments count result at).inside stands
+        call_goes program well frames fit code formed addresses pages calls few lie c run r w base now s caches callee arguments count result at in_range (returns_to c.active.function c.active.next callee arguments count result at).inside stands
     instruction_goes (plain.Return value) at in_range fits stands =
         return_goes program well frames fit code formed addresses pages calls few lie c run r w base now s caches (plain.Return value) value at refl (λ slot is. is) refl (none_open at) in_range returns_to stands
     instruction_goes (plain.ReadByte destination) at below fits stands = read_goes program well frames fit code formed addresses pages calls few c run r w base now s caches destination at below stands
@@ -295,8 +303,12 @@ module _ (program : Program) (well : IsWellFormed program) (words : HasWords pro
     instruction_goes (plain.MoveWords destination source count) at in_range fits stands = move_words_goes program well frames fit code formed addresses pages calls few c run r w base now s caches destination source count at in_range stands
     instruction_goes (plain.Load destination address offset) at (a, b) (fits, near) stands =
         load_goes program well frames fit code formed addresses pages calls few c run r w base now s caches destination address offset at a (b, fits) near (stops_not (plain.Load destination address offset) at (zeros_at program c (plain.Load destination address offset) at refl)) stands
+    instruction_goes (plain.LoadByte destination address offset) at (a, b) (fits, near) stands =
+        load_byte_goes program well frames fit code formed addresses pages calls few c run r w base now s caches destination address offset at a (b, fits) near (stops_not (plain.LoadByte destination address offset) at (zeros_at program c (plain.LoadByte destination address offset) at refl)) stands
     instruction_goes (plain.Store address offset source) at (a, b) (fits, near, also) stands =
         store_goes program well frames fit code formed addresses pages calls few c run r w base now s caches address offset source at (a, fits) near (b, also) (stops_not (plain.Store address offset source) at (zeros_at program c (plain.Store address offset source) at refl)) stands
+    instruction_goes (plain.StoreByte address offset source) at (a, b) (fits, near, also) stands =
+        store_byte_goes program well frames fit code formed addresses pages calls few c run r w base now s caches address offset source at (a, fits) near (b, also) (stops_not (plain.StoreByte address offset source) at (zeros_at program c (plain.StoreByte address offset source) at refl)) stands
     instruction_goes (plain.Ask request) at in_range fits stands =
         ask_goes program well frames fit code formed addresses pages calls few c run r w base now s caches request at in_range fits stands
         (λ stops allowed. stops_not (plain.Ask request) at allowed stops)

@@ -13,7 +13,8 @@ use Rattle.cyc_plain.specs.declared.instruction.Operand.{Operand}
 use Rattle.cyc_plain.specs.Requests.{first_operand, second_operand}
 use Rattle.cyc_isa.specs.declared.instr.ArithmeticOp.TheVariants as arithmetic
 use Rattle.cyc_isa.specs.declared.instr.MultiplyDivideOp.TheVariants.{Divide}
-use Rattle.cyc_isa.specs.declared.instr.MemoryOp.TheVariants.{LoadWord, StoreWord}
+use Rattle.cyc_isa.specs.declared.instr.MemoryOp.{MemoryOp}
+use Rattle.cyc_isa.specs.declared.instr.MemoryOp.TheVariants.{LoadWord, StoreWord, LoadByte, StoreByte}
 use Rattle.cyc_isa.specs.declared.instr.MoveFromOp.{MoveFromOp}
 use Rattle.cyc_machine.specs.declared.constants.TheConstants.{ARGUMENT, END_UNCAUGHT, PUT_BYTE, SECOND_ARGUMENT, SERVICE, RETURN_ADDRESS}
 use Rattle.cyc_plain.specs.Program.{Routine, Program, routine_at, operator_size, instruction_size, size}
@@ -29,11 +30,11 @@ use Rattle.cyc_select.specs.declared.plan.Test.TheVariants as tests
 use Rattle.cyc_select.specs.Plans.{unary_plan, binary_plan, test_of}
 use Rattle.cyc_select.specs.Labelled.{Labelled, words_of, all_words}
 use Rattle.cyc_select.specs.Selected.{words_at}
-use Rattle.cyc_select.specs.Selection.{arithmetic_of, multiply_divide_of, move_from_of, slot_offset, recorded_code, caught_code, reload_count, value_register, move_to, keep_code, give_code, moved_code, reloads, opened_code, made_in, ordinary, argument_code, service_number, answer_code, unwound_code, address_code, at_address, copies, store_all, upper_of_global, at_global, word_code, load_code, load_count, operand_code, operand_register, plan_code, test_code, branch_line, branch_code, quotient_code, divided_code, divide_code, is_tested, part_of, result_registers, ending_code, operator_code, body, behind, count_of, function_count, function_line, instruction_line, code_lines, function_lines, small, syscall, store, add_immediate, minus, push_frame, load, regions_code}
+use Rattle.cyc_select.specs.Selection.{arithmetic_of, multiply_divide_of, move_from_of, slot_offset, recorded_code, caught_code, reload_count, value_register, move_to, keep_code, give_code, moved_code, reloads, opened_code, made_in, ordinary, argument_code, service_number, answer_code, unwound_code, address_code, at_address, copies, store_all, upper_of_global, at_global, word_code, load_code, load_count, operand_code, operand_register, plan_code, test_code, branch_line, branch_code, quotient_code, divided_code, divide_code, is_tested, part_of, result_registers, ending_code, operator_code, body, behind, count_of, function_count, function_line, instruction_line, code_lines, function_lines, small, syscall, store, add_immediate, minus, push_frame, load, regions_code, load_at, store_at, spills, spills_count, calling_code}
 use Rattle.cyc_isa.specs.Decoding.{register_of}
 use Rattle.cyc_isa.specs.declared.instr.BranchOp.TheVariants as branch
 use Rattle.cyc_select.proofs.Calls.{length-copies}
-use Rattle.cyc_select.proofs.Counts.{length_keep, length_give, length_move, length_moved, move_words_small, keep_few, give_small, move_small, argument_small, regions_small, length_argument, length_answer, length_regions, length_stores, length_registers, word_small, load_small, operand_small, address_small, plan_small, unary_small, test_small, length_word, length_load, length_operand, length_address, length_plan, length_test, length_divided}
+use Rattle.cyc_select.proofs.Counts.{length_keep, length_give, length_move, length_moved, length_spills, spills_few, move_words_small, keep_few, give_small, move_small, argument_small, regions_small, length_argument, length_answer, length_regions, length_stores, length_registers, word_small, load_small, operand_small, address_small, plan_small, unary_small, test_small, length_word, length_load, length_operand, length_address, length_plan, length_test, length_divided}
 use Rattle.cyc_select.proofs.Returns.{loaded, length_loaded}
 use Rattle.cyc_select.proofs.Numbering.{ReadsFew}
 use Rattle.cyc_select.proofs.Values.{length_reloads}
@@ -89,6 +90,19 @@ module _ (program : Program) (frames : List Frame) (reads_few : (function : ℕ)
   ending_words true frame here value = omega arith
   ending_words false frame here value = omega arith
 
+  load_words_few : (function : ℕ) (op : MemoryOp) (destination : ℕ) (address : Operand) (offset : ℕ) → all_words (load_at (frame_at frames function) op destination address offset) + 0 ≤ 10
+  load_words_few function op destination address offset =
+      let is : List Instr = address_code (frame_at frames function) address offset in
+      let last : List Instr = at_address (frame_at frames function) op (made_in (frame_at frames function) destination) address offset ∷ keep_code (frame_at frames function) destination in
+      omega (arith, words_ordinary (is ++ last), length-append is last, length_address (frame_at frames function) address offset, address_small (frame_at frames function) address offset, length_keep (frame_at frames function) destination, keep_few (frame_at frames function) destination)
+
+  store_words_few : (function : ℕ) (op : MemoryOp) (address : Operand) (offset : ℕ) (source : Operand) → all_words (store_at (frame_at frames function) op address offset source) + 0 ≤ 10
+  store_words_few function op address offset source =
+      let is : List Instr = address_code (frame_at frames function) address offset in
+      let js : List Instr = operand_code (frame_at frames function) SECOND source in
+      let last : List Instr = at_address (frame_at frames function) op (operand_register (frame_at frames function) SECOND source) address offset ∷ [] in
+      omega (arith, words_ordinary (is ++ (js ++ last)), length-append is (js ++ last), length-append js last, length_address (frame_at frames function) address offset, address_small (frame_at frames function) address offset, length_operand (frame_at frames function) SECOND source, operand_small (frame_at frames function) source)
+
   body_words : (function here : ℕ) (i : Instruction) → all_words (body program frames function here i) + all_words (behind program frames function i) ≤ instruction_size i
   body_words function here (plain.Move destination source) =
       omega (arith, words_ordinary (move_to (value_register (frame_at frames function) destination) (frame_at frames function) destination source), length_move (frame_at frames function) destination source, move_small (frame_at frames function) destination source)
@@ -98,16 +112,20 @@ module _ (program : Program) (frames : List Frame) (reads_few : (function : ℕ)
   body_words function here (plain.Jump target) = omega arith
   body_words function here (plain.Branch comparison left right target) = omega (arith, test_words (frame_at frames function) (test_of comparison left right) (instruction_line program frames function target))
   body_words function here (plain.Call callee arguments count result) =
-      let first : List Line = lines.Branch (conditions.Registers branch.NotEqual (register_of CALLS) (register_of 0)) (here + 3) ∷ ordinary (small 2 11 ∷ syscall ∷ store RETURN_ADDRESS (4 * (frame_at frames function).return_address) ∷ add_immediate CALLS CALLS (minus 1) ∷ push_frame (frame_at frames callee) ∷ []) in
+      let spilled : ℕ = here + spills_count (frame_at frames function) arguments count in
+      let calling : List Line = calling_code (frame_at frames function) (frame_at frames callee) spilled (function_line program frames callee) arguments count in
+      let front = sum_by-append words_of (ordinary (spills (frame_at frames function) arguments count)) calling in
+      let spill_words = words_ordinary (spills (frame_at frames function) arguments count) in
+      let first : List Line = lines.Branch (conditions.Registers branch.NotEqual (register_of CALLS) (register_of 0)) (spilled + 3) ∷ ordinary (small 2 11 ∷ syscall ∷ store RETURN_ADDRESS (4 * (frame_at frames function).return_address) ∷ add_immediate CALLS CALLS (minus 1) ∷ push_frame (frame_at frames callee) ∷ []) in
       let passed = words_ordinary (copies (frame_at frames function) (frame_at frames callee) arguments 0 count) in
       let long = length-copies (frame_at frames function) (frame_at frames callee) arguments 0 count in
-      let a = sum_by-append words_of (lines.Branch (conditions.Registers branch.NotEqual (register_of CALLS) (register_of 0)) (here + 3) ∷ ordinary (small 2 11 ∷ syscall ∷ store RETURN_ADDRESS (4 * (frame_at frames function).return_address) ∷ add_immediate CALLS CALLS (minus 1) ∷ push_frame (frame_at frames callee) ∷ [])) (ordinary (copies (frame_at frames function) (frame_at frames callee) arguments 0 count) ++ lines.Call (function_line program frames callee) ∷ []) in
+      let a = sum_by-append words_of (lines.Branch (conditions.Registers branch.NotEqual (register_of CALLS) (register_of 0)) (spilled + 3) ∷ ordinary (small 2 11 ∷ syscall ∷ store RETURN_ADDRESS (4 * (frame_at frames function).return_address) ∷ add_immediate CALLS CALLS (minus 1) ∷ push_frame (frame_at frames callee) ∷ [])) (ordinary (copies (frame_at frames function) (frame_at frames callee) arguments 0 count) ++ lines.Call (function_line program frames callee) ∷ []) in
       let b = sum_by-append words_of (ordinary (copies (frame_at frames function) (frame_at frames callee) arguments 0 count)) (lines.Call (function_line program frames callee) ∷ []) in
       let kept = words_ordinary (load RETURN_ADDRESS (4 * (frame_at frames function).return_address) ∷ add_immediate CALLS CALLS 1 ∷ (store_all (frame_at frames function) result (result_registers (routine_at program callee).results) ++ reloads (frame_at frames function))) in
       let both = length-append (store_all (frame_at frames function) result (result_registers (routine_at program callee).results)) (reloads (frame_at frames function)) in
       let stores = length_stores (frame_at frames function) result (result_registers (routine_at program callee).results) in
       let registers = length_registers (routine_at program callee).results (few_results callee) in
-      omega (arith, passed, long, a, b, kept, both, stores, registers, few_results callee, length_reloads (frame_at frames function), reads_few function)
+      omega (arith, front, spill_words, length_spills (frame_at frames function) arguments count, spills_few (frame_at frames function) arguments count, passed, long, a, b, kept, both, stores, registers, few_results callee, length_reloads (frame_at frames function), reads_few function)
   body_words function here (plain.Return value) =
       let e = ending_code (function == program.main) (frame_at frames function) here value in
       let a = sum_by-append words_of (ending_code (function == program.main) (frame_at frames function) here value ++ ordinary (loaded (frame_at frames function) value (routine_at program function).results)) (lines.Return ∷ []) in
@@ -134,15 +152,10 @@ module _ (program : Program) (frames : List Frame) (reads_few : (function : ℕ)
       omega (arith, words_ordinary (operand_code (frame_at frames function) FIRST source ++ upper_of_global global ∷ at_global StoreWord (operand_register (frame_at frames function) FIRST source) global ∷ []), length-append (operand_code (frame_at frames function) FIRST source) (upper_of_global global ∷ at_global StoreWord (operand_register (frame_at frames function) FIRST source) global ∷ []), length_operand (frame_at frames function) FIRST source, operand_small (frame_at frames function) source)
   body_words function here (plain.MoveWords destination source count) =
       omega (arith, words_ordinary (moved_code (frame_at frames function) destination source count), length_moved (frame_at frames function) destination source count, move_words_small (frame_at frames function) destination source count)
-  body_words function here (plain.Load destination address offset) =
-      let is : List Instr = address_code (frame_at frames function) address offset in
-      let last : List Instr = at_address (frame_at frames function) LoadWord (made_in (frame_at frames function) destination) address offset ∷ keep_code (frame_at frames function) destination in
-      omega (arith, words_ordinary (is ++ last), length-append is last, length_address (frame_at frames function) address offset, address_small (frame_at frames function) address offset, length_keep (frame_at frames function) destination, keep_few (frame_at frames function) destination)
-  body_words function here (plain.Store address offset source) =
-      let is : List Instr = address_code (frame_at frames function) address offset in
-      let js : List Instr = operand_code (frame_at frames function) SECOND source in
-      let last : List Instr = at_address (frame_at frames function) StoreWord (operand_register (frame_at frames function) SECOND source) address offset ∷ [] in
-      omega (arith, words_ordinary (is ++ (js ++ last)), length-append is (js ++ last), length-append js last, length_address (frame_at frames function) address offset, address_small (frame_at frames function) address offset, length_operand (frame_at frames function) SECOND source, operand_small (frame_at frames function) source)
+  body_words function here (plain.Load destination address offset) = load_words_few function LoadWord destination address offset
+  body_words function here (plain.Store address offset source) = store_words_few function StoreWord address offset source
+  body_words function here (plain.LoadByte destination address offset) = load_words_few function LoadByte destination address offset
+  body_words function here (plain.StoreByte address offset source) = store_words_few function StoreByte address offset source
   body_words function here (plain.Ask request) =
       let is : List Instr = argument_code (frame_at frames function) ARGUMENT (first_operand request) in
       let js : List Instr = argument_code (frame_at frames function) SECOND_ARGUMENT (second_operand request) in

@@ -10,7 +10,8 @@ use Rattle.cyc_plain.specs.Requests.{first_operand, second_operand}
 use Rattle.cyc_isa.specs.Decoding.{register_of}
 use Rattle.cyc_isa.specs.declared.instr.Instr.{Instr}
 use Rattle.cyc_isa.specs.declared.instr.BranchOp.TheVariants as branch
-use Rattle.cyc_isa.specs.declared.instr.MemoryOp.TheVariants.{LoadWord, StoreWord}
+use Rattle.cyc_isa.specs.declared.instr.MemoryOp.{MemoryOp}
+use Rattle.cyc_isa.specs.declared.instr.MemoryOp.TheVariants.{LoadWord, StoreWord, LoadByte, StoreByte}
 use Rattle.cyc_isa.specs.declared.instr.MoveFromOp.{MoveFromOp}
 use Rattle.cyc_machine.specs.declared.constants.TheConstants.{ARGUMENT, END_UNCAUGHT, PUT_BYTE, SECOND_ARGUMENT, SERVICE}
 use Rattle.cyc_plain.specs.Program.{Routine, Program, no_routine, routine_at}
@@ -25,9 +26,9 @@ use Rattle.cyc_select.specs.declared.code.Line.TheVariants as lines
 use Rattle.cyc_select.specs.declared.plan.Plan.{Plan}
 use Rattle.cyc_select.specs.Labelled.{Labelled}
 use Rattle.cyc_select.specs.Plans.{unary_plan, binary_plan, test_of}
-use Rattle.cyc_select.specs.Selection.{value_register, move_to, keep_code, keep_count, give_code, give_count, moved_code, reloads, reload_count, opened_code, made_in, ordinary, argument_code, service_number, answer_code, unwound_code, address_code, at_address, copies, store_all, small, syscall, upper_of_global, at_global, word_code, load_code, load_count, operand_code, operand_register, plan_code, plan_count, test_code, branch_line, quotient_code, divided_code, divide_code, divide_count, is_tested, part_of, result_registers, ending_code, ending_count, operator_code, operator_count, body, behind, body_count, behind_count, count_of, function_count, functions_count, function_line, instruction_line, code_lines, function_lines, start_lines, select_of, regions_code}
+use Rattle.cyc_select.specs.Selection.{value_register, move_to, keep_code, keep_count, give_code, give_count, moved_code, reloads, reload_count, opened_code, made_in, ordinary, argument_code, service_number, answer_code, unwound_code, address_code, at_address, copies, store_all, small, syscall, upper_of_global, at_global, word_code, load_code, load_count, operand_code, operand_register, plan_code, plan_count, test_code, branch_line, quotient_code, divided_code, divide_code, divide_count, is_tested, part_of, result_registers, ending_code, ending_count, operator_code, operator_count, body, behind, body_count, behind_count, count_of, function_count, functions_count, function_line, instruction_line, code_lines, function_lines, start_lines, select_of, regions_code, load_at, store_at, address_count, operand_count, spills, spills_count, calling_code}
 use Rattle.cyc_select.proofs.Calls.{length_ordinary, length-copies}
-use Rattle.cyc_select.proofs.Counts.{length_keep, length_give, length_move, length_moved, length_argument, length_answer, length_regions, length_stores, length_registers, length_word, length_load, length_operand, length_address, length_plan, length_test, length_divided}
+use Rattle.cyc_select.proofs.Counts.{length_keep, length_give, length_move, length_moved, length_spills, length_argument, length_answer, length_regions, length_stores, length_registers, length_word, length_load, length_operand, length_address, length_plan, length_test, length_divided}
 use Rattle.cyc_select.proofs.Returns.{loaded, length_loaded}
 use Rattle.cyc_select.proofs.Values.{length_reloads}
 use Rattle.cyc_select.proofs.Walks.{Stands, stands_front, stands_back}
@@ -58,6 +59,19 @@ module _ (program : Program) (frames : List Frame) (few_results : (function : �
       length_either (is_tested operator right) (divide_code frame here (part_of operator) destination left right) (ordinary (plan_code frame (binary_plan operator left right) destination)) _ _
       (length_divide frame here (part_of operator) destination left right) (length_planned frame (binary_plan operator left right) destination)
 
+  length_load_at : (function : ℕ) (op : MemoryOp) (destination : ℕ) (address : Operand) (offset : ℕ) → length (load_at (frame_at frames function) op destination address offset) ≡ address_count (frame_at frames function) address offset + 1 + keep_count (frame_at frames function) destination
+  length_load_at function op destination address offset =
+      let is : List Instr = address_code (frame_at frames function) address offset in
+      let last : List Instr = at_address (frame_at frames function) op (made_in (frame_at frames function) destination) address offset ∷ keep_code (frame_at frames function) destination in
+      omega (arith, length_ordinary (is ++ last), length-append is last, length_address (frame_at frames function) address offset, length_keep (frame_at frames function) destination)
+
+  length_store_at : (function : ℕ) (op : MemoryOp) (address : Operand) (offset : ℕ) (source : Operand) → length (store_at (frame_at frames function) op address offset source) ≡ address_count (frame_at frames function) address offset + operand_count (frame_at frames function) source + 1
+  length_store_at function op address offset source =
+      let is : List Instr = address_code (frame_at frames function) address offset in
+      let js : List Instr = operand_code (frame_at frames function) SECOND source in
+      let last : List Instr = at_address (frame_at frames function) op (operand_register (frame_at frames function) SECOND source) address offset ∷ [] in
+      omega (arith, length_ordinary (is ++ (js ++ last)), length-append is (js ++ last), length-append js last, length_address (frame_at frames function) address offset, length_operand (frame_at frames function) SECOND source)
+
   pub length_body : (function here : ℕ) (i : Instruction) → length (body program frames function here i) ≡ body_count program frames function i
   length_body function here (plain.Move destination source) =
       length_ordinary (move_to (value_register (frame_at frames function) destination) (frame_at frames function) destination source) ∙ length_move (frame_at frames function) destination source
@@ -68,11 +82,14 @@ module _ (program : Program) (frames : List Frame) (few_results : (function : �
       let last : List Line = branch_line (frame_at frames function) (test_of comparison left right) (instruction_line program frames function target) ∷ [] in
       omega (arith, length-append (ordinary (test_code (frame_at frames function) (test_of comparison left right))) last, length_ordinary (test_code (frame_at frames function) (test_of comparison left right)), length_test (frame_at frames function) (test_of comparison left right))
   length_body function here (plain.Call callee arguments count result) =
+      let spilled : ℕ = here + spills_count (frame_at frames function) arguments count in
+      let calling : List Line = calling_code (frame_at frames function) (frame_at frames callee) spilled (function_line program frames callee) arguments count in
       let whole = length-append (ordinary (copies (frame_at frames function) (frame_at frames callee) arguments 0 count)) (lines.Call (function_line program frames callee) ∷ []) in
       let parts = length_ordinary (copies (frame_at frames function) (frame_at frames callee) arguments 0 count) in
       let copied = length-copies (frame_at frames function) (frame_at frames callee) arguments 0 count in
       let e : suc (suc (suc (suc (suc (suc (length (ordinary (copies (frame_at frames function) (frame_at frames callee) arguments 0 count) ++ lines.Call (function_line program frames callee) ∷ []))))))) ≡ 7 + 2 * count = omega (arith, whole, parts, copied) in
-      e
+      let called : length calling ≡ 7 + 2 * count = e in
+      omega (arith, length-append (ordinary (spills (frame_at frames function) arguments count)) calling, length_ordinary (spills (frame_at frames function) arguments count), length_spills (frame_at frames function) arguments count, called)
   length_body function here (plain.Return value) =
       let front = length-append (ending_code (function == program.main) (frame_at frames function) here value) (ordinary (loaded (frame_at frames function) value (routine_at program function).results)) in
       let all = length-append (ending_code (function == program.main) (frame_at frames function) here value ++ ordinary (loaded (frame_at frames function) value (routine_at program function).results)) (lines.Return ∷ []) in
@@ -106,15 +123,10 @@ module _ (program : Program) (frames : List Frame) (few_results : (function : �
       omega (arith, length_ordinary (operand_code (frame_at frames function) FIRST source ++ last), length-append (operand_code (frame_at frames function) FIRST source) last, length_operand (frame_at frames function) FIRST source)
   length_body function here (plain.MoveWords destination source count) =
       length_ordinary (moved_code (frame_at frames function) destination source count) ∙ length_moved (frame_at frames function) destination source count
-  length_body function here (plain.Load destination address offset) =
-      let is : List Instr = address_code (frame_at frames function) address offset in
-      let last : List Instr = at_address (frame_at frames function) LoadWord (made_in (frame_at frames function) destination) address offset ∷ keep_code (frame_at frames function) destination in
-      omega (arith, length_ordinary (is ++ last), length-append is last, length_address (frame_at frames function) address offset, length_keep (frame_at frames function) destination)
-  length_body function here (plain.Store address offset source) =
-      let is : List Instr = address_code (frame_at frames function) address offset in
-      let js : List Instr = operand_code (frame_at frames function) SECOND source in
-      let last : List Instr = at_address (frame_at frames function) StoreWord (operand_register (frame_at frames function) SECOND source) address offset ∷ [] in
-      omega (arith, length_ordinary (is ++ (js ++ last)), length-append is (js ++ last), length-append js last, length_address (frame_at frames function) address offset, length_operand (frame_at frames function) SECOND source)
+  length_body function here (plain.Load destination address offset) = length_load_at function LoadWord destination address offset
+  length_body function here (plain.Store address offset source) = length_store_at function StoreWord address offset source
+  length_body function here (plain.LoadByte destination address offset) = length_load_at function LoadByte destination address offset
+  length_body function here (plain.StoreByte address offset source) = length_store_at function StoreByte address offset source
   length_body function here (plain.Ask request) =
       let is : List Instr = argument_code (frame_at frames function) ARGUMENT (first_operand request) in
       let js : List Instr = argument_code (frame_at frames function) SECOND_ARGUMENT (second_operand request) in
@@ -161,6 +173,8 @@ module _ (program : Program) (frames : List Frame) (few_results : (function : �
   length_behind function (plain.MoveWords destination source count) = refl
   length_behind function (plain.Load destination address offset) = refl
   length_behind function (plain.Store address offset source) = refl
+  length_behind function (plain.LoadByte destination address offset) = refl
+  length_behind function (plain.StoreByte address offset source) = refl
   length_behind function (plain.Ask request) = refl
   length_behind function (plain.CountLexical destination) = refl
   length_behind function (plain.Try first handler) = refl

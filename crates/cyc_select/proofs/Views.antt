@@ -1,11 +1,13 @@
 -- What an ordinary instruction does to registers and memory, where both are seen as functions from numbers to words.
-use Rattle.std.proofs.Common.{◌≡◌, ◌≢◌, ℕ, ◌+◌, ◌-◌, ◌^◌, ◌<◌, ◌≤◌, false, List, [], length, refl, sym, ap, subst, ◌∙◌, arith, inl, inr}
+use Rattle.std.proofs.Common.{◌≡◌, ◌≢◌, ℕ, ◌+◌, ◌-◌, ◌%◌, ◌^◌, ◌<◌, ◌≤◌, false, List, [], length, refl, sym, ap, subst, ◌∙◌, arith, inl, inr}
 use Rattle.std.specs.Prelude.{◌==◌, if◌then◌else◌, slice_set, slice_index}
 use Rattle.std.proofs.lemmas.Bool.{cases_eq, cond-false}
 use Rattle.std.proofs.lemmas.List.{get_or-set_same, get_or-set_other, length-set}
+use Rattle.cyc_words.specs.WordBytes.{byte_in, with_byte, word_of}
 use Rattle.cyc_isa.specs.declared.instr.Instr.{Instr}
 use Rattle.cyc_isa.specs.declared.instr.Instr.TheVariants.{Immediate, LoadUpper, Memory, Shift, ShiftVariable, MoveFrom, MultiplyDivide, Arithmetic}
-use Rattle.cyc_isa.specs.declared.instr.MemoryOp.TheVariants.{LoadWord, StoreWord}
+use Rattle.cyc_isa.specs.declared.instr.MemoryOp.{MemoryOp}
+use Rattle.cyc_isa.specs.declared.instr.MemoryOp.TheVariants.{LoadWord, StoreWord, LoadByte, StoreByte}
 use Rattle.cyc_isa.specs.declared.instr.MoveFromOp.TheVariants.{High, Low}
 use Rattle.cyc_isa.specs.declared.instr.MultiplyDivideOp.TheVariants.{Multiply, Divide}
 use Rattle.cyc_isa.specs.Effect.{immediate_result, load_upper_result, arithmetic_result, shift_result, high_result, low_result, memory_address}
@@ -46,12 +48,42 @@ pub record View (globals stack : ℕ) (c : Configuration) (r : Words) (w : Conte
   pub mem : (a : ℕ) → IsCell globals stack a → cell (memory_of c) a ≡ w.words a
   pub store : c.store ≡ w.store
 
+-- ---- loads and stores, of a word and of a byte
+
+pub data Width : Type 0 where
+  OneWord : Width
+  OneByte : Width
+
+abbrev pub load_op : Width → MemoryOp
+load_op OneWord = LoadWord
+load_op OneByte = LoadByte
+
+abbrev pub store_op : Width → MemoryOp
+store_op OneWord = StoreWord
+store_op OneByte = StoreByte
+
+-- where the word lies that it needs
+abbrev pub word_place : Width → (address : ℕ) → ℕ
+word_place OneWord address = address
+word_place OneByte address = word_of address
+
+-- what is loaded, of that word, and what it is after a store
+abbrev pub loaded_part : Width → (address word : ℕ) → ℕ
+loaded_part OneWord address word = word
+loaded_part OneByte address word = byte_in word (address % 4)
+
+abbrev pub stored_word : Width → (address old word : ℕ) → ℕ
+stored_word OneWord address old word = word
+stored_word OneByte address old word = with_byte old (address % 4) (word % 256)
+
 -- ---- what an instruction does
 
 abbrev pub does_r : Instr → (r : Words) (w : Contents) → Words
 does_r (Immediate op target source half) r w = put r target.number (immediate_result op (r source.number) half)
 does_r (LoadUpper target half) r w = put r target.number (load_upper_result half)
 does_r (Memory LoadWord target base offset) r w = put r target.number (w.words (memory_address (r base.number) offset))
+does_r (Memory LoadByte target base offset) r w =
+    put r target.number (loaded_part OneByte (memory_address (r base.number) offset) (w.words (word_of (memory_address (r base.number) offset))))
 does_r (Shift op destination source amount) r w = put r destination.number (shift_result op (r source.number) amount.bits)
 does_r (ShiftVariable op destination source by) r w = put r destination.number (shift_result op (r source.number) (r by.number))
 does_r (MoveFrom High destination) r w = put r destination.number (r 32)
@@ -62,6 +94,9 @@ does_r i r w = r
 
 abbrev pub does_w : Instr → (r : Words) (w : Contents) → Contents
 does_w (Memory StoreWord source base offset) r w = written w (memory_address (r base.number) offset) (r source.number)
+does_w (Memory StoreByte source base offset) r w =
+    let address : ℕ = memory_address (r base.number) offset in
+    written w (word_of address) (stored_word OneByte address (w.words (word_of address)) (r source.number))
 does_w i r w = w
 
 -- a register that can be written
@@ -75,6 +110,9 @@ IsSafe globals stack (LoadUpper target half) r = IsWritable target.number
 IsSafe globals stack (Memory LoadWord target base offset) r =
     IsWritable target.number × IsCell globals stack (memory_address (r base.number) offset)
 IsSafe globals stack (Memory StoreWord source base offset) r = IsCell globals stack (memory_address (r base.number) offset)
+IsSafe globals stack (Memory LoadByte target base offset) r =
+    IsWritable target.number × IsCell globals stack (word_of (memory_address (r base.number) offset))
+IsSafe globals stack (Memory StoreByte source base offset) r = IsCell globals stack (word_of (memory_address (r base.number) offset))
 IsSafe globals stack (Shift op destination source amount) r = IsWritable destination.number
 IsSafe globals stack (ShiftVariable op destination source by) r = IsWritable destination.number
 IsSafe globals stack (MoveFrom op destination) r = IsWritable destination.number

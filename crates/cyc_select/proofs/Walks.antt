@@ -7,9 +7,11 @@ use Rattle.cyc_machine.specs.declared.constants.TheConstants.{RETURN_ADDRESS}
 use Rattle.cyc_isa.specs.Effect.{branch_taken, branch_zero_taken, memory_address, high_result}
 use Rattle.cyc_isa.specs.declared.instr.Instr.{Instr}
 use Rattle.cyc_isa.specs.declared.instr.Instr.TheVariants.{Immediate, LoadUpper, Memory, Branch, BranchZero, Jump, Shift, ShiftVariable, JumpRegister, JumpRegisterLink, Exception, MoveFrom, MultiplyDivide, Arithmetic}
-use Rattle.cyc_isa.specs.declared.instr.MemoryOp.TheVariants.{LoadWord, StoreWord}
+use Rattle.cyc_isa.specs.declared.instr.MemoryOp.TheVariants.{LoadWord, StoreWord, LoadByte, StoreByte}
 use Rattle.cyc_isa.specs.declared.operand.Register.{Register}
 use Rattle.cyc_isa.specs.declared.instr.MoveFromOp.TheVariants.{High, Low}
+use Rattle.cyc_words.specs.WordBytes.{word_of}
+use Rattle.cyc_words.proofs.WordBytesLemmas.{byte-small, with_byte-word}
 use Rattle.cyc_words.specs.Simulation as simulation
 use Rattle.cyc_words.specs.Simulation.{Machine, Comes, IsDistinct}
 use Rattle.cyc_store.specs.State.{StoreState}
@@ -34,7 +36,7 @@ use Rattle.cyc_isa.specs.Decoding.{trap_code_of}
 use Rattle.cyc_select.specs.Machine.{Configuration, State, Running, Ended, Step, Executes, ExecutesAt, Performs, PerformsOrdinary, machine, status_of, output_of, linked, at, word_in, holds_of, IsReturnPoint}
 use Rattle.cyc_select.specs.Selection.{ordinary, syscall, service_number}
 use Rattle.cyc_select.proofs.Cells.{IsLive}
-use Rattle.cyc_select.proofs.Views.{Contents, saved_in, View, does_r, does_w, IsSafe, IsWritable, moved, answered_r, view_at, view_seen, view_put, view_answered}
+use Rattle.cyc_select.proofs.Views.{Contents, saved_in, View, Width, OneWord, OneByte, load_op, store_op, word_place, loaded_part, stored_word, does_r, does_w, IsSafe, IsWritable, moved, answered_r, view_at, view_seen, view_put, view_answered}
 use Rattle.cyc_select.proofs.Effects.{performed, moved_view, loads_live, stores_live, loaded_view, saved_view, call_by, asked_call, given_answer, store_serves, store_is_full, byte_of, given_byte, gets_byte, printed_byte, puts_byte, ends_returned, ends_uncaught, ends_full}
 
 -- ---- rising places
@@ -129,11 +131,23 @@ put_words words number word all one other = elim (cases_eq other number) [
   | inr apart ↦ subst IsWord (sym (put-other words number other word apart)) (all other)
 ]
 
+-- what is loaded of a word is one, and so is what a store leaves of it
+part_word : (width : Width) (address word : ℕ) → IsWord word → IsWord (loaded_part width address word)
+part_word OneWord address word is = is
+part_word OneByte address word is = let small = byte-small word (address % 4) in omega (arith, small)
+
+pub stored_is_word : (width : Width) (address old word : ℕ) → IsWord old → IsWord word → IsWord (stored_word width address old word)
+stored_is_word OneWord address old word before is = is
+stored_is_word OneByte address old word before is = with_byte-word old (address % 4) (word % 256) before (omega arith)
+
 does_words_r : (i : Instr) (r : Words) (w : Contents) → IsEncodable i → AreWords r → AreWords w.words → AreWords (does_r i r w)
 does_words_r (Immediate op target source half) r w fits all mem = put_words r target.number _ all (IsWord-immediate_result op (r source.number) half (all source.number) fits)
 does_words_r (LoadUpper target half) r w fits all mem = put_words r target.number _ all (IsWord-load_upper_result half fits)
 does_words_r (Memory LoadWord target base offset) r w fits all mem = put_words r target.number _ all (mem (memory_address (r base.number) offset))
 does_words_r (Memory StoreWord source base offset) r w fits all mem = all
+does_words_r (Memory LoadByte target base offset) r w fits all mem =
+    put_words r target.number _ all (part_word OneByte (memory_address (r base.number) offset) (w.words (word_of (memory_address (r base.number) offset))) (mem (word_of (memory_address (r base.number) offset))))
+does_words_r (Memory StoreByte source base offset) r w fits all mem = all
 does_words_r (Branch op left right offset) r w fits all mem = all
 does_words_r (BranchZero op source offset) r w fits all mem = all
 does_words_r (Jump op index) r w fits all mem = all
@@ -154,6 +168,10 @@ does_words_r (Arithmetic op destination left right) r w fits all mem =
 does_words_w : (i : Instr) (r : Words) (w : Contents) → AreWords r → AreWords w.words → AreWords (does_w i r w).words
 does_words_w (Memory StoreWord source base offset) r w all mem = put_words w.words (memory_address (r base.number) offset) (r source.number) mem (all source.number)
 does_words_w (Memory LoadWord target base offset) r w all mem = mem
+does_words_w (Memory StoreByte source base offset) r w all mem =
+    let address : ℕ = memory_address (r base.number) offset in
+    put_words w.words (word_of address) (stored_word OneByte address (w.words (word_of address)) (r source.number)) mem (stored_is_word OneByte address (w.words (word_of address)) (r source.number) (mem (word_of address)) (all source.number))
+does_words_w (Memory LoadByte target base offset) r w all mem = mem
 does_words_w (Immediate op target source half) r w all mem = mem
 does_words_w (LoadUpper target half) r w all mem = mem
 does_words_w (Branch op left right offset) r w all mem = mem
@@ -274,19 +292,19 @@ module _ (code : Labelled) (formed : IsFormed code) (addresses : ℕ → ℕ) (g
   -- ---- words of live blocks
 
   -- one comes to a register
-  pub walk_load : (n k lo hi : ℕ) (out input : List ℕ) (Goal : State → Type 0) (r : Words) (w : Contents) (c : Configuration) (target base : Register) (offset word : ℕ)
-      → Now k out input r w c → slice_get code.lines k ≡ Some (lines.Ordinary (Memory LoadWord target base offset)) → lo ≤ k → IsWritable target.number
-      → IsLive w.store (memory_address (r base.number) offset) word → IsWord word
-      → ((d : Configuration) → Now (k + 1) out input (put r target.number word) w d → Walk n (suc k) hi out Goal (Running d))
+  pub walk_load : (width : Width) (n k lo hi : ℕ) (out input : List ℕ) (Goal : State → Type 0) (r : Words) (w : Contents) (c : Configuration) (target base : Register) (offset word : ℕ)
+      → Now k out input r w c → slice_get code.lines k ≡ Some (lines.Ordinary (Memory (load_op width) target base offset)) → lo ≤ k → IsWritable target.number
+      → IsLive w.store (word_place width (memory_address (r base.number) offset)) word → IsWord word
+      → ((d : Configuration) → Now (k + 1) out input (put r target.number (loaded_part width (memory_address (r base.number) offset) word)) w d → Walk n (suc k) hi out Goal (Running d))
       → Walk (suc n) lo hi out Goal (Running c)
-  walk_load n k lo hi out input Goal r w c target base offset word now stands from writable live is_word rest =
-      let i : Instr = Memory LoadWord target base offset in
+  walk_load width n k lo hi out input Goal r w c target base offset word now stands from writable live is_word rest =
+      let i : Instr = Memory (load_op width) target base offset in
       walk_step n lo hi out Goal c (Running (moved c i)) (omega (arith, from, now.at_line)) now.output
-      (λ next step. loads_live globals stack c r w now.view target base offset word next live (performs_now k out input r w c i next now stands refl step))
+      (λ next step. loads_live globals stack c r w now.view width target base offset word next live (performs_now k out input r w c i next now stands refl step))
       (walk_from n (suc c.line) (suc k) hi out Goal (Running (moved c i)) (omega (arith, now.at_line))
       (rest (moved c i) (record {
-        view = loaded_view globals stack c r w now.view target base offset word writable live;
-        r_words = put_words r target.number word now.r_words is_word;
+        view = loaded_view globals stack c r w now.view width target base offset word writable live;
+        r_words = put_words r target.number _ now.r_words (part_word width (memory_address (r base.number) offset) word is_word);
         w_words = now.w_words;
         at_line = ap (λ (x : ℕ). x + 1) now.at_line;
         output = now.output;
@@ -294,18 +312,18 @@ module _ (code : Labelled) (formed : IsFormed code) (addresses : ℕ → ℕ) (g
       })))
 
   -- one is written
-  pub walk_save : (n k lo hi : ℕ) (out input : List ℕ) (Goal : State → Type 0) (r : Words) (w : Contents) (c : Configuration) (source base : Register) (offset old : ℕ)
-      → Now k out input r w c → slice_get code.lines k ≡ Some (lines.Ordinary (Memory StoreWord source base offset)) → lo ≤ k
-      → IsLive w.store (memory_address (r base.number) offset) old
-      → ((d : Configuration) → Now (k + 1) out input r (saved_in w (memory_address (r base.number) offset) (r source.number)) d → Walk n (suc k) hi out Goal (Running d))
+  pub walk_save : (width : Width) (n k lo hi : ℕ) (out input : List ℕ) (Goal : State → Type 0) (r : Words) (w : Contents) (c : Configuration) (source base : Register) (offset old : ℕ)
+      → Now k out input r w c → slice_get code.lines k ≡ Some (lines.Ordinary (Memory (store_op width) source base offset)) → lo ≤ k
+      → IsLive w.store (word_place width (memory_address (r base.number) offset)) old
+      → ((d : Configuration) → Now (k + 1) out input r (saved_in w (word_place width (memory_address (r base.number) offset)) (stored_word width (memory_address (r base.number) offset) old (r source.number))) d → Walk n (suc k) hi out Goal (Running d))
       → Walk (suc n) lo hi out Goal (Running c)
-  walk_save n k lo hi out input Goal r w c source base offset old now stands from live rest =
-      let i : Instr = Memory StoreWord source base offset in
+  walk_save width n k lo hi out input Goal r w c source base offset old now stands from live rest =
+      let i : Instr = Memory (store_op width) source base offset in
       walk_step n lo hi out Goal c (Running (moved c i)) (omega (arith, from, now.at_line)) now.output
-      (λ next step. stores_live globals stack c r w now.view source base offset old next live (performs_now k out input r w c i next now stands refl step))
+      (λ next step. stores_live globals stack c r w now.view width source base offset old next live (performs_now k out input r w c i next now stands refl step))
       (walk_from n (suc c.line) (suc k) hi out Goal (Running (moved c i)) (omega (arith, now.at_line))
       (rest (moved c i) (record {
-        view = saved_view globals stack c r w now.view source base offset old live;
+        view = saved_view globals stack c r w now.view width source base offset old live;
         r_words = now.r_words;
         w_words = now.w_words;
         at_line = ap (λ (x : ℕ). x + 1) now.at_line;

@@ -10,7 +10,7 @@ use Rattle.cyc_isa.specs.declared.instr.Instr.TheVariants as machine
 use Rattle.cyc_isa.specs.declared.instr.ImmediateOp.{ImmediateOp}
 use Rattle.cyc_isa.specs.declared.instr.ImmediateOp.TheVariants as immediate
 use Rattle.cyc_isa.specs.declared.instr.MemoryOp.{MemoryOp}
-use Rattle.cyc_isa.specs.declared.instr.MemoryOp.TheVariants.{LoadWord, StoreWord}
+use Rattle.cyc_isa.specs.declared.instr.MemoryOp.TheVariants.{LoadWord, StoreWord, LoadByte, StoreByte}
 use Rattle.cyc_isa.specs.declared.instr.BranchOp.{BranchOp}
 use Rattle.cyc_isa.specs.declared.instr.BranchOp.TheVariants as branch
 use Rattle.cyc_isa.specs.declared.instr.ShiftOp.{ShiftOp}
@@ -435,6 +435,21 @@ operator_code frame here operator destination left right =
     then divide_code frame here (part_of operator) destination left right
     else ordinary (plan_code frame (binary_plan operator left right) destination)
 
+-- A slot that a register alone has comes into its word in memory, where it is passed.
+abbrev pub spill : Frame → (slot : ℕ) → List Instr
+spill frame slot = if is_kept frame slot then [] else store_slot frame (made_in frame slot) slot ∷ []
+
+abbrev pub spills : Frame → (slot count : ℕ) → List Instr
+spills frame slot zero = []
+spills frame slot (suc count) = spill frame slot ++ spills frame (suc slot) count
+
+abbrev pub spill_count : Frame → (slot : ℕ) → ℕ
+spill_count frame slot = if is_kept frame slot then 0 else 1
+
+abbrev pub spills_count : Frame → (slot count : ℕ) → ℕ
+spills_count frame slot zero = 0
+spills_count frame slot (suc count) = spill_count frame slot + spills_count frame (suc slot) count
+
 -- Arguments from the caller's slots to the first slots of the callee, whose frame is the current one already. Each comes
 -- by the register that the callee has it in.
 abbrev pub copies : (caller callee : Frame) → (source slot count : ℕ) → List Instr
@@ -503,7 +518,8 @@ body_count program frames function (plain.Binary operator destination left right
 body_count program frames function (plain.Jump target) = 1
 body_count program frames function (plain.Branch comparison left right target) =
     test_count (frame_at frames function) (test_of comparison left right) + 1
-body_count program frames function (plain.Call callee arguments count result) = 7 + 2 * count
+body_count program frames function (plain.Call callee arguments count result) =
+    spills_count (frame_at frames function) arguments count + 7 + 2 * count
 body_count program frames function (plain.Return value) =
     ending_count program function + (routine_at program function).results + 2
 body_count program frames function (plain.ReadByte destination) = 2 + give_count (frame_at frames function) destination
@@ -517,6 +533,10 @@ body_count program frames function (plain.StoreGlobal global source) =
 body_count program frames function (plain.Load destination address offset) =
     address_count (frame_at frames function) address offset + 1 + keep_count (frame_at frames function) destination
 body_count program frames function (plain.Store address offset source) =
+    address_count (frame_at frames function) address offset + operand_count (frame_at frames function) source + 1
+body_count program frames function (plain.LoadByte destination address offset) =
+    address_count (frame_at frames function) address offset + 1 + keep_count (frame_at frames function) destination
+body_count program frames function (plain.StoreByte address offset source) =
     address_count (frame_at frames function) address offset + operand_count (frame_at frames function) source + 1
 body_count program frames function (plain.Ask request) = ask_count request
 body_count program frames function (plain.CountLexical destination) =
@@ -616,19 +636,19 @@ address_of frame destination slot =
     add_immediate (made_in frame destination) FRAME (slot_offset frame slot)
     ∷ keep_code frame destination)
 
--- a word of memory into a slot, and an operand into a word of memory
-abbrev pub load_word : Frame → (destination : ℕ) → (address : Operand) → (offset : ℕ) → List Line
-load_word frame destination address offset =
+-- a word or a byte of memory into a slot, and an operand into one
+abbrev pub load_at : Frame → MemoryOp → (destination : ℕ) → (address : Operand) → (offset : ℕ) → List Line
+load_at frame op destination address offset =
     ordinary (
     address_code frame address offset
-    ++ at_address frame LoadWord (made_in frame destination) address offset
+    ++ at_address frame op (made_in frame destination) address offset
     ∷ keep_code frame destination)
 
-abbrev pub store_word : Frame → (address : Operand) → (offset : ℕ) → (source : Operand) → List Line
-store_word frame address offset source =
+abbrev pub store_at : Frame → MemoryOp → (address : Operand) → (offset : ℕ) → (source : Operand) → List Line
+store_at frame op address offset source =
     ordinary (
     address_code frame address offset
-    ++ (operand_code frame SECOND source ++ at_address frame StoreWord (operand_register frame SECOND source) address offset ∷ []))
+    ++ (operand_code frame SECOND source ++ at_address frame op (operand_register frame SECOND source) address offset ∷ []))
 
 -- an operand into a register, where there is one
 abbrev pub argument_code : Frame → (register : ℕ) → Option Operand → List Instr
@@ -772,7 +792,8 @@ body program frames function here (plain.Jump target) =
 body program frames function here (plain.Branch comparison left right target) =
     branch_code (frame_at frames function) (test_of comparison left right) (instruction_line program frames function target)
 body program frames function here (plain.Call callee arguments count result) =
-    calling_code (frame_at frames function) (frame_at frames callee) here (function_line program frames callee) arguments count
+    ordinary (spills (frame_at frames function) arguments count)
+    ++ calling_code (frame_at frames function) (frame_at frames callee) (here + spills_count (frame_at frames function) arguments count) (function_line program frames callee) arguments count
 body program frames function here (plain.Return value) =
     returning_code (function == program.main) (frame_at frames function) here value (routine_at program function).results
 body program frames function here (plain.ReadByte destination) =
@@ -785,9 +806,13 @@ body program frames function here (plain.StoreGlobal global source) =
 body program frames function here (plain.AddressOf destination slot count) =
     address_of (frame_at frames function) destination slot
 body program frames function here (plain.Load destination address offset) =
-    load_word (frame_at frames function) destination address offset
+    load_at (frame_at frames function) LoadWord destination address offset
 body program frames function here (plain.Store address offset source) =
-    store_word (frame_at frames function) address offset source
+    store_at (frame_at frames function) StoreWord address offset source
+body program frames function here (plain.LoadByte destination address offset) =
+    load_at (frame_at frames function) LoadByte destination address offset
+body program frames function here (plain.StoreByte address offset source) =
+    store_at (frame_at frames function) StoreByte address offset source
 body program frames function here (plain.Ask request) = ask_code (frame_at frames function) request
 body program frames function here (plain.CountLexical destination) =
     ordinary (give_code (frame_at frames function) REGIONS destination)

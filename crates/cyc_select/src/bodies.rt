@@ -6,10 +6,12 @@ ghost use Rattle.cyc_select.specs.Selection.{body, behind};
 ghost use Rattle.cyc_select.specs.Emission.{AddsLines, IsKnown, most_lines};
 
 use crate::code::Line;
+use crate::counting::spills_count;
 use crate::emitter::Emitter;
 use crate::operators::Parts;
 use crate::plan::{test_of, unary_plan};
 use crate::tables::Tables;
+use cyc_isa::MemoryOp;
 use cyc_plain::Instruction;
 use std::alloc::AllocError;
 
@@ -69,7 +71,9 @@ impl Emitter {
             } => {
                 let callee = tables.frame(function);
                 let label = tables.start(function);
-                self.call(frame, callee, here, label, arguments, count)
+                let spilled = here + spills_count(frame, arguments, count);
+                self.spills(frame, arguments, count)?;
+                self.call(frame, callee, spilled, label, arguments, count)
             }
             Instruction::Return { value } => {
                 let results = tables.results(tables.function);
@@ -108,12 +112,22 @@ impl Emitter {
                 destination,
                 address,
                 offset,
-            } => self.load_word(frame, destination, address, offset),
+            } => self.load_at(frame, MemoryOp::LoadWord, destination, address, offset),
             Instruction::Store {
                 address,
                 offset,
                 source,
-            } => self.store_word(frame, address, offset, source),
+            } => self.store_at(frame, MemoryOp::StoreWord, address, offset, source),
+            Instruction::LoadByte {
+                destination,
+                address,
+                offset,
+            } => self.load_at(frame, MemoryOp::LoadByte, destination, address, offset),
+            Instruction::StoreByte {
+                address,
+                offset,
+                source,
+            } => self.store_at(frame, MemoryOp::StoreByte, address, offset, source),
         }
     }
 

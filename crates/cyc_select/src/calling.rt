@@ -1,6 +1,6 @@
 //! The lines of calls and returns, and of moves of several words.
 ghost use Rattle.std.specs.Prelude.{◌≡◌, ◌+◌, ◌*◌, ◌<◌, ◌≤◌, [], ◌∷◌, ◌++◌, true, length, OnOk};
-ghost use Rattle.cyc_select.specs.Selection.{load, store_slot, made_in, slot_offset, copies, ordinary, load_all, load_words, store_all, moves, all_moved, move_words, calling_code, returned_code, ending_code, returning_code};
+ghost use Rattle.cyc_select.specs.Selection.{load, store_slot, made_in, slot_offset, spill, spills, copies, ordinary, load_all, load_words, store_all, moves, all_moved, move_words, calling_code, returned_code, ending_code, returning_code};
 ghost use Rattle.cyc_select.specs.Emission.{AddsLines, IsReached, AreReached, most_lines, enter_code};
 
 use crate::code::Line;
@@ -10,7 +10,7 @@ use crate::instructions::{
     add_immediate, load, load_slot, load_word, minus, offset_of, pop_frame, push_frame, small,
     store, store_slot, syscall,
 };
-use crate::operands::made_in;
+use crate::operands::{is_kept, made_in};
 use cyc_frame::{Frame, MOST_FRAME_WORDS, is_crossing};
 use cyc_isa::BranchOp;
 use cyc_machine::constants::{ARGUMENT, END_FULL, END_RETURNED, RETURN_ADDRESS, SERVICE};
@@ -38,6 +38,33 @@ impl Emitter {
         let offset = offset_of(callee.words) + offset_of(caller.first_slot + source);
         let target = made_in(callee, slot);
         self.ordinary(&[load(target, offset), store_slot(callee, target, slot)])
+    }
+
+    /// A slot that a register alone has comes into its word in memory, from where it is passed.
+    fn spill(&mut self, frame: &Frame, slot: usize) -> Result<(), AllocError>
+        requires { IsReached frame.now slot }
+        ensures { AddsLines result self.old self.new (ordinary (spill frame.now slot)) }
+    {
+        if is_kept(frame, slot) {
+            return Ok(());
+        }
+        self.ordinary(&[store_slot(frame, made_in(frame, slot), slot)])
+    }
+
+    /// All such slots, of so many.
+    pub(crate) fn spills(
+        &mut self,
+        frame: &Frame,
+        slot: usize,
+        count: usize,
+    ) -> Result<(), AllocError>
+        requires { AreReached frame.now slot count }
+        ensures { AddsLines result self.old self.new (ordinary (spills frame.now slot count)) }
+    {
+        for word in 0..count {
+            self.spill(frame, slot + word)?;
+        }
+        Ok(())
     }
 
     /// The arguments, from the caller's slots to the first ones of the callee.
@@ -85,7 +112,7 @@ impl Emitter {
         arguments: usize,
         count: usize,
     ) -> Result<(), AllocError>
-        requires fits { here ≤ most_lines }
+        requires fits { here ≤ most_lines + MOST_FRAME_WORDS }
         requires return_address { caller.now.return_address ≤ MOST_FRAME_WORDS }
         requires some { 0 < callee.now.words }
         requires words { callee.now.words ≤ MOST_FRAME_WORDS }

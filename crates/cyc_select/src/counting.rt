@@ -4,14 +4,15 @@ ghost use Rattle.cyc_plain.specs.Program.{routine_of, routine_at, instruction_si
 ghost use Rattle.cyc_plain.specs.WellFormed.{IsPlain, IsInRange};
 ghost use Rattle.cyc_frame.specs.Layout.{AreFrames, frame_at};
 ghost use Rattle.cyc_frame.specs.declared.home.TheConstants.{MOST_BOTH};
-ghost use Rattle.cyc_select.specs.Selection.{reload_count, moves_count, move_words_count, operator_count, ending_count, body_count, behind_count, count_of};
+ghost use Rattle.cyc_select.specs.Selection.{reload_count, spill_count, spills_count, moves_count, move_words_count, operator_count, ending_count, body_count, behind_count, count_of};
 ghost use Rattle.cyc_select.specs.Emission.{AreFew, most_lines, instruction_lines, function_starts};
 
 use crate::asking::ask_count;
 use crate::constants::START_LINES;
 use crate::memory::address_count;
 use crate::operands::{
-    give_count, keep_count, load_count, move_count, operand_count, reload_count, word_count,
+    give_count, is_kept, keep_count, load_count, move_count, operand_count, reload_count,
+    word_count,
 };
 use crate::operators::{Parts, is_tested, plan_count, test_count};
 use crate::plan::{binary_plan, test_of, unary_plan};
@@ -88,6 +89,27 @@ fn move_words_count(frame: &Frame, destination: usize, source: usize, count: usi
     }
 }
 
+fn spill_count(frame: &Frame, slot: usize) -> usize
+    ensures value { result ≡ spill_count frame.now slot }
+    ensures few { result ≤ 1 }
+{
+    if is_kept(frame, slot) { 0 } else { 1 }
+}
+
+/// Before a call, the lines that bring what it passes into memory.
+#[tactic(auto, using(crate::proofs::Counts::spills_next))]
+pub(crate) fn spills_count(frame: &Frame, slot: usize, count: usize) -> usize
+    requires { slot + count ≤ MOST_FRAME_WORDS }
+    ensures value { result ≡ spills_count frame.now slot count }
+    ensures few { result ≤ MOST_FRAME_WORDS }
+{
+    let mut lines = 0;
+    for word in 0..count {
+        lines += spill_count(frame, slot + word);
+    }
+    lines
+}
+
 /// The lines of a return.
 fn return_count(plain: &Plain, function: usize) -> usize
     requires function { function < length plain.now.functions }
@@ -99,7 +121,7 @@ fn return_count(plain: &Plain, function: usize) -> usize
 }
 
 /// The lines of an instruction up to what it does.
-#[tactic(auto, using(crate::proofs::Numbering::source_small, crate::proofs::Numbering::target_small))]
+#[tactic(auto, using(crate::proofs::Numbering::source_small, crate::proofs::Numbering::target_small, crate::proofs::Numbering::arguments_small))]
 fn body_count(plain: &Plain, frames: &[Frame], function: usize, instruction: Instruction) -> usize
     requires fit { AreFrames plain.now frames.now }
     requires function { function < length plain.now.functions }
@@ -150,13 +172,27 @@ fn body_count(plain: &Plain, frames: &[Frame], function: usize, instruction: Ins
             offset,
             source,
         } => address_count(frame, address, offset) + operand_count(frame, source) + 1,
+        Instruction::LoadByte {
+            destination,
+            address,
+            offset,
+        } => address_count(frame, address, offset) + 1 + keep_count(frame, destination),
+        Instruction::StoreByte {
+            address,
+            offset,
+            source,
+        } => address_count(frame, address, offset) + operand_count(frame, source) + 1,
         Instruction::Branch {
             comparison,
             left,
             right,
             ..
         } => test_count(frame, test_of(comparison, left, right)) + 1,
-        Instruction::Call { count, .. } => 7 + 2 * count,
+        Instruction::Call {
+            arguments,
+            count,
+            ..
+        } => spills_count(frame, arguments, count) + 7 + 2 * count,
         Instruction::Return { .. } => return_count(plain, function),
         Instruction::ReadByte { destination } => 2 + give_count(frame, destination),
         Instruction::LoadGlobal { destination, .. } => 2 + keep_count(frame, destination),

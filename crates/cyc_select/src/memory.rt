@@ -1,6 +1,6 @@
 //! The lines that load and store words of memory.
 ghost use Rattle.std.specs.Prelude.{◌≡◌, ◌+◌, ◌≤◌, OnOk};
-ghost use Rattle.cyc_select.specs.Selection.{ordinary, address_of, far_plan, address_code, address_register, near_half, at_address, address_count, load_word, store_word};
+ghost use Rattle.cyc_select.specs.Selection.{ordinary, address_of, far_plan, address_code, address_register, near_half, at_address, address_count, load_at, store_at};
 ghost use Rattle.cyc_select.specs.Emission.{AddsLines, IsReached, IsFound};
 
 use crate::constants::{FIRST, FRAME, SECOND};
@@ -90,39 +90,41 @@ impl Emitter {
         self.keep(frame, destination)
     }
 
-    /// A word of memory comes into a slot.
-    pub(crate) fn load_word(
+    /// A word or a byte of memory comes into a slot.
+    pub(crate) fn load_at(
         &mut self,
         frame: &Frame,
+        op: MemoryOp,
         destination: usize,
         address: Operand,
         offset: u32,
     ) -> Result<(), AllocError>
         requires target { IsReached frame.now destination }
         requires address { IsFound frame.now address }
-        ensures { AddsLines result self.old self.new (load_word frame.now destination address offset) }
+        ensures { AddsLines result self.old self.new (load_at frame.now op destination address offset) }
     {
         let target = made_in(frame, destination);
         self.address(frame, address, offset)?;
-        self.ordinary(&[at_address(frame, MemoryOp::LoadWord, target, address, offset)])?;
+        self.ordinary(&[at_address(frame, op, target, address, offset)])?;
         self.keep(frame, destination)
     }
 
-    /// An operand goes into a word of memory.
-    pub(crate) fn store_word(
+    /// An operand goes into a word or a byte of memory.
+    pub(crate) fn store_at(
         &mut self,
         frame: &Frame,
+        op: MemoryOp,
         address: Operand,
         offset: u32,
         source: Operand,
     ) -> Result<(), AllocError>
         requires address { IsFound frame.now address }
         requires source { IsFound frame.now source }
-        ensures { AddsLines result self.old self.new (store_word frame.now address offset source) }
+        ensures { AddsLines result self.old self.new (store_at frame.now op address offset source) }
     {
         self.address(frame, address, offset)?;
         self.operand(frame, SECOND, source)?;
         let from = operand_register(frame, SECOND, source);
-        self.ordinary(&[at_address(frame, MemoryOp::StoreWord, from, address, offset)])
+        self.ordinary(&[at_address(frame, op, from, address, offset)])
     }
 }

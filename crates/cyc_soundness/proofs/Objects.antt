@@ -508,7 +508,7 @@ module _ (p : Source) (g : Typing) (x : Exits) (bs : List InScope) (e : Environm
 
   pub array_on : (owner : Owner) (level : ℕ) (kind : Kind) (element : Expression) (v : values.Value) (k : List Entry) (c : Context) (t : Ty) (r : Region') (f : flow.State) → LiveIn k bs → IsContext p x bs c → Holds g f bs → IsThere bs r
       → IsNewOwner (lives_in bs r) owner → Repeats p.reading (relied_at x.relied k) c level kind element t f → HasType g Int v → IsStack p g x bs (Val (Value (Pointer marks.Fat (read bs t) (lives_in bs r))) f) k → IsWell p (makes_array owner level kind element v k e w)
-  array_on owner level kind element (values.Int count) k c t r f live stands holds alive owned repeats is stack = go (nat_le (count * values.words_of_kind kind) most_words)
+  array_on owner level kind element (values.Int count) k c t r f live stands holds alive owned repeats is stack = go (nat_le (values.words_for (count * values.bytes_of_kind kind)) most_words)
     where
       go : (b : Bool) → IsWell p (if b then Running (Beginning owner count level kind element) k e w else Running (Throwing array_size 0) k e w)
       go true = running p g x bs e w typed globals bound variables (Beginning owner count level kind element) k live (c, t, r, f, stands, holds, alive, owned, repeats, stack)

@@ -27,6 +27,12 @@ no room|2402000b 0000000c||Ended(Full) after 2||0=0
 an echo|24020001 0000000c 04400005 00402021 24020002 0000000c 1000fff9 00000000 24020003 24040000 0000000c|hi|Ended(Returned(0)) after 23|hi|2=3
 an echo of nothing|24020001 0000000c 04400005 00402021 24020002 0000000c 1000fff9 00000000 24020003 24040000 0000000c||Ended(Returned(0)) after 7||0=0
 the start|0000000d||Ended(Trap(Break)) after 1||0=0 4=1 29=7ffff000 31=0 2=0
+a byte of a word|3c081000 24090041 a1090001 91040001 24020003 0000000c||Ended(Returned(65)) after 6||4=41
+the word of a byte|3c081000 24090041 a1090001 8d040000 24020003 0000000c||Ended(Returned(4259840)) after 6||4=410000
+a byte among three|3c081000 3c091234 35295678 ad090000 24090041 a1090002 8d040000 24020003 0000000c||Ended(Returned(305414520)) after 9||4=12344178
+each byte of a word|3c081000 3c09fedc 3529ba98 ad090000 91040000 91050001 91060002 91070003 a1000003 8d0a0000 0000000d||Ended(Trap(Break)) after 11||4=fe 5=dc 6=ba 7=98 10=fedcba00
+a byte of the text|3c080040 91090003 0000000d||Ended(Trap(Break)) after 3||9=40
+a byte of a block|24020009 24040001 24050002 0000000c 24080341 ac400004 a0480005 8c490004 90480007 00402021 0000000d||Ended(Trap(Break)) after 11||8=0 9=410000
 a branch in a delay slot|10000001 10000001||Ended(Trap(Unpredictable)) after 2||
 a jump in the slot of a branch not taken|14000001 08100000||Ended(Trap(Unpredictable)) after 2||
 division by 0|0000001a||Ended(Trap(Unpredictable)) after 1||
@@ -39,6 +45,11 @@ a load off a word|8c080002||Ended(Trap(Misaligned)) after 1||
 a store off a word, to nowhere|ac080002||Ended(Trap(Misaligned)) after 1||
 a load from nowhere|8c080000||Ended(Trap(NoSuchAddress)) after 1||
 a load from nowhere to register 0|8c000000||Ended(Trap(NoSuchAddress)) after 1||
+a byte from nowhere|90000000||Ended(Trap(NoSuchAddress)) after 1||
+a byte from nowhere to an odd address|a0080003||Ended(Trap(NoSuchAddress)) after 1||
+a byte to the text|3c080040 a1080000||Ended(Trap(WriteToText)) after 2||
+a byte to the last byte of the text|3c080040 a1080007||Ended(Trap(WriteToText)) after 2||
+a byte past the text|3c080040 91080008||Ended(Trap(NoSuchAddress)) after 2||
 a store past the text|3c080040 ad080008||Ended(Trap(NoSuchAddress)) after 2||
 a store to the text|3c080040 ad080000||Ended(Trap(WriteToText)) after 2||
 a fetch past the text|00000000||Ended(Trap(NoSuchAddress)) after 2||
@@ -54,6 +65,9 @@ no dynamic region to close|24040001 24020008 0000000c||Ended(Trap(BadService)) a
 a mark above|24040001 24020006 0000000c||Ended(Trap(BadService)) after 3||
 a load from a freed block|24020009 24040002 24050001 0000000c 00408021 00402021 2402000a 0000000c 8e080000||Ended(Trap(DeadCell)) after 9||
 a store to a freed block|24020009 24040002 24050001 0000000c 00408021 00402021 2402000a 0000000c ae080000||Ended(Trap(DeadCell)) after 9||
+a byte of a freed block|24020009 24040002 24050001 0000000c 00408021 00402021 2402000a 0000000c 92080001||Ended(Trap(DeadCell)) after 9||
+a byte to a freed block|24020009 24040002 24050001 0000000c 00408021 00402021 2402000a 0000000c a2080003||Ended(Trap(DeadCell)) after 9||
+the byte behind a block|24020009 24040001 24050003 0000000c 9048000b 9048000c||Ended(Trap(DeadCell)) after 6||
 a unique block of 3 words has 4|24020009 24040002 24050003 0000000c 8c48000c 8c480010||Ended(Trap(DeadCell)) after 6||
 a block of 3 words in the heap|24020009 24040001 24050003 0000000c 8c480008 8c48000c||Ended(Trap(DeadCell)) after 6||
 past the store's pages|3c082000 35083000 8d090000||Ended(Trap(NoSuchAddress)) after 3||

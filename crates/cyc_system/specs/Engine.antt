@@ -1,17 +1,21 @@
 -- What it means to run an image between a reader and a writer. This project's own choice.
-use Rattle.std.specs.Prelude.{◌≡◌, ℕ, zero, suc, ◌≤◌, ◌<◌, Bool, List, Option, None, Some, Result, Ok, Err, MatchBool, ◌⊎◌}
+use Rattle.std.specs.Prelude.{◌≡◌, ℕ, zero, suc, ◌≤◌, ◌<◌, ◌==◌, if◌then◌else◌, Bool, List, Option, None, Some, Result, Ok, Err, MatchBool, ◌⊎◌}
 use Rattle.std.specs.Io.KnownBytes.{Keeps, Appends}
 use Rattle.cyc_store.specs.State.{StoreState}
 use Rattle.cyc_store.specs.New.{IsNew}
 use Rattle.cyc_elf.specs.declared.fault.ElfFault.{ElfFault}
 use Rattle.cyc_elf.specs.Image.{ImageContents}
 use Rattle.cyc_machine.specs.declared.fault.LoadFault.TheVariants as load
+use Rattle.cyc_machine.specs.declared.constants.TheConstants.{END_FULL, SERVICE}
+use Rattle.cyc_machine.specs.declared.event.End.TheVariants as ends
 use Rattle.cyc_machine.specs.declared.event.Event.TheVariants.{WantsByte, Puts}
 use Rattle.cyc_machine.specs.Bounds.{Bounds}
-use Rattle.cyc_machine.specs.State.{State}
+use Rattle.cyc_machine.specs.State.{Core, State, register}
 use Rattle.cyc_machine.specs.Step.{Step, WantsMemory}
 use Rattle.cyc_machine.specs.Run.{World, Goes, Run, end_of}
 use Rattle.cyc_machine.specs.Start.{has_outside, start_world}
+use Rattle.cyc_system.specs.declared.report.Limit.{Limit}
+use Rattle.cyc_system.specs.declared.report.Limit.TheVariants.{Calls, Pages}
 use Rattle.cyc_system.specs.declared.report.Report.{Report}
 use Rattle.cyc_system.specs.declared.report.Stop.{Stop}
 use Rattle.cyc_system.specs.declared.report.Stop.TheVariants as stops
@@ -57,6 +61,22 @@ abbrev pub Stops : Stop → (budget count : ℕ) → World → Type 0
 Stops (stops.End end) budget count w = end_of w ≡ Some end
 Stops stops.Spent budget count w = (end_of w ≡ None) × (count ≡ budget)
 
+-- The limit that a run came to which is full, by the service that was asked last: `EndFull` is the program's own, for want of calls,
+-- and any other is a call of the store, for which there were too few pages.
+abbrev pub limit_at : Stop → Core → Option Limit
+limit_at (stops.End ends.Full) core = if register core SERVICE == END_FULL then Some Calls else Some Pages
+limit_at stop core = None
+
+-- what a report says of where the run stopped is so in this world
+abbrev pub StandsAt : Report → World → Type 0
+StandsAt report w = (report.counter ≡ w.machine.core.counter) × (report.limit ≡ limit_at report.stop w.machine.core)
+
+-- A run that begins in this world, on whatever input, and that was reported stopped so, and there.
+abbrev pub Stands : (start : List ℕ → World) (budget : ℕ) (old new : Devices) → Result Report RunFault → Type 0
+Stands start budget old new (Ok report) =
+    (w : World) × Executes start old new report.count w × Stops report.stop budget report.count w × StandsAt report w
+Stands start budget old new (Err e) = Unit {0}
+
 -- the next instruction wants a byte, or prints one
 abbrev pub WantsByteNext : World → Type 0
 WantsByteNext w = (s : State) × Step w.machine WantsByte s
@@ -97,3 +117,12 @@ Answers grows store (Ok image) limits budget old new result =
 -- The same, where the call makes a new store itself, of the limits' pages.
 abbrev pub AnswersAnew : (grows : Bool) → Result ImageContents ElfFault → Bounds → (budget : ℕ) (old new : Devices) → Result Report RunFault → Type 0
 AnswersAnew grows read limits budget old new result = (store : StoreState) × IsNew limits.pages store × Answers grows store read limits budget old new result
+
+-- Where a run stopped that was answered so: a run of the image that was read, with this store. Of bytes that are no image nothing is said.
+abbrev pub StandsOver : StoreState → Result ImageContents ElfFault → Bounds → (budget : ℕ) (old new : Devices) → Result Report RunFault → Type 0
+StandsOver store (Err f) limits budget old new result = Unit {0}
+StandsOver store (Ok image) limits budget old new result = Stands (start_world image limits store) budget old new result
+
+-- The same, where the call makes a new store itself, of the limits' pages.
+abbrev pub StandsAnew : Result ImageContents ElfFault → Bounds → (budget : ℕ) (old new : Devices) → Result Report RunFault → Type 0
+StandsAnew read limits budget old new result = (store : StoreState) × IsNew limits.pages store × StandsOver store read limits budget old new result

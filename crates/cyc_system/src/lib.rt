@@ -15,4 +15,4 @@ pub use engine::{run, run_with};
 pub use front::{Phases, accept, run_phases};
 pub use listing::disassemble;
 pub use notes::note_of;
-pub use report::{Report, RunFault, Stop};
+pub use report::{Limit, Report, RunFault, Stop};

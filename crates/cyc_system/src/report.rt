@@ -16,11 +16,24 @@ pub enum Stop {
     Spent,
 }
 
-/// What came of a run: how it stopped, and how many instructions were executed.
+/// A limit of a run that more was wanted of than there is.
+#[derive(Clone, Copy, Debug, PartialEq, Eq)]
+pub enum Limit {
+    /// The calls: the program found no room for one more, and ended the run so.
+    Calls,
+    /// The pages: the store had none for what the program asked of it.
+    Pages,
+}
+
+/// What came of a run: how it stopped, how many instructions were executed, and where it stood then.
 #[derive(Clone, Copy, Debug, PartialEq, Eq)]
 pub struct Report {
     pub stop: Stop,
     pub count: u64,
+    /// The address of the instruction that ended the run, or of the next one.
+    pub counter: u32,
+    /// Of which limit more was wanted, where the run is full.
+    pub limit: Option<Limit>,
 }
 
 /// Why an image was not run to a stop, or not listed. Want of memory is `Memory`, wherever it comes from, and a listing

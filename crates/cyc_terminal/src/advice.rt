@@ -1,7 +1,6 @@
 //! What a person reads of a refusal: what is wrong, in words, and what to do about it; and of an image that is none, or of a
 //! run that ended by an exception. `docs/codes.txt` is the table of codes; a test of the suite compares these words with it.
 use crate::arguments::MOST_STEPS;
-use cyc_machine::Limits;
 use cyc_machine::constants::{MAX_CALLS, MAX_PAGES};
 use cyc_words::Code;
 use std::fmt;
@@ -97,8 +96,12 @@ pub fn image_fault(number: u32) -> &'static str {
 pub enum Ending {
     /// Nothing caught the exception of this number.
     Uncaught(u32),
-    /// More calls or pages were wanted than these.
-    Full(Limits),
+    /// More calls under way at once were wanted than so many.
+    Calls(u32),
+    /// More pages were wanted than so many.
+    Pages(u32),
+    /// The machine refused the instruction at this address.
+    Trap(u32),
     /// More instructions were wanted than so many.
     Spent(u64),
 }
@@ -114,12 +117,20 @@ impl fmt::Display for Ending {
                 )
             }
             Ending::Uncaught(number) => f.write_str(built_in(number)),
-            Ending::Full(limits) => {
-                let (calls, pages) = (limits.calls(), limits.pages());
+            Ending::Calls(calls) => {
                 write!(
                     f,
-                    "more than {calls} nested calls, or more memory than {pages} pages: --calls N allows up to {MAX_CALLS}, and --pages N up to {MAX_PAGES}"
+                    "more than {calls} nested calls: --calls N allows up to {MAX_CALLS}"
                 )
+            }
+            Ending::Pages(pages) => {
+                write!(
+                    f,
+                    "more memory than {pages} pages: --pages N allows up to {MAX_PAGES}"
+                )
+            }
+            Ending::Trap(address) => {
+                write!(f, "the machine refused the instruction at {address:08x}")
             }
             Ending::Spent(budget) => {
                 write!(

@@ -42,8 +42,9 @@ pub const MOST_STEPS: u64 = 1_000_000_000_000;
 const ABOUT: &str = "Checks programs in an integer profile of Cyclone, a safe C with regions, \
      compiles them to MIPS32 images, and runs and disassembles those images.";
 
-/// What `--version` says behind the program's name: the product, the toolchain that proves and builds it, and what is proved.
-const VERSION: &str = "(Hengvuol), of sources for rattle-kit-13f logic dac8208d650f15bf
+/// What `--version` says behind the program's name: the product, the logic of the toolchain that proves and builds it, which its kits
+/// share, and what is proved.
+const VERSION: &str = "(Hengvuol), of sources for Rattle with logic dac8208d650f15bf
 
 Proved, where it was built by make build: an image that it makes prints what its program means,
 and nothing else, and ends alike; no program that it accepts reaches what is freed. Trusted: the

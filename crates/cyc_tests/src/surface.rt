@@ -30,7 +30,7 @@ use cyc_select::{Code, select};
 use cyc_store::{BadHandle, BadMark, No, NotABlock, PlainStore, Store};
 use cyc_syntax::{Name, Names, Span, Token, Tree};
 use cyc_system::{
-    Report, RunFault, Stop, compile, compile_with, disassemble, note_of, run, run_with,
+    Limit, Report, RunFault, Stop, compile, compile_with, disassemble, note_of, run, run_with,
 };
 use cyc_types::{Kind, Outlives, Region, TypedTree};
 use cyc_words::{
@@ -353,7 +353,20 @@ pub fn ends(number: u32, value: i32, cause: Cause) -> [End; 4] {
 pub fn reports(end: End, count: u64) -> [Report; 2] {
     let stop = Stop::End(end);
     let spent = Stop::Spent;
-    [Report { stop, count }, Report { stop: spent, count }]
+    [
+        Report {
+            stop,
+            count,
+            counter: 4_194_304,
+            limit: Some(Limit::Calls),
+        },
+        Report {
+            stop: spent,
+            count,
+            counter: 4_194_304,
+            limit: Some(Limit::Pages),
+        },
+    ]
 }
 
 pub fn faults(elf: ElfFault, load: LoadFault) -> [RunFault; 5] {

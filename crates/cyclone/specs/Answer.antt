@@ -1,5 +1,5 @@
 -- The exit status and the last line of each answer of the program: this project's own choice.
-use Rattle.std.specs.Prelude.{ℕ, ◌%◌, List, ◌++◌, codes}
+use Rattle.std.specs.Prelude.{ℕ, ◌%◌, List, ◌++◌, Option, Some, None, codes}
 use Rattle.std.specs.Fmt.{decimal, signed_decimal}
 use Rattle.cyc_words.specs.Word.{unsigned}
 use Rattle.cyc_words.specs.Fault.{number_of}
@@ -9,14 +9,20 @@ use Rattle.cyclone.specs.declared.answer.Answer.{Answer}
 use Rattle.cyclone.specs.declared.answer.Answer.TheVariants.{Done, Returned, Refused, BadImage, Uncaught, Full, Trapped, Spent, ReadFault, WriteFault, NoMemory, Usage}
 use Rattle.cyc_elf.specs.Fault.{number_of as elf_number_of}
 use Rattle.cyc_elf.specs.declared.fault.ElfFault.TheVariants as Elf
+use Rattle.cyc_machine.specs.Bounds.{Bounds}
 use Rattle.cyc_machine.specs.declared.event.Cause.{Cause}
 use Rattle.cyc_machine.specs.declared.event.Cause.TheVariants.{ReservedInstruction, Unpredictable, Misaligned, NoSuchAddress, DeadCell, WriteToText, Break, BadService}
 use Rattle.cyc_machine.specs.declared.event.End.TheVariants as End
 use Rattle.cyc_machine.specs.declared.fault.LoadFault.TheVariants as Load
+use Rattle.cyc_system.specs.declared.report.Limit.{Limit}
+use Rattle.cyc_system.specs.declared.report.Limit.TheVariants as Limit
+use Rattle.cyc_system.specs.declared.report.Report.{Report}
 use Rattle.cyc_system.specs.declared.report.Stop.{Stop}
 use Rattle.cyc_system.specs.declared.report.Stop.TheVariants as Stop
 use Rattle.cyc_system.specs.declared.report.RunFault.{RunFault}
 use Rattle.cyc_system.specs.declared.report.RunFault.TheVariants as RunFault
+use Rattle.cyc_terminal.specs.declared.advice.Ending.{Ending}
+use Rattle.cyc_terminal.specs.declared.advice.Ending.TheVariants as Ending
 
 -- what the last line says of the cause of a trap
 abbrev pub cause_words : Cause → List ℕ
@@ -81,3 +87,18 @@ answer_of_run_fault (RunFault.Load Load.Memory) = NoMemory
 answer_of_run_fault RunFault.Read = ReadFault
 answer_of_run_fault RunFault.Write = WriteFault
 answer_of_run_fault RunFault.Memory = NoMemory
+
+-- what a full run had too few of, and how many it had
+abbrev pub ending_at : Option Limit → Bounds → Option Ending
+ending_at None limits = None
+ending_at (Some Limit.Calls) limits = Some (Ending.Calls limits.calls)
+ending_at (Some Limit.Pages) limits = Some (Ending.Pages limits.pages)
+
+-- Why a run with these limits and this budget ended before its program did, by what is reported of it; nothing where it did not, or where
+-- there is no report.
+abbrev pub ending_of : Answer → Option Report → Bounds → (budget : ℕ) → Option Ending
+ending_of (Uncaught exception value) (Some report) limits budget = Some (Ending.Uncaught exception)
+ending_of Full (Some report) limits budget = ending_at report.limit limits
+ending_of (Trapped cause) (Some report) limits budget = Some (Ending.Trap report.counter)
+ending_of Spent (Some report) limits budget = Some (Ending.Spent budget)
+ending_of answer report limits budget = None

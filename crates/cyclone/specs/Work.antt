@@ -1,5 +1,5 @@
 -- What the program answers to a check, a run and a listing, by what the layers below it answered.
-use Rattle.std.specs.Prelude.{◌≡◌, ◌⊎◌, ℕ, false, List, Option, Result, Ok, Err}
+use Rattle.std.specs.Prelude.{◌≡◌, ◌⊎◌, ℕ, false, List, Option, Some, None, Result, Ok, Err}
 use Rattle.cyc_words.specs.declared.fault.Fault.{Fault}
 use Rattle.cyc_words.specs.Fault.{memory_fault}
 use Rattle.cyc_types.specs.TypedTrees.{Program}
@@ -7,7 +7,7 @@ use Rattle.cyc_elf.specs.declared.fault.ElfFault.{ElfFault}
 use Rattle.cyc_elf.specs.Image.{ImageContents}
 use Rattle.cyc_elf.specs.Reading.{reading}
 use Rattle.cyc_machine.specs.Bounds.{Bounds}
-use Rattle.cyc_system.specs.Engine.{AnswersAnew, Devices}
+use Rattle.cyc_system.specs.Engine.{AnswersAnew, Devices, StandsAnew}
 use Rattle.cyc_system.specs.Front.{IsAcceptedText, IsRefusedText}
 use Rattle.cyc_system.specs.Listing.{Shows}
 use Rattle.cyc_system.specs.declared.report.Report.{Report}
@@ -27,6 +27,11 @@ abbrev pub answer_of_run : Result Report RunFault → Answer
 answer_of_run (Ok report) = answer_of_stop report.stop
 answer_of_run (Err fault) = answer_of_run_fault fault
 
+-- what is reported beside the answer
+abbrev pub report_of_run : Result Report RunFault → Option Report
+report_of_run (Ok report) = Some report
+report_of_run (Err fault) = None
+
 abbrev pub answer_of_listing : Result (Unit {0}) RunFault → Answer
 answer_of_listing (Ok done) = Done
 answer_of_listing (Err fault) = answer_of_run_fault fault
@@ -39,11 +44,13 @@ AreLimitsFor image given limits = (read : ImageContents) × (reading image ≡ O
 abbrev pub AnswersNoImage : List ℕ → Answer → Type 0
 AnswersNoImage image answer = (answer ≡ NoMemory) ⊎ ((fault : ElfFault) × (reading image ≡ Err fault) × (answer ≡ answer_of_run_fault (Elf fault)))
 
--- the image was run between the devices, and the answer is for what came of it
-pub record AnswersRun (image : List ℕ) (limits : Bounds) (budget : ℕ) (old new : Devices) (answer : Answer) : Type 0 where
+-- the image was run between the devices, and the answer is for what came of it, with the report where there is one
+pub record AnswersRun (image : List ℕ) (limits : Bounds) (budget : ℕ) (old new : Devices) (answer : Answer) (report : Option Report) : Type 0 where
   pub outcome : Result Report RunFault
   pub runs : AnswersAnew false (reading image) limits budget old new outcome
+  pub stands : StandsAnew (reading image) limits budget old new outcome
   pub answered : answer ≡ answer_of_run outcome
+  pub reported : report ≡ report_of_run outcome
 
 -- the image was listed to the device, and the answer is for what came of it
 pub record AnswersListing (image : List ℕ) (old new : Option (List ℕ)) (answer : Answer) : Type 0 where

@@ -1,10 +1,10 @@
 //! What the program answers: its exit status, and its last line on standard error.
 ghost use Rattle.std.specs.Prelude.{◌≡◌, Some};
-ghost use Rattle.cyclone.specs.Answer.{last_line, status_of, cause_words};
+ghost use Rattle.cyclone.specs.Answer.{last_line, status_of, cause_words, ending_of};
 
 use cyc_elf::ElfFault;
 use cyc_machine::{Cause, End, Limits, LoadFault};
-use cyc_system::{RunFault, Stop};
+use cyc_system::{Limit, Report, RunFault, Stop};
 use cyc_terminal::{Ending, image_fault};
 use cyc_words::{Code, Fault};
 use std::fmt;
@@ -148,11 +148,23 @@ impl From<RunFault> for Answer {
     }
 }
 
-/// Why a run with these limits and this budget ended before its program did.
-pub fn ending(answer: &Answer, limits: Limits, budget: u64) -> Option<Ending> {
+/// Why a run with these limits and this budget ended before its program did, by what was answered and reported.
+pub fn ending(
+    answer: &Answer,
+    report: Option<Report>,
+    limits: Limits,
+    budget: u64,
+) -> Option<Ending>
+    ensures { result ≡ ending_of answer.now report limits budget }
+{
+    let report = report?;
     match *answer {
         Answer::Uncaught(number, _) => Some(Ending::Uncaught(number)),
-        Answer::Full => Some(Ending::Full(limits)),
+        Answer::Full => match report.limit? {
+            Limit::Calls => Some(Ending::Calls(limits.calls())),
+            Limit::Pages => Some(Ending::Pages(limits.pages())),
+        },
+        Answer::Trapped(_) => Some(Ending::Trap(report.counter)),
         Answer::Spent => Some(Ending::Spent(budget)),
         _ => None,
     }
@@ -163,7 +175,6 @@ pub fn ending(answer: &Answer, limits: Limits, budget: u64) -> Option<Ending> {
 pub fn explanation(answer: &Answer) -> Option<&'static str> {
     match *answer {
         Answer::BadImage(number) => Some(image_fault(number)),
-        Answer::Trapped(_) => Some("the machine refused an instruction of the image"),
         Answer::NoMemory => Some("out of memory"),
         _ => None,
     }

@@ -27,11 +27,39 @@ pub fn cause_of(alloc: Global, text: &[u8], fault: Fault) -> Option<Cause> {
 /// so by a `try`, whose body did that.
 fn words_of(change: Change, code: Code) -> &'static str {
     match (change, code) {
-        (Change::Moved, _) => "is moved here",
+        (Change::Moved, _) => "is moved here and then holds nothing",
         (Change::Peeked, _) => "is looked at here",
         (Change::Locked, Code::LockedVariable) => "is locked here",
         (Change::Locked, _) => "is locked here, in the body of a try",
         (Change::Assigned, _) => "is assigned here, in the body of a try",
+    }
+}
+
+/// Whether the name at a place is the key that `free_ukey` takes.
+fn is_freed_key(text: &[u8], span: Span) -> bool {
+    let before = excerpt_at(text, span.line, span.column).before;
+    match before.strip_suffix(b"free_ukey(") {
+        Some(left) => !left.last().is_some_and(|byte| is_in_name(*byte)),
+        None => false,
+    }
+}
+
+/// What to do about a variable that came to be so, where that tells more than the code of the fault.
+pub fn advice_for(text: &[u8], code: Code, cause: Cause) -> Option<&'static str> {
+    match (cause.change, code) {
+        (Change::Moved, _) if is_freed_key(text, cause.span) => Some(
+            "a key that is freed has no value again: move free_ukey behind the last use",
+        ),
+        (Change::Moved, _) | (Change::Locked, Code::LockedVariable) => None,
+        (Change::Assigned, _) => Some(
+            "a clause finds it empty, as the body of the try moves or assigns it: give it a value in the clause",
+        ),
+        (Change::Locked, _) => Some(
+            "a clause finds it empty, as the body of the try lends it: open or alias it round the try",
+        ),
+        (Change::Peeked, _) => Some(
+            "the left side looks at it until the right side is evaluated: compute the right side into a variable first",
+        ),
     }
 }
 

@@ -2,6 +2,7 @@
 #![tactic(auto)]
 
 mod answer;
+mod expected;
 mod files;
 mod flow_cause;
 mod message;

@@ -3,6 +3,7 @@ ghost use Rattle.std.specs.Prelude.{◌≡◌};
 ghost use Rattle.cyclone.specs.Answer.{answer_of_fault};
 
 use crate::answer::{Answer, ending, explanation};
+use crate::expected::expected_at;
 use crate::files::{read_image, read_text, write_image};
 use crate::flow_cause::cause_of;
 use crate::message::Message;
@@ -31,7 +32,11 @@ fn report_refusal(rt: &HostRuntime, name: &str, text: &[u8], fault: Fault) -> An
             name,
             text,
             fault,
-            words: words_for(rt.alloc(), text, fault),
+            words: words_for(rt.alloc(), text, fault).or_else(|| expected_at(
+                rt.alloc(),
+                text,
+                fault,
+            )),
             cause: cause_of(rt.alloc(), text, fault),
         };
         let _ = rt.eprint(message);
@@ -109,7 +114,7 @@ fn run_file(
         by_lines: rt.stdout().is_terminal(),
         at_line_start: true,
     };
-    let answer = run_image(
+    let (answer, report) = run_image(
         rt.alloc(),
         image.as_slice(),
         limits,
@@ -121,7 +126,7 @@ fn run_file(
     if screen.by_lines && !screen.at_line_start && rt.stderr().is_terminal() {
         let _ = rt.eprintln("");
     }
-    if let Some(ending) = ending(&answer, limits, budget) {
+    if let Some(ending) = ending(&answer, report, limits, budget) {
         let _ = eprintln!(rt; "cyclone: {ending}");
     }
     Ok(answer)

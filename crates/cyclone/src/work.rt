@@ -7,7 +7,7 @@ ghost use Rattle.cyclone.specs.Work.{AnswersCheck, AnswersListing, AnswersNoImag
 
 use crate::answer::Answer;
 use cyc_machine::Limits;
-use cyc_system::{RunFault, disassemble, note_of, run, run_phases};
+use cyc_system::{Report, RunFault, disassemble, note_of, run, run_phases};
 use cyc_terminal::GivenLimits;
 use cyc_words::{ByteIn, ByteOut, Fault, Reader, Writer};
 use std::alloc::Global;
@@ -59,7 +59,7 @@ pub fn limits_of_run(alloc: Global, image: &[u8], given: GivenLimits) -> Result<
     }
 }
 
-/// Runs an image between two devices.
+/// Runs an image between two devices. What was reported stands beside the answer.
 fn run_between<R: ByteIn, W: ByteOut>(
     alloc: Global,
     image: &[u8],
@@ -67,14 +67,14 @@ fn run_between<R: ByteIn, W: ByteOut>(
     budget: u64,
     reader: &mut R,
     writer: &mut W,
-) -> Answer
+) -> (Answer, Option<Report>)
     ensures { AnswersRun image.now limits budget
         (record { remaining = R.remaining reader.old; written = W.written writer.old })
-        (record { remaining = R.remaining reader.new; written = W.written writer.new }) result }
+        (record { remaining = R.remaining reader.new; written = W.written writer.new }) result.0 result.1 }
 {
     match run(alloc, image, limits, budget, reader, writer) {
-        Ok(report) => Answer::from(report.stop),
-        Err(fault) => Answer::from(fault),
+        Ok(report) => (Answer::from(report.stop), Some(report)),
+        Err(fault) => (Answer::from(fault), None),
     }
 }
 
@@ -86,11 +86,11 @@ pub fn run_image<R: Read, W: Write>(
     budget: u64,
     input: &mut R,
     output: &mut W,
-) -> Answer {
+) -> (Answer, Option<Report>) {
     let mut reader = Reader::new(input);
     let mut writer = Writer::new(&mut *output);
-    let answer = run_between(alloc, image, limits, budget, &mut reader, &mut writer);
-    flush_for(output, answer)
+    let (answer, report) = run_between(alloc, image, limits, budget, &mut reader, &mut writer);
+    (flush_for(output, answer), report)
 }
 
 /// Lists the instructions of an image to a device.

@@ -1,5 +1,5 @@
 -- Code that is made piece by piece: lists of nodes, nodes with lists, and jumps whose targets are written back.
-use Rattle.std.proofs.Common.{◌≡◌, ℕ, zero, suc, ◌+◌, ◌-◌, ◌*◌, ◌<◌, ◌≤◌, Bool, true, false, List, [], ◌∷◌, ◌++◌, length, get_or, drop, set, Option, Some, None, refl, sym, ap, ◌∙◌, arith, append_assoc, append-nil}
+use Rattle.std.proofs.Common.{◌≡◌, ℕ, zero, suc, ◌+◌, ◌-◌, ◌*◌, ◌%◌, ◌<◌, ◌≤◌, max, Bool, true, false, List, [], ◌∷◌, ◌++◌, length, get_or, drop, set, Option, Some, None, refl, sym, ap, ◌∙◌, arith, append_assoc, append-nil}
 use Rattle.std.specs.Prelude.{◌==◌, is_some, if◌then◌else◌}
 use Rattle.std.proofs.lemmas.Bool.{eqb-true, eq-eqb}
 use Rattle.std.proofs.lemmas.List.{drop_all, drop_more, length-append, length-drop}
@@ -32,18 +32,20 @@ use Rattle.cyc_types.specs.TypeView.{view_ty, view_value_type}
 use Rattle.cyc_types.specs.TypedTrees.{Load, New, OnHeap, AsUnique, ByHandle, FreeKey, Initial, Plain, Fields, Array, Dereference, Target, Lvalue, Local, Global, Expression, Number, Copy, Call, Unary, Binary, Assign, Converted, Convert, Arguments, Operations, NoOperations, ThenCompute, ThenTest, Move, Peek, AddressOfCell, Store, Member, Element, FreeUnique, NumberOfElements, type_of_place, AddressOf}
 use Rattle.cyc_types.specs.TypedTreeView.{view_lvalue, view_initial, view_expression, view_converted, arguments_of, operations_of, view_dereference}
 use Rattle.cyc_types.specs.declared.typed.Kind.{Kind}
-use Rattle.cyc_meaning.specs.Values.{words_of_kind, is_thin}
+use Rattle.cyc_meaning.specs.Values.{words_of_kind, begins, behind as cell_end, bytes_from, words_for, is_thin}
 use Rattle.cyc_types.proofs.TypedTreeViewLemmas.{view_call, view_binary, view_fields}
 use Rattle.cyc_plain.specs.declared.instruction.BinaryOperator.TheVariants as plain_binary
 use Rattle.cyc_plain.specs.declared.instruction.Comparison.TheVariants as comparisons
 use Rattle.cyc_plain.specs.declared.instruction.Operand.{Operand}
 use Rattle.cyc_plain.specs.declared.instruction.Operand.TheVariants as operands
+use Rattle.cyc_plain.specs.declared.instruction.Request.TheVariants as requests
 use Rattle.cyc_plain.specs.declared.instruction.Instruction.{Instruction}
 use Rattle.cyc_plain.specs.declared.instruction.Instruction.TheVariants as instructions
 use Rattle.cyc_lower.specs.Slots.{with_counter, slot_of, Starts, global_of}
 use Rattle.cyc_lower.specs.declared.operands.Condition.{Condition}
-use Rattle.cyc_lower.specs.ValueCode.{passed_words, all_passed, converts_there, converted_by, moved_by, move_of, operand_or, code_unless, left_with, low_byte, next_slot, operator_code, compute_code, test_jump, truth_code, test_code, copy_code, binary_operator, behind_left, pointer_instructions, address_code, addressed_by, jump_if_zero, reached_code, count_code, span_of, followed_code, span_in, code_unless_slot, global_code, word_by_word}
-use Rattle.cyc_lower.specs.ObjectCode.{measured_code, asked_code, begun_code, written_code, filled_code, restarted_code, ended_code, elements_code, last_element, stores_code, object_code, saved_code}
+use Rattle.cyc_lower.specs.ValueCode.{passed_words, all_passed, kinds_passed, converts_there, converted_by, moved_by, move_of, operand_or, code_unless, left_with, low_byte, next_slot, operator_code, compute_code, test_jump, truth_code, test_code, copy_code, binary_operator, behind_left, pointer_instructions, address_code, addressed_by, jump_if_zero, reached_code, count_code, span_of, followed_code, span_in, code_unless_slot, global_code, word_by_word}
+use Rattle.cyc_lower.specs.ObjectCode.{measured_code, asked_code, begun_code, written_code, filled_code, restarted_code, ended_code, elements_code, last_element, stores_code, cells_code, slots_of_kinds, object_code, words_code, saved_code}
+use Rattle.cyc_lower.proofs.slots.CellBytes.{begins_even, behind_even, bytes_whole, passed_slots}
 use Rattle.cyc_lower.specs.ControlCode.{failing_jump}
 use Rattle.cyc_lower.specs.ExpressionCode.{source_of, source_slot, operand_of, left_of, slot_with, left_slot, value_operand, converted_operand, printed_operand, load_code, expression_code, value_slot, arguments_code, converted_code, converted_operand_code, printed_code, initial_code, operations_code, made_code, place_operand, place_offset, place_code, pointer_of}
 use Rattle.cyc_lower.specs.Lowering.{assignment_code, assigned_operand, discarded_code, store_address_code, store_code}
@@ -270,46 +272,90 @@ pub stores_end : (old code : List Instruction) (many address first i : ℕ) → 
 stores_end old code many address first i done (zero, count, made) = sym (append-nil code) ∙ made
 stores_end old code many address first i done (suc left, count, made) = absurd (omega (arith, count, done))
 
+-- ---- objects
+
+-- words that come to memory one after the other, in two parts
+stores_split : (a b n address offset slot : ℕ) → n ≡ a + b → stores_code n address offset slot ≡ stores_code a address offset slot ++ stores_code b address (offset + 4 * a) (slot + a)
+stores_split zero b n address offset slot is =
+    ap (λ (m : ℕ). stores_code m address offset slot) (let e : n ≡ b = omega (arith, is) in e)
+    ∙ ap (λ (m : ℕ). stores_code b address m slot) (let e : offset ≡ offset + 4 * 0 = omega arith in e)
+    ∙ ap (λ (m : ℕ). stores_code b address (offset + 4 * 0) m) (let e : slot ≡ slot + 0 = omega arith in e)
+stores_split (suc a) b zero address offset slot is = absurd (omega (arith, is))
+stores_split (suc a) b (suc n) address offset slot is =
+    let offset_is : offset + 4 + 4 * a ≡ offset + 4 * suc a = omega arith in
+    let slot_is : suc slot + a ≡ slot + suc a = omega arith in
+    ap (λ (l : List Instruction). instructions.Store (operands.Slot address) offset (operands.Slot slot) ∷ l)
+    (stores_split a b n address (offset + 4) (suc slot) (omega (arith, is))
+    ∙ ap (λ (m : ℕ). stores_code a address (offset + 4) (suc slot) ++ stores_code b address m (suc slot + a)) offset_is
+    ∙ ap (λ (m : ℕ). stores_code a address (offset + 4) (suc slot) ++ stores_code b address (offset + 4 * suc a) m) slot_is)
+
+-- the cells of an object are words one behind the other
+cells_are : (ks : List Kind) (address at slot : ℕ) → at % 4 ≡ 0 → stores_code (slots_of_kinds ks) address at slot ≡ cells_code ks address at slot
+cells_are [] address at slot even = refl
+cells_are (kind ∷ ks) address at slot even =
+    let words = words_of_kind kind in
+    let here : at ≡ begins kind at = sym (begins_even kind at even) in
+    let next : at + 4 * words ≡ cell_end kind at = sym (behind_even kind at even) in
+    stores_split words (slots_of_kinds ks) (words + slots_of_kinds ks) address at slot refl
+    ∙ ap (λ (n : ℕ). stores_code words address n slot ++ stores_code (slots_of_kinds ks) address (at + 4 * words) (slot + words)) here
+    ∙ ap (λ (n : ℕ). stores_code words address (begins kind at) slot ++ stores_code (slots_of_kinds ks) address n (slot + words)) next
+    ∙ ap (λ (l : List Instruction). stores_code words address (begins kind at) slot ++ l)
+    (cells_are ks address (cell_end kind at) (slot + words) (omega (arith, next, even)))
+
+pub object_is : (handle : Operand) (ks : List Kind) (words d t : ℕ) → words ≡ slots_of_kinds ks → words_code handle words d t ≡ object_code handle ks d t
+object_is handle ks words d t counted =
+    let slots = slots_of_kinds ks in
+    let size : slots ≡ words_for (bytes_from 0 ks) = omega (arith, bytes_whole ks 0 refl) in
+    ap (λ (n : ℕ). words_code handle n d t) counted
+    ∙ ap (λ (n : ℕ). instructions.Ask (requests.Allocate (t + slots) handle (operands.Word (max 1 n))) ∷ (stores_code slots (t + slots) 0 t ++ (instructions.Move d (operands.Slot (t + slots)) ∷ []))) size
+    ∙ ap (λ (l : List Instruction). instructions.Ask (requests.Allocate (t + slots) handle (operands.Word (max 1 (words_for (bytes_from 0 ks))))) ∷ (l ++ (instructions.Move d (operands.Slot (t + slots)) ∷ [])))
+    (cells_are ks (t + slots) 0 t refl)
+
+-- an object with one cell
+pub made_cell : (old new : List Instruction) (handle : Operand) (kind : Kind) (words d t : ℕ) → words ≡ words_of_kind kind → new ≡ old ++ words_code handle words d t → new ≡ old ++ object_code handle (kind ∷ []) d t
+made_cell old new handle kind words d t is made =
+    made ∙ ap (λ (l : List Instruction). old ++ l) (object_is handle (kind ∷ []) words d t (omega (arith, is)))
+
 -- ---- arrays
 
-pub made_begun : (starts : Starts) (old m1 m2 : List Instruction) (handle : Operand) (words behind t : ℕ) → behind ≡ t + 3 → m1 ≡ old ++ measured_code starts words (behind - 2) (behind - 1) t
-    → m2 ≡ m1 ++ asked_code handle words behind t → m2 ≡ old ++ begun_code starts handle words t
-made_begun starts old m1 m2 handle words behind t is e1 e2 =
+pub made_begun : (starts : Starts) (old m1 m2 : List Instruction) (handle : Operand) (kind : Kind) (behind t : ℕ) → behind ≡ t + 3 → m1 ≡ old ++ measured_code starts kind (behind - 2) (behind - 1) t
+    → m2 ≡ m1 ++ asked_code handle kind behind t → m2 ≡ old ++ begun_code starts handle kind t
+made_begun starts old m1 m2 handle kind behind t is e1 e2 =
     let x : behind - 2 ≡ t + 1 = omega (arith, is) in
     let y : behind - 1 ≡ t + 2 = omega (arith, is) in
     e2
-    ∙ ap (λ (s : ℕ). m1 ++ asked_code handle words s t) is
-    ∙ ap (λ (l : List Instruction). l ++ asked_code handle words (t + 3) t) (e1 ∙ ap (λ (n : ℕ). old ++ measured_code starts words n (behind - 1) t) x ∙ ap (λ (n : ℕ). old ++ measured_code starts words (t + 1) n t) y)
-    ∙ append_assoc old (measured_code starts words (t + 1) (t + 2) t) (asked_code handle words (t + 3) t)
+    ∙ ap (λ (s : ℕ). m1 ++ asked_code handle kind s t) is
+    ∙ ap (λ (l : List Instruction). l ++ asked_code handle kind (t + 3) t) (e1 ∙ ap (λ (n : ℕ). old ++ measured_code starts kind n (behind - 1) t) x ∙ ap (λ (n : ℕ). old ++ measured_code starts kind (t + 1) n t) y)
+    ∙ append_assoc old (measured_code starts kind (t + 1) (t + 2) t) (asked_code handle kind (t + 3) t)
 
 -- the elements, whose loop begins at place head
-pub made_elements : (starts : Starts) (counters : List ℕ) (a : Expression) (old begun made filled patched new : List Instruction) (x : Instruction) (last : Condition) (words head behind d t : ℕ) → behind ≡ t + 3
+pub made_elements : (starts : Starts) (counters : List ℕ) (a : Expression) (old begun made filled patched new : List Instruction) (x : Instruction) (last : Condition) (kind : Kind) (head behind d t : ℕ) → behind ≡ t + 3
     → counters ≡ starts.counters ++ (behind - 1) ∷ [] → head ≡ length old → begun ≡ old ++ x ∷ []
     → made ≡ begun ++ expression_code (record { locals = starts.locals; structs = starts.structs; raises = starts.raises; counters = counters; globals = starts.globals; scopes = starts.scopes }) a (length begun) behind behind
-    → filled ≡ made ++ written_code words head (behind - 1) behind (behind + words) t → last ≡ last_element (behind - 2) (behind - 1)
+    → filled ≡ made ++ written_code kind head (behind - 1) behind (behind + words_of_kind kind) t → last ≡ last_element (behind - 2) (behind - 1)
     → patched ≡ set filled head (failing_jump last (length filled)) → new ≡ patched ++ restarted_code d (behind - 1) t
-    → new ≡ old ++ elements_code words (expression_code (with_counter starts (t + 2)) a (length old + 1) (t + 3) (t + 3)) (length old) d t
-made_elements starts counters a old begun made filled patched new i last words head behind d t is counters_are here e0 e1 e2 last_is e3 e4 =
+    → new ≡ old ++ elements_code kind (expression_code (with_counter starts (t + 2)) a (length old + 1) (t + 3) (t + 3)) (length old) d t
+made_elements starts counters a old begun made filled patched new i last kind head behind d t is counters_are here e0 e1 e2 last_is e3 e4 =
     let x : behind - 2 ≡ t + 1 = omega (arith, is) in
     let y : behind - 1 ≡ t + 2 = omega (arith, is) in
-    let z : behind + words ≡ t + 3 + words = omega (arith, is) in
+    let z : behind + words_of_kind kind ≡ t + 3 + words_of_kind kind = omega (arith, is) in
     let first : made ≡ begun ++ expression_code (with_counter starts (t + 2)) a (length begun) (t + 3) (t + 3)
     = e1
     ∙ ap (λ (cs : List ℕ). begun ++ expression_code (record { locals = starts.locals; structs = starts.structs; raises = starts.raises; counters = cs; globals = starts.globals; scopes = starts.scopes }) a (length begun) behind behind) (counters_are ∙ ap (λ (n : ℕ). starts.counters ++ n ∷ []) y)
     ∙ ap (λ (n : ℕ). begun ++ expression_code (with_counter starts (t + 2)) a (length begun) n n) is in
-    let second : filled ≡ made ++ filled_code words (length old) t
+    let second : filled ≡ made ++ filled_code kind (length old) t
     = e2
-    ∙ ap (λ (n : ℕ). made ++ written_code words n (behind - 1) behind (behind + words) t) here
-    ∙ ap (λ (n : ℕ). made ++ written_code words (length old) n behind (behind + words) t) y
-    ∙ ap (λ (n : ℕ). made ++ written_code words (length old) (t + 2) n (behind + words) t) is
-    ∙ ap (λ (n : ℕ). made ++ written_code words (length old) (t + 2) (t + 3) n t) z in
+    ∙ ap (λ (n : ℕ). made ++ written_code kind n (behind - 1) behind (behind + words_of_kind kind) t) here
+    ∙ ap (λ (n : ℕ). made ++ written_code kind (length old) n behind (behind + words_of_kind kind) t) y
+    ∙ ap (λ (n : ℕ). made ++ written_code kind (length old) (t + 2) n (behind + words_of_kind kind) t) is
+    ∙ ap (λ (n : ℕ). made ++ written_code kind (length old) (t + 2) (t + 3) n t) z in
     let element = λ (p : ℕ). expression_code (with_counter starts (t + 2)) a p (t + 3) (t + 3) in
     let third : patched ≡ set filled head (failing_jump (last_element (t + 1) (t + 2)) (length filled))
     = e3
     ∙ ap (λ (c : Condition). set filled head (failing_jump c (length filled))) (last_is ∙ ap (λ (n : ℕ). last_element n (behind - 1)) x ∙ ap (λ (n : ℕ). last_element (t + 1) n) y) in
-    tested old i (λ (p : ℕ). element p ++ filled_code words (length old) t) (λ (q : ℕ). failing_jump (last_element (t + 1) (t + 2)) q) begun filled patched new (ended_code d t) head here (length filled)
+    tested old i (λ (p : ℕ). element p ++ filled_code kind (length old) t) (λ (q : ℕ). failing_jump (last_element (t + 1) (t + 2)) q) begun filled patched new (ended_code d t) head here (length filled)
     e0
-    (second ∙ ap (λ (l : List Instruction). l ++ filled_code words (length old) t) first ∙ append_assoc begun (element (length begun)) (filled_code words (length old) t))
+    (second ∙ ap (λ (l : List Instruction). l ++ filled_code kind (length old) t) first ∙ append_assoc begun (element (length begun)) (filled_code kind (length old) t))
     refl third (e4 ∙ ap (λ (n : ℕ). patched ++ restarted_code d n t) y)
 
 -- ---- words of globals
@@ -428,8 +474,8 @@ module _ (starts : Starts) where
     expression_some a p d t = omega arith
 
     made_some : (i : Initial) (handle : Operand) (p d t : ℕ) → 0 < length (made_code starts i handle p d t)
-    made_some (Plain kind a) handle p d t = behind (expression_code starts a p t t) (object_code handle (words_of_kind kind) d t) (omega arith)
-    made_some (Fields cs) handle p d t = behind (arguments_code starts cs p t) (object_code handle (all_passed cs) d t) (omega arith)
+    made_some (Plain kind a) handle p d t = behind (expression_code starts a p t t) (object_code handle (kind ∷ []) d t) (omega arith)
+    made_some (Fields cs) handle p d t = behind (arguments_code starts cs p t) (object_code handle (kinds_passed cs) d t) (omega arith)
     made_some (Array w level n kind a) handle p d t = behind (expression_code starts n p t t) _ (omega arith)
 
     initial_some : (c : Converted) (p d t : ℕ) → 0 < length (initial_code starts c p d t)
@@ -535,14 +581,15 @@ module _ (starts : Starts) where
 
   -- a new struct, of its fields
   pub made_fields : (value : InitialCode) (v : Vec ConvertedCode Heap) (items : List ConvertedCode) (old m1 m2 : List Instruction) (handle : Operand) (many d t : ℕ) → value ≡ initial.Fields v → items ≡ v.items → many ≡ all_passed (arguments_of items)
-      → m1 ≡ old ++ arguments_code starts (arguments_of items) (length old) t → m2 ≡ m1 ++ object_code handle many d t → m2 ≡ old ++ made_code starts (view_initial value) handle (length old) d t
+      → m1 ≡ old ++ arguments_code starts (arguments_of items) (length old) t → m2 ≡ m1 ++ words_code handle many d t → m2 ≡ old ++ made_code starts (view_initial value) handle (length old) d t
   made_fields value v items old m1 m2 handle many d t is same count first second =
       let cs = arguments_of v.items in
-      let counted : many ≡ all_passed cs = count ∙ ap (λ (l : List ConvertedCode). all_passed (arguments_of l)) same in
+      let counted : many ≡ slots_of_kinds (kinds_passed cs) = count ∙ ap (λ (l : List ConvertedCode). all_passed (arguments_of l)) same ∙ sym (passed_slots cs) in
+      let code : words_code handle many d t ≡ object_code handle (kinds_passed cs) d t = object_is handle (kinds_passed cs) many d t counted in
       second
-      ∙ ap (λ (l : List Instruction). l ++ object_code handle many d t) (first ∙ ap (λ (l : List ConvertedCode). old ++ arguments_code starts (arguments_of l) (length old) t) same)
-      ∙ append_assoc old (arguments_code starts cs (length old) t) (object_code handle many d t)
-      ∙ ap (λ (n : ℕ). old ++ (arguments_code starts cs (length old) t ++ object_code handle n d t)) counted
+      ∙ ap (λ (l : List Instruction). m1 ++ l) code
+      ∙ ap (λ (l : List Instruction). l ++ object_code handle (kinds_passed cs) d t) (first ∙ ap (λ (l : List ConvertedCode). old ++ arguments_code starts (arguments_of l) (length old) t) same)
+      ∙ append_assoc old (arguments_code starts cs (length old) t) (object_code handle (kinds_passed cs) d t)
       ∙ ap (λ (i : Initial). old ++ made_code starts i handle (length old) d t) (sym (ap view_initial is ∙ view_fields v))
 
   -- ---- chains

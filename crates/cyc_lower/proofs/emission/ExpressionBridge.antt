@@ -15,18 +15,19 @@ use Rattle.cyc_plain.specs.declared.instruction.Instruction.TheVariants as instr
 use Rattle.cyc_plain.specs.Straight.{At, HasAt}
 use Rattle.cyc_plain.proofs.Straight.{has_front, has_back}
 use Rattle.cyc_store.specs.declared.range.TheConstants.{HEAP, UNIQUE}
-use Rattle.cyc_meaning.specs.Values.{kind_of, words_of_kind, is_thin}
+use Rattle.cyc_meaning.specs.Values.{kind_of, is_thin}
 use Rattle.cyc_meaning.specs.FrameCount.{operand_words}
 use Rattle.cyc_objects.proofs.NumberLemmas.{slice_get-there}
 use Rattle.cyc_lower.specs.Slots.{counted, Types, starts_of, slot_of, global_of}
-use Rattle.cyc_lower.specs.ValueCode.{converts_there, passed_words, operand_or, code_unless, code_unless_slot, next_slot, check_code, conversion_code, operator_code, truth_code, low_byte, test_code, is_in, copy_code, behind_left, pointer_code, pointer_instructions, address_code, count_code, span_of, loaded_code, all_passed, reached_code, followed_code, span_in, global_code}
+use Rattle.cyc_lower.specs.ValueCode.{converts_there, passed_words, operand_or, code_unless, code_unless_slot, next_slot, check_code, conversion_code, operator_code, truth_code, low_byte, test_code, is_in, copy_code, behind_left, pointer_code, pointer_instructions, address_code, count_code, span_of, loaded_code, kinds_passed, reached_code, followed_code, span_in, global_code}
 use Rattle.cyc_lower.specs.ObjectCode.{begun_code, filled_code, ended_code, elements_code, object_code, free_code, saved_code}
 use Rattle.cyc_lower.specs.ExpressionCode.{source_of, source_slot, operand_of, left_of, value_slot, left_slot, value_operand, converted_operand, printed_operand, expression_code, arguments_code, converted_code, converted_operand_code, printed_code, initial_code, operations_code, made_code, place_operand, place_offset, place_code, pointer_of, pointer_slot}
 use Rattle.cyc_lower.proofs.relation.Stands.{ExpressionAt, InitialAt, ConvertedAt, ConvertedOperandAt, PrintedAt, ArgumentsAt, OperationsAt, MadeAt, PlaceAt}
-use Rattle.cyc_lower.proofs.slots.Widths.{kind_positive, kind_few}
+use Rattle.cyc_lower.proofs.slots.Widths.{kind_few}
+use Rattle.cyc_lower.proofs.slots.CellBytes.{passed_slots, passed_many}
 use Rattle.cyc_lower.proofs.relation.Fitting.{FitsCell, FitsObject, Fits, FitsConverted, FitArguments, FitOperations}
 use Rattle.cyc_lower.proofs.place_steps.Sources.{stored_apart}
-use Rattle.cyc_lower.proofs.emission.OperandBridge.{cut, BlocksStand, operand_by, returned_by, right_by, IsLeft, next_left, first_left, freed_stands, check_stands, reached_stands, followed_stands, in_slots, source_brought, conversion_stands, operator_stands, pointer_stands, global_stands, count_stands, load_stands, saved_stands, passed_least, object_stands, begun_stands, filled_stands, copy_by, address_stands, loaded_stands, initial_by}
+use Rattle.cyc_lower.proofs.emission.OperandBridge.{cut, BlocksStand, operand_by, returned_by, right_by, IsLeft, next_left, first_left, freed_stands, check_stands, reached_stands, followed_stands, in_slots, source_brought, conversion_stands, operator_stands, pointer_stands, global_stands, count_stands, load_stands, saved_stands, object_stands, begun_stands, filled_stands, copy_by, address_stands, loaded_stands, initial_by}
 
 module _ (code : List Instruction) (b : Numbering) where
   mutual
@@ -230,32 +231,31 @@ module _ (code : List Instruction) (b : Numbering) where
     made_stands : (types : Types) (raised : BlocksStand code types.raises) → (i : Initial) (handle : Operand) (d t p q : ℕ) → FitsObject b types i → p + length (made_code (starts_of types) i handle p d t) ≡ q → HasAt code p (made_code (starts_of types) i handle p d t) → MadeAt code b types i handle d t p q
     made_stands types raised (Plain kind a) handle d t p q (kind_is, numbered) end has =
         let front = expression_code (starts_of types) a p t t in
-        let back = object_code handle (words_of_kind kind) d t in
+        let back = object_code handle (kind ∷ []) d t in
         let m = p + length front in (
           m,
           expression_stands types raised a t t p m numbered refl (has_front code p front back has),
-          ap words_of_kind (sym kind_is),
-          object_stands code b types raised handle 1 (words_of_kind kind) d t m q (kind_positive kind) (kind_positive kind) (omega (arith, kind_few kind)) (cut p q front back end) (has_back code p front back has),
+          sym kind_is,
+          object_stands code b types raised handle (kind ∷ []) d t m q (omega arith) (omega (arith, kind_few kind)) (cut p q front back end) (has_back code p front back has),
         )
     made_stands types raised (Fields cs) handle d t p q (some, few, numbered) end has =
         let front = arguments_code (starts_of types) cs p t in
-        let back = object_code handle (all_passed cs) d t in
+        let back = object_code handle (kinds_passed cs) d t in
         let m = p + length front in (
           m,
           arguments_stand types raised cs t p m numbered refl (has_front code p front back has),
-          object_stands code b types raised handle (argument_count cs) (all_passed cs) d t m q (passed_least code b types raised cs) (omega (arith, some, passed_least code b types raised cs)) few (cut p q front back end) (has_back code p front back has),
+          object_stands code b types raised handle (kinds_passed cs) d t m q (omega (arith, some, passed_many cs)) (omega (arith, few, passed_slots cs)) (cut p q front back end) (has_back code p front back has),
         )
     made_stands types raised (Array w level n kind a) handle d t p q (level_is, kind_is, fits_n, fits_a) end has =
-        let words = words_of_kind kind in
         let count = expression_code (starts_of types) n p t t in
         let m = p + length count in
         let h = m + 7 in
-        let begun = begun_code (starts_of types) handle words t in
+        let begun = begun_code (starts_of types) handle kind t in
         let element = expression_code (starts_of (counted types (t + 2))) a (h + 1) (t + 3) (t + 3) in
-        let filled = filled_code words h t in
+        let filled = filled_code kind h t in
         let ended = ended_code d t in
         let both = element ++ filled in
-        let elements = elements_code words element h d t in
+        let elements = elements_code kind element h d t in
         let has_rest = has_back code p count (begun ++ elements) has in
         let (branch, has_behind) = has_back code m begun elements has_rest in
         let has_both = has_front code (h + 1) both ended has_behind in
@@ -267,13 +267,13 @@ module _ (code : List Instruction) (b : Numbering) where
           r,
           s,
           expression_stands types raised n t t p m fits_n refl (has_front code p count (begun ++ elements) has),
-          begun_stands code b types raised handle words t m h refl (has_front code m begun elements has_rest),
+          begun_stands code b types raised handle kind t m h refl (has_front code m begun elements has_rest),
           level_is,
           (
             branch,
             omega arith,
             expression_stands (counted types (t + 2)) raised a (t + 3) (t + 3) (h + 1) r (fits_a (t + 2)) refl (has_front code (h + 1) element filled has_both),
-            filled_stands code b types raised words t h r s (omega (arith, length-append element filled)) (has_back code (h + 1) element filled has_both),
+            filled_stands code b types raised kind t h r s (omega (arith, length-append element filled)) (has_back code (h + 1) element filled has_both),
             first_index,
             copy_by code b types raised (is_in (operands.Slot t) d) 3 (operands.Slot t) d (s + 1) q
                 (omega (arith, cut m q begun elements (cut p q count (begun ++ elements) end), length-append both ended)) has_copy,

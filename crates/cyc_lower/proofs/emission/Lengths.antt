@@ -18,7 +18,7 @@ use Rattle.cyc_plain.specs.declared.instruction.Instruction.{Instruction}
 use Rattle.cyc_store.specs.declared.range.TheConstants.{HEAP, UNIQUE}
 use Rattle.cyc_lower.specs.declared.statements.Exits.{Exits}
 use Rattle.cyc_lower.specs.Slots.{with_counter, Starts, slot_of, global_of}
-use Rattle.cyc_lower.specs.ValueCode.{first_temporary, are_as_wide, converts_there, passed_words, operand_or, code_unless, code_unless_slot, left_with, next_slot, converted_by, conversion_code, divisor_code, operator_code, pointer_instructions, first_two, copy_code, address_code, behind_left, checked_code, null_of, span_of, span_in, followed_operand, followed_code, conversion_by, widened_code, count_code, loaded_code, slot_or, all_passed, thinned_code, bounded_code, past_bounded, reached_operand, reached_code, word_by_word, load_word, global_code}
+use Rattle.cyc_lower.specs.ValueCode.{first_temporary, are_as_wide, converts_there, passed_words, operand_or, code_unless, code_unless_slot, left_with, next_slot, converted_by, conversion_code, divisor_code, operator_code, pointer_instructions, first_two, copy_code, address_code, behind_left, checked_code, null_of, span_of, span_in, followed_operand, followed_code, conversion_by, widened_code, count_code, loaded_code, slot_or, kinds_passed, thinned_code, bounded_code, past_bounded, reached_operand, reached_code, word_by_word, load_word, global_code}
 use Rattle.cyc_lower.specs.ObjectCode.{begun_code, filled_code, elements_code, ended_code, object_code, right_slot, saved_code, stores_code}
 use Rattle.cyc_lower.specs.ControlCode.{outside_loops, if_code, while_code, failing_jump, compared_of, inside_loop, leave_code, try_code, clause_code, break_target, continue_target, kept_code, restored_code, behind_record, inside_try, inside_region, opened_code, closed_code}
 use Rattle.cyc_lower.specs.ExpressionCode.{operand_of, left_of, value_slot, slot_with, left_slot, value_operand, source_of, source_slot, converted_operand, load_code, place_operand, place_offset, expression_code, place_code, made_code, arguments_code, converted_code, converted_operand_code, printed_code, initial_code, operations_code, pointer_of}
@@ -32,8 +32,10 @@ joined : (a b x y : List Instruction) → length a ≡ length x → length b ≡
 joined a b x y first second = omega (arith, length-append a b, length-append x y, first, second)
 
 -- an element of an array is written
-filled_long : (words h i t : ℕ) → length (filled_code words h t) ≡ length (filled_code words i t)
-filled_long words h i t = ap (λ n. suc (suc n)) (joined (stores_code words (t + 3 + words) 0 (t + 3)) (_ ∷ _ ∷ []) (stores_code words (t + 3 + words) 0 (t + 3)) (_ ∷ _ ∷ []) refl refl)
+filled_long : (kind : Kind) (h i t : ℕ) → length (filled_code kind h t) ≡ length (filled_code kind i t)
+filled_long kind h i t =
+    let stores = stores_code (words_of_kind kind) (t + 3 + words_of_kind kind) 0 (t + 3) in
+    ap (λ n. suc (suc n)) (joined stores (_ ∷ _ ∷ []) stores (_ ∷ _ ∷ []) refl refl)
 
 unless_long : (known same : Option Operand) (a x : List Instruction) → known ≡ same → length a ≡ length x → length (code_unless known a) ≡ length (code_unless same x)
 unless_long (Some o) same a x is long = ap (λ z. length (code_unless z x)) is
@@ -236,21 +238,20 @@ module _ (raises : ℕ) where
         (λ i. suc (length (reached_code (other starts raises) (span_in ty) (slot_or (same_pointer starts raises a x i) t) (t + 2) t))))
 
     made_long : (starts : Starts) → (x : Initial) (handle : Operand) (p q d e t : ℕ) → d ≡ e → length (made_code starts x handle p d t) ≡ length (made_code (other starts raises) x handle q e t)
-    made_long starts (Plain kind a) handle p q d e t same = joined _ _ _ _ (expression_long starts a p q t t t refl) (λ i. length (object_code handle (words_of_kind kind) (same i) t))
-    made_long starts (Fields cs) handle p q d e t same = joined _ _ _ _ (arguments_long starts cs p q t) (λ i. length (object_code handle (all_passed cs) (same i) t))
+    made_long starts (Plain kind a) handle p q d e t same = joined _ _ _ _ (expression_long starts a p q t t t refl) (λ i. length (object_code handle (kind ∷ []) (same i) t))
+    made_long starts (Fields cs) handle p q d e t same = joined _ _ _ _ (arguments_long starts cs p q t) (λ i. length (object_code handle (kinds_passed cs) (same i) t))
     made_long starts (Array w level n kind a) handle p q d e t same =
-        let words = words_of_kind kind in
         let first = expression_code starts n p t t in
         let second = expression_code (other starts raises) n q t t in
         let h = p + length first + 7 in
         let i = q + length second + 7 in
         let inner = expression_code (with_counter starts (t + 2)) a (h + 1) (t + 3) (t + 3) in
         let alike = expression_code (with_counter (other starts raises) (t + 2)) a (i + 1) (t + 3) (t + 3) in
-        joined first (begun_code starts handle words t ++ elements_code words inner h d t) second (begun_code (other starts raises) handle words t ++ elements_code words alike i e t) (expression_long starts n p q t t t refl)
-        (joined (begun_code starts handle words t) (elements_code words inner h d t) (begun_code (other starts raises) handle words t) (elements_code words alike i e t) refl
+        joined first (begun_code starts handle kind t ++ elements_code kind inner h d t) second (begun_code (other starts raises) handle kind t ++ elements_code kind alike i e t) (expression_long starts n p q t t t refl)
+        (joined (begun_code starts handle kind t) (elements_code kind inner h d t) (begun_code (other starts raises) handle kind t) (elements_code kind alike i e t) refl
         (ap suc
-        (joined (inner ++ filled_code words h t) (ended_code d t) (alike ++ filled_code words i t) (ended_code e t)
-        (joined inner (filled_code words h t) alike (filled_code words i t) (expression_long (with_counter starts (t + 2)) a (h + 1) (i + 1) (t + 3) (t + 3) (t + 3) refl) (filled_long words h i t))
+        (joined (inner ++ filled_code kind h t) (ended_code d t) (alike ++ filled_code kind i t) (ended_code e t)
+        (joined inner (filled_code kind h t) alike (filled_code kind i t) (expression_long (with_counter starts (t + 2)) a (h + 1) (i + 1) (t + 3) (t + 3) (t + 3) refl) (filled_long kind h i t))
         (λ z. length (ended_code (same z) t)))))
 
     arguments_long : (starts : Starts) → (cs : Arguments) (p q t : ℕ) → length (arguments_code starts cs p t) ≡ length (arguments_code (other starts raises) cs q t)

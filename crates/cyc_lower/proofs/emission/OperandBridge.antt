@@ -1,5 +1,5 @@
 -- Operands, and what changes them, stand where the code of a function is.
-use Rattle.std.proofs.Common.{◌≡◌, ℕ, zero, suc, ◌+◌, ◌≤◌, Bool, true, false, List, [], ◌∷◌, ◌++◌, length, Option, None, Some, slice_get, refl, sym, ap, subst, ◌∙◌, arith, length-append}
+use Rattle.std.proofs.Common.{◌≡◌, ℕ, zero, suc, ◌+◌, ◌<◌, ◌≤◌, Bool, true, false, List, [], ◌∷◌, ◌++◌, length, Option, None, Some, slice_get, refl, sym, ap, subst, ◌∙◌, arith, length-append}
 use Rattle.std.specs.Prelude.{if◌then◌else◌, ◌==◌}
 use Rattle.cyc_meaning.specs.Operators.{array_size, null_exception, division_by_zero, array_bounds}
 use Rattle.cyc_types.specs.declared.typed.Kind.{Kind}
@@ -9,7 +9,7 @@ use Rattle.cyc_types.specs.declared.typed.Operator.TheVariants as operators
 use Rattle.cyc_types.specs.declared.typed.PointerOperator.{PointerOperator}
 use Rattle.cyc_types.specs.declared.typed.PointerOperator.TheVariants as pointers
 use Rattle.cyc_types.specs.TypedTrees.{Counter, Load, Lvalue, Local, Global, Expression, Number, NullPointer, Copy, Binary, Convert, Arguments, NoArguments, MoreArguments, Operations, NoOperations, ThenCompute, Move, Peek, HeapRegion}
-use Rattle.cyc_types.specs.Numbered.{Numbering, argument_count}
+use Rattle.cyc_types.specs.Numbered.{Numbering}
 use Rattle.cyc_plain.specs.declared.instruction.BinaryOperator.TheVariants as plain_binary
 use Rattle.cyc_plain.specs.declared.instruction.Comparison.{Comparison}
 use Rattle.cyc_plain.specs.declared.instruction.BinaryOperator.TheVariants as plain_binary
@@ -21,16 +21,16 @@ use Rattle.cyc_plain.specs.declared.instruction.Instruction.TheVariants as instr
 use Rattle.cyc_plain.specs.Straight.{At, HasAt}
 use Rattle.cyc_plain.proofs.Straight.{has_front, has_back}
 use Rattle.cyc_store.specs.declared.range.TheConstants.{MOST_BLOCK_WORDS}
-use Rattle.cyc_meaning.specs.Values.{words_of_kind, is_thin}
+use Rattle.cyc_meaning.specs.Values.{words_of_kind, bytes_of_kind, begins, behind, is_thin}
 use Rattle.cyc_lower.specs.Slots.{Types, starts_of, slot_of, global_of}
-use Rattle.cyc_lower.specs.ValueCode.{are_as_wide, converts_there, moved_by, move_of, operand_or, code_unless, slot_or, code_unless_slot, left_with, next_slot, check_code, conversion_code, divisor_code, checked_code, operator_code, is_in, pointer_operator, index_code, pointer_instructions, address_code, raising, blocks, guard_code, jump_if_zero, count_code, span_of, null_of, tested_code, widened_code, conversion_by, all_passed, bounds_code, stepped_code, bounded_code, past_bounded, thinned_code, reached_code, followed_code, word_by_word, load_word, store_word, global_code}
-use Rattle.cyc_lower.specs.ObjectCode.{most_elements, begun_code, filled_code, stores_code, object_code, free_code, saved_code}
+use Rattle.cyc_lower.specs.ValueCode.{are_as_wide, converts_there, moved_by, move_of, operand_or, code_unless, slot_or, code_unless_slot, left_with, next_slot, check_code, conversion_code, divisor_code, checked_code, operator_code, is_in, pointer_operator, index_code, pointer_instructions, address_code, raising, blocks, guard_code, jump_if_zero, count_code, span_of, null_of, tested_code, widened_code, conversion_by, bounds_code, stepped_code, bounded_code, past_bounded, thinned_code, reached_code, followed_code, word_by_word, load_word, store_word, global_code}
+use Rattle.cyc_lower.specs.ObjectCode.{most_elements, begun_code, filled_code, stores_code, cells_code, slots_of_kinds, object_code, free_code, saved_code}
 use Rattle.cyc_lower.specs.ControlCode.{counter_operand}
 use Rattle.cyc_lower.specs.ExpressionCode.{source_of, source_slot, operand_of, left_of, value_slot, slot_with, left_slot, value_operand, converted_operand, load_code, expression_code}
-use Rattle.cyc_lower.proofs.relation.Stands.{BegunAt, FilledAt, OperandBy, CheckAt, ConversionBy, ConversionAt, DivisorAt, CheckedAt, OperatorAt, LoadAt, CopyBy, ExpressionAt, InitialBy, ReturnedAt, FirstTwoAt, IndexAt, PointerAt, StoresAt, ObjectAt, AddressAt, GuardAt, FreedAt, CountAt, TestedAt, WidenedAt, LoadedBy, SavedAt, BoundsAt, SteppedAt, ThinnedAt, ReachedAt, FollowedAt, EachAt, GlobalAt}
+use Rattle.cyc_lower.proofs.relation.Stands.{BegunAt, FilledAt, OperandBy, CheckAt, ConversionBy, ConversionAt, DivisorAt, CheckedAt, OperatorAt, LoadAt, CopyBy, ExpressionAt, InitialBy, ReturnedAt, FirstTwoAt, IndexAt, PointerAt, StoresAt, CellsAt, ObjectAt, AddressAt, GuardAt, FreedAt, CountAt, TestedAt, WidenedAt, LoadedBy, SavedAt, BoundsAt, SteppedAt, ThinnedAt, ReachedAt, FollowedAt, EachAt, GlobalAt}
 use Rattle.cyc_lower.proofs.emission.Lengths.{past_long}
 use Rattle.cyc_lower.specs.Lowerable.{is_converted, is_pointer}
-use Rattle.cyc_lower.proofs.slots.Widths.{given, kind_positive}
+use Rattle.cyc_lower.proofs.slots.Widths.{given}
 use Rattle.cyc_lower.proofs.relation.Fitting.{FitsPlace}
 use Rattle.cyc_lower.specs.Lowerable.{is_converted}
 use Rattle.cyc_lower.proofs.value_steps.ValueWords.{as_wide}
@@ -118,7 +118,7 @@ module _ (code : List Instruction) (b : Numbering) (types : Types) (raised : Blo
 
   stepped_stands : (span : Option ℕ) (n m t p q : ℕ) → p + length (stepped_code span n m t) ≡ q → HasAt code p (stepped_code span n m t) → SteppedAt code b types span n m t p q
   stepped_stands None n m t p q end has = omega (arith, end)
-  stepped_stands (Some words) n m t p q end (scale, (sum, none)) = (scale, sum, omega (arith, end))
+  stepped_stands (Some bytes) n m t p q end (scale, (sum, none)) = (scale, sum, omega (arith, end))
 
   bounded_stands : (span : Option ℕ) (n m t p q : ℕ) → p + length (bounded_code (starts_of types) span n m t) ≡ q → HasAt code p (bounded_code (starts_of types) span n m t)
       → (s : ℕ) × BoundsAt code b types (operands.Slot m) (operands.Slot (n + 1)) p s × SteppedAt code b types span n m t s q
@@ -309,26 +309,34 @@ module _ (code : List Instruction) (b : Numbering) (types : Types) (raised : Blo
   saved_stands words address (operands.Slot n) p q apart end has = (stores_stand words address 0 n p q end has, apart)
   saved_stands words address (operands.Word n) p q apart end (here, none) = (here, end)
 
-  -- each value that is passed has a word or more
-  pub passed_least : (cs : Arguments) → argument_count cs ≤ all_passed cs
-  passed_least NoArguments = omega arith
-  passed_least (MoreArguments (Convert from to a) cs) = omega (arith, passed_least cs, kind_positive to)
+  pub cells_stand : (ks : List Kind) (address at slot p q : ℕ) → p + length (cells_code ks address at slot) ≡ q → HasAt code p (cells_code ks address at slot) → CellsAt code b types ks address at slot p q
+  cells_stand [] address at slot p q end has = omega (arith, end)
+  cells_stand (kind ∷ ks) address at slot p q end has =
+      let first = stores_code (words_of_kind kind) address (begins kind at) slot in
+      let others = cells_code ks address (behind kind at) (slot + words_of_kind kind) in
+      let r = p + length first in (
+        r,
+        stores_stand (words_of_kind kind) address (begins kind at) slot p r refl (has_front code p first others has),
+        cells_stand ks address (behind kind at) (slot + words_of_kind kind) r q (cut p q first others end) (has_back code p first others has),
+      )
 
-  pub object_stands : (handle : Operand) (cells words d t p q : ℕ) → cells ≤ words → 1 ≤ words → words ≤ MOST_BLOCK_WORDS → p + length (object_code handle words d t) ≡ q → HasAt code p (object_code handle words d t)
-      → ObjectAt code b types handle cells words t d p q
-  object_stands handle cells words d t p q least some few end (ask, rest) =
-      let stores = stores_code words (t + words) 0 t in
+  pub object_stands : (handle : Operand) (ks : List Kind) (d t p q : ℕ) → 0 < length ks → slots_of_kinds ks ≤ MOST_BLOCK_WORDS → p + length (object_code handle ks d t) ≡ q → HasAt code p (object_code handle ks d t)
+      → ObjectAt code b types handle ks t d p q
+  object_stands handle ks d t p q some few end (ask, rest) =
+      let words = slots_of_kinds ks in
+      let stores = cells_code ks (t + words) 0 t in
       let move = instructions.Move d (operands.Slot (t + words)) ∷ [] in
       let m = p + 1 + length stores in
       let (here, none) = has_back code (p + 1) stores move rest in
-      (m, least, some, few, ask, stores_stand words (t + words) 0 t (p + 1) m refl (has_front code (p + 1) stores move rest), here, omega (arith, end, length-append stores move))
+      (m, some, few, ask, cells_stand ks (t + words) 0 t (p + 1) m refl (has_front code (p + 1) stores move rest), here, omega (arith, end, length-append stores move))
 
-  pub begun_stands : (handle : Operand) (words t p q : ℕ) → p + 7 ≡ q → HasAt code p (begun_code (starts_of types) handle words t) → BegunAt code b types handle words t p q
-  begun_stands handle words t p q end (guard, (count, (index, (all, (none, (size, (ask, rest))))))) =
-      (p + 1, guard_stands array_size comparisons.GreaterOrEqualUnsigned (operands.Slot t) (operands.Word (most_elements words + 1)) p (p + 1) (omega arith) (omega arith) refl (guard, tt), count, index, all, none, size, ask, omega (arith, end))
+  pub begun_stands : (handle : Operand) (kind : Kind) (t p q : ℕ) → p + 7 ≡ q → HasAt code p (begun_code (starts_of types) handle kind t) → BegunAt code b types handle kind t p q
+  begun_stands handle kind t p q end (guard, (count, (index, (all, (none, (size, (ask, rest))))))) =
+      (p + 1, guard_stands array_size comparisons.GreaterOrEqualUnsigned (operands.Slot t) (operands.Word (most_elements (bytes_of_kind kind) + 1)) p (p + 1) (omega arith) (omega arith) refl (guard, tt), count, index, all, none, size, ask, omega (arith, end))
 
-  pub filled_stands : (words t head p q : ℕ) → p + length (filled_code words head t) ≡ q → HasAt code p (filled_code words head t) → FilledAt code b types words t head p q
-  filled_stands words t head p q end (scaled, (address, rest)) =
+  pub filled_stands : (kind : Kind) (t head p q : ℕ) → p + length (filled_code kind head t) ≡ q → HasAt code p (filled_code kind head t) → FilledAt code b types kind t head p q
+  filled_stands kind t head p q end (scaled, (address, rest)) =
+      let words = words_of_kind kind in
       let stores = stores_code words (t + 3 + words) 0 (t + 3) in
       let up = instructions.Binary plain_binary.Add (t + 2) (operands.Slot (t + 2)) (operands.Word 1) ∷ instructions.Jump head ∷ [] in
       let m = p + 1 + 1 + length stores in

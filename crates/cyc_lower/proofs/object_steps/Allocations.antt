@@ -1,6 +1,6 @@
 -- The steps that make objects: the store is asked for a block, and then each cell is written.
-use Rattle.std.proofs.Common.{◌≡◌, ℕ, zero, suc, ◌+◌, ◌*◌, ◌≤◌, ◌<◌, max, Bool, true, false, List, [], ◌∷◌, ◌++◌, length, reverse, None, Some, slice_get, refl, sym, ap, subst, ◌∙◌, inl, inr, arith, length-append, append_assoc}
-use Rattle.std.proofs.lemmas.List.{length-reverse}
+use Rattle.std.proofs.Common.{◌≡◌, ℕ, zero, suc, ◌+◌, ◌*◌, ◌%◌, ◌≤◌, ◌<◌, max, Bool, true, false, List, [], ◌∷◌, ◌++◌, length, reverse, None, Some, slice_get, refl, sym, ap, subst, ◌∙◌, inl, inr, arith, length-append, append_assoc, append-nil}
+use Rattle.std.proofs.lemmas.List.{reverse-append}
 use Rattle.std.specs.Prelude.{◌==◌, nat_lt, if◌then◌else◌}
 use Rattle.std.proofs.lemmas.Bool.{le-leb, and_from, cases_Bool, eqb-true}
 use Rattle.std.proofs.Math.Nat.{le-max_left}
@@ -25,21 +25,23 @@ use Rattle.cyc_plain.specs.Step.{Choice, advanced, operand_word, served_to, perf
 use Rattle.cyc_plain.specs.Step as plain_step
 use Rattle.cyc_plain.specs.Straight.{At}
 use Rattle.cyc_plain.proofs.SlotLaws.{put-same, put-other}
-use Rattle.cyc_meaning.specs.Values.{Thin, Operand as Kinded, Cell, kinds_of, is_kind, words_of_kind, words_of_cells, block_size}
+use Rattle.cyc_meaning.specs.Values.{Thin, Operand as Kinded, Cell, kinds_of, is_kind, words_of_kind, bytes_of_kind, begins, behind, bytes_from, words_for, block_size}
 use Rattle.cyc_meaning.specs.Allocation.{writes_from, blanks_of, filled, makes_of}
 use Rattle.cyc_meaning.specs.Objects.{made_in, made_unique, created, created_in}
 use Rattle.cyc_meaning.specs.Effects.{pages_of}
 use Rattle.cyc_meaning.specs.State.{Region, Owner, InRegion, Unique, World, Access, Found, Closed, Missing, region_at, counted, cell_at, written, Environment, MakePlain, MakeFields, ConvertTo, Write, Entry, Needs, Focus, Evaluating, Given, Writing, Running}
 use Rattle.cyc_meaning.specs.Step.{wrong, stored, target_by, step}
 use Rattle.cyc_objects.specs.Tables.{Placed, Tables, with_row, Grows}
-use Rattle.cyc_objects.specs.Words.{words_of_kinds, before, Points, Is, AreBlank}
+use Rattle.cyc_objects.specs.Words.{bytes_of_kinds, before, Points, Is, AreBlank}
 use Rattle.cyc_objects.specs.Related as objects
 use Rattle.cyc_objects.specs.Related.{has_home}
+use Rattle.cyc_objects.proofs.Places.{before-all, before-first, before-inside, before-joined, bytes-joined}
 use Rattle.cyc_objects.proofs.Values.{Grows-row}
 use Rattle.cyc_objects.proofs.RegionLemmas.{counted-same}
 use Rattle.cyc_objects.proofs.Making.{open-home, allocated, allocated-unique, refusal-allocate, refusal-unique, operands-blank, row-made, placed-range, room-fits}
 use Rattle.cyc_lower.proofs.slots.Widths.{kind_positive, wide_kind, Outside}
-use Rattle.cyc_lower.proofs.relation.Stands.{StoresAt, ObjectAt}
+use Rattle.cyc_lower.proofs.slots.CellBytes.{behind_even}
+use Rattle.cyc_lower.proofs.relation.Stands.{StoresAt, CellsAt, ObjectAt}
 use Rattle.cyc_lower.proofs.relation.HeldValues.{IsWord, IsIn, IsObject, words_held, height, Holds, HoldsFrom, held, callers, homes, IsHandleOf, HasHandle, contents}
 use Rattle.cyc_lower.proofs.relation.Relation.{types_on, silent, DataIn, SharedAt, in_temporary, into_slot, LandsMade, ValueStack, Matches, code_of, bounds_at, top, floor, base_of}
 use Rattle.cyc_lower.proofs.object_steps.Handles.{has_handle}
@@ -55,6 +57,8 @@ use Rattle.cyc_lower.proofs.relation.Known.{row-made_there}
 use Rattle.cyc_lower.proofs.relation.Leads.{AreNamed}
 use Rattle.cyc_lower.proofs.relation.Moving.{made_moves}
 use Rattle.cyc_lower.specs.Slots.{global_types}
+use Rattle.cyc_lower.specs.ValueCode.{kinds_passed}
+use Rattle.cyc_lower.specs.ObjectCode.{slots_of_kinds}
 use Rattle.cyc_lower.proofs.place_steps.PlaceWords.{add_is}
 
 -- ---- words and cells of values
@@ -63,18 +67,37 @@ words_many : (vs : List Kinded) → length vs ≤ words_held vs
 words_many [] = omega arith
 words_many (v ∷ vs) = omega (arith, words_many vs, kind_positive v.kind)
 
-words_blank : (vs : List Kinded) → words_of_cells (blanks_of vs) ≡ words_held vs
-words_blank [] = refl
-words_blank (v ∷ vs) = omega (arith, words_blank vs)
+-- the bytes of cells for these values are those of their words
+bytes_blank : (at : ℕ) (vs : List Kinded) → at % 4 ≡ 0 → bytes_from at (kinds_of (blanks_of vs)) ≡ at + 4 * words_held vs
+bytes_blank at [] even = omega arith
+bytes_blank at (v ∷ vs) even =
+    let here = behind_even v.kind at even in
+    omega (arith, here, bytes_blank (behind v.kind at) vs (omega (arith, here, even)))
 
--- the words before a cell are those of the kinds before it
-before_is : (done rest : List Kind) → before (length done) (done ++ rest) ≡ words_of_kinds done
-before_is [] rest = refl
-before_is (kind ∷ done) rest = ap (λ n. words_of_kind kind + n) (before_is done rest)
+-- the kind behind others
+there_is : (done rest : List Kind) (kind : Kind) → slice_get (done ++ kind ∷ rest) (length done) ≡ Some kind
+there_is [] rest kind = refl
+there_is (a ∷ done) rest kind = there_is done rest kind
 
-words_joined : (done rest : List Kind) → words_of_kinds (done ++ rest) ≡ words_of_kinds done + words_of_kinds rest
-words_joined [] rest = omega arith
-words_joined (kind ∷ done) rest = omega (arith, words_joined done rest)
+-- the slots of values are those of their kinds
+slots_held : (vs : List Kinded) → slots_of_kinds (kinds_of (blanks_of vs)) ≡ words_held vs
+slots_held [] = refl
+slots_held (v ∷ vs) = omega (arith, slots_held vs)
+
+some_held : (vs : List Kinded) → 0 < length (kinds_of (blanks_of vs)) → 1 ≤ words_held vs
+some_held [] some = absurd (omega (arith, some))
+some_held (v ∷ vs) some = omega (arith, kind_positive v.kind)
+
+kinds_joined : (us vs : List Kinded) → kinds_of (blanks_of (us ++ vs)) ≡ kinds_of (blanks_of us) ++ kinds_of (blanks_of vs)
+kinds_joined [] vs = refl
+kinds_joined (u ∷ us) vs = ap (λ (ks : List Kind). u.kind ∷ ks) (kinds_joined us vs)
+
+-- those of values in their order, of which the last comes first
+kinds_reversed : (v : Kinded) (vs : List Kinded) (ks : List Kind) → kinds_of (blanks_of (reverse (v ∷ vs))) ++ ks ≡ kinds_of (blanks_of (reverse vs)) ++ v.kind ∷ ks
+kinds_reversed v vs ks =
+    ap (λ (us : List Kinded). kinds_of (blanks_of us) ++ ks) (reverse-append (v ∷ []) vs)
+    ∙ ap (λ (ls : List Kind). ls ++ ks) (kinds_joined (reverse vs) (v ∷ []))
+    ∙ append_assoc (kinds_of (blanks_of (reverse vs))) (v.kind ∷ []) ks
 
 HoldsFrom-same : (t : Tables) (slots other : Words) (first : ℕ) (vs : List Kinded) → ((n : ℕ) → n < first + words_held vs → other n ≡ slots n) → HoldsFrom t slots first vs → HoldsFrom t other first vs
 HoldsFrom-same t slots other first [] same holds = tt
@@ -92,7 +115,7 @@ HoldsFrom-later t slots other first (v ∷ vs) same (is, holds) = (
 
 -- the size of a block that is asked for
 sized : (vs : List Kinded) → 1 ≤ words_held vs → words_held vs ≤ MOST_BLOCK_WORDS → max 1 (words_held vs) ≡ block_size (blanks_of vs)
-sized vs some few = ap (max 1) (sym (words_blank vs))
+sized vs some few = ap (max 1) (let words : words_held vs ≡ words_for (bytes_of_kinds (kinds_of (blanks_of vs))) = omega (arith, bytes_blank 0 vs refl) in words)
 
 max_one : (n : ℕ) → 1 ≤ n → max 1 n ≡ n
 max_one zero some = absurd (omega arith)
@@ -130,7 +153,7 @@ region_there Closed region cells w new found = absurd (let f : created_in w regi
 region_there Missing region cells w new found = absurd (let f : created_in w region Missing cells ≡ Found new = found in cc)
 
 cells_sized : (cells : List Cell) → block_size cells ≤ MOST_BLOCK_WORDS → is_size (block_size cells) ≡ true
-cells_sized cells few = and_from _ _ (le-leb 1 (block_size cells) (le-max_left 1 (words_of_cells cells))) (le-leb (block_size cells) MOST_BLOCK_WORDS few)
+cells_sized cells few = and_from _ _ (le-leb 1 (block_size cells) (le-max_left 1 (words_for (bytes_of_kinds (kinds_of cells))))) (le-leb (block_size cells) MOST_BLOCK_WORDS few)
 
 module _ {t : Tables} {w : World} {s : StoreState} (related : objects.Related t (silent w) s) (cells : List Cell) (blank : AreBlank cells) (few : block_size cells ≤ MOST_BLOCK_WORDS) where
   -- in a region that is open
@@ -264,10 +287,16 @@ module _ (source : Program) (pages calls : ℕ) where
       → IsHandleOf owner handle (top source c.active.function k) k → step source (Running focus k₀ e w) ≡ makes_of owner vs k e w
       → IsWell (makes_of owner vs k e w) → SharedAt source pages calls k₀ e w c → (shared : SharedAt source pages calls k e w c) → DataIn source shared.tables c.active.slots k e w c
       → Holds shared.tables c.active.slots (floor source c.active.function k) (held k) → HoldsFrom shared.tables c.active.slots (top source c.active.function k) vs
-      → ObjectAt (code_of source c.active.function) (bounds_at source c.active.function) (types_on source c.active.function k) handle (length vs) (words_held vs) (top source c.active.function k) d c.active.next q
+      → ObjectAt (code_of source c.active.function) (bounds_at source c.active.function) (types_on source c.active.function k) handle (kinds_of (blanks_of vs)) (top source c.active.function k) d c.active.next q
       → LandsMade source c.active.function e.locals kinds.NonNull d q c.frames k → IsMatched source pages calls (Running focus k₀ e w) (plain.Running c)
-  made_object owner handle focus k₀ k e w c vs d q owned does well shared₀ shared facts holds values (m, single, some, few, ask, stores, move, end) lands =
-      let t = top source c.active.function k in
+  made_object owner handle focus k₀ k e w c vs d q owned does well shared₀ shared facts holds values (m, some_cells, few_slots, ask, stores_at, move_at, end) lands =
+      let g = c.active.function in
+      let t = top source g k in
+      let held_is = slots_held vs in
+      let some = some_held vs some_cells in
+      let few : words_held vs ≤ MOST_BLOCK_WORDS = omega (arith, few_slots, held_is) in
+      let stores = subst (λ n. CellsAt (code_of source g) (bounds_at source g) (types_on source g k) (kinds_of (blanks_of vs)) (t + n) 0 t (c.active.next + 1) m) held_is stores_at in
+      let move = subst (λ n. At (code_of source g) m (instructions.Move d (operands.Slot (t + n)))) held_is move_at in
       let word = operand_word c.active.slots handle in
       let has = has_handle shared.tables c.active.slots (floor source c.active.function k) owner handle k shared.related.heap owned holds in
       let cells = blanks_of vs in
@@ -278,7 +307,7 @@ module _ (source : Program) (pages calls : ℕ) where
       let is_next : step source (Running focus k₀ e w) ≡ next = does ∙ ap (λ a. filled a (length w.objects) vs k e w) makes.creates in
       let request = requests.Allocate (t + words_held vs) handle (operands.Word (block_size cells)) in
       let here : At (code_of source c.active.function) c.active.next (instructions.Ask request)
-      = subst (λ n. At (code_of source c.active.function) c.active.next (instructions.Ask (requests.Allocate (t + words_held vs) handle (operands.Word n)))) (sized vs some few) ask in
+      = subst (λ n. At (code_of source c.active.function) c.active.next (instructions.Ask (requests.Allocate (t + n) handle (operands.Word (block_size cells))))) held_is ask in
       elim (cases_Bool (nat_lt c.store.pages (pages_of new))) [
         | inl over ↦
             by_full source pages calls focus k₀ e w c next request is_next
@@ -304,7 +333,7 @@ module _ (source : Program) (pages calls : ℕ) where
                   refl,
                   refl,
                   object_there k e w c shared facts holds vs owner word new makes some few choice free served,
-                  single,
+                  words_many vs,
                   omega (arith, height-least (floor source c.active.function k) (held k), floor-least source c.active.function k),
                   omega (arith, height-least (floor source c.active.function k) (held k), floor-least source c.active.function k),
                   values_made k e w c shared facts holds vs owner word new makes some few choice free served values,
@@ -327,16 +356,13 @@ module _ (source : Program) (pages calls : ℕ) where
       → IsIn shared.tables v c.active.slots o → Holds shared.tables c.active.slots (floor source c.active.function k) (held k)
       → ValueStack source c.active.function e.locals v.kind o c.active.next c.frames (Needs (MakePlain owner kind) ∷ k)
       → IsMatched source pages calls (Running (Given v) (Needs (MakePlain owner kind) ∷ k) e w) (plain.Running c)
-  plain_made owner kind v o k e w c well shared facts is holds (handle, d, q, owned, there, (m, single, some, few, ask, stores, move, end), lands) =
+  plain_made owner kind v o k e w c well shared facts is holds (handle, d, q, owned, there, object, lands) =
       let g = c.active.function in
-      let t = top source g k in
       let makes = makes_of owner (v ∷ []) k e w in
       let does : step source (Running (Given v) (Needs (MakePlain owner kind) ∷ k) e w) ≡ makes = ap (λ (b : Bool). if b then makes else wrong w) (is_fitting (is_kind v.kind kind) makes w well) in
-      let words : words_of_kind v.kind ≡ words_held (v ∷ []) = omega arith in
       made_object owner handle (Given v) (Needs (MakePlain owner kind) ∷ k) k e w c (v ∷ []) d q owned does (subst IsWell does well) shared shared facts holds
       (subst (IsIn shared.tables v c.active.slots) there is, tt)
-      (subst (λ n. ObjectAt (code_of source g) (bounds_at source g) (types_on source g k) handle 1 n t d c.active.next q) words (m, single, some, few, ask, stores, move, end))
-      lands
+      object lands
 
   -- the next of its fields is evaluated, or it is made of all
   pub fields_made : (owner : Owner) (earlier : List Kinded) (cs : Arguments) (v : Kinded) (o : Operand) (k : List Entry) (e : Environment) (w : World) (c : Configuration)
@@ -344,35 +370,33 @@ module _ (source : Program) (pages calls : ℕ) where
       → IsIn shared.tables v c.active.slots o → Holds shared.tables c.active.slots (floor source c.active.function k) (earlier ++ held k)
       → ValueStack source c.active.function e.locals v.kind o c.active.next c.frames (Needs (MakeFields owner earlier cs) ∷ k)
       → IsMatched source pages calls (Running (Given v) (Needs (MakeFields owner earlier cs) ∷ k) e w) (plain.Running c)
-  fields_made owner earlier NoArguments v o k e w c well shared facts is holds (handle, d, p, q, all, owned, there, none, (m, single, some, few, ask, stores, move, end), long, lands) =
+  fields_made owner earlier NoArguments v o k e w c well shared facts is holds (handle, d, p, q, all, owned, there, none, object, kinds_are, lands) =
       let g = c.active.function in
       let base = floor source g k in
       let t = top source g k in
       let values = reverse (v ∷ earlier) in
       let held_all : Holds shared.tables c.active.slots base ((v ∷ earlier) ++ held k) = (subst (IsIn shared.tables v c.active.slots) there is, holds) in
-      let words : all ≡ words_held values = omega (arith, long, words-reverse (v ∷ earlier)) in
-      let count : length earlier + suc 0 ≡ length values = omega (arith, length-reverse (v ∷ earlier)) in
+      let kinds_is : all ≡ kinds_of (blanks_of values) = sym (sym (append-nil (kinds_of (blanks_of values))) ∙ kinds_reversed v earlier [] ∙ kinds_are) in
       made_object owner handle (Given v) (Needs (MakeFields owner earlier NoArguments) ∷ k) k e w c values d q owned refl well shared shared facts (Holds-rest shared.tables c.active.slots base (v ∷ earlier) (held k) held_all)
       (in_order shared.tables c.active.slots base (v ∷ earlier) (held k) held_all)
-      (subst (λ n. ObjectAt (code_of source g) (bounds_at source g) (types_on source g k) handle n (words_held values) t d c.active.next q) count
-      (subst (λ n. ObjectAt (code_of source g) (bounds_at source g) (types_on source g k) handle (length earlier + suc 0) n t d c.active.next q) words
-      (subst (λ x. ObjectAt (code_of source g) (bounds_at source g) (types_on source g k) handle (length earlier + suc 0) all t d x q) (sym none) (m, single, some, few, ask, stores, move, end))))
+      (subst (λ ks. ObjectAt (code_of source g) (bounds_at source g) (types_on source g k) handle ks t d c.active.next q) kinds_is
+      (subst (λ x. ObjectAt (code_of source g) (bounds_at source g) (types_on source g k) handle all t d x q) (sym none) object))
       lands
-  fields_made owner earlier (MoreArguments (Convert from to a) cs) v o k e w c well shared facts is holds (handle, d, p, q, all, owned, there, (r, (s, at_a, at_to), at_cs), (m, single, some, few, ask, stores, move, end), long, lands) =
+  fields_made owner earlier (MoreArguments (Convert from to a) cs) v o k e w c well shared facts is holds (handle, d, p, q, all, owned, there, (r, (s, at_a, at_to), at_cs), object, kinds_are, lands) =
       let g = c.active.function in
       silently source pages calls (Running (Given v) (Needs (MakeFields owner earlier (MoreArguments (Convert from to a) cs)) ∷ k) e w)
       (Running (Evaluating a) (Needs (ConvertTo from to (target_by a)) ∷ Needs (MakeFields owner (v ∷ earlier) cs) ∷ k) e w) (plain.Running c) refl (
         shared,
         facts,
         into_slot (height (floor source g k) (v ∷ earlier ++ held k)) s at_a (subst (IsIn shared.tables v c.active.slots) there is, holds)
-            (in_temporary (omega arith) (r, at_to, (handle, d, p, q, all, owned, refl, at_cs, (m, omega (arith, single), some, few, ask, stores, move, end), omega (arith, long), lands))),
+            (in_temporary (omega arith) (r, at_to, (handle, d, p, q, all, owned, refl, at_cs, object, kinds_reversed v earlier (to ∷ kinds_passed cs) ∙ kinds_are, lands))),
       )
       (omega arith)
 
   -- ---- its cells are written
 
   -- the next cell, which stands behind those that are written already
-  cell_next : (t : Tables) (object address : ℕ) (done rest : List Kind) (kind : Kind) → IsObject t object address (done ++ kind ∷ rest) → Points t object (length done) (add_of address (4 * words_of_kinds done))
+  cell_next : (t : Tables) (object address : ℕ) (done rest : List Kind) (kind : Kind) → IsObject t object address (done ++ kind ∷ rest) → Points t object (length done) (add_of address (begins kind (bytes_of_kinds done)))
   cell_next t object address done rest kind is = record {
     address = address;
     kinds = done ++ kind ∷ rest;
@@ -380,8 +404,10 @@ module _ (source : Program) (pages calls : ℕ) where
     range = is.range;
     inside = omega (arith, length-append done (kind ∷ rest));
     at =
-        let fits : address + 4 * words_of_kinds (done ++ kind ∷ rest) < 4294967296 = is.range.high in
-        add_is address (4 * words_of_kinds done) (omega (arith, fits, words_joined done (kind ∷ rest), kind_positive kind)) ∙ ap (λ n. address + 4 * n) (sym (before_is done (kind ∷ rest)));
+        let place = before-joined 0 done rest kind in
+        let fits : address + bytes_of_kinds (done ++ kind ∷ rest) < 4294967296 = is.range.high in
+        let inside : before (length done) (done ++ kind ∷ rest) ≤ bytes_of_kinds (done ++ kind ∷ rest) = before-all 0 (length done) (done ++ kind ∷ rest) in
+        add_is address (begins kind (bytes_of_kinds done)) (omega (arith, fits, place, inside)) ∙ ap (λ n. address + n) (sym place);
   }
 
   -- the next cell is written, by its word or by its three words
@@ -392,20 +418,28 @@ module _ (source : Program) (pages calls : ℕ) where
       (shared : SharedAt source pages calls k e w c) (facts : DataIn source shared.tables c.active.slots k e w c) (is : pointer ≡ record { kind = kinds.NonNull; value = Thin object 0 })
       (there : IsObject shared.tables object (c.active.slots address) (done ++ kinds_of (blanks_of (u ∷ us)))) (is_u : Is shared.tables u.kind u.value c.active.slots slot)
       (held_in : HoldsFrom shared.tables c.active.slots (slot + words_of_kind u.kind) us)
-      (stores : StoresAt (code_of source c.active.function) (bounds_at source c.active.function) (types_on source c.active.function k) (words_held us + words_of_kind u.kind) address (4 * words_of_kinds done) slot c.active.next m)
+      (r : ℕ) (stores : StoresAt (code_of source c.active.function) (bounds_at source c.active.function) (types_on source c.active.function k) (words_of_kind u.kind) address (begins u.kind (bytes_of_kinds done)) slot c.active.next r)
+      (others : CellsAt (code_of source c.active.function) (bounds_at source c.active.function) (types_on source c.active.function k) (kinds_of (blanks_of us)) address (behind u.kind (bytes_of_kinds done)) (slot + words_of_kind u.kind) r m)
       (move : At (code_of source c.active.function) m (instructions.Move d (operands.Slot address))) (end : m + 1 ≡ q) (holds : Holds shared.tables c.active.slots (floor source c.active.function k) (held k))
       (lands : LandsMade source c.active.function e.locals kinds.NonNull d q c.frames k) where
     abbrev next_write : Focus
     next_write = Writing (writes_from object (suc (length done)) us) (Some pointer)
 
     abbrev place : ℕ
-    place = add_of (c.active.slots address) (4 * words_of_kinds done)
+    place = add_of (c.active.slots address) (begins u.kind (bytes_of_kinds done))
 
     abbrev rest : List Kind
     rest = kinds_of (blanks_of us)
 
     points : Points shared.tables object (length done) place
     points = cell_next shared.tables object (c.active.slots address) done rest u.kind there
+
+    -- what is left begins behind the cell
+    later_cells : (n p : ℕ) → slot + words_of_kind u.kind ≡ n → r ≡ p → CellsAt (code_of source c.active.function) (bounds_at source c.active.function) (types_on source c.active.function k) rest address (bytes_of_kinds (done ++ u.kind ∷ [])) n p m
+    later_cells n p slot_is end_is =
+        subst (λ b. CellsAt (code_of source c.active.function) (bounds_at source c.active.function) (types_on source c.active.function k) rest address b n p m) (sym (bytes-joined 0 done (u.kind ∷ [])))
+        (subst (λ x. CellsAt (code_of source c.active.function) (bounds_at source c.active.function) (types_on source c.active.function k) rest address (behind u.kind (bytes_of_kinds done)) n x m) end_is
+        (subst (λ x. CellsAt (code_of source c.active.function) (bounds_at source c.active.function) (types_on source c.active.function k) rest address (behind u.kind (bytes_of_kinds done)) x r m) slot_is others))
 
     longer : length (done ++ u.kind ∷ []) ≡ suc (length done)
     longer = omega (arith, length-append done (u.kind ∷ []))
@@ -421,9 +455,8 @@ module _ (source : Program) (pages calls : ℕ) where
         let (cell, found, same, gives) = cell_is_there (cell_at w object (length done)) object (length done) u next_write k e w (subst IsWell does well) in
         let word = slots slot in
         let is_word : IsWord tables cell.cell.kind u.value word = subst (λ i. IsWord tables i u.value word) (sym same) (one_word tables u.kind u.value slots slot one is_u) in
-        let (store, behind) = subst (λ n. StoresAt (code_of source g) (bounds_at source g) (types_on source g k) n address (4 * words_of_kinds done) slot c.active.next m) (let e : words_held us + words_of_kind u.kind ≡ suc (words_held us) = omega (arith, one) in e) stores in
+        let (store, last) = subst (λ n. StoresAt (code_of source g) (bounds_at source g) (types_on source g k) n address (begins u.kind (bytes_of_kinds done)) slot c.active.next r) one stores in
         let later = shared_saved source pages calls k e w c shared names facts object (length done) place word cell u.value found points is_word (words.0 slot) in
-        let wider : 4 * words_of_kinds (done ++ u.kind ∷ []) ≡ 4 * words_of_kinds done + 4 = omega (arith, words_joined done (u.kind ∷ []), one) in
         let after = with_word source pages calls k e w c shared names facts object (length done) place word cell u.value found points is_word (words.0 slot) in
         let stands : (n : ℕ) → base_of source g ≤ n → after.active.slots n ≡ slots n = λ n least. above_there source pages calls k e w c shared names facts object (length done) place word cell u.value found points is_word (words.0 slot) n least in
         by_one source pages calls (does ∙ gives) shared store
@@ -447,7 +480,7 @@ module _ (source : Program) (pages calls : ℕ) where
             high,
             omega (arith, above),
             subst (λ n. HoldsFrom tables after.active.slots n us) (let e : slot + words_of_kind u.kind ≡ suc slot = omega (arith, one) in e) (HoldsFrom-later tables slots after.active.slots (slot + words_of_kind u.kind) us (λ n from. stands n (omega (arith, from, above))) held_in),
-            subst (λ n. StoresAt (code_of source g) (bounds_at source g) (types_on source g k) (words_held us) address n (suc slot) (c.active.next + 1) m) (sym wider) behind,
+            later_cells (suc slot) (c.active.next + 1) (omega (arith, one)) (sym last),
             move,
             end,
             Holds-above tables slots after.active.slots (floor source g k) (held k) (λ n from. stands n (omega (arith, from, floor-least source g k))) holds,
@@ -456,29 +489,31 @@ module _ (source : Program) (pages calls : ℕ) where
         ))
 
     -- the words of the cell do not wrap
-    unwrapped : u.kind ≡ kinds.Fat → (j : ℕ) → j < 3 → add_of (c.active.slots address) (4 * words_of_kinds done + 4 * j) ≡ place + 4 * j
+    unwrapped : u.kind ≡ kinds.Fat → (j : ℕ) → j < 3 → add_of (c.active.slots address) (begins u.kind (bytes_of_kinds done) + 4 * j) ≡ place + 4 * j
     unwrapped fat j below =
-        let fits : c.active.slots address + 4 * words_of_kinds (done ++ u.kind ∷ rest) < 4294967296 = there.range.high in
-        let long = words_joined done (u.kind ∷ rest) in
-        let three = ap words_of_kind fat in
-        let first : place ≡ c.active.slots address + 4 * words_of_kinds done = add_is (c.active.slots address) (4 * words_of_kinds done) (omega (arith, fits, long)) in
-        add_is (c.active.slots address) (4 * words_of_kinds done + 4 * j) (omega (arith, fits, long, three, below)) ∙ omega (arith, first)
+        let bytes = begins u.kind (bytes_of_kinds done) in
+        let fits : c.active.slots address + bytes_of_kinds (done ++ u.kind ∷ rest) < 4294967296 = there.range.high in
+        let place_is = before-joined 0 done rest u.kind in
+        let inside : before (length done) (done ++ u.kind ∷ rest) + bytes_of_kind u.kind ≤ bytes_of_kinds (done ++ u.kind ∷ rest)
+        = before-inside 0 (length done) (done ++ u.kind ∷ rest) u.kind (there_is done rest u.kind) in
+        let three = ap bytes_of_kind fat in
+        let first : place ≡ c.active.slots address + bytes = add_is (c.active.slots address) bytes (omega (arith, fits, place_is, inside)) in
+        add_is (c.active.slots address) (bytes + 4 * j) (omega (arith, fits, place_is, inside, three, below)) ∙ omega (arith, first)
 
     writes_three : u.kind ≡ kinds.Fat → IsMatched source pages calls (Running (Writing (x ∷ writes) (Some pointer)) k e w) (plain.Running c)
     writes_three fat =
         let g = c.active.function in
         let tables = shared.tables in
         let slots = c.active.slots in
-        let bytes = 4 * words_of_kinds done in
+        let bytes = begins u.kind (bytes_of_kinds done) in
         let three = ap words_of_kind fat in
         let (cell, found, same, gives) = cell_is_there (cell_at w object (length done)) object (length done) u next_write k e w (subst IsWell does well) in
         let wide = same ∙ fat in
         let fat_is = subst (λ i. Is tables i u.value slots slot) fat is_u in
-        let (at_first, (at_second, (at_third, behind))) = subst (λ n. StoresAt (code_of source g) (bounds_at source g) (types_on source g k) n address bytes slot c.active.next m) (let e : words_held us + words_of_kind u.kind ≡ suc (suc (suc (words_held us))) = omega (arith, three) in e) stores in
+        let (at_first, (at_second, (at_third, last))) = subst (λ n. StoresAt (code_of source g) (bounds_at source g) (types_on source g k) n address bytes slot c.active.next r) three stores in
         let first : add_of (slots address) bytes ≡ place + 4 * 0 = ap (add_of (slots address)) (let e : bytes ≡ bytes + 4 * 0 = omega arith in e) ∙ unwrapped fat 0 (omega arith) in
         let second : add_of (slots address) (bytes + 4) ≡ place + 4 * 1 = ap (add_of (slots address)) (let e : bytes + 4 ≡ bytes + 4 * 1 = omega arith in e) ∙ unwrapped fat 1 (omega arith) in
         let third : add_of (slots address) (bytes + 4 + 4) ≡ place + 4 * 2 = ap (add_of (slots address)) (let e : bytes + 4 + 4 ≡ bytes + 4 * 2 = omega arith in e) ∙ unwrapped fat 2 (omega arith) in
-        let wider : 4 * words_of_kinds (done ++ u.kind ∷ []) ≡ bytes + 4 + 4 + 4 = omega (arith, words_joined done (u.kind ∷ []), three) in
         let after = stored_there source pages calls k e w c shared names facts object (length done) place address bytes slot high (inl above) cell u.value found points wide fat_is words first second third in
         let stands : (n : ℕ) → base_of source g ≤ n → after.active.slots n ≡ slots n = λ n least. above_stored source pages calls k e w c shared names facts object (length done) place address bytes slot high (inl above) cell u.value found points wide fat_is words first second third n least in
         by_path source pages calls (Writing (x ∷ writes) (Some pointer)) k e w c (Running next_write k e (written w object (length done) cell u.value))
@@ -505,7 +540,7 @@ module _ (source : Program) (pages calls : ℕ) where
             high,
             omega (arith, above),
             subst (λ n. HoldsFrom tables after.active.slots n us) (let e : slot + words_of_kind u.kind ≡ suc (suc (suc slot)) = omega (arith, three) in e) (HoldsFrom-later tables slots after.active.slots (slot + words_of_kind u.kind) us (λ n from. stands n (omega (arith, from, above))) held_in),
-            subst (λ n. StoresAt (code_of source g) (bounds_at source g) (types_on source g k) (words_held us) address n (suc (suc (suc slot))) (c.active.next + 1 + 1 + 1) m) (sym wider) behind,
+            later_cells (suc (suc (suc slot))) (c.active.next + 1 + 1 + 1) (omega (arith, three)) (sym last),
             move,
             end,
             Holds-above tables slots after.active.slots (floor source g k) (held k) (λ n from. stands n (omega (arith, from, floor-least source g k))) holds,
@@ -527,9 +562,9 @@ module _ (source : Program) (pages calls : ℕ) where
       (λ choice. made_moved source pages calls v (operands.Slot address) d k e w c q choice shared points facts holds (omega (arith, at, end)) lands)
     where
       first_cell : (t : Tables) (object address : ℕ) (kinds : List Kind) → IsObject t object address kinds → Points t object 0 address
-      first_cell t object address kinds is = record { address = address; kinds = kinds; row = is.row; range = is.range; inside = is.some; at = omega arith }
+      first_cell t object address kinds is = record { address = address; kinds = kinds; row = is.row; range = is.range; inside = is.some; at = omega (arith, before-first kinds) }
   writing [] pointer k e w c words names well (shared, facts, (object, done, u ∷ us, address, slot, d, m, q, are, is, there, single, high, above, held_in, at, move, end, holds, lands)) = absurd (let f : [] ≡ writes_from object (length done) (u ∷ us) = are in cc)
   writing (x ∷ writes) pointer k e w c words names well (shared, facts, (object, done, [], address, slot, d, m, q, are, is, there, single, high, above, held_in, at, move, end, holds, lands)) = absurd (let f : x ∷ writes ≡ [] = are in cc)
-  writing (x ∷ writes) pointer k e w c words names well (shared, facts, (object, done, u ∷ us, address, slot, d, m, q, are, is, there, single, high, above, (is_u, held_in), at, move, end, holds, lands)) =
-      writes_cell x writes pointer object done u us address slot d m q k e w c (ap (λ (l : List Write). step source (Running (Writing l (Some pointer)) k e w)) are) words names well high above shared facts is there is_u held_in at move end holds lands
+  writing (x ∷ writes) pointer k e w c words names well (shared, facts, (object, done, u ∷ us, address, slot, d, m, q, are, is, there, single, high, above, (is_u, held_in), (r, at, others), move, end, holds, lands)) =
+      writes_cell x writes pointer object done u us address slot d m q k e w c (ap (λ (l : List Write). step source (Running (Writing l (Some pointer)) k e w)) are) words names well high above shared facts is there is_u held_in r at others move end holds lands
       (words_of_kind u.kind == 1) refl

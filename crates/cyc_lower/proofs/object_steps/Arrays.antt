@@ -1,5 +1,5 @@
 -- The steps that make arrays: the length is tested, the store is asked for a block, and then each element is evaluated and written.
-use Rattle.std.proofs.Common.{◌≡◌, ◌≢◌, ℕ, zero, suc, ◌+◌, ◌*◌, ◌≤◌, ◌<◌, max, Bool, true, false, List, [], ◌∷◌, ◌++◌, length, None, refl, sym, ap, subst, ◌∙◌, arith, inl, inr, length-append}
+use Rattle.std.proofs.Common.{◌≡◌, ◌≢◌, ℕ, zero, suc, ◌+◌, ◌*◌, ◌%◌, ◌≤◌, ◌<◌, max, Bool, true, false, List, [], ◌∷◌, ◌++◌, length, None, refl, sym, ap, subst, ◌∙◌, arith, inl, inr, length-append}
 use Rattle.std.specs.Prelude.{nat_le, nat_lt, ◌==◌, if◌then◌else◌}
 use Rattle.std.proofs.lemmas.Bool.{le-leb, eqb-true, eq-eqb, false_from_ne_true, leb-true, leb-false, cases_Bool, cases_eq}
 use Rattle.std.proofs.Math.Nat.{mod-eq_of_lt}
@@ -27,7 +27,7 @@ use Rattle.cyc_plain.specs.Step.{Choice, operand_word, with_slots, at, advanced,
 use Rattle.cyc_plain.specs.Step as plain_step
 use Rattle.cyc_plain.specs.Straight.{At}
 use Rattle.cyc_plain.proofs.SlotLaws.{put-same, put-other}
-use Rattle.cyc_meaning.specs.Values.{Value, Int, Fat, Operand as Kinded, Cell, kinds_of, is_kind, words_of_kind, words_of_cells, block_size}
+use Rattle.cyc_meaning.specs.Values.{Value, Int, Fat, Operand as Kinded, Cell, kinds_of, is_kind, words_of_kind, bytes_of_kind, behind, bytes_from, words_for, block_size}
 use Rattle.cyc_meaning.specs.Operators.{array_size}
 use Rattle.cyc_meaning.specs.Allocation.{blanks, begun, makes_array, most_words}
 use Rattle.cyc_meaning.specs.Objects.{created}
@@ -46,6 +46,7 @@ use Rattle.cyc_lower.specs.ValueCode.{is_in, scale_of}
 use Rattle.cyc_lower.specs.ObjectCode.{most_elements}
 use Rattle.cyc_lower.specs.Lowering.{lower_program}
 use Rattle.cyc_lower.proofs.slots.Widths.{Outside, same_kind, wide_kind}
+use Rattle.cyc_lower.proofs.slots.CellBytes.{behind_even}
 use Rattle.cyc_lower.proofs.relation.Stands.{CopyBy, BegunAt, ElementsAt, StoresAt}
 use Rattle.cyc_lower.proofs.object_steps.Handles.{has_handle}
 use Rattle.cyc_lower.proofs.relation.HeldValues.{IsWord, IsIn, Holds, held, callers, counters_of, arrays_in, IsHandleOf, homes, contents}
@@ -75,7 +76,7 @@ use Rattle.cyc_lower.proofs.pointer_steps.PointerSteps.{int_word}
 -- ---- words
 
 -- The elements of a kind are few enough exactly where their words are.
-elements_few : (kind : Kind) (n : ℕ) → n * words_of_kind kind ≤ MOST_BLOCK_WORDS → n ≤ most_elements (words_of_kind kind)
+elements_few : (kind : Kind) (n : ℕ) → n * words_of_kind kind ≤ MOST_BLOCK_WORDS → n ≤ most_elements (bytes_of_kind kind)
 elements_few kinds.Int n few = omega (arith, few)
 elements_few kinds.Nullable n few = omega (arith, few)
 elements_few kinds.NonNull n few = omega (arith, few)
@@ -83,7 +84,7 @@ elements_few kinds.Fat n few = omega (arith, few)
 elements_few kinds.Handle n few = omega (arith, few)
 elements_few kinds.Key n few = omega (arith, few)
 
-words_few : (kind : Kind) (n : ℕ) → n ≤ most_elements (words_of_kind kind) → n * words_of_kind kind ≤ MOST_BLOCK_WORDS
+words_few : (kind : Kind) (n : ℕ) → n ≤ most_elements (bytes_of_kind kind) → n * words_of_kind kind ≤ MOST_BLOCK_WORDS
 words_few kinds.Int n few = omega (arith, few)
 words_few kinds.Nullable n few = omega (arith, few)
 words_few kinds.NonNull n few = omega (arith, few)
@@ -91,7 +92,7 @@ words_few kinds.Fat n few = omega (arith, few)
 words_few kinds.Handle n few = omega (arith, few)
 words_few kinds.Key n few = omega (arith, few)
 
-most_is : (kind : Kind) → most_elements (words_of_kind kind) ≤ MOST_BLOCK_WORDS
+most_is : (kind : Kind) → most_elements (bytes_of_kind kind) ≤ MOST_BLOCK_WORDS
 most_is kinds.Int = omega arith
 most_is kinds.Nullable = omega arith
 most_is kinds.NonNull = omega arith
@@ -103,7 +104,7 @@ product_is : (n words : ℕ) → n * words ≤ MOST_BLOCK_WORDS → mul_of n wor
 product_is n words few = mod-eq_of_lt (omega (arith, few))
 
 -- the bytes before an element
-scaled_is : (kind : Kind) (i : ℕ) → i < 1000 → scaled (words_of_kind kind) i ≡ 4 * (i * words_of_kind kind)
+scaled_is : (kind : Kind) (i : ℕ) → i < 1000 → scaled (bytes_of_kind kind) i ≡ i * bytes_of_kind kind
 scaled_is kinds.Int i few = shifted_is i (omega (arith, few))
 scaled_is kinds.Nullable i few = shifted_is i (omega (arith, few))
 scaled_is kinds.NonNull i few = shifted_is i (omega (arith, few))
@@ -111,7 +112,16 @@ scaled_is kinds.Fat i few = multiplied_is i (omega (arith, few))
 scaled_is kinds.Handle i few = shifted_is i (omega (arith, few))
 scaled_is kinds.Key i few = shifted_is i (omega (arith, few))
 
-shifted_word : (kind : Kind) (n : ℕ) → IsMachineWord (scaled (words_of_kind kind) n)
+-- the words of elements
+measured_is : (kind : Kind) (n : ℕ) → words_for (n * bytes_of_kind kind) ≡ n * words_of_kind kind
+measured_is kinds.Int n = omega arith
+measured_is kinds.Nullable n = omega arith
+measured_is kinds.NonNull n = omega arith
+measured_is kinds.Fat n = omega arith
+measured_is kinds.Handle n = omega arith
+measured_is kinds.Key n = omega arith
+
+shifted_word : (kind : Kind) (n : ℕ) → IsMachineWord (scaled (bytes_of_kind kind) n)
 shifted_word kinds.Int n = IsWord-shl_of n 2
 shifted_word kinds.Nullable n = IsWord-shl_of n 2
 shifted_word kinds.NonNull n = IsWord-shl_of n 2
@@ -128,9 +138,20 @@ sized_is (suc n) few =
     at_least : (n : ℕ) → 0 + suc n ≡ max 1 (suc n)
     at_least n = omega arith
 
-blank_words : (count : ℕ) (kind : Kind) → words_of_cells (blanks count kind) ≡ count * words_of_kind kind
-blank_words zero kind = omega arith
-blank_words (suc count) kind = omega (arith, blank_words count kind)
+blank_bytes : (at count : ℕ) (kind : Kind) → at % 4 ≡ 0 → bytes_from at (kinds_of (blanks count kind)) ≡ at + 4 * (count * words_of_kind kind)
+blank_bytes at zero kind even = omega arith
+blank_bytes at (suc count) kind even =
+    let here = behind_even kind at even in
+    blank_bytes (behind kind at) count kind (omega (arith, here, even)) ∙ further (behind kind at) at (words_of_kind kind) count here
+  where
+    further : (b a words count : ℕ) → b ≡ a + 4 * words → b + 4 * (count * words) ≡ a + 4 * (suc count * words)
+    further b a words count is = omega (arith, is)
+
+blank_words : (count : ℕ) (kind : Kind) → words_for (bytes_from 0 (kinds_of (blanks count kind))) ≡ count * words_of_kind kind
+blank_words count kind = ap words_for (blank_bytes 0 count kind refl) ∙ whole (count * words_of_kind kind)
+  where
+    whole : (n : ℕ) → words_for (0 + 4 * n) ≡ n
+    whole n = omega arith
 
 -- ---- the owner for whom it is made
 
@@ -153,9 +174,9 @@ module _ (source : Program) (pages calls : ℕ) where
     abbrev Waits : (p : ℕ) → Type 0
     Waits p =
         (handle : Operand) × (d : ℕ) × (h : ℕ) × (r : ℕ) × (s : ℕ) × (q : ℕ) × IsHandleOf owner handle t k
-        × BegunAt (code_of source c.active.function) (bounds_at source c.active.function) (types_on source c.active.function k) handle (words_of_kind wanted) t p h
+        × BegunAt (code_of source c.active.function) (bounds_at source c.active.function) (types_on source c.active.function k) handle wanted t p h
         × (level ≡ length (counters_of (floor source c.active.function k) k))
-        × ElementsAt (code_of source c.active.function) (bounds_at source c.active.function) (types_on source c.active.function k) element (words_of_kind wanted) t d h r s q
+        × ElementsAt (code_of source c.active.function) (bounds_at source c.active.function) (types_on source c.active.function k) element wanted t d h r s q
         × LandsMade source c.active.function e.locals kinds.Fat d q c.frames k
 
     -- it is not too long: all that the store is asked for comes to slots
@@ -215,10 +236,10 @@ module _ (source : Program) (pages calls : ℕ) where
             lands,
           ),
         ) in
-        let short : nat_le (most_elements own + 1) n ≡ false
-        = false_from_ne_true (nat_le (most_elements own + 1) n) (λ told. absurd (omega (arith, elements_few wanted n few, leb-true (most_elements own + 1) n told))) in
+        let short : nat_le (most_elements (bytes_of_kind wanted) + 1) n ≡ false
+        = false_from_ne_true (nat_le (most_elements (bytes_of_kind wanted) + 1) n) (λ told. absurd (omega (arith, elements_few wanted n few, leb-true (most_elements (bytes_of_kind wanted) + 1) n told))) in
         by_path source pages calls focus k₀ e w c next (
-        record { instruction = instructions.Branch comparisons.GreaterOrEqualUnsigned (operands.Slot t) (operands.Word (most_elements own + 1)) block_at; behind = c0 }
+        record { instruction = instructions.Branch comparisons.GreaterOrEqualUnsigned (operands.Slot t) (operands.Word (most_elements (bytes_of_kind wanted) + 1)) block_at; behind = c0 }
         ∷ record { instruction = instructions.Move (t + 1) (operands.Slot t); behind = c1 }
         ∷ record { instruction = instructions.Move (t + 2) (operands.Word 0); behind = c2 }
         ∷ record { instruction = instructions.Binary plain_binary.Multiply t (operands.Slot t) (operands.Word own); behind = c3 }
@@ -227,7 +248,7 @@ module _ (source : Program) (pages calls : ℕ) where
         )
         (instructions.Binary plain_binary.Add (t + 3) (operands.Slot (t + 3)) (operands.Slot t)) does shared₀ (
           branch,
-          (λ choice. ap (λ b. plain_step.branches c b block_at) (ap (nat_le (most_elements own + 1)) is ∙ short) ∙ ap (λ x. plain.Running (at c x)) passed),
+          (λ choice. ap (λ b. plain_step.branches c b block_at) (ap (nat_le (most_elements (bytes_of_kind wanted) + 1)) is ∙ short) ∙ ap (λ x. plain.Running (at c x)) passed),
           omega (arith, passed),
           is_quiet c c0.active,
           (
@@ -248,16 +269,16 @@ module _ (source : Program) (pages calls : ℕ) where
     raises : (focus : Focus) (k₀ : List Entry) (n : ℕ) → step source (Running focus k₀ e w) ≡ Running (Throwing array_size 0) k e w → SharedAt source pages calls k₀ e w c
         → c.active.slots t ≡ n → (n * words_of_kind wanted ≤ MOST_BLOCK_WORDS → ⊥) → Waits c.active.next → IsMatched source pages calls (Running focus k₀ e w) (plain.Running c)
     raises focus k₀ n does shared₀ is long (handle, d, h, r, s, q, owned, (m, (block_at, branch, raising_it, passed), count, index, all, none, size, ask, end), level_is, elements, lands) =
-        let limit = most_elements (words_of_kind wanted) + 1 in
+        let limit = most_elements (bytes_of_kind wanted) + 1 in
         by_one source pages calls does shared₀ branch
         (λ choice. subst (λ b. Matches source pages calls (Running (Throwing array_size 0) k e w) (plain_step.branches c b block_at))
         (sym (ap (nat_le limit) is ∙ too_long limit refl))
         (raised source pages calls array_size 0 k e w (at c block_at) (operands.Word array_size) (operands.Word 0) (omega arith) shared facts raising_it refl refl))
       where
-        few_by : (x : ℕ) → nat_le (most_elements (words_of_kind wanted) + 1) x ≡ false → x ≤ most_elements (words_of_kind wanted)
-        few_by x less = omega (arith, leb-false (most_elements (words_of_kind wanted) + 1) x less)
+        few_by : (x : ℕ) → nat_le (most_elements (bytes_of_kind wanted) + 1) x ≡ false → x ≤ most_elements (bytes_of_kind wanted)
+        few_by x less = omega (arith, leb-false (most_elements (bytes_of_kind wanted) + 1) x less)
 
-        too_long : (limit : ℕ) → limit ≡ most_elements (words_of_kind wanted) + 1 → nat_le limit n ≡ true
+        too_long : (limit : ℕ) → limit ≡ most_elements (bytes_of_kind wanted) + 1 → nat_le limit n ≡ true
         too_long limit is_limit = elim (cases_Bool (nat_le limit n)) [
           | inl more ↦ more
           | inr less ↦ absurd (long (words_few wanted n (few_by n (subst (λ x. nat_le x n ≡ false) is_limit less))))
@@ -265,19 +286,19 @@ module _ (source : Program) (pages calls : ℕ) where
 
     measures : (i : Kind) (u : Value) → IsWell (makes_array owner level wanted element u k e w) → Is shared.tables i u c.active.slots t → SharedAt source pages calls (Needs (MakeArray owner level wanted element) ∷ k) e w c
         → Waits c.active.next → IsMatched source pages calls (Running (Given (record { kind = i; value = u })) (Needs (MakeArray owner level wanted element) ∷ k) e w) (plain.Running c)
-    measures i (Int n) well is shared₀ waits = by (nat_le (n * words_of_kind wanted) most_words) refl
+    measures i (Int n) well is shared₀ waits = by (nat_le (words_for (n * bytes_of_kind wanted)) most_words) refl
       where
-        by : (fits : Bool) → nat_le (n * words_of_kind wanted) most_words ≡ fits
+        by : (fits : Bool) → nat_le (words_for (n * bytes_of_kind wanted)) most_words ≡ fits
             → IsMatched source pages calls (Running (Given (record { kind = i; value = Int n })) (Needs (MakeArray owner level wanted element) ∷ k) e w) (plain.Running c)
         by true told =
             begins (Given (record { kind = i; value = Int n })) (Needs (MakeArray owner level wanted element) ∷ k) n
             (ap (λ (b : Bool). if b then Running (Beginning owner n level wanted element) k e w else Running (Throwing array_size 0) k e w) told) shared₀
-            (int_word shared.tables i n c.active.slots t is) (omega (arith, leb-true _ _ told)) waits
+            (int_word shared.tables i n c.active.slots t is) (subst (λ m. m ≤ MOST_BLOCK_WORDS) (measured_is wanted n) (leb-true (words_for (n * bytes_of_kind wanted)) most_words told)) waits
         by false told =
             raises (Given (record { kind = i; value = Int n })) (Needs (MakeArray owner level wanted element) ∷ k) n
             (ap (λ (b : Bool). if b then Running (Beginning owner n level wanted element) k e w else Running (Throwing array_size 0) k e w) told) shared₀
             (int_word shared.tables i n c.active.slots t is)
-            (λ few. let f : false ≡ true = sym told ∙ le-leb (n * words_of_kind wanted) most_words few in cc) waits
+            (λ few. let f : false ≡ true = sym told ∙ le-leb (words_for (n * bytes_of_kind wanted)) most_words (subst (λ m. m ≤ most_words) (sym (measured_is wanted n)) few) in cc) waits
     measures i u well is shared₀ waits = absurd (well refl)
 
   -- the length of an array
@@ -398,7 +419,7 @@ module _ (source : Program) (pages calls : ℕ) where
                   omega arith,
                   few,
                   level_is,
-                  subst (λ n. ElementsAt (code_of source g) (bounds_at source g) (types_on source g k) element (words_of_kind wanted) t d n r s q) (sym next_is) elements,
+                  subst (λ n. ElementsAt (code_of source g) (bounds_at source g) (types_on source g k) element wanted t d n r s q) (sym next_is) elements,
                   holds_made k e w c shared facts holds count wanted owner word new makes choice free_block given,
                   lands,
                 ),
@@ -529,7 +550,7 @@ module _ (source : Program) (pages calls : ℕ) where
       (long : c.active.slots (top source c.active.function k + 1) ≡ count) (now : c.active.slots (top source c.active.function k + 2) ≡ index)
       (holds : Holds shared₀.tables c.active.slots (floor source c.active.function k) (held k)) (d h s q : ℕ) (inside : index < count) (few : count * words_of_kind wanted ≤ MOST_BLOCK_WORDS)
       (level_is : level ≡ length (counters_of (floor source c.active.function k) k))
-      (elements : ElementsAt (code_of source c.active.function) (bounds_at source c.active.function) (types_on source c.active.function k) element (words_of_kind wanted) (top source c.active.function k) d h c.active.next s q)
+      (elements : ElementsAt (code_of source c.active.function) (bounds_at source c.active.function) (types_on source c.active.function k) element wanted (top source c.active.function k) d h c.active.next s q)
       (lands : LandsMade source c.active.function e.locals kinds.Fat d q c.frames k) (cell : Located) (found : cell_at w object index ≡ Found cell) (same : cell.cell.kind ≡ wanted) (fits : v.kind ≡ wanted)
       (does : step source (Running (Given v) (Needs (FillElement object count index level wanted element) ∷ k) e w)
       ≡ Running (Repeating object count (suc index) level wanted element) k e (written w object index cell v.value)) where
@@ -558,7 +579,7 @@ module _ (source : Program) (pages calls : ℕ) where
     new = written w object index cell v.value
 
     abbrev bytes : ℕ
-    bytes = scaled own (slots (free + 2))
+    bytes = scaled (bytes_of_kind wanted) (slots (free + 2))
 
     abbrev s1 : Words
     s1 = put slots z bytes
@@ -583,21 +604,21 @@ module _ (source : Program) (pages calls : ℕ) where
     early m less = outside_both m (inl less)
 
     -- where the cell stands
-    points : Points shared.tables object index (slots free + 4 * (index * own))
+    points : Points shared.tables object index (slots free + index * bytes_of_kind wanted)
     points =
-        subst (λ kind. Points shared.tables object index (slots free + 4 * (index * words_of_kind kind))) same
-        (subst (λ n. Points shared.tables object n (slots free + 4 * (index * words_of_kind cell.cell.kind))) first_index
+        subst (λ kind. Points shared.tables object index (slots free + index * bytes_of_kind kind)) same
+        (subst (λ n. Points shared.tables object n (slots free + index * bytes_of_kind cell.cell.kind)) first_index
         (element-found shared.related index cell part inside (ap (cell_at w object) first_index ∙ found)))
       where
         first_index : 0 + index ≡ index
         first_index = omega arith
 
     -- its address comes to a slot
-    place : s2 z ≡ slots free + 4 * (index * own)
+    place : s2 z ≡ slots free + index * bytes_of_kind wanted
     place =
         put-same s1 z (add_of (s1 free) (s1 z)) ∙ ap (λ n. add_of n (s1 z)) (outside_one slots z free bytes (inl (omega arith)))
-        ∙ ap (add_of (slots free)) (put-same slots z bytes ∙ ap (scaled own) now ∙ scaled_is wanted index (omega (arith, inside, elements_few wanted count few, most_is wanted)))
-        ∙ add_is (slots free) (4 * (index * own)) (pointer-word points)
+        ∙ ap (add_of (slots free)) (put-same slots z bytes ∙ ap (scaled (bytes_of_kind wanted)) now ∙ scaled_is wanted index (omega (arith, inside, elements_few wanted count few, most_is wanted)))
+        ∙ add_is (slots free) (index * bytes_of_kind wanted) (pointer-word points)
 
     here : Points shared.tables object index (s2 z)
     here = subst (Points shared.tables object index) (sym place) points
@@ -672,10 +693,10 @@ module _ (source : Program) (pages calls : ℕ) where
         let counts : Link = record { instruction = instructions.Binary plain_binary.Add (free + 2) (operands.Slot (free + 2)) (operands.Word 1); behind = c4 } in
         let end_is : end_of c2 (links ++ counts ∷ []) ≡ c4 = end_joined c2 links (counts ∷ []) in
         by_path source pages calls (Given v) (entry ∷ k) e w c next
-        (record { instruction = scale_of own z (free + 2); behind = c1 } ∷ record { instruction = instructions.Binary plain_binary.Add z (operands.Slot free) (operands.Slot z); behind = c2 } ∷ (links ++ counts ∷ []))
+        (record { instruction = scale_of (bytes_of_kind wanted) z (free + 2); behind = c1 } ∷ record { instruction = instructions.Binary plain_binary.Add z (operands.Slot free) (operands.Slot z); behind = c2 } ∷ (links ++ counts ∷ []))
         (instructions.Jump h) does shared₀ (
           scale,
-          scales (own == 1),
+          scales (bytes_of_kind wanted == 4),
           omega arith,
           is_quiet c c1.active,
           (

@@ -27,6 +27,7 @@ use Rattle.cyc_meaning.specs.State.{Region, Owner, InRegion, Unique, Object, Wor
 use Rattle.cyc_meaning.specs.Step.{wrong, step}
 use Rattle.cyc_objects.specs.Tables.{Placed, Tables}
 use Rattle.cyc_objects.specs.Words.{before, IsPartOf, Is}
+use Rattle.cyc_objects.proofs.Places.{before-first}
 use Rattle.cyc_objects.proofs.Pointers.{not-null, part-not-null}
 use Rattle.cyc_objects.proofs.Services.{refusal-free, freed-unique}
 use Rattle.cyc_lower.specs.Lowering.{lower_program}
@@ -72,13 +73,13 @@ object_there t word ks (Some x) number k e w there row well =
     record { number = number; object = x; kinds = ks; there = there; owned = owned; row = row; gives = gives }
 
 -- the address of a whole object is that of its row
-whole : (word address offset : ℕ) (ks : List Kind) → word ≡ address + 4 * before offset ks → (offset == 0) ≡ true → address ≡ word
+whole : (word address offset : ℕ) (ks : List Kind) → word ≡ address + before offset ks → (offset == 0) ≡ true → address ≡ word
 whole word address offset ks at first =
-    let begins : word ≡ address + 4 * before 0 ks = at ∙ ap (λ n. address + 4 * before n ks) (eqb-true offset 0 first) in
-    omega (arith, begins)
+    let begins : word ≡ address + before 0 ks = at ∙ ap (λ n. address + before n ks) (eqb-true offset 0 first) in
+    omega (arith, begins, before-first ks)
 
 freed_at : (t : Tables) (object offset word address : ℕ) (ks : List Kind) (k : List Entry) (e : Environment) (w : World) → slice_get t.rows object ≡ Some (Placed address ks)
-    → word ≡ address + 4 * before offset ks → IsWell (if offset == 0 then frees_object (slice_get w.objects object) object k e w else wrong w)
+    → word ≡ address + before offset ks → IsWell (if offset == 0 then frees_object (slice_get w.objects object) object k e w else wrong w)
     → IsFreed t word (if offset == 0 then frees_object (slice_get w.objects object) object k e w else wrong w) k e w
 freed_at t object offset word address ks k e w row at well =
     let frees_it = frees_object (slice_get w.objects object) object k e w in

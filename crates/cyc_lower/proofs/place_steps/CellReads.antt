@@ -21,7 +21,7 @@ use Rattle.cyc_objects.specs.Words.{words_from, Points, Is, IsContent}
 use Rattle.cyc_objects.specs.Related as objects
 use Rattle.cyc_objects.specs.Related.{Alive}
 use Rattle.cyc_objects.proofs.Cells.{cell-read}
-use Rattle.cyc_objects.proofs.Values.{Is-same}
+use Rattle.cyc_objects.proofs.Values.{Is-same, Holds-words}
 use Rattle.cyc_lower.specs.Slots.{slot_of, global_types}
 use Rattle.cyc_lower.specs.Lowering.{lower_program}
 use Rattle.cyc_lower.proofs.slots.Widths.{HasRoom}
@@ -86,7 +86,9 @@ module _ (source : Program) {t : Tables} {w : World} (c : Configuration) {locals
     own = none-own cell.cell.kind;
     stays = λ slot j here. absurd (none-some slot here);
     there = λ slots next j same below. memory-stored (lower_program source) (at (with_slots c slots) next) (address + 4 * j) (c.store.memory (address + 4 * j)) (cell-stored related alive points there j below);
-    is = λ v has. subst (λ (x : Option Value). IsContent t cell.cell.kind x (words_from c.store.memory address) 0) has (cell-read related alive points there);
+    is = λ v has.
+        Holds-words t cell.cell.kind v c.store.memory address
+        (subst (λ (x : Option Value). IsContent t cell.cell.kind x c.store.memory address) has (cell-read related alive points there));
   }
 
   -- words in a row

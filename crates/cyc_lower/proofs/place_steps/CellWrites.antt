@@ -19,9 +19,12 @@ use Rattle.cyc_meaning.proofs.WorldLaws.{cell_found}
 use Rattle.cyc_objects.specs.Tables.{Tables}
 use Rattle.cyc_objects.specs.Words.{words_from, Points}
 use Rattle.cyc_objects.specs.Related as objects
-use Rattle.cyc_objects.proofs.Cells.{related-written, saved-is}
+use Rattle.cyc_objects.proofs.Bytes.{bytes-beside}
+use Rattle.cyc_objects.proofs.Values.{Holds-of_words}
+use Rattle.cyc_objects.proofs.Cells.{cell-aligned, related-written, saved-is}
 use Rattle.cyc_objects.proofs.Variables.{assigned-away}
 use Rattle.cyc_lower.proofs.slots.Widths.{same_kind, kind_positive, words_in, HasGlobal, Outside, HasRoom}
+use Rattle.cyc_lower.proofs.slots.CellBytes.{kind_bytes, aligned_even}
 use Rattle.cyc_lower.proofs.slots.Slots.{global-room, slot-room}
 use Rattle.cyc_lower.proofs.relation.Moves.{put_elsewhere}
 use Rattle.cyc_lower.proofs.relation.Known.{IsVariableRow, row-away, global-first, global_kind, first_word}
@@ -157,8 +160,11 @@ module _ (source : Program) (pages calls : ℕ) (k : List Entry) (e : Environmen
         frames = c.frames;
         goes = saves-stored source c address word (c.store.memory address) there ∙ ap (λ (s : StoreState). plain.Running (advanced (record c { store = s }))) saved_is;
         related = related-written shared.related alive points cell m v (words-put c.store.memory address word shared.related.sound.words fits)
-            (λ y other. when_other y address word (c.store.memory y) (λ same. other 0 (kind_positive at.cell.kind) (same ∙ sym zero_far)))
-            (IsWord-is shared.tables at.cell.kind v word (words_from m address) 0 (ap m zero_far ∙ when_equal address address word (c.store.memory address) refl) is);
+            (bytes-beside c.store.memory m at.cell.kind address (words_of_kind at.cell.kind) (kind_bytes at.cell.kind)
+            (aligned_even at.cell.kind address (cell-aligned shared.related alive points cell))
+            (λ y other. when_other y address word (c.store.memory y) (λ same. other 0 (kind_positive at.cell.kind) (same ∙ sym zero_far))))
+            (Holds-of_words shared.tables at.cell.kind v m address
+            (IsWord-is shared.tables at.cell.kind v word (words_from m address) 0 (ap m zero_far ∙ when_equal address address word (c.store.memory address) refl) is));
         same_pages = refl;
         same_demand = refl;
         like = like_same source c.frames;

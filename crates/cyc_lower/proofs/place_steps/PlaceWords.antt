@@ -8,20 +8,21 @@ use Rattle.cyc_words.specs.Word.{IsWord, add_of, mul_of, shl_of}
 use Rattle.cyc_words.proofs.Numbers.{when_equal}
 use Rattle.cyc_types.specs.declared.typed.Kind.{Kind}
 use Rattle.cyc_types.specs.declared.typed.Kind.TheVariants as kinds
-use Rattle.cyc_types.specs.Types.{Ty, words_of}
+use Rattle.cyc_types.specs.Types.{Ty}
 use Rattle.cyc_store.specs.State.{Memory, put, AreWords, StoreState, homes, Holder, holder, word_in, word_at}
 use Rattle.cyc_store.proofs.LookupLemmas.{when_other, not_both}
 use Rattle.cyc_store.proofs.WordLemmas.{words-put}
-use Rattle.cyc_meaning.specs.Values.{Value, words_of_kind, Cell, kind_of, kinds_of}
+use Rattle.cyc_meaning.specs.Values.{Value, words_of_kind, bytes_of_kind, begins, behind, Cell, kind_of, kinds_of}
 use Rattle.cyc_meaning.specs.State.{Object, World, Found, Located, cell_at}
 use Rattle.cyc_meaning.proofs.WorldLaws.{cell_found}
 use Rattle.cyc_objects.proofs.NumberLemmas.{slice_get-map}
 use Rattle.cyc_objects.specs.Tables.{Tables}
-use Rattle.cyc_objects.specs.Words.{words_of_kinds, before, words_from, Points, IsPartOf, Is}
-use Rattle.cyc_objects.proofs.Values.{Is-same, before-inside}
+use Rattle.cyc_objects.specs.Words.{bytes_of_kinds, before_from, before, words_from, Points, IsPartOf, Is}
+use Rattle.cyc_objects.proofs.Places.{before-least, before-inside}
+use Rattle.cyc_objects.proofs.Values.{Is-same}
 use Rattle.cyc_objects.specs.Related.{Related}
-use Rattle.cyc_lower.specs.Slots.{bytes_from}
-use Rattle.cyc_lower.proofs.slots.Widths.{type_words}
+use Rattle.cyc_lower.specs.Slots.{begins_word, field_from}
+use Rattle.cyc_lower.proofs.slots.CellBytes.{kind_bytes}
 use Rattle.cyc_objects.proofs.Pointers.{thinned, member-points, pointer-word}
 use Rattle.cyc_plain.proofs.MemoryLaws.{store_word_in, store_word}
 use Rattle.cyc_plain.specs.Memory.{Range, OfGlobals, OfStore, OfSlots, range_of}
@@ -34,26 +35,35 @@ below_wrap n below = mod-eq_of_lt below
 pub add_is : (a b : ℕ) → a + b < 4294967296 → add_of a b ≡ a + b
 add_is a b below = below_wrap (a + b) below
 
--- an index of cells of one word becomes a number of bytes by a shift, and one of cells of three words by a product
-pub shifted_is : (i : ℕ) → 4 * i < 4294967296 → shl_of i 2 ≡ 4 * (i * 1)
-shifted_is i below = below_wrap (i * 4) (omega (arith, below)) ∙ omega arith
+-- an index of cells of four bytes becomes a number of bytes by a shift, and one of cells of twelve by a product
+pub shifted_is : (i : ℕ) → 4 * i < 4294967296 → shl_of i 2 ≡ i * 4
+shifted_is i below = below_wrap (i * 4) (omega (arith, below))
 
-pub multiplied_is : (i : ℕ) → 12 * i < 4294967296 → mul_of i 12 ≡ 4 * (i * 3)
-multiplied_is i below = below_wrap (i * 12) (omega (arith, below)) ∙ omega arith
+pub multiplied_is : (i : ℕ) → 12 * i < 4294967296 → mul_of i 12 ≡ i * 12
+multiplied_is i below = below_wrap (i * 12) (omega (arith, below))
 
--- the bytes before a field are those of the cells before it, where they are a word
-bytes_before : (ts : List Ty) (field bytes : ℕ) → bytes + 4 * before field (map kind_of ts) < 4294967296 → bytes_from bytes ts field ≡ bytes + 4 * before field (map kind_of ts)
-bytes_before [] zero bytes below = omega arith
-bytes_before [] (suc field) bytes below = omega arith
-bytes_before (t ∷ ts) zero bytes below = omega arith
-bytes_before (t ∷ ts) (suc field) bytes below =
-    let words = type_words t in
-    let next : add_of bytes (4 * words_of t) ≡ bytes + 4 * words_of t = add_is bytes (4 * words_of t) (omega (arith, below, words)) in
-    let rest : bytes_from (bytes + 4 * words_of t) ts field ≡ bytes + 4 * words_of t + 4 * before field (map kind_of ts) = bytes_before ts field (bytes + 4 * words_of t) (omega (arith, below, words)) in
-    ap (λ (n : ℕ). bytes_from n ts field) next ∙ rest ∙ omega (arith, words)
+-- a cell begins there without wrapping, where that is a word
+begins_is : (kind : Kind) (at : ℕ) → begins kind at < 4294967296 → begins_word kind at ≡ begins kind at
+begins_is kinds.Int at below = omega (arith, below)
+begins_is kinds.Nullable at below = omega (arith, below)
+begins_is kinds.NonNull at below = omega (arith, below)
+begins_is kinds.Fat at below = omega (arith, below)
+begins_is kinds.Handle at below = omega (arith, below)
+begins_is kinds.Key at below = omega (arith, below)
 
-pub field_bytes : (ts : List Ty) (field : ℕ) → 4 * before field (map kind_of ts) < 4294967296 → bytes_from 0 ts field ≡ 4 * before field (map kind_of ts)
-field_bytes ts field below = bytes_before ts field 0 (omega (arith, below)) ∙ omega arith
+-- the bytes before a field are those before its cell, where they are a word
+field_before : (ts : List Ty) (field bytes : ℕ) → before_from bytes field (map kind_of ts) < 4294967296 → field_from bytes ts field ≡ before_from bytes field (map kind_of ts)
+field_before [] field bytes below = refl
+field_before (t ∷ ts) zero bytes below = begins_is (kind_of t) bytes below
+field_before (t ∷ ts) (suc field) bytes below =
+    let least = before-least (behind (kind_of t) bytes) field (map kind_of ts) in
+    let first = begins_is (kind_of t) bytes (omega (arith, below, least)) in
+    let next : add_of (begins_word (kind_of t) bytes) (bytes_of_kind (kind_of t)) ≡ behind (kind_of t) bytes
+    = ap (λ (n : ℕ). add_of n (bytes_of_kind (kind_of t))) first ∙ add_is (begins (kind_of t) bytes) (bytes_of_kind (kind_of t)) (omega (arith, below, least)) in
+    ap (λ (n : ℕ). field_from n ts field) next ∙ field_before ts field (behind (kind_of t) bytes) below
+
+pub field_bytes : (ts : List Ty) (field : ℕ) → before field (map kind_of ts) < 4294967296 → field_from 0 ts field ≡ before field (map kind_of ts)
+field_bytes ts field below = field_before ts field 0 below
 
 module _ {t : Tables} where
   -- the address of a cell with nothing added
@@ -69,55 +79,53 @@ module _ {t : Tables} where
   pub word_is : {o k w : ℕ} (p : Points t o k w) (kind : Kind) (j : ℕ) → slice_get p.kinds k ≡ Some kind → j < words_of_kind kind
       → add_of w (4 * j) ≡ w + 4 * j
   word_is {o} {k} {w} p kind j there below =
-      let high : p.address + 4 * words_of_kinds p.kinds < 4294967296 = p.range.high in
-      let at : w ≡ p.address + 4 * before k p.kinds = p.at in
-      let inside : before k p.kinds + words_of_kind kind ≤ words_of_kinds p.kinds = before-inside p.kinds k kind there in
-      add_is w (4 * j) (omega (arith, high, at, inside, below))
+      let high : p.address + bytes_of_kinds p.kinds < 4294967296 = p.range.high in
+      let at : w ≡ p.address + before k p.kinds = p.at in
+      let inside : before k p.kinds + bytes_of_kind kind ≤ bytes_of_kinds p.kinds = before-inside 0 k p.kinds kind there in
+      add_is w (4 * j) (omega (arith, high, at, inside, kind_bytes kind, below))
 
   -- ---- members
 
   -- the address of a field, from that of the object
-  pub member_is : {o w : ℕ} (p : Points t o 0 w) (field : ℕ) → field < length p.kinds → Points t o field (add_of w (4 * before field p.kinds))
-  member_is {o} {w} p field inside = subst (Points t o field) (sym (add_is w (4 * before field p.kinds) below)) (member-points p field inside)
+  pub member_is : {o w : ℕ} (p : Points t o 0 w) (field : ℕ) → field < length p.kinds → Points t o field (add_of w (before field p.kinds))
+  member_is {o} {w} p field inside = subst (Points t o field) (sym (add_is w (before field p.kinds) below)) (member-points p field inside)
     where
-      below : w + 4 * before field p.kinds < 4294967296
+      below : w + before field p.kinds < 4294967296
       below = pointer-word (member-points p field inside)
 
   -- the same where the fields have these kinds
   pub field_is : {o w : ℕ} (p : Points t o 0 w) (fields : List Kind) (field : ℕ) → p.kinds ≡ fields → field < length fields
-      → Points t o field (add_of w (4 * before field fields))
+      → Points t o field (add_of w (before field fields))
   field_is {o} {w} p fields field same inside =
-      subst (λ ks. Points t o field (add_of w (4 * before field ks))) same
+      subst (λ ks. Points t o field (add_of w (before field ks))) same
       (member_is p field (subst (λ ks. field < length ks) (sym same) inside))
 
   -- ---- elements
 
   -- an index that is in bounds makes a number of bytes that does not wrap, and its sum with the address does not either
-  element_below : {o start n w : ℕ} (i : ℕ) (part : IsPartOf t o start n w) → i < n → w + 4 * (i * words_of_kind part.kind) < 4294967296
+  element_below : {o start n w : ℕ} (i : ℕ) (part : IsPartOf t o start n w) → i < n → w + i * bytes_of_kind part.kind < 4294967296
   element_below i part below = pointer-word (thinned i part below)
 
-  -- the address of the cell at the index, by the words that the code computes: cells of one word, and cells of three
-  pub narrow_element : {o start n w : ℕ} (i : ℕ) (part : IsPartOf t o start n w) → i < n → words_of_kind part.kind ≡ 1
+  -- the address of the cell at the index, by the words that the code computes: cells of four bytes, and cells of twelve
+  pub narrow_element : {o start n w : ℕ} (i : ℕ) (part : IsPartOf t o start n w) → i < n → bytes_of_kind part.kind ≡ 4
       → Points t o (start + i) (add_of w (shl_of i 2))
-  narrow_element {o} {start} {n} {w} i part below one =
-      let short : w + 4 * (i * 1) < 4294967296 = subst (λ q. w + 4 * (i * q) < 4294967296) one (element_below i part below) in
-      let scaled : shl_of i 2 ≡ 4 * (i * 1) = shifted_is i (omega (arith, short)) in
+  narrow_element {o} {start} {n} {w} i part below four =
+      let short : w + i * 4 < 4294967296 = subst (λ q. w + i * q < 4294967296) four (element_below i part below) in
       subst (Points t o (start + i))
-      (sym (ap (add_of w) scaled ∙ (add_is w (4 * (i * 1)) short ∙ ap (λ q. w + 4 * (i * q)) (sym one)))) (thinned i part below)
+      (sym (ap (add_of w) (shifted_is i (omega (arith, short))) ∙ (add_is w (i * 4) short ∙ ap (λ q. w + i * q) (sym four)))) (thinned i part below)
 
-  pub wide_element : {o start n w : ℕ} (i : ℕ) (part : IsPartOf t o start n w) → i < n → words_of_kind part.kind ≡ 3
+  pub wide_element : {o start n w : ℕ} (i : ℕ) (part : IsPartOf t o start n w) → i < n → bytes_of_kind part.kind ≡ 12
       → Points t o (start + i) (add_of w (mul_of i 12))
-  wide_element {o} {start} {n} {w} i part below three =
-      let short : w + 4 * (i * 3) < 4294967296 = subst (λ q. w + 4 * (i * q) < 4294967296) three (element_below i part below) in
-      let scaled : mul_of i 12 ≡ 4 * (i * 3) = multiplied_is i (omega (arith, short)) in
+  wide_element {o} {start} {n} {w} i part below twelve =
+      let short : w + i * 12 < 4294967296 = subst (λ q. w + i * q < 4294967296) twelve (element_below i part below) in
       subst (Points t o (start + i))
-      (sym (ap (add_of w) scaled ∙ (add_is w (4 * (i * 3)) short ∙ ap (λ q. w + 4 * (i * q)) (sym three)))) (thinned i part below)
+      (sym (ap (add_of w) (multiplied_is i (omega (arith, short))) ∙ (add_is w (i * 12) short ∙ ap (λ q. w + i * q) (sym twelve)))) (thinned i part below)
 
   -- a fat pointer at index 0 stands at its first cell: that of a struct is its address as it is
   pub first_is : {o start n w : ℕ} (part : IsPartOf t o start n w) → 0 < n → Points t o (start + 0) (add_of w 0)
-  first_is {o} {start} {n} {w} part some = stays (subst (Points t o (start + 0)) (none w (words_of_kind part.kind)) (thinned 0 part some))
+  first_is {o} {start} {n} {w} part some = stays (subst (Points t o (start + 0)) (none w (bytes_of_kind part.kind)) (thinned 0 part some))
     where
-      none : (w q : ℕ) → w + 4 * (0 * q) ≡ w
+      none : (w q : ℕ) → w + 0 * q ≡ w
       none w q = omega arith
 
 -- ---- words of a cell, read and written
@@ -197,15 +205,15 @@ module _ {t : Tables} {w : World} {s : StoreState} (related : Related t w s) whe
 
   -- the fields of an object have the kinds that the source tests, so a field's place is known without its object
   pub field_there : {o a : ℕ} (p : Points t o 0 a) (x : Object) (fields : List Kind) (field : ℕ) → slice_get w.objects o ≡ Some x
-      → kinds_of x.cells ≡ fields → field < length fields → Points t o field (add_of a (4 * before field fields))
+      → kinds_of x.cells ≡ fields → field < length fields → Points t o field (add_of a (before field fields))
   field_there {o} p x fields field there same inside =
       field_is p fields field (related.shapes o p.address p.kinds x there p.row ∙ same) inside
 
   -- the place of a field, by a number of bytes that is that of the cells before it
   pub member_there : {o a : ℕ} (p : Points t o 0 a) (x : Object) (fields : List Kind) (field c : ℕ) → slice_get w.objects o ≡ Some x
-      → kinds_of x.cells ≡ fields → field < length fields → (4 * before field fields < 4294967296 → c ≡ 4 * before field fields) → Points t o field (add_of a c)
+      → kinds_of x.cells ≡ fields → field < length fields → (before field fields < 4294967296 → c ≡ before field fields) → Points t o field (add_of a c)
   member_there {o} {a} p x fields field c there same inside is =
       let kinds : p.kinds ≡ fields = related.shapes o p.address p.kinds x there p.row ∙ same in
-      let below : a + 4 * before field fields < 4294967296
-      = subst (λ ks. a + 4 * before field ks < 4294967296) kinds (pointer-word (member-points p field (subst (λ ks. field < length ks) (sym kinds) inside))) in
+      let below : a + before field fields < 4294967296
+      = subst (λ ks. a + before field ks < 4294967296) kinds (pointer-word (member-points p field (subst (λ ks. field < length ks) (sym kinds) inside))) in
       subst (λ n. Points t o field (add_of a n)) (sym (is (omega (arith, below)))) (field_there p x fields field there same inside)

@@ -1,10 +1,10 @@
 -- Words by their addresses: those of the store's cells, which are in the store's range, and those of globals. Loads and stores of them find
 -- the store, and the globals.
-use Rattle.std.proofs.Common.{◌≡◌, ℕ, ◌+◌, ◌*◌, ◌<◌, length, Option, None, Some, ap, ◌∙◌}
+use Rattle.std.proofs.Common.{◌≡◌, ℕ, ◌+◌, ◌*◌, ◌/◌, ◌<◌, length, Option, None, Some, ap, subst, ◌∙◌, arith}
 use Rattle.std.specs.Prelude.{slice_get, nat_lt}
 use Rattle.std.proofs.lemmas.Bool.{lt-ltb}
 use Rattle.cyc_types.specs.TypedTrees.{Program}
-use Rattle.cyc_store.specs.State.{StoreState, saved}
+use Rattle.cyc_store.specs.State.{StoreState, word_at, saved}
 use Rattle.cyc_store.specs.declared.range.TheConstants.{STORE_BASE}
 use Rattle.cyc_plain.specs.declared.limits.TheConstants.{GLOBALS_BASE}
 use Rattle.cyc_plain.specs.State as plain
@@ -12,12 +12,13 @@ use Rattle.cyc_plain.specs.State.{put, Configuration}
 use Rattle.cyc_plain.specs.Step.{advanced, saves}
 use Rattle.cyc_plain.specs.Memory.{global_at, word_or, word_in, with_global, with_word, memory_at, with_memory}
 use Rattle.cyc_plain.proofs.MemoryLaws.{store_word, stored-there, memory-stored, written-stored, numbered-there, range-globals}
-use Rattle.cyc_meaning.specs.Values.{words_of_kind, Cell}
+use Rattle.cyc_meaning.specs.Values.{words_of_kind, bytes_of_kind, Cell}
 use Rattle.cyc_meaning.specs.State.{Object, World}
 use Rattle.cyc_objects.specs.Tables.{Tables}
 use Rattle.cyc_objects.specs.Words.{Points}
 use Rattle.cyc_objects.specs.Related.{Alive, Related}
-use Rattle.cyc_objects.proofs.Cells.{cell-inside, cell-live}
+use Rattle.cyc_objects.proofs.Cells.{cell-aligned, cell-inside, cell-live}
+use Rattle.cyc_lower.proofs.slots.CellBytes.{kind_bytes, aligned_even}
 use Rattle.cyc_lower.specs.Lowering.{lower_program}
 
 -- each word of a live cell of the store's
@@ -25,8 +26,10 @@ module _ {t : Tables} {w : World} {s : StoreState} (related : Related t w s) {o 
     (alive : Alive t w o h x) (points : Points t o k p) (at : slice_get x.cells k ≡ Some c) where
   pub cell-stored : (j : ℕ) → j < words_of_kind c.kind → store_word s (p + 4 * j) ≡ Some (s.memory (p + 4 * j))
   cell-stored j below =
-      let (low, high) = cell-inside related alive points at j below in
-      stored-there s (p + 4 * j) low high ∙ cell-live related alive points at j below
+      let byte : 4 * j < bytes_of_kind c.kind = omega (arith, below, kind_bytes c.kind) in
+      let (low, high) = cell-inside related alive points at (4 * j) byte in
+      let word : 4 * ((p + 4 * j) / 4) ≡ p + 4 * j = omega (arith, aligned_even c.kind p (cell-aligned related alive points at)) in
+      stored-there s (p + 4 * j) low high ∙ subst (λ n. word_at s n ≡ Some (s.memory n)) word (cell-live related alive points at (4 * j) byte)
 
 -- the state with a word of the store written
 abbrev pub with_saved : Configuration → (address word : ℕ) → Configuration

@@ -15,18 +15,20 @@ use Rattle.cyc_plain.specs.State.{Words, Configuration, Frame}
 use Rattle.cyc_plain.specs.Step.{Choice, at, with_slots, saves, loads, performed, advanced}
 use Rattle.cyc_plain.proofs.SlotLaws.{put-other, put-same}
 use Rattle.cyc_plain.specs.Straight.{At}
-use Rattle.cyc_meaning.specs.Values.{Value, Operand as Kinded, words_of_kind}
+use Rattle.cyc_meaning.specs.Values.{Value, Operand as Kinded, words_of_kind, bytes_of_kind}
 use Rattle.cyc_meaning.specs.State.{Object, World, Found, Located, cell_at, written, Environment, Entry}
 use Rattle.cyc_meaning.proofs.WorldLaws.{cell_found}
 use Rattle.cyc_objects.specs.Tables.{Tables}
-use Rattle.cyc_objects.specs.Words.{words_from, Points, Is}
+use Rattle.cyc_objects.specs.Words.{Points, Is, Holds}
 use Rattle.cyc_objects.specs.Related as objects
-use Rattle.cyc_objects.proofs.Cells.{related-written, saved-is}
+use Rattle.cyc_objects.proofs.Bytes.{bytes-beside}
+use Rattle.cyc_objects.proofs.Cells.{cell-aligned, related-written, saved-is}
 use Rattle.cyc_objects.proofs.Pointers.{Is-put_three}
 use Rattle.cyc_objects.proofs.Variables.{assigned-away}
 use Rattle.cyc_lower.specs.Slots.{global_types, slot_of}
 use Rattle.cyc_lower.specs.Lowering.{lower_program, scopes_of}
 use Rattle.cyc_lower.proofs.slots.Widths.{Outside, HasGlobal, words_in, HasRoom}
+use Rattle.cyc_lower.proofs.slots.CellBytes.{aligned_even}
 use Rattle.cyc_lower.proofs.slots.Slots.{global-room, slot-room, slot-apart}
 use Rattle.cyc_lower.proofs.relation.Moves.{put_elsewhere}
 use Rattle.cyc_lower.proofs.relation.Known.{row-away, global-first, global_kind, first_word, IsVariableRow}
@@ -176,8 +178,10 @@ module _ (source : Program) (pages calls : ℕ) (k : List Entry) (e : Environmen
       same_pages = refl;
       related = related-written shared.related alive points at_cell all_put v
           (three_words c.store.memory address (slots n) (slots (suc n)) (slots (suc (suc n))) shared.related.sound.words (words.0 n) (words.0 (suc n)) (words.0 (suc (suc n))))
-          (λ y other. three_elsewhere c.store.memory address (slots n) (slots (suc n)) (slots (suc (suc n))) y (λ j below same. other j (omega (arith, below, ap words_of_kind fat)) same))
-          (subst (λ kind. Is shared.tables kind v (words_from all_put address) 0) (sym fat) (three_written shared.tables v c.store.memory address (slots n) (slots (suc n)) (slots (suc (suc n))) in_slots));
+          (bytes-beside c.store.memory all_put cell.cell.kind address 3 (ap bytes_of_kind fat)
+          (aligned_even cell.cell.kind address (cell-aligned shared.related alive points at_cell))
+          (λ y other. three_elsewhere c.store.memory address (slots n) (slots (suc n)) (slots (suc (suc n))) y other))
+          (subst (λ kind. Holds shared.tables kind v all_put address) (sym fat) (three_written shared.tables v c.store.memory address (slots n) (slots (suc n)) (slots (suc (suc n))) in_slots));
       like = like_same source c.frames;
       above = λ m least. refl;
       value = λ j below. refl;

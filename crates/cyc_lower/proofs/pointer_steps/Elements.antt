@@ -18,7 +18,7 @@ use Rattle.cyc_plain.specs.State.{Words, put, Configuration}
 use Rattle.cyc_plain.specs.Step.{Choice, operand_word, with_slots, at, advanced, performed, branches}
 use Rattle.cyc_plain.specs.Straight.{At}
 use Rattle.cyc_plain.proofs.SlotLaws.{put-same, put-other}
-use Rattle.cyc_meaning.specs.Values.{Value, Int, Null, Thin, Fat, Handle, Key, Operand as Kinded, Cell, kinds_of, is_kind, is_thin, words_of_kind}
+use Rattle.cyc_meaning.specs.Values.{Value, Int, Null, Thin, Fat, Handle, Key, Operand as Kinded, Cell, kinds_of, is_kind, is_thin, words_of_kind, bytes_of_kind}
 use Rattle.cyc_meaning.specs.Operators.{Result, null_exception, array_bounds}
 use Rattle.cyc_meaning.specs.Pointers.{Reach, Stops, followed}
 use Rattle.cyc_meaning.specs.Pointers as reaches
@@ -34,7 +34,8 @@ use Rattle.cyc_objects.proofs.Pointers.{part-not-null, pointer-word, thinned, fa
 use Rattle.cyc_lower.specs.Lowerable.{is_pointer}
 use Rattle.cyc_lower.specs.ValueCode.{raising, scale_of, reached_operand, followed_operand}
 use Rattle.cyc_lower.specs.Lowering.{lower_program}
-use Rattle.cyc_lower.proofs.slots.Widths.{wide_kind, same_kind, Outside}
+use Rattle.cyc_lower.proofs.slots.Widths.{same_kind, Outside}
+use Rattle.cyc_lower.proofs.slots.CellBytes.{wide_cell}
 use Rattle.cyc_lower.proofs.relation.Moves.{put_elsewhere}
 use Rattle.cyc_lower.proofs.relation.Stands.{SteppedAt, ReachedBy, ReachedAt, FollowedAt, ValueAt}
 use Rattle.cyc_lower.proofs.relation.HeldValues.{IsIn, IsLow, Holds, held, IsParts}
@@ -49,9 +50,9 @@ use Rattle.cyc_lower.proofs.relation.Paths.{Link, is_quiet, by_path}
 
 -- ---- the words of an access
 
--- a number of bytes by an index that counts cells of one word, or of three
-abbrev pub scaled : (words index : ℕ) → ℕ
-scaled words index = if words == 1 then shl_of index 2 else mul_of index 12
+-- a number of bytes by an index that counts cells of four bytes, or of twelve
+abbrev pub scaled : (bytes index : ℕ) → ℕ
+scaled bytes index = if bytes == 4 then shl_of index 2 else mul_of index 12
 
 -- the words of a pointer in slots one behind the other
 pub parts_of : (t : Tables) (v : Value) (slots : Words) (n : ℕ) → Is t kinds.Fat v slots n → IsParts t v slots n (n + 2)
@@ -65,18 +66,18 @@ parts_of t v slots n is = Is-same t kinds.Fat v slots (λ j. if j == 0 then slot
 
 -- the address of the cell at an index, by what the code computes of it
 module _ {t : Tables} where
-  pub element_is : {o start count w : ℕ} (i : ℕ) (part : IsPartOf t o start count w) → i < count → Points t o (start + i) (add_of w (scaled (words_of_kind part.kind) i))
-  element_is {o} {start} {count} {w} i part below = by (words_of_kind part.kind == 1) refl
+  pub element_is : {o start count w : ℕ} (i : ℕ) (part : IsPartOf t o start count w) → i < count → Points t o (start + i) (add_of w (scaled (bytes_of_kind part.kind) i))
+  element_is {o} {start} {count} {w} i part below = by (bytes_of_kind part.kind == 4) refl
     where
-      by : (narrow : Bool) → (words_of_kind part.kind == 1) ≡ narrow → Points t o (start + i) (add_of w (if narrow then shl_of i 2 else mul_of i 12))
-      by true narrow = narrow_element i part below (eqb-true (words_of_kind part.kind) 1 narrow)
-      by false wide = wide_element i part below (ap words_of_kind (wide_kind part.kind wide))
+      by : (narrow : Bool) → (bytes_of_kind part.kind == 4) ≡ narrow → Points t o (start + i) (add_of w (if narrow then shl_of i 2 else mul_of i 12))
+      by true narrow = narrow_element i part below (eqb-true (bytes_of_kind part.kind) 4 narrow)
+      by false wide = wide_element i part below (ap bytes_of_kind (wide_cell part.kind wide))
 
   -- a struct is reached at its first cell
   pub first_is : {o start count a : ℕ} (i : ℕ) → IsPartOf t o start count a → start + i ≡ 0 → i < count → Points t o (start + i) a
   first_is {o} {start} {count} {a} i part first below =
       let none : i ≡ 0 = omega (arith, first) in
-      subst (λ (j : ℕ). Points t o (start + j) a) (sym none) (subst (Points t o (start + 0)) (let same : a + 4 * (0 * words_of_kind part.kind) ≡ a = omega arith in same) (thinned 0 part (omega (arith, below))))
+      subst (λ (j : ℕ). Points t o (start + j) a) (sym none) (subst (Points t o (start + 0)) (let same : a + 0 * bytes_of_kind part.kind ≡ a = omega arith in same) (thinned 0 part (omega (arith, below))))
 
 -- ---- the cell that is reached
 
@@ -84,7 +85,7 @@ abbrev some_or : (kind : Kind) → Option Kind → Kind
 some_or kind None = kind
 some_or kind (Some other) = other
 
--- where the tree says a kind, each cell of the part has its words
+-- where the tree says a kind, each cell of the part has its bytes
 module _ {t : Tables} {w : World} {s : StoreState} (related : objects.Related t w s) where
   cell_of_kind : (kind : Kind) (offset : ℕ) (x : Option Object) → is_target (Some kind) offset (cell_of x offset) ≡ true → (y : Object) × (cell : Cell) × (x ≡ Some y) × (slice_get y.cells offset ≡ Some cell) × (cell.kind ≡ kind)
   cell_of_kind kind offset None leads = absurd (let f : false ≡ true = leads in cc)
@@ -94,20 +95,20 @@ module _ {t : Tables} {w : World} {s : StoreState} (related : objects.Related t 
       by None at leads = absurd (let f : false ≡ true = leads in cc)
       by (Some cell) at leads = (y, cell, refl, at, same_kind cell.kind kind leads)
 
-  pub part_words : {o start count a : ℕ} (i : ℕ) (part : IsPartOf t o start count a) (kind : Kind) → i < count → is_target (Some kind) (start + i) (cell_of (slice_get w.objects o) (start + i)) ≡ true
-      → words_of_kind part.kind ≡ words_of_kind kind
-  part_words {o} {start} {count} {a} i part kind below leads =
+  pub part_bytes : {o start count a : ℕ} (i : ℕ) (part : IsPartOf t o start count a) (kind : Kind) → i < count → is_target (Some kind) (start + i) (cell_of (slice_get w.objects o) (start + i)) ≡ true
+      → bytes_of_kind part.kind ≡ bytes_of_kind kind
+  part_bytes {o} {start} {count} {a} i part kind below leads =
       let (x, cell, there, at_cell, kind_is) = cell_of_kind kind (start + i) (slice_get w.objects o) leads in
       let shape : part.kinds ≡ kinds_of x.cells = related.shapes o part.address part.kinds x there part.row in
       let same : Some part.kind ≡ Some cell.kind = sym (part.even i below) ∙ (ap (λ ks. slice_get ks (start + i)) shape ∙ slice_get-map (λ (z : Cell). z.kind) x.cells (start + i) cell at_cell) in
-      ap words_of_kind (ap (some_or part.kind) same ∙ kind_is)
+      ap bytes_of_kind (ap (some_or part.kind) same ∙ kind_is)
 
   -- so its address is computed by them
   pub cell_is : {o start count a : ℕ} (i m : ℕ) (part : IsPartOf t o start count a) (kind : Kind) → m ≡ i → i < count → is_target (Some kind) (start + i) (cell_of (slice_get w.objects o) (start + i)) ≡ true
-      → Points t o (start + i) (add_of a (scaled (words_of_kind kind) m))
+      → Points t o (start + i) (add_of a (scaled (bytes_of_kind kind) m))
   cell_is {o} {start} {count} {a} i m part kind index_is below leads =
-      subst (λ (j : ℕ). Points t o (start + i) (add_of a (scaled (words_of_kind kind) j))) (sym index_is)
-      (subst (λ (j : ℕ). Points t o (start + i) (add_of a (scaled j i))) (part_words i part kind below leads) (element_is i part below))
+      subst (λ (j : ℕ). Points t o (start + i) (add_of a (scaled (bytes_of_kind kind) j))) (sym index_is)
+      (subst (λ (j : ℕ). Points t o (start + i) (add_of a (scaled j i))) (part_bytes i part kind below leads) (element_is i part below))
 
 -- the slots that an access writes
 pub elsewhere : (slots : Words) (t x y m : ℕ) → Outside t 3 m → put (put slots (t + 2) x) t y m ≡ slots m
@@ -194,14 +195,14 @@ module _ (source : Program) (pages calls : ℕ) where
         (λ choice. subst (Matches source pages calls next) (sym (in_bounds_leads less choice)) (subst (λ i. Matches source pages calls next (plain.Running (at c i))) (sym there) goes))
 
     -- the cell at the index is reached, and its address comes to slot t
-    abbrev pub stepped : (words : ℕ) → Words
-    stepped words = put (put slots (t + 2) (scaled words (slots m))) t (add_of (slots n) (scaled words (slots m)))
+    abbrev pub stepped : (bytes : ℕ) → Words
+    stepped bytes = put (put slots (t + 2) (scaled bytes (slots m))) t (add_of (slots n) (scaled bytes (slots m)))
 
-    scales : (words : ℕ) (choice : Choice)
+    scales : (bytes : ℕ) (choice : Choice)
         → performed (lower_program source) choice (at c s)
-        (scale_of words (t + 2) m)
-        ≡ plain.Running (at (with_slots c (put slots (t + 2) (scaled words (slots m)))) (s + 1))
-    scales words choice = by (words == 1)
+        (scale_of bytes (t + 2) m)
+        ≡ plain.Running (at (with_slots c (put slots (t + 2) (scaled bytes (slots m)))) (s + 1))
+    scales bytes choice = by (bytes == 4)
       where
         by : (narrow : Bool)
             → performed (lower_program source) choice (at c s)
@@ -210,30 +211,30 @@ module _ (source : Program) (pages calls : ℕ) where
         by true = refl
         by false = refl
 
-    pub reaches_cell : (words : ℕ) → span ≡ Some words → (next : State) → n ≤ t → slots n ≢ 0 → nat_lt (slots m) (slots (n + 1)) ≡ true → step source (Running focus k₀ e w) ≡ next
-        → Matches source pages calls next (plain.Running (at (with_slots c (stepped words)) q)) → IsMatched source pages calls (Running focus k₀ e w) (plain.Running c)
-    reaches_cell words cells next low some less does goes =
+    pub reaches_cell : (bytes : ℕ) → span ≡ Some bytes → (next : State) → n ≤ t → slots n ≢ 0 → nat_lt (slots m) (slots (n + 1)) ≡ true → step source (Running focus k₀ e w) ≡ next
+        → Matches source pages calls next (plain.Running (at (with_slots c (stepped bytes)) q)) → IsMatched source pages calls (Running focus k₀ e w) (plain.Running c)
+    reaches_cell bytes cells next low some less does goes =
         let g = c.active.function in
         let (block, jump, raised, end) = here.2 in
         let (other, branch, raise, behind) = here.3 in
         let (scale, sum, last) = subst (λ x. SteppedAt (code_of source g) (bounds_at source g) (types_at source g) x n m t s q) cells here.4 in
-        let bytes = scaled words (slots m) in
-        let before = put slots (t + 2) bytes in
+        let far = scaled bytes (slots m) in
+        let before = put slots (t + 2) far in
         let b : Configuration = at (with_slots c before) (s + 1) in
-        let first : before n ≡ slots n = put-other slots (t + 2) n bytes (λ same. absurd (omega (arith, same, low))) in
+        let first : before n ≡ slots n = put-other slots (t + 2) n far (λ same. absurd (omega (arith, same, low))) in
         by_path source pages calls focus k₀ e w c next
-        (past_null ∷ in_bounds ∷ record { instruction = scale_of words (t + 2) m; behind = b } ∷ [])
+        (past_null ∷ in_bounds ∷ record { instruction = scale_of bytes (t + 2) m; behind = b } ∷ [])
         (instructions.Binary plain_binary.Add t (operands.Slot n) (operands.Slot (t + 2))) does shared (
           jump,
           past_null_leads some,
           omega (arith, end),
           is_quiet c (at c r).active,
-          (branch, in_bounds_leads less, omega (arith, behind), is_quiet (at c r) (at c s).active, (scale, scales words, omega arith, is_quiet (at c s) b.active, tt)),
+          (branch, in_bounds_leads less, omega (arith, behind), is_quiet (at c r) (at c s).active, (scale, scales bytes, omega arith, is_quiet (at c s) b.active, tt)),
         )
         sum
         (λ choice. subst (λ (x : ℕ). Matches source pages calls next (plain.Running (at (with_slots c (put before t x)) (s + 1 + 1))))
-        (sym (ap (λ (y : ℕ). add_of y (before (t + 2))) first ∙ ap (add_of (slots n)) (put-same slots (t + 2) bytes)))
-        (subst (λ i. Matches source pages calls next (plain.Running (at (with_slots c (stepped words)) i))) (sym last) goes))
+        (sym (ap (λ (y : ℕ). add_of y (before (t + 2))) first ∙ ap (add_of (slots n)) (put-same slots (t + 2) far)))
+        (subst (λ i. Matches source pages calls next (plain.Running (at (with_slots c (stepped bytes)) i))) (sym last) goes))
 
   -- what raises the exception that null raises
   abbrev pub RaisesNull : ℕ → (block : ℕ) → Type 0
@@ -244,7 +245,7 @@ module _ (source : Program) (pages calls : ℕ) where
   -- by a fat pointer whose words these are
   module _ (i : Kind) (target : Option Kind) (n m q : ℕ) (k : List Entry) (e : Environment) (w : World) (c : Configuration) where
     abbrev span_there : Option ℕ
-    span_there = option_map words_of_kind target
+    span_there = option_map bytes_of_kind target
 
     abbrev waiting : List Entry
     waiting = Needs (Follow kinds.Fat target) ∷ k
@@ -276,8 +277,8 @@ module _ (source : Program) (pages calls : ℕ) where
     cell_reached object start count index {x} some less below shared part index_is does leads facts holds low here place = by target refl leads here place
       where
         by : (found : Option Kind) → target ≡ found → leads_to w found (reaches.At object (start + index)) ≡ true
-            → ReachedAt (code_of source c.active.function) (bounds_at source c.active.function) (types_at source c.active.function) (option_map words_of_kind found) n m free c.active.next q
-            → PlaceStack source c.active.function e.locals (reached_operand (option_map words_of_kind found) n free) 0 q c.frames k
+            → ReachedAt (code_of source c.active.function) (bounds_at source c.active.function) (types_at source c.active.function) (option_map bytes_of_kind found) n m free c.active.next q
+            → PlaceStack source c.active.function e.locals (reached_operand (option_map bytes_of_kind found) n free) 0 q c.frames k
             → IsMatched source pages calls (Running (Given (given x)) waiting e w) (plain.Running c)
         by None is leads here place =
             let first : start + index ≡ 0 = eqb-true (start + index) 0 leads in
@@ -288,15 +289,15 @@ module _ (source : Program) (pages calls : ℕ) where
             let g = c.active.function in
             let base = floor source g k in
             let slots = c.active.slots in
-            let words = words_of_kind kind in
-            let address = add_of (slots n) (scaled words (slots m)) in
+            let bytes = bytes_of_kind kind in
+            let address = add_of (slots n) (scaled bytes (slots m)) in
             let points = cell_is shared.related index (slots m) part kind index_is below leads in
-            let after = put (put slots (free + 2) (scaled words (slots m))) free address in
-            let there : Points shared.tables object (start + index) (after free) = subst (Points shared.tables object (start + index)) (sym (put-same (put slots (free + 2) (scaled words (slots m))) free address)) points in
-            reaches_cell (Given (given x)) waiting k e w c (RaisesNull g) (Some words) n m free q shared here words refl (Running (GivenPlace (Thin object (start + index))) k e w) low some less does (
+            let after = put (put slots (free + 2) (scaled bytes (slots m))) free address in
+            let there : Points shared.tables object (start + index) (after free) = subst (Points shared.tables object (start + index)) (sym (put-same (put slots (free + 2) (scaled bytes (slots m))) free address)) points in
+            reaches_cell (Given (given x)) waiting k e w c (RaisesNull g) (Some bytes) n m free q shared here bytes refl (Running (GivenPlace (Thin object (start + index))) k e w) low some less does (
               shared,
-              data_written source shared.tables g c.active.base w.objects e.locals k slots after c.active.handlers c.globals c.frames free 3 (height-least base (held k)) (λ x out. elsewhere slots free (scaled words (slots m)) address x out) facts,
-              (operands.Slot free, 0, pointer-word there, stays there, Holds-same shared.tables slots after base (held k) (λ x short. elsewhere slots free (scaled words (slots m)) address x (inl short)) holds, place),
+              data_written source shared.tables g c.active.base w.objects e.locals k slots after c.active.handlers c.globals c.frames free 3 (height-least base (held k)) (λ x out. elsewhere slots free (scaled bytes (slots m)) address x out) facts,
+              (operands.Slot free, 0, pointer-word there, stays there, Holds-same shared.tables slots after base (held k) (λ x short. elsewhere slots free (scaled bytes (slots m)) address x (inl short)) holds, place),
             )
 
     pub follows_parts : (x : Value) → IsWell (step source (Running (Given (given x)) waiting e w)) → (shared : SharedAt source pages calls k e w c) → DataIn source shared.tables c.active.slots k e w c
@@ -343,8 +344,8 @@ module _ (source : Program) (pages calls : ℕ) where
   pub follows_fat : (pointer : Kind) (target : Option Kind) (v : Kinded) (o : Operand) (q : ℕ) (k : List Entry) (e : Environment) (w : World) (c : Configuration) → is_thin pointer ≡ false → v.kind ≡ pointer
       → IsWell (step source (Running (Given v) (Needs (Follow pointer target) ∷ k) e w)) → (shared : SharedAt source pages calls k e w c) → DataIn source shared.tables c.active.slots k e w c
       → IsIn shared.tables v c.active.slots o → Holds shared.tables c.active.slots (floor source c.active.function k) (held k) → IsLow o (top source c.active.function k)
-      → FollowedAt (code_of source c.active.function) (bounds_at source c.active.function) (types_at source c.active.function) false (option_map words_of_kind target) o (top source c.active.function k) c.active.next q
-      → PlaceStack source c.active.function e.locals (followed_operand false (option_map words_of_kind target) o (top source c.active.function k)) 0 q c.frames k
+      → FollowedAt (code_of source c.active.function) (bounds_at source c.active.function) (types_at source c.active.function) false (option_map bytes_of_kind target) o (top source c.active.function k) c.active.next q
+      → PlaceStack source c.active.function e.locals (followed_operand false (option_map bytes_of_kind target) o (top source c.active.function k)) 0 q c.frames k
       → IsMatched source pages calls (Running (Given v) (Needs (Follow pointer target) ∷ k) e w) (plain.Running c)
   follows_fat pointer target v (operands.Word x) q k e w c thin kind well shared facts is holds low access place = absurd access
   follows_fat pointer target v (operands.Slot n) q k e w c thin kind well shared facts is holds low access place = by pointer v.kind thin kind is well

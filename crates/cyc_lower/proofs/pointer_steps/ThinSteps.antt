@@ -12,7 +12,7 @@ use Rattle.cyc_plain.specs.State as plain
 use Rattle.cyc_plain.specs.State.{Words, put, Configuration}
 use Rattle.cyc_plain.specs.Step.{at}
 use Rattle.cyc_plain.proofs.SlotLaws.{put-same}
-use Rattle.cyc_meaning.specs.Values.{Value, Null, Thin, Fat, Operand as Kinded, words_of_kind}
+use Rattle.cyc_meaning.specs.Values.{Value, Null, Thin, Fat, Operand as Kinded, bytes_of_kind}
 use Rattle.cyc_meaning.specs.Operators.{Result, Gives, Raises, array_bounds}
 use Rattle.cyc_meaning.specs.Pointers.{Reach, Stops, followed}
 use Rattle.cyc_meaning.specs.Pointers as reaches
@@ -41,7 +41,7 @@ module _ (source : Program) (pages calls : ℕ) where
     slots = c.active.slots
 
     abbrev ReachedFor : Option Kind → Type 0
-    ReachedFor found = ReachedBy (code_of source c.active.function) (bounds_at source c.active.function) (types_at source c.active.function) null (option_map words_of_kind found) n (n + 2) n c.active.next q
+    ReachedFor found = ReachedBy (code_of source c.active.function) (bounds_at source c.active.function) (types_at source c.active.function) null (option_map bytes_of_kind found) n (n + 2) n c.active.next q
 
     -- the address of a cell is a thin pointer to it
     abbrev IsThin : (object offset : ℕ) → Type 0
@@ -56,17 +56,17 @@ module _ (source : Program) (pages calls : ℕ) where
         (shared, in_operand (operands.Slot n) facts (thin slots (first_is index part (eqb-true (start + index) 0 leads) below)) (kept_holds _ _ _ k holds) stack)
     leads_on object start count index (Some kind) here part index_is below less leads thin does =
         let g = c.active.function in
-        let words = words_of_kind kind in
-        let bytes = scaled words (slots (n + 2)) in
-        let address = add_of (slots n) bytes in
-        let after = put (put slots (n + 2) bytes) n address in
+        let bytes = bytes_of_kind kind in
+        let far = scaled bytes (slots (n + 2)) in
+        let address = add_of (slots n) far in
+        let after = put (put slots (n + 2) far) n address in
         let points = cell_is shared.related index (slots (n + 2)) part kind index_is below leads in
-        reaches_cell source pages calls (Given v) waiting k e w c null (Some words) n (n + 2) n q shared here words refl (Running (Given (record { kind = to; value = Thin object (start + index) })) k e w) (omega arith) (part-not-null part) less does (
+        reaches_cell source pages calls (Given v) waiting k e w c null (Some bytes) n (n + 2) n q shared here bytes refl (Running (Given (record { kind = to; value = Thin object (start + index) })) k e w) (omega arith) (part-not-null part) less does (
           shared,
           in_operand (operands.Slot n)
-              (data_written source shared.tables g c.active.base w.objects e.locals k slots after c.active.handlers c.globals c.frames n 3 (omega (arith, there, height-least (floor source g k) (held k))) (λ x out. elsewhere slots n bytes address x out) facts)
-              (thin after (subst (Points shared.tables object (start + index)) (sym (put-same (put slots (n + 2) bytes) n address)) points))
-              (kept_holds _ _ _ k (Holds-same shared.tables slots after (floor source g k) (held k) (λ x short. elsewhere slots n bytes address x (inl (omega (arith, short, there)))) holds)) stack,
+              (data_written source shared.tables g c.active.base w.objects e.locals k slots after c.active.handlers c.globals c.frames n 3 (omega (arith, there, height-least (floor source g k) (held k))) (λ x out. elsewhere slots n far address x out) facts)
+              (thin after (subst (Points shared.tables object (start + index)) (sym (put-same (put slots (n + 2) far) n address)) points))
+              (kept_holds _ _ _ k (Holds-same shared.tables slots after (floor source g k) (held k) (λ x short. elsewhere slots n far address x (inl (omega (arith, short, there)))) holds)) stack,
         )
 
     -- what is not null
@@ -83,7 +83,7 @@ module _ (source : Program) (pages calls : ℕ) where
               (subst (λ (y : Reach). leads_to w target y ≡ true) (ap followed value ∙ ap (λ (b : Bool). if b then reaches.At object (start + index) else Stops array_bounds) inside) leads) thin
               (goes ∙ ap (λ (b : Bool). computed to (if b then Gives (Thin object (start + index)) else Raises array_bounds) k e w) inside)
           | inr least ↦
-              raises_bounds source pages calls (Given v) waiting k e w c null (option_map words_of_kind target) n (n + 2) n q shared here shared facts (part-not-null part) least
+              raises_bounds source pages calls (Given v) waiting k e w c null (option_map bytes_of_kind target) n (n + 2) n q shared here shared facts (part-not-null part) least
               (goes ∙ ap (λ (b : Bool). computed to (if b then Gives (Thin object (start + index)) else Raises array_bounds) k e w) (sym same ∙ least))
         ]
 
@@ -91,7 +91,7 @@ module _ (source : Program) (pages calls : ℕ) where
       → step source (Running (Given v) (Needs (ConvertTo from to target) ∷ k) e w) ≡ computed to (conversion to v.value) k e w → leads_to w target (followed v.value) ≡ true → v.kind ≡ kinds.Fat
       → (shared : SharedAt source pages calls k e w c) → DataIn source shared.tables c.active.slots k e w c → IsIn shared.tables v c.active.slots o
       → Holds shared.tables c.active.slots (floor source c.active.function k) (held k)
-      → ThinnedAt (code_of source c.active.function) (bounds_at source c.active.function) (types_at source c.active.function) to (option_map words_of_kind target) o (top source c.active.function k) c.active.next q
+      → ThinnedAt (code_of source c.active.function) (bounds_at source c.active.function) (types_at source c.active.function) to (option_map bytes_of_kind target) o (top source c.active.function k) c.active.next q
       → ValueStack source c.active.function e.locals to o q c.frames k
       → IsMatched source pages calls (Running (Given v) (Needs (ConvertTo from to target) ∷ k) e w) (plain.Running c)
   narrows from kinds.NonNull target v (operands.Slot n) q k e w c does leads fat shared facts is holds (there, here) stack =
@@ -99,7 +99,7 @@ module _ (source : Program) (pages calls : ℕ) where
     where
       by : (x : Value) → v.value ≡ x → Is shared.tables kinds.Fat x c.active.slots n → IsMatched source pages calls (Running (Given v) (Needs (ConvertTo from kinds.NonNull target) ∷ k) e w) (plain.Running c)
       by Null value is =
-          raises_null source pages calls (Given v) (Needs (ConvertTo from kinds.NonNull target) ∷ k) k e w c (RaisesNull source pages calls c.active.function) (option_map words_of_kind target) n (n + 2) n q shared here shared facts is
+          raises_null source pages calls (Given v) (Needs (ConvertTo from kinds.NonNull target) ∷ k) k e w c (RaisesNull source pages calls c.active.function) (option_map bytes_of_kind target) n (n + 2) n q shared here shared facts is
           (does ∙ ap (λ (y : Value). computed kinds.NonNull (conversion kinds.NonNull y) k e w) value) (λ block raises. raises)
       by (Fat object start count index) value is =
           narrows_fat from kinds.NonNull target v n q k e w c (RaisesNull source pages calls c.active.function) shared facts holds there stack object start count index value is refl (λ words points. points) does leads here
@@ -110,7 +110,7 @@ module _ (source : Program) (pages calls : ℕ) where
       by : (x : Value) → v.value ≡ x → Is shared.tables kinds.Fat x c.active.slots n → IsMatched source pages calls (Running (Given v) (Needs (ConvertTo from kinds.Nullable target) ∷ k) e w) (plain.Running c)
       by Null value is =
           let next = Running (Given (record { kind = kinds.Nullable; value = Null })) k e w in
-          leaves_null source pages calls (Given v) (Needs (ConvertTo from kinds.Nullable target) ∷ k) k e w c (λ x. x ≡ q) (option_map words_of_kind target) n (n + 2) n q shared here next is
+          leaves_null source pages calls (Given v) (Needs (ConvertTo from kinds.Nullable target) ∷ k) k e w c (λ x. x ≡ q) (option_map bytes_of_kind target) n (n + 2) n q shared here next is
           (does ∙ ap (λ (y : Value). computed kinds.Nullable (conversion kinds.Nullable y) k e w) value)
           (λ block same. subst (λ i. Matches source pages calls next (plain.Running (at c i))) (sym same) (shared, in_operand (operands.Slot n) facts is (kept_holds _ _ _ k holds) stack))
       by (Fat object start count index) value is =

@@ -14,6 +14,8 @@ use Rattle.cyc_objects.specs.Related.{AreGlobals}
 use Rattle.cyc_objects.proofs.NumberLemmas.{slice_get-there, slice_get-below}
 use Rattle.cyc_lower.specs.Slots.{Types, starts_from, global_types}
 use Rattle.cyc_lower.proofs.slots.Widths.{type_words, words_in}
+use Rattle.cyc_objects.proofs.Places.{begins-first}
+use Rattle.cyc_lower.proofs.slots.CellBytes.{kind_bytes}
 use Rattle.cyc_lower.proofs.slots.Slots.{global-room}
 use Rattle.cyc_lower.proofs.relation.Known.{IsGlobalRow, first_word}
 
@@ -58,7 +60,7 @@ module _ (source : Program) (few : words_of_all (global_types source.globals) â‰
       Placed (GLOBALS_BASE + 4 * first_word (global_types source.globals) o) (kind_of g.of_type âˆ· []),
       row_there 0 source.globals o g there,
       refl,
-      inl (omega (arith, before_store o g there)),
+      inl (omega (arith, before_store o g there, begins-first (kind_of g.of_type), kind_bytes (kind_of g.of_type))),
     );
   }
 

@@ -8,18 +8,20 @@ use Rattle.cyc_store.specs.State.{StoreState, homes, room}
 use Rattle.cyc_store.proofs.LookupLemmas.{same_some}
 use Rattle.cyc_store.specs.declared.range.TheConstants.{STORE_BASE}
 use Rattle.cyc_plain.specs.declared.limits.TheConstants.{GLOBALS_BASE}
-use Rattle.cyc_meaning.specs.Values.{words_of_kind, block_size}
+use Rattle.cyc_meaning.specs.Values.{words_of_kind, bytes_of_kind, begins, block_size}
 use Rattle.cyc_meaning.specs.State.{Object, World}
 use Rattle.cyc_objects.specs.Tables.{Variable, Placed, Tables, Grows}
-use Rattle.cyc_objects.specs.Words.{words_of_kinds, before, Points}
+use Rattle.cyc_objects.specs.Words.{bytes_of_kinds, before, Points}
 use Rattle.cyc_objects.specs.Related.{Alive, Stands, Related}
 use Rattle.cyc_objects.proofs.NumberLemmas.{slice_get-below}
+use Rattle.cyc_objects.proofs.Places.{bytes-some, begins-first, before-first}
 use Rattle.cyc_objects.proofs.Values.{kind-some}
 use Rattle.cyc_objects.proofs.Pointers.{same-row}
 use Rattle.cyc_objects.proofs.Cells.{variable-alone}
 use Rattle.cyc_plain.specs.Memory.{slots_base}
 use Rattle.cyc_lower.specs.Slots.{starts_from}
 use Rattle.cyc_lower.proofs.slots.Widths.{words_in}
+use Rattle.cyc_lower.proofs.slots.CellBytes.{kind_bytes}
 use Rattle.cyc_words.specs.Word.{add_of, mul_of}
 use Rattle.cyc_lower.specs.ValueCode.{address_of_global}
 
@@ -63,10 +65,10 @@ module _ {t : Tables} {w : World} {s : StoreState} (related : Related t w s) (gl
       let placed = related.sound.regions.placed h st.address (record { address = st.address; size = room h (block_size x.cells) }) st.found in
       let high : st.address + 4 * room h (block_size x.cells) ≤ 536870912 + 4 * (1024 * s.pages) = placed.high in
       let (address, kinds) = same-row r.row st.row in
-      let enough : words_of_kinds (r.kind ∷ []) ≤ room h (block_size x.cells) = subst (λ ks. words_of_kinds ks ≤ room h (block_size x.cells)) (sym kinds) st.enough in
+      let enough : begins r.kind 0 + bytes_of_kind r.kind ≤ 4 * room h (block_size x.cells) = subst (λ ks. bytes_of_kinds ks ≤ 4 * room h (block_size x.cells)) (sym kinds) st.enough in
       let most : s.pages ≤ 65536 = related.few in
       let behind : 536870912 + 4 * (1024 * 65536) ≤ r.address = r.behind in
-      omega (arith, high, address, enough, most, behind, kind-some r.kind)
+      omega (arith, high, address, enough, most, behind, bytes-some r.kind)
   row-away number h x (inr (inl r)) alive =
       let st : Stands t (homes s) s.memory h number x.cells = related.objects number h x alive in
       let placed = related.sound.regions.placed h st.address (record { address = st.address; size = room h (block_size x.cells) }) st.found in
@@ -82,16 +84,16 @@ global-first {t} globals number offset word r points =
     let (address, kinds) = same-row points.row r.row in
     let inside : offset < length (r.kind ∷ []) = subst (λ ks. offset < length ks) kinds points.inside in
     let first : offset ≡ 0 = omega (arith, inside) in
-    (first, points.at ∙ (ap (λ n. points.address + 4 * before n points.kinds) first ∙ omega (arith, address)))
+    (first, points.at ∙ (ap (λ n. points.address + before n points.kinds) first ∙ omega (arith, address, before-first points.kinds)))
 
 pub global_points : {t : Tables} (globals : List Ty) (number : ℕ) → IsGlobalRow t globals number → Points t number 0 (GLOBALS_BASE + 4 * first_word globals number)
 global_points {t} globals number r = record {
   address = GLOBALS_BASE + 4 * first_word globals number;
   kinds = r.kind ∷ [];
   row = r.row;
-  range = record { low = omega arith; high = let short : GLOBALS_BASE + 4 * (first_word globals number + words_of_kind r.kind) ≤ 536870912 = r.low in omega (arith, short) };
+  range = record { low = omega arith; high = let short : GLOBALS_BASE + 4 * (first_word globals number + words_of_kind r.kind) ≤ 536870912 = r.low in omega (arith, short, begins-first r.kind, kind_bytes r.kind) };
   inside = omega arith;
-  at = omega arith;
+  at = omega (arith, begins-first r.kind);
 }
 
 -- its address, as a word

@@ -6,7 +6,7 @@ use Rattle.cyc_types.specs.declared.typed.Kind.{Kind}
 use Rattle.cyc_types.specs.declared.typed.Kind.TheVariants as kinds
 use Rattle.cyc_types.specs.declared.typed.Callee.TheVariants as callees
 use Rattle.cyc_types.specs.TypedTrees.{Expression, Convert, NoOperations, Program}
-use Rattle.cyc_meaning.specs.Values.{is_thin, words_of_kind}
+use Rattle.cyc_meaning.specs.Values.{is_thin, bytes_of_kind}
 use Rattle.cyc_plain.specs.declared.instruction.Comparison.{Comparison}
 use Rattle.cyc_plain.specs.declared.instruction.Comparison.TheVariants as comparisons
 use Rattle.cyc_plain.specs.declared.instruction.Operand.{Operand}
@@ -76,13 +76,13 @@ module _ (source : Program) where
     value_arrays g locals kind o p frames (Needs (Choose s t) ∷ k) (exits, r, q, at, at_s, jump, at_t, stack) = statement_arrays g exits q frames k stack
     value_arrays g locals kind o p frames (Needs (Test a s) ∷ k) (exits, outer, q, at, r, jump, body, back, stack) = statement_arrays g outer q frames k stack
     value_arrays g locals kind o p frames (Needs Return ∷ k) (exits, q, s, r, is, leave, at, one, stack) = statement_arrays g exits q frames k stack
-    value_arrays g locals kind o p frames (Needs (Follow pointer target) ∷ k) (q, low, at, place) = place_arrays g locals (followed_operand (is_thin pointer) (option_map words_of_kind target) o (top source g k)) 0 q frames k place
+    value_arrays g locals kind o p frames (Needs (Follow pointer target) ∷ k) (q, low, at, place) = place_arrays g locals (followed_operand (is_thin pointer) (option_map bytes_of_kind target) o (top source g k)) 0 q frames k place
     value_arrays g locals kind o p frames (Needs (Index peek target i) ∷ k) (inl (x, m, q, there, at, sum, reached, place)) =
-        place_arrays g locals (reached_operand (option_map words_of_kind target) (top source g k) (top source g k)) 0 q frames k place
+        place_arrays g locals (reached_operand (option_map bytes_of_kind target) (top source g k) (top source g k)) 0 q frames k place
     value_arrays g locals kind o p frames (Needs (Index peek target i) ∷ k) (inr (n, x, q, there, low, known, sum, reached, place)) =
-        place_arrays g locals (reached_operand (option_map words_of_kind target) n (top source g k)) 0 q frames k place
+        place_arrays g locals (reached_operand (option_map bytes_of_kind target) n (top source g k)) 0 q frames k place
     value_arrays g locals kind o p frames (Needs (Advance peek target pointer) ∷ k) (q, sum, reached, place) =
-        place_arrays g locals (reached_operand (option_map words_of_kind target) (top source g k) (top source g k)) 0 q frames k place
+        place_arrays g locals (reached_operand (option_map bytes_of_kind target) (top source g k) (top source g k)) 0 q frames k place
     value_arrays g locals kind o p frames (Needs (FollowMember pointer fields field) ∷ k) (c, q, thin, check, inside, is, place) = place_arrays g locals o c q frames k place
     value_arrays g locals kind o p frames (Discard ∷ k) (exits, stack) = statement_arrays g exits p frames k stack
     value_arrays g locals kind o p frames (Needs FreeObject ∷ k) (d, q, freed, lands) =

@@ -6,7 +6,7 @@ use Rattle.cyc_types.specs.declared.typed.Kind.{Kind}
 use Rattle.cyc_types.specs.declared.typed.Kind.TheVariants as kinds
 use Rattle.cyc_types.specs.declared.typed.Callee.TheVariants as callees
 use Rattle.cyc_types.specs.TypedTrees.{Convert, NoOperations, Program, Clauses}
-use Rattle.cyc_meaning.specs.Values.{is_thin, words_of_kind}
+use Rattle.cyc_meaning.specs.Values.{is_thin, words_of_kind, bytes_of_kind}
 use Rattle.cyc_plain.specs.declared.instruction.Comparison.{Comparison}
 use Rattle.cyc_plain.specs.declared.instruction.Comparison.TheVariants as comparisons
 use Rattle.cyc_plain.specs.declared.instruction.Operand.{Operand}
@@ -164,13 +164,13 @@ module _ (source : Program) where
     value_moves g locals kind o p frames others like (Needs Return ∷ k) (exits, q, s, r, is, leave, at, one, stack) =
         (exits, q, s, r, is, leave, at, one, statement_moves g exits q frames others like k stack)
     value_moves g locals kind o p frames others like (Needs (Follow pointer target) ∷ k) (q, low, at, place) =
-        (q, low, at, place_moves g locals (followed_operand (is_thin pointer) (option_map words_of_kind target) o (top source g k)) 0 q frames others like k place)
+        (q, low, at, place_moves g locals (followed_operand (is_thin pointer) (option_map bytes_of_kind target) o (top source g k)) 0 q frames others like k place)
     value_moves g locals kind o p frames others like (Needs (Index peek target i) ∷ k) (inl (x, m, q, there, at, sum, reached, place)) =
-        inl (x, m, q, there, at, sum, reached, place_moves g locals (reached_operand (option_map words_of_kind target) (top source g k) (top source g k)) 0 q frames others like k place)
+        inl (x, m, q, there, at, sum, reached, place_moves g locals (reached_operand (option_map bytes_of_kind target) (top source g k) (top source g k)) 0 q frames others like k place)
     value_moves g locals kind o p frames others like (Needs (Index peek target i) ∷ k) (inr (n, x, q, there, low, known, sum, reached, place)) =
-        inr (n, x, q, there, low, known, sum, reached, place_moves g locals (reached_operand (option_map words_of_kind target) n (top source g k)) 0 q frames others like k place)
+        inr (n, x, q, there, low, known, sum, reached, place_moves g locals (reached_operand (option_map bytes_of_kind target) n (top source g k)) 0 q frames others like k place)
     value_moves g locals kind o p frames others like (Needs (Advance peek target pointer) ∷ k) (q, sum, reached, place) =
-        (q, sum, reached, place_moves g locals (reached_operand (option_map words_of_kind target) (top source g k) (top source g k)) 0 q frames others like k place)
+        (q, sum, reached, place_moves g locals (reached_operand (option_map bytes_of_kind target) (top source g k) (top source g k)) 0 q frames others like k place)
     value_moves g locals kind o p frames others like (Needs (FollowMember pointer fields field) ∷ k) (c, q, thin, check, inside, is, place) =
         (c, q, thin, check, inside, is, place_moves g locals o c q frames others like k place)
     value_moves g locals kind o p frames others like (Discard ∷ k) (exits, stack) =

@@ -1,5 +1,5 @@
 -- What a state of the source and one of the plain program have in common while the one is matched by the other.
-use Rattle.std.proofs.Common.{max, ◌≡◌, ◌⊎◌, ℕ, suc, ◌+◌, ◌*◌, ◌≤◌, ◌<◌, true, List, [], ◌∷◌, ◌++◌, length, Option, None, Some, slice_get, ◌^◌, false, Bool}
+use Rattle.std.proofs.Common.{max, reverse, ◌≡◌, ◌⊎◌, ℕ, suc, ◌+◌, ◌*◌, ◌≤◌, ◌<◌, true, List, [], ◌∷◌, ◌++◌, length, Option, None, Some, slice_get, ◌^◌, false, Bool}
 use Rattle.cyc_words.specs.Word.{add_of, IsWord as IsNumber}
 use Rattle.std.specs.Prelude.{if◌then◌else◌, option_map}
 use Rattle.cyc_types.specs.declared.typed.Kind.{Kind}
@@ -10,12 +10,12 @@ use Rattle.cyc_types.specs.declared.typed.Operator.{Operator}
 use Rattle.cyc_types.specs.declared.typed.Callee.TheVariants as callees
 use Rattle.cyc_types.specs.Types.{Ty}
 use Rattle.cyc_types.specs.TypedTrees.{Lvalue, Local, Global, Expression, NoArguments, NoOperations, Statement, Function, Program, Convert, Dereference, Side, VariableSide, CellSide, Clauses}
-use Rattle.cyc_types.specs.Numbered.{Numbering, argument_count, numbering_of, signatures_of}
+use Rattle.cyc_types.specs.Numbered.{Numbering, numbering_of, signatures_of}
 use Rattle.cyc_store.specs.State.{StoreState, demand, lexical_count}
 use Rattle.cyc_store.specs.Soundness.{IsSound}
 use Rattle.cyc_store.specs.declared.range.TheConstants.{MOST_BLOCK_WORDS}
 use Rattle.cyc_objects.specs.Tables.{Tables}
-use Rattle.cyc_objects.specs.Words.{words_of_kinds, Is, Points, before}
+use Rattle.cyc_objects.specs.Words.{bytes_of_kinds, Is, Points, before}
 use Rattle.cyc_objects.specs.Related as objects
 use Rattle.cyc_objects.specs.Related.{scopes, closed_to}
 use Rattle.cyc_plain.specs.declared.instruction.BinaryOperator.TheVariants as plain_binary
@@ -33,7 +33,7 @@ use Rattle.cyc_plain.specs.State.{Words, Activation, Frame, Configuration}
 use Rattle.cyc_plain.specs.Step.{operand_word, throws}
 use Rattle.cyc_plain.specs.State as plain
 use Rattle.cyc_plain.specs.Straight.{At}
-use Rattle.cyc_meaning.specs.Values.{Fat, Value, Thin, Handle, Operand as Kinded, kinds_of, words_of_kind, is_thin}
+use Rattle.cyc_meaning.specs.Values.{Fat, Value, Thin, Handle, Operand as Kinded, kinds_of, words_of_kind, bytes_of_kind, is_thin}
 use Rattle.cyc_meaning.specs.Allocation.{writes_from, blanks_of}
 use Rattle.cyc_meaning.specs.State.{Object, World, globals_number, Environment, ConvertTo, Operate, Chain, Apply, ApplyPointer, Follow, LoadFrom, Decide, Store, Pass, PlaceBy, BesideHandle, MakePlain, MakeFields, MakeArray, FillElement, Initialise, Choose, Test, Return, Entry, Needs, NeedsPlace, Discard, Rest, Join, Loop, CloseRegion, CloseLexical, EndLoan, Handler, Caller, Main, calls_in, Focus, Evaluating, Locating, Given, Executing, Proceeding, Calling, Entering, Binding, Writing, Beginning, Repeating, Breaking, Continuing, Returning, Throwing, State, Running, Ended, GivenPlace, FollowMember, TakeAddress, StoreTo, StoreCell, FreeObject, CloseByKey, SwapLeft, SwapRight, Write, Swapping, ThrowWith, Naming, Catching, CountElements, Index, Advance, OpenBy, AliasOf}
 use Rattle.cyc_meaning.specs.Step.{object_of}
@@ -43,13 +43,13 @@ use Rattle.cyc_lower.specs.declared.statements.Exits.{Exits}
 use Rattle.cyc_lower.specs.declared.statements.Opened.{Opened}
 use Rattle.cyc_meaning.specs.Pointers.{result_kind as operator_kind}
 use Rattle.cyc_lower.specs.Slots.{Types, Starts, starts_of, slot_of, global_of, global_types}
-use Rattle.cyc_lower.specs.ValueCode.{unary_operator, failing_comparison, move_of, low_byte, converts_there, all_passed, slot_types, followed_operand, reached_operand}
+use Rattle.cyc_lower.specs.ValueCode.{unary_operator, failing_comparison, move_of, low_byte, converts_there, all_passed, kinds_passed, slot_types, followed_operand, reached_operand}
 use Rattle.cyc_lower.specs.ObjectCode.{right_slot}
 use Rattle.cyc_lower.specs.ControlCode.{compared_of, break_target, continue_target, outside_loops, tag_operand, nothing_opened, with_handler, with_mark, inside_try, inside_region}
 use Rattle.cyc_lower.specs.ExpressionCode.{operand_of}
 use Rattle.cyc_lower.specs.Lowering.{results_of, lower_program, raises_of, globals_of, scopes_of}
 use Rattle.cyc_lower.proofs.slots.Widths.{kind_of_result, given, called_kind, HasRoom, Outside, chain_kind, HasGlobal, made_kind}
-use Rattle.cyc_lower.proofs.relation.Stands.{BegunAt, ElementsAt, CheckAt, ConversionAt, PlaceAt, OperatorAt, TruthAt, CopyAt, ExpressionAt, ArgumentsAt, OperationsAt, ValueAt, ConditionAt, FailingAt, ComparesAt, DiscardedAt, StatementAt, ItemsAt, PointerAt, StoresAt, ObjectAt, AddressAt, ConvertedOperandAt, FreedAt, HasSide, SideAt, ReadAt, WriteAt, ExchangeAt, LeaveAt, ClausesAt, CountAt, SavedAt, LoadedAt, FollowedAt, ReachedAt, GlobalAt, ClosedAt, MarksAt, RestoredAt, MadeAt, NamedAt}
+use Rattle.cyc_lower.proofs.relation.Stands.{BegunAt, ElementsAt, CheckAt, ConversionAt, PlaceAt, OperatorAt, TruthAt, CopyAt, ExpressionAt, ArgumentsAt, OperationsAt, ValueAt, ConditionAt, FailingAt, ComparesAt, DiscardedAt, StatementAt, ItemsAt, PointerAt, CellsAt, ObjectAt, AddressAt, ConvertedOperandAt, FreedAt, HasSide, SideAt, ReadAt, WriteAt, ExchangeAt, LeaveAt, ClausesAt, CountAt, SavedAt, LoadedAt, FollowedAt, ReachedAt, GlobalAt, ClosedAt, MarksAt, RestoredAt, MadeAt, NamedAt}
 use Rattle.cyc_lower.proofs.relation.HeldValues.{IsIn, IsLow, IsParts, words_held, height, Holds, HoldsFrom, held, kept, counters_of, AreCounted, IsHandleOf, IsObject, contents, CallSlots, LocalsHold, GlobalsHold, behind_records, scopes_in, MayBeOpen, Waiting, callers, Newest, IsIntact, IsKept, left_by, handling, homes}
 
 -- ---- what is shared
@@ -309,7 +309,7 @@ module _ (source : Program) where
     pub ValueStack : (g : ℕ) → (ℕ → Option ℕ) → Kind → Operand → (p : ℕ) → List Frame → List Entry → Type 0
     ValueStack g locals kind o p frames [] = ⊥
     ValueStack g locals kind o p frames (Needs (ConvertTo from to target) ∷ k) =
-        (q : ℕ) × ConversionAt (code_of g) (bounds_at g) (types_on g k) from to (option_map words_of_kind target) o (top g k) p q × ValueStack g locals to o q frames k
+        (q : ℕ) × ConversionAt (code_of g) (bounds_at g) (types_on g k) from to (option_map bytes_of_kind target) o (top g k) p q × ValueStack g locals to o q frames k
     ValueStack g locals kind o p frames (Needs (Operate operator) ∷ k) =
         Yields ((d : ℕ) × At (code_of g) p (instructions.Unary (unary_operator operator) d o)
         × Lands (base_of g) (top g k) d 1 (ValueStack g locals kinds.Int (operands.Slot d) (p + 1) frames k) (AheadStack g locals kinds.Int d (p + 1) frames k))
@@ -355,22 +355,22 @@ module _ (source : Program) where
         × Lands (base_of g) (top g k) d (words_of_kind (made_kind initial)) (ValueStack g locals (made_kind initial) (operands.Slot d) q frames k) (AheadStack g locals (made_kind initial) d q frames k)
     ValueStack g locals kind o p frames (Needs (BesideHandle region) ∷ k) = ValueStack g locals kind o p frames k
     ValueStack g locals kind o p frames (Needs (MakePlain owner wanted) ∷ k) =
-        (handle : Operand) × (d : ℕ) × (q : ℕ) × IsHandleOf owner handle (top g k) k × (o ≡ operands.Slot (top g k)) × ObjectAt (code_of g) (bounds_at g) (types_on g k) handle 1 (words_of_kind kind) (top g k) d p q
+        (handle : Operand) × (d : ℕ) × (q : ℕ) × IsHandleOf owner handle (top g k) k × (o ≡ operands.Slot (top g k)) × ObjectAt (code_of g) (bounds_at g) (types_on g k) handle (kind ∷ []) (top g k) d p q
         × Lands (base_of g) (ground g k) d 1 (ValueStack g locals kinds.NonNull (operands.Slot d) q frames k) (AheadStack g locals kinds.NonNull d q frames k)
     ValueStack g locals kind o p frames (Needs (MakeFields owner before fields) ∷ k) =
-        (handle : Operand) × (d : ℕ) × (m : ℕ) × (q : ℕ) × (all : ℕ) × IsHandleOf owner handle (top g k) k × (o ≡ operands.Slot (height (floor g k) (before ++ held k)))
+        (handle : Operand) × (d : ℕ) × (m : ℕ) × (q : ℕ) × (all : List Kind) × IsHandleOf owner handle (top g k) k × (o ≡ operands.Slot (height (floor g k) (before ++ held k)))
         × ArgumentsAt (code_of g) (bounds_at g) (types_on g k) fields (height (floor g k) (before ++ held k) + words_of_kind kind) p m
-        × ObjectAt (code_of g) (bounds_at g) (types_on g k) handle (length before + suc (argument_count fields)) all (top g k) d m q
-        × (words_held before + (words_of_kind kind + all_passed fields) ≡ all)
+        × ObjectAt (code_of g) (bounds_at g) (types_on g k) handle all (top g k) d m q
+        × (kinds_of (blanks_of (reverse before)) ++ kind ∷ kinds_passed fields ≡ all)
         × Lands (base_of g) (ground g k) d 1 (ValueStack g locals kinds.NonNull (operands.Slot d) q frames k) (AheadStack g locals kinds.NonNull d q frames k)
     ValueStack g locals kind o p frames (Needs (MakeArray owner level wanted element) ∷ k) =
         (handle : Operand) × (d : ℕ) × (h : ℕ) × (r : ℕ) × (s : ℕ) × (q : ℕ) × IsHandleOf owner handle (top g k) k × (o ≡ operands.Slot (top g k))
-        × BegunAt (code_of g) (bounds_at g) (types_on g k) handle (words_of_kind wanted) (top g k) p h
-        × (level ≡ length (counters_of (floor g k) k)) × ElementsAt (code_of g) (bounds_at g) (types_on g k) element (words_of_kind wanted) (top g k) d h r s q
+        × BegunAt (code_of g) (bounds_at g) (types_on g k) handle wanted (top g k) p h
+        × (level ≡ length (counters_of (floor g k) k)) × ElementsAt (code_of g) (bounds_at g) (types_on g k) element wanted (top g k) d h r s q
         × Lands (base_of g) (ground g k) d 3 (ValueStack g locals kinds.Fat (operands.Slot d) q frames k) (AheadStack g locals kinds.Fat d q frames k)
     ValueStack g locals kind o p frames (Needs (FillElement object count index level wanted element) ∷ k) =
         (d : ℕ) × (h : ℕ) × (s : ℕ) × (q : ℕ) × (o ≡ operands.Slot (top g k + 3)) × (index < count) × (count * words_of_kind wanted ≤ MOST_BLOCK_WORDS)
-        × (level ≡ length (counters_of (floor g k) k)) × ElementsAt (code_of g) (bounds_at g) (types_on g k) element (words_of_kind wanted) (top g k) d h p s q
+        × (level ≡ length (counters_of (floor g k) k)) × ElementsAt (code_of g) (bounds_at g) (types_on g k) element wanted (top g k) d h p s q
         × Lands (base_of g) (ground g k) d 3 (ValueStack g locals kinds.Fat (operands.Slot d) q frames k) (AheadStack g locals kinds.Fat d q frames k)
     ValueStack g locals kind o p frames (Needs (Initialise number wanted items) ∷ k) =
         (exits : Exits) × (q : ℕ) × At (code_of g) p (move_of (words_of_kind kind) (slot_of (starts_at g) number) o) × HasRoom (types_at g) number kind
@@ -392,24 +392,24 @@ module _ (source : Program) where
     ValueStack g locals kind o p frames (Needs (ThrowWith tag) ∷ k) =
         (exits : Exits) × (q : ℕ) × IsNumber tag × At (code_of g) p (instructions.Throw (tag_operand tag) o) × StatementStack g exits q frames k
     ValueStack g locals kind o p frames (Needs (Follow pointer target) ∷ k) =
-        (q : ℕ) × IsLow o (top g k) × FollowedAt (code_of g) (bounds_at g) (types_on g k) (is_thin pointer) (option_map words_of_kind target) o (top g k) p q
-        × PlaceStack g locals (followed_operand (is_thin pointer) (option_map words_of_kind target) o (top g k)) 0 q frames k
+        (q : ℕ) × IsLow o (top g k) × FollowedAt (code_of g) (bounds_at g) (types_on g k) (is_thin pointer) (option_map bytes_of_kind target) o (top g k) p q
+        × PlaceStack g locals (followed_operand (is_thin pointer) (option_map bytes_of_kind target) o (top g k)) 0 q frames k
     ValueStack g locals kind o p frames (Needs (FollowMember pointer fields field) ∷ k) =
         (c : ℕ) × (q : ℕ) × (is_thin pointer ≡ true) × CheckAt (code_of g) (bounds_at g) (types_on g k) null_exception o p q × (field < length fields)
-        × (4 * before field fields < 2 ^ 32 → c ≡ 4 * before field fields) × PlaceStack g locals o c q frames k
+        × (before field fields < 2 ^ 32 → c ≡ before field fields) × PlaceStack g locals o c q frames k
     ValueStack g locals kind o p frames (Needs (Index peek target index) ∷ k) =
         ((x : Operand) × (m : ℕ) × (q : ℕ) × (o ≡ operands.Slot (top g k)) × ValueAt (code_of g) (bounds_at g) (types_on g k) index (top g k + 3) x p m
         × At (code_of g) m (instructions.Binary plain_binary.Add (top g k + 2) (operands.Slot (top g k + 2)) x)
-        × ReachedAt (code_of g) (bounds_at g) (types_on g k) (option_map words_of_kind target) (top g k) (top g k + 2) (top g k) (m + 1) q
-        × PlaceStack g locals (reached_operand (option_map words_of_kind target) (top g k) (top g k)) 0 q frames k)
+        × ReachedAt (code_of g) (bounds_at g) (types_on g k) (option_map bytes_of_kind target) (top g k) (top g k + 2) (top g k) (m + 1) q
+        × PlaceStack g locals (reached_operand (option_map bytes_of_kind target) (top g k) (top g k)) 0 q frames k)
         ⊎ ((n : ℕ) × (x : Operand) × (q : ℕ) × (o ≡ operands.Slot n) × (n ≤ top g k) × (operand_of (starts_on g k) index ≡ Some x)
         × At (code_of g) p (instructions.Binary plain_binary.Add (top g k + 2) (operands.Slot (n + 2)) x)
-        × ReachedAt (code_of g) (bounds_at g) (types_on g k) (option_map words_of_kind target) n (top g k + 2) (top g k) (p + 1) q
-        × PlaceStack g locals (reached_operand (option_map words_of_kind target) n (top g k)) 0 q frames k)
+        × ReachedAt (code_of g) (bounds_at g) (types_on g k) (option_map bytes_of_kind target) n (top g k + 2) (top g k) (p + 1) q
+        × PlaceStack g locals (reached_operand (option_map bytes_of_kind target) n (top g k)) 0 q frames k)
     ValueStack g locals kind o p frames (Needs (Advance peek target base) ∷ k) =
         (q : ℕ) × At (code_of g) p (instructions.Binary plain_binary.Add (top g k + 2) (operands.Slot (top g k + 2)) o)
-        × ReachedAt (code_of g) (bounds_at g) (types_on g k) (option_map words_of_kind target) (top g k) (top g k + 2) (top g k) (p + 1) q
-        × PlaceStack g locals (reached_operand (option_map words_of_kind target) (top g k) (top g k)) 0 q frames k
+        × ReachedAt (code_of g) (bounds_at g) (types_on g k) (option_map bytes_of_kind target) (top g k) (top g k + 2) (top g k) (p + 1) q
+        × PlaceStack g locals (reached_operand (option_map bytes_of_kind target) (top g k) (top g k)) 0 q frames k
     ValueStack g locals kind o p frames (Needs (OpenBy number lent items) ∷ k) =
         (exits : Exits) × (m : ℕ) × (q : ℕ) × NamedAt (code_of g) (bounds_at g) (types_at g) number kinds.Handle o p m
         × ItemsAt (code_of g) (bounds_at g) (types_at g) items exits (floor g k) m q × StatementStack g exits q frames k
@@ -532,7 +532,7 @@ module _ (source : Program) where
       × AppliedStack g locals operator l r p frames k
   RightAt t a locals g p slots frames (Needs (Advance peek target base) ∷ k) =
       (n : ℕ) × (x : Operand) × (q : ℕ) × (operand_of (starts_on g k) a ≡ Some x) × Is t base.kind base.value slots n × (n ≤ top g k) × Holds t slots (floor g k) (held k)
-      × AdvancesAt g locals (option_map words_of_kind target) n x p q frames k
+      × AdvancesAt g locals (option_map bytes_of_kind target) n x p q frames k
   RightAt t a locals g p slots frames k = ⊥
 
   -- both operands are there
@@ -542,11 +542,11 @@ module _ (source : Program) where
       × AppliedStack g locals operator l r p frames k
   ReadyAt t v locals g p slots frames (Needs (Advance peek target base) ∷ k) =
       (n : ℕ) × (x : Operand) × (q : ℕ) × IsIn t v slots x × Is t base.kind base.value slots n × (n ≤ top g k) × Holds t slots (floor g k) (held k)
-      × AdvancesAt g locals (option_map words_of_kind target) n x p q frames k
+      × AdvancesAt g locals (option_map bytes_of_kind target) n x p q frames k
   ReadyAt t v locals g p slots frames (Needs (Follow pointer target) ∷ k) =
       (n : ℕ) × (m : ℕ) × (q : ℕ) × (pointer ≡ kinds.Fat) × IsParts t v.value slots n m × (n ≤ top g k) × Holds t slots (floor g k) (held k)
-      × ReachedAt (code_of g) (bounds_at g) (types_on g k) (option_map words_of_kind target) n m (top g k) p q
-      × PlaceStack g locals (reached_operand (option_map words_of_kind target) n (top g k)) 0 q frames k
+      × ReachedAt (code_of g) (bounds_at g) (types_on g k) (option_map bytes_of_kind target) n m (top g k) p q
+      × PlaceStack g locals (reached_operand (option_map bytes_of_kind target) n (top g k)) 0 q frames k
   ReadyAt t v locals g p slots frames k = ⊥
 
   -- the code of an expression, by where its value is to be
@@ -586,18 +586,18 @@ module _ (source : Program) where
       (object : ℕ) × (done : List Kind) × (values : List Kinded) × (address : ℕ) × (slot : ℕ) × (d : ℕ) × (m : ℕ) × (q : ℕ)
       × (writes ≡ writes_from object (length done) values) × (pointer ≡ record { kind = kinds.NonNull; value = Thin object 0 })
       × IsObject t object (slots address) (done ++ kinds_of (blanks_of values)) × (length values ≤ words_held values) × (base_of g ≤ address) × (base_of g ≤ slot)
-      × HoldsFrom t slots slot values × StoresAt (code_of g) (bounds_at g) (types_on g k) (words_held values) address (4 * words_of_kinds done) slot p m
+      × HoldsFrom t slots slot values × CellsAt (code_of g) (bounds_at g) (types_on g k) (kinds_of (blanks_of values)) address (bytes_of_kinds done) slot p m
       × At (code_of g) m (instructions.Move d (operands.Slot address)) × (m + 1 ≡ q)
       × Holds t slots (floor g k) (held k) × LandsMade g locals kinds.NonNull d q frames k
   FocusAt t (Beginning owner count level wanted element) k locals g p slots frames =
       (handle : Operand) × (d : ℕ) × (h : ℕ) × (r : ℕ) × (s : ℕ) × (q : ℕ) × IsHandleOf owner handle (top g k) k
       × At (code_of g) p (instructions.Ask (requests.Allocate (top g k) handle (operands.Slot (top g k + 3)))) × (p + 1 ≡ h)
       × (count * words_of_kind wanted ≤ MOST_BLOCK_WORDS) × (slots (top g k + 1) ≡ count) × (slots (top g k + 2) ≡ 0) × (slots (top g k + 3) ≡ max 1 (count * words_of_kind wanted))
-      × (level ≡ length (counters_of (floor g k) k)) × ElementsAt (code_of g) (bounds_at g) (types_on g k) element (words_of_kind wanted) (top g k) d h r s q
+      × (level ≡ length (counters_of (floor g k) k)) × ElementsAt (code_of g) (bounds_at g) (types_on g k) element wanted (top g k) d h r s q
       × Holds t slots (floor g k) (held k) × LandsMade g locals kinds.Fat d q frames k
   FocusAt t (Repeating object count index level wanted element) k locals g p slots frames =
       (d : ℕ) × (r : ℕ) × (s : ℕ) × (q : ℕ) × Is t kinds.Fat (Fat object 0 count index) slots (top g k) × (index ≤ count) × (count * words_of_kind wanted ≤ MOST_BLOCK_WORDS)
-      × (level ≡ length (counters_of (floor g k) k)) × ElementsAt (code_of g) (bounds_at g) (types_on g k) element (words_of_kind wanted) (top g k) d p r s q
+      × (level ≡ length (counters_of (floor g k) k)) × ElementsAt (code_of g) (bounds_at g) (types_on g k) element wanted (top g k) d p r s q
       × Holds t slots (floor g k) (held k) × LandsMade g locals kinds.Fat d q frames k
   FocusAt t (Writing writes None) k locals g p slots frames =
       (exits : Exits) × (q : ℕ) × WritesAt t locals g slots writes p q × StatementStack g exits q frames k

@@ -10,9 +10,11 @@ use Rattle.cyc_meaning.specs.State.{variable}
 use Rattle.cyc_objects.specs.Tables.{Row, Variable, Placed, Tables}
 use Rattle.cyc_objects.specs.Words.{before, Points}
 use Rattle.cyc_objects.specs.Related.{HasKinds, IsOfVariable}
+use Rattle.cyc_objects.proofs.Places.{begins-first, before-first}
 use Rattle.cyc_objects.proofs.Pointers.{same-row}
 use Rattle.cyc_objects.proofs.Cells.{not-placed}
 use Rattle.cyc_lower.specs.Slots.{Types, starts_of, slot_of}
+use Rattle.cyc_lower.proofs.slots.CellBytes.{kind_bytes}
 use Rattle.cyc_lower.proofs.relation.Known.{IsVariableRow}
 use Rattle.cyc_lower.proofs.relation.HeldValues.{CallSlots, row_of, IsLocalRow}
 
@@ -83,7 +85,7 @@ module _ {t : Tables} {types : Types} {s : CallSlots} {number object offset word
       record {
         pinned = (and_parts (is_pinned s.code slot) (nat_le slots_base s.base) stands).0;
         first = first;
-        at = points.at ∙ (ap (λ n. points.address + 4 * before n points.kinds) first ∙ omega (arith, address));
+        at = points.at ∙ (ap (λ n. points.address + before n points.kinds) first ∙ omega (arith, address, before-first points.kinds));
       }
 
   -- its kind is that of its cell
@@ -102,7 +104,7 @@ local-points {t} {types} {s} {number} {object} r pinned low high =
       address = s.base + 4 * slot;
       kinds = r.kind ∷ [];
       row = r.row ∙ ap (λ (x : Row). Some x) (row-stands s slot r.kind (and_from (is_pinned s.code slot) (nat_le slots_base s.base) pinned (le-leb slots_base s.base low)));
-      range = record { low = omega (arith, low); high = omega (arith, high) };
+      range = record { low = omega (arith, low); high = omega (arith, high, begins-first r.kind, kind_bytes r.kind) };
       inside = omega arith;
-      at = omega arith;
+      at = omega (arith, begins-first r.kind);
     }

@@ -1,5 +1,5 @@
 -- Where in a function's code the code of a construct stands, with all places between its parts left open.
-use Rattle.std.proofs.Common.{◌≡◌, ℕ, suc, ◌+◌, ◌<◌, Bool, true, false, List, length, Option, None, Some, zero, ◌≤◌, max, slice_get, ◌⊎◌}
+use Rattle.std.proofs.Common.{◌≡◌, ℕ, suc, ◌+◌, ◌<◌, Bool, true, false, List, [], ◌∷◌, length, Option, None, Some, zero, ◌≤◌, max, slice_get, ◌⊎◌}
 use Rattle.std.specs.Prelude.{◌==◌}
 use Rattle.cyc_words.specs.Word.{IsWord}
 use Rattle.cyc_types.specs.declared.typed.Kind.{Kind}
@@ -12,7 +12,7 @@ use Rattle.cyc_types.specs.declared.typed.PointerOperator.TheVariants as pointer
 use Rattle.cyc_types.specs.TypedTrees.{Array, Counter, type_of_place, Load, Dereference, Target, Lvalue, Local, Global, Expression, Number, NullPointer, Copy, Call, Unary, Binary, Assign, Converted, Convert, Arguments, NoArguments, MoreArguments, Operations, NoOperations, ThenCompute, ThenTest, ThenPointer, Statement, Block, Empty, Evaluate, If, While, Return, Break, Continue, Items, NoItems, MoreItems, Execute, Declare, Move, Peek, ThenPointerPeek, New, OnHeap, Initial, Plain, Fields, AddressOfCell, Store, Member, AsUnique, ByHandle, FreeUnique, FreeKey, HeapRegion, Side, VariableSide, CellSide, Swap, Throw, Try, Clauses, NoClauses, Default, Case, NumberOfElements, Element, DeclareRegion, OpenRegion, DeclareAlias, DeclareKey, AddressOf}
 use Rattle.cyc_types.specs.Types.{words_of, Ty}
 use Rattle.cyc_types.specs.typing.Expressions.{type_of_side}
-use Rattle.cyc_types.specs.Numbered.{Numbering, argument_count}
+use Rattle.cyc_types.specs.Numbered.{Numbering}
 use Rattle.cyc_plain.specs.declared.limits.TheConstants.{RECORD_WORDS}
 use Rattle.cyc_plain.specs.declared.instruction.UnaryOperator.TheVariants as plain_unary
 use Rattle.cyc_plain.specs.declared.instruction.BinaryOperator.TheVariants as plain_binary
@@ -27,12 +27,12 @@ use Rattle.cyc_plain.specs.declared.instruction.Instruction.TheVariants as instr
 use Rattle.cyc_plain.specs.Straight.{At}
 use Rattle.cyc_store.specs.declared.range.TheConstants.{MOST_BLOCK_WORDS, HEAP, UNIQUE}
 use Rattle.cyc_meaning.specs.Operators.{array_size, null_exception, division_by_zero, array_bounds}
-use Rattle.cyc_meaning.specs.Values.{is_thin, words_of_kind, kind_of}
+use Rattle.cyc_meaning.specs.Values.{is_thin, words_of_kind, bytes_of_kind, begins, behind, bytes_from, words_for, kind_of}
 use Rattle.cyc_lower.specs.declared.statements.Exits.{Exits}
 use Rattle.cyc_lower.specs.declared.statements.Opened.{Opened}
 use Rattle.cyc_lower.specs.Slots.{counted, Types, starts_of, slot_of, field_of, global_of}
-use Rattle.cyc_lower.specs.ValueCode.{unary_operator, binary_operator, failing_comparison, left_with, next_slot, is_in, move_of, test_jump, are_as_wide, converts_there, passed_words, all_passed, low_byte, behind_left, pointer_operator, raising, jump_if_zero, span_of, span_in, followed_operand, scale_of, reached_operand, load_word, store_word, address_of_global}
-use Rattle.cyc_lower.specs.ObjectCode.{most_elements, right_slot, load_at}
+use Rattle.cyc_lower.specs.ValueCode.{unary_operator, binary_operator, failing_comparison, left_with, next_slot, is_in, move_of, test_jump, are_as_wide, converts_there, passed_words, all_passed, kinds_passed, low_byte, behind_left, pointer_operator, raising, jump_if_zero, span_of, span_in, followed_operand, scale_of, reached_operand, load_word, store_word, address_of_global}
+use Rattle.cyc_lower.specs.ObjectCode.{most_elements, slots_of_kinds, right_slot, load_at}
 use Rattle.cyc_lower.specs.ControlCode.{compared_of, break_target, continue_target, inside_loop, inside_try, behind_record_in, tag_operand, other_jump, goes_on, inside_region}
 use Rattle.cyc_lower.specs.ExpressionCode.{operand_of, source_of, source_slot, left_of, value_slot, slot_with, left_slot, pointer_of}
 use Rattle.cyc_lower.specs.Lowering.{results_of}
@@ -107,8 +107,8 @@ module _ (code : List Instruction) (bounds : Numbering) (types : Types) where
 
   abbrev pub SteppedAt : (span : Option ℕ) → (n m t p q : ℕ) → Type 0
   SteppedAt None n m t p q = p ≡ q
-  SteppedAt (Some words) n m t p q =
-      At code p (scale_of words (t + 2) m)
+  SteppedAt (Some bytes) n m t p q =
+      At code p (scale_of bytes (t + 2) m)
       × At code (p + 1) (instructions.Binary plain_binary.Add t (operands.Slot n) (operands.Slot (t + 2))) × (p + 1 + 1 ≡ q)
 
   -- the same where null leads to a place of which this is said
@@ -203,28 +203,28 @@ module _ (code : List Instruction) (bounds : Numbering) (types : Types) where
       At code p (instructions.Store (operands.Slot address) offset (operands.Slot slot)) × StoresAt many address (offset + 4) (suc slot) (p + 1) q
 
   -- a new array, whose length is in slot t, begins
-  abbrev pub BegunAt : (handle : Operand) → (words t p q : ℕ) → Type 0
-  BegunAt handle words t p q =
-      (m : ℕ) × GuardAt array_size comparisons.GreaterOrEqualUnsigned (operands.Slot t) (operands.Word (most_elements words + 1)) p m
+  abbrev pub BegunAt : (handle : Operand) → Kind → (t p q : ℕ) → Type 0
+  BegunAt handle kind t p q =
+      (m : ℕ) × GuardAt array_size comparisons.GreaterOrEqualUnsigned (operands.Slot t) (operands.Word (most_elements (bytes_of_kind kind) + 1)) p m
       × At code m (instructions.Move (t + 1) (operands.Slot t)) × At code (m + 1) (instructions.Move (t + 2) (operands.Word 0))
-      × At code (m + 1 + 1) (instructions.Binary plain_binary.Multiply t (operands.Slot t) (operands.Word words))
+      × At code (m + 1 + 1) (instructions.Binary plain_binary.Multiply t (operands.Slot t) (operands.Word (words_of_kind kind)))
       × At code (m + 1 + 1 + 1) (instructions.Unary plain_unary.Not (t + 3) (operands.Slot t))
       × At code (m + 1 + 1 + 1 + 1) (instructions.Binary plain_binary.Add (t + 3) (operands.Slot (t + 3)) (operands.Slot t))
       × At code (m + 1 + 1 + 1 + 1 + 1) (instructions.Ask (requests.Allocate t handle (operands.Slot (t + 3)))) × (m + 6 ≡ q)
 
   -- an element is written, and the next one is evaluated
-  abbrev pub FilledAt : (words t head p q : ℕ) → Type 0
-  FilledAt words t head p q =
-      (m : ℕ) × At code p (scale_of words (t + 3 + words) (t + 2))
-      × At code (p + 1) (instructions.Binary plain_binary.Add (t + 3 + words) (operands.Slot t) (operands.Slot (t + 3 + words)))
-      × StoresAt words (t + 3 + words) 0 (t + 3) (p + 1 + 1) m
+  abbrev pub FilledAt : Kind → (t head p q : ℕ) → Type 0
+  FilledAt kind t head p q =
+      (m : ℕ) × At code p (scale_of (bytes_of_kind kind) (t + 3 + words_of_kind kind) (t + 2))
+      × At code (p + 1) (instructions.Binary plain_binary.Add (t + 3 + words_of_kind kind) (operands.Slot t) (operands.Slot (t + 3 + words_of_kind kind)))
+      × StoresAt (words_of_kind kind) (t + 3 + words_of_kind kind) 0 (t + 3) (p + 1 + 1) m
       × At code m (instructions.Binary plain_binary.Add (t + 2) (operands.Slot (t + 2)) (operands.Word 1))
       × At code (m + 1) (instructions.Jump head) × (m + 2 ≡ q)
 
   -- the elements of an array: from the head h on, to r, where one is evaluated, and to s, where all are written
-  abbrev pub ElementsBy : (evaluated : Type 0) → (words t d h r s q : ℕ) → Type 0
-  ElementsBy evaluated words t d h r s q =
-      At code h (instructions.Branch comparisons.Equal (operands.Slot (t + 2)) (operands.Slot (t + 1)) s) × (h < s) × evaluated × FilledAt words t h r s
+  abbrev pub ElementsBy : (evaluated : Type 0) → Kind → (t d h r s q : ℕ) → Type 0
+  ElementsBy evaluated kind t d h r s q =
+      At code h (instructions.Branch comparisons.Equal (operands.Slot (t + 2)) (operands.Slot (t + 1)) s) × (h < s) × evaluated × FilledAt kind t h r s
       × At code s (instructions.Move (t + 2) (operands.Word 0)) × CopyAt code 3 (operands.Slot t) d (s + 1) q
 
   -- the words of a value that is stored by an address stand behind that, or in a local, if they are several
@@ -237,12 +237,18 @@ module _ (code : List Instruction) (bounds : Numbering) (types : Types) where
   SavedAt words address (operands.Slot n) p q = StoresAt words address 0 n p q × StandsApart words address n
   SavedAt words address (operands.Word n) p q = At code p (instructions.Store (operands.Slot address) 0 (operands.Word n)) × (p + 1 ≡ q)
 
-  -- An object of so many cells is made, of the words that stand in the slots from t on. Its address comes to slot d.
-  abbrev pub ObjectAt : (handle : Operand) → (cells words t d p q : ℕ) → Type 0
-  ObjectAt handle cells words t d p q =
-      (m : ℕ) × (cells ≤ words) × (1 ≤ words) × (words ≤ MOST_BLOCK_WORDS)
-      × At code p (instructions.Ask (requests.Allocate (t + words) handle (operands.Word (max 1 words))))
-      × StoresAt words (t + words) 0 t (p + 1) m × At code m (instructions.Move d (operands.Slot (t + words))) × (m + 1 ≡ q)
+  -- values of these kinds, which stand in slots from one on, come to cells of the object whose address is in a slot, behind so many bytes
+  abbrev pub CellsAt : List Kind → (address at slot p q : ℕ) → Type 0
+  CellsAt [] address at slot p q = p ≡ q
+  CellsAt (kind ∷ ks) address at slot p q =
+      (r : ℕ) × StoresAt (words_of_kind kind) address (begins kind at) slot p r × CellsAt ks address (behind kind at) (slot + words_of_kind kind) r q
+
+  -- An object with cells of these kinds is made, of the values that stand in the slots from t on. Its address comes to slot d.
+  abbrev pub ObjectAt : (handle : Operand) → List Kind → (t d p q : ℕ) → Type 0
+  ObjectAt handle ks t d p q =
+      (m : ℕ) × (0 < length ks) × (slots_of_kinds ks ≤ MOST_BLOCK_WORDS)
+      × At code p (instructions.Ask (requests.Allocate (t + slots_of_kinds ks) handle (operands.Word (max 1 (words_for (bytes_from 0 ks))))))
+      × CellsAt ks (t + slots_of_kinds ks) 0 t (p + 1) m × At code m (instructions.Move d (operands.Slot (t + slots_of_kinds ks))) × (m + 1 ≡ q)
 
   -- the block at the address in an operand is freed, where that is not 0
   abbrev pub FreedAt : Operand → (p q : ℕ) → Type 0
@@ -306,12 +312,12 @@ module _ (code : List Instruction) (bounds : Numbering) where
     -- a new object in the region of this handle
     pub MadeAt : (types : Types) → Initial → (handle : Operand) → (d t p q : ℕ) → Type 0
     MadeAt types (Plain kind a) handle d t p q =
-        (m : ℕ) × ExpressionAt types a t t p m × (words_of_kind (given bounds.functions a) ≡ words_of_kind kind) × ObjectAt code bounds types handle 1 (words_of_kind kind) t d m q
-    MadeAt types (Fields cs) handle d t p q = (m : ℕ) × ArgumentsAt types cs t p m × ObjectAt code bounds types handle (argument_count cs) (all_passed cs) t d m q
+        (m : ℕ) × ExpressionAt types a t t p m × (given bounds.functions a ≡ kind) × ObjectAt code bounds types handle (kind ∷ []) t d m q
+    MadeAt types (Fields cs) handle d t p q = (m : ℕ) × ArgumentsAt types cs t p m × ObjectAt code bounds types handle (kinds_passed cs) t d m q
     MadeAt types (Array w level n kind a) handle d t p q =
-        (m : ℕ) × (h : ℕ) × (r : ℕ) × (s : ℕ) × ExpressionAt types n t t p m × BegunAt code bounds types handle (words_of_kind kind) t m h
+        (m : ℕ) × (h : ℕ) × (r : ℕ) × (s : ℕ) × ExpressionAt types n t t p m × BegunAt code bounds types handle kind t m h
         × (level ≡ length types.counters)
-        × ElementsBy code bounds types (ExpressionAt (counted types (t + 2)) a (t + 3) (t + 3) (h + 1) r) (words_of_kind kind) t d h r s q
+        × ElementsBy code bounds types (ExpressionAt (counted types (t + 2)) a (t + 3) (t + 3) (h + 1) r) kind t d h r s q
 
     -- The address of a place comes to an operand, but for so many bytes that are to be added to it.
     pub PlaceAt : (types : Types) → Dereference → Operand → (c t p q : ℕ) → Type 0
@@ -375,8 +381,8 @@ module _ (code : List Instruction) (bounds : Numbering) where
 
 module _ (code : List Instruction) (bounds : Numbering) (types : Types) where
   -- the elements of an array, which are this expression
-  abbrev pub ElementsAt : Expression → (words t d h r s q : ℕ) → Type 0
-  ElementsAt a words t d h r s q = ElementsBy code bounds types (ExpressionAt code bounds (counted types (t + 2)) a (t + 3) (t + 3) (h + 1) r) words t d h r s q
+  abbrev pub ElementsAt : Expression → Kind → (t d h r s q : ℕ) → Type 0
+  ElementsAt a kind t d h r s q = ElementsBy code bounds types (ExpressionAt code bounds (counted types (t + 2)) a (t + 3) (t + 3) (h + 1) r) kind t d h r s q
 
   -- a value that comes to slot d, where it is told whether it does so before it is converted
   abbrev pub InitialBy : Bool → (from to : Kind) → Expression → (d t p q : ℕ) → Type 0

@@ -15,17 +15,18 @@ use Rattle.cyc_plain.specs.WellFormed.{IsOperand}
 use Rattle.std.specs.Prelude.{unwrap_or, ◌==◌}
 use Rattle.cyc_meaning.specs.Operators.{null_exception}
 use Rattle.cyc_store.specs.declared.range.TheConstants.{HEAP, UNIQUE}
-use Rattle.cyc_meaning.specs.Values.{words_of_kind, is_thin}
+use Rattle.cyc_meaning.specs.Values.{words_of_kind, bytes_of_kind, is_thin}
 use Rattle.cyc_meaning.specs.FrameCount.{result_words, operand_words, converted_words, argument_words, expression_need, dereference_need, converted_need, arguments_need, operations_need, initial_value_need, place_words}
 use Rattle.cyc_meaning.specs.Pointers.{result_kind as operator_kind}
 use Rattle.cyc_objects.proofs.NumberLemmas.{slice_get-there}
 use Rattle.cyc_lower.specs.Slots.{counted, starts_of, slot_of, Types, global_of}
-use Rattle.cyc_lower.specs.ValueCode.{converts_there, passed_words, all_passed, unary_operator, operand_or, code_unless, code_unless_slot, next_slot, check_code, conversion_code, operator_code, truth_code, low_byte, test_code, is_in, copy_code, behind_left, pointer_code, count_code, span_of, loaded_code, reached_code, followed_code, span_in, global_code}
+use Rattle.cyc_lower.specs.ValueCode.{converts_there, passed_words, all_passed, kinds_passed, unary_operator, operand_or, code_unless, code_unless_slot, next_slot, check_code, conversion_code, operator_code, truth_code, low_byte, test_code, is_in, copy_code, behind_left, pointer_code, count_code, span_of, loaded_code, reached_code, followed_code, span_in, global_code}
 use Rattle.cyc_lower.specs.ObjectCode.{begun_code, filled_code, ended_code, elements_code, object_code, free_code}
 use Rattle.cyc_lower.specs.ControlCode.{closing_code}
 use Rattle.cyc_lower.specs.ExpressionCode.{source_of, source_slot, operand_of, left_of, value_slot, left_slot, value_operand, converted_operand, printed_operand, expression_code, arguments_code, converted_code, converted_operand_code, printed_code, initial_code, operations_code, made_code, place_operand, place_offset, place_code, pointer_of, pointer_slot}
 use Rattle.cyc_lower.specs.Lowering.{results_of, store_code}
 use Rattle.cyc_lower.proofs.slots.Widths.{kind_positive, kind_few, result_kind, passed_kind, words_in, chain_kind, made_kind}
+use Rattle.cyc_lower.proofs.slots.CellBytes.{passed_slots}
 use Rattle.cyc_lower.proofs.relation.Fitting.{FitsCell, Fits, FitsConverted, FitArguments, FitOperations, FitsObject}
 use Rattle.cyc_lower.proofs.slots.Slots.{words_positive, starts-are, words-there}
 use Rattle.cyc_plain.proofs.Placed.{below_of_get}
@@ -171,26 +172,26 @@ module _ (program : PlainProgram) (r : Routine) (b : Numbering) (called : (n : �
     made_in : (types : Types) (locals : (n : ℕ) → n < b.locals → slot_of (starts_of types) n + words_in types.locals n ≤ r.slots) (levels : (l slot : ℕ) → slice_get types.counters l ≡ Some slot → slot < r.slots) (globals : AreGlobals program types.globals) (behind : types.raises + 4 < length r.code) → (i : Initial) (handle : Operand) (words first : ℕ) (ty : Ty) (p d t : ℕ) → FitsObject b types i → IsOperand r handle → d + words_of_kind (made_kind i) ≤ r.slots → t ≤ first + words → first + initial_value_need i words (words_of ty) ≤ r.slots → p + length (made_code (starts_of types) i handle p d t) < length r.code → AreIn program r b types locals levels globals called results behind (made_code (starts_of types) i handle p d t)
     made_in types locals levels globals behind (Plain kind a) handle words first ty p d t (kind_is, numbered) there room place few short =
         let front = expression_code (starts_of types) a p t t in
-        let back = object_code handle (words_of_kind kind) d t in
+        let back = object_code handle (kind ∷ []) d t in
         append program r b types locals levels globals called results behind front back
         (expression_in types locals levels globals behind a p t t numbered (omega (arith, few, place, ap words_of_kind kind_is, words_positive ty)) (omega (arith, few, place)) (omega (arith, short, length-append front back)))
-        (object_in program r b types locals levels globals called results behind handle (words_of_kind kind) d t there (omega (arith, room)) (omega (arith, few, place, words_positive ty)))
+        (object_in program r b types locals levels globals called results behind handle (kind ∷ []) d t there (omega (arith, room)) (omega (arith, few, place, words_positive ty)))
     made_in types locals levels globals behind (Fields cs) handle words first ty p d t (some, many, numbered) there room place few short =
         let front = arguments_code (starts_of types) cs p t in
-        let back = object_code handle (all_passed cs) d t in
+        let back = object_code handle (kinds_passed cs) d t in
         append program r b types locals levels globals called results behind front back
         (arguments_in types locals levels globals behind cs p t first words numbered place (omega (arith, few)) (omega (arith, few)) (omega (arith, short, length-append front back)))
-        (object_in program r b types locals levels globals called results behind handle (all_passed cs) d t there (omega (arith, room)) (omega (arith, few, place, arguments_words cs, words_positive ty)))
+        (object_in program r b types locals levels globals called results behind handle (kinds_passed cs) d t there (omega (arith, room)) (omega (arith, few, place, arguments_words cs, passed_slots cs, words_positive ty)))
     made_in types locals levels globals behind (Array w level n kind a) handle words low ty p d t (level_is, kind_is, fits_n, fits_a) there room place few short =
         let own = words_of_kind kind in
         let first = expression_code (starts_of types) n p t t in
         let m = p + length first in
         let h = m + 7 in
-        let begun = begun_code (starts_of types) handle own t in
+        let begun = begun_code (starts_of types) handle kind t in
         let inner = expression_code (starts_of (counted types (t + 2))) a (h + 1) (t + 3) (t + 3) in
-        let filled = filled_code own h t in
+        let filled = filled_code kind h t in
         let ended = ended_code d t in
-        let elements = elements_code own inner h d t in
+        let elements = elements_code kind inner h d t in
         let long = length-append first (begun ++ elements) in
         let long_elements = length-append (inner ++ filled) ended in
         let long_both = length-append inner filled in
@@ -214,7 +215,7 @@ module _ (program : PlainProgram) (r : Routine) (b : Numbering) (called : (n : �
               (append program r b types locals levels globals called results behind inner filled
               (expression_in (counted types (t + 2)) locals (levels_inside r types levels (t + 2) (omega (arith, few, place))) globals behind a (h + 1) (t + 3) (t + 3) (fits_a (t + 2)) (omega (arith, few, place, ap words_of_kind kind_is)) (omega (arith, few, place))
               (omega (arith, short, long, long_elements, long_both)))
-              (filled_in program r b types locals levels globals called results behind (own == 1) own h t (omega (arith, few, place)) (omega (arith, short, long, long_elements, long_both))))
+              (filled_in program r b types locals levels globals called results behind (bytes_of_kind kind == 4) own h t (omega (arith, few, place)) (omega (arith, short, long, long_elements, long_both))))
               ((omega (arith, few, place), tt), pointer_copied program r b types locals levels globals called results behind d t room (omega (arith, few, place))),
         ))
 

@@ -31,10 +31,11 @@ use Rattle.cyc_plain.specs.declared.limits.TheConstants.{RECORD_WORDS}
 use Rattle.cyc_lower.specs.declared.statements.Exits.{Exits}
 use Rattle.cyc_lower.specs.Slots.{with_counter, slot_of, Starts, global_of}
 use Rattle.cyc_store.specs.declared.range.TheConstants.{HEAP, UNIQUE}
-use Rattle.cyc_meaning.specs.Values.{kind_of, words_of_kind, is_thin}
+use Rattle.cyc_meaning.specs.Values.{kind_of, words_of_kind, begins, behind, bytes_from, words_for, is_thin}
 use Rattle.cyc_lower.proofs.slots.Widths.{kind_few, type_words}
-use Rattle.cyc_lower.specs.ValueCode.{converts_there, passed_words, all_passed, converted_by, moved_by, move_of, unary_operator, binary_operator, operand_or, code_unless, slot_or, code_unless_slot, next_slot, conversion_code, divisor_code, checked_code, operator_code, truth_code, low_byte, test_code, is_in, copy_code, failing_comparison, left_with, first_temporary, jump_if_zero, jump_if_nonzero, behind_left, pointer_code, pointer_operator, index_of, first_two, pointer_instructions, address_code, blocks, element_by, count_code, span_of, tested_code, widened_code, conversion_by, tested_by, check_code, are_as_wide, loaded_code, bounds_code, stepped_code, bounded_code, past_bounded, thinned_code, reached_code, followed_code, followed_operand, followed_by, span_in, reached_operand, word_by_word, load_word, store_word, global_code}
-use Rattle.cyc_lower.specs.ObjectCode.{begun_code, filled_code, ended_code, elements_code, stores_code, object_code, free_code, right_slot, saved_code, load_at}
+use Rattle.cyc_lower.proofs.slots.CellBytes.{passed_slots}
+use Rattle.cyc_lower.specs.ValueCode.{converts_there, passed_words, all_passed, kinds_passed, converted_by, moved_by, move_of, unary_operator, binary_operator, operand_or, code_unless, slot_or, code_unless_slot, next_slot, conversion_code, divisor_code, checked_code, operator_code, truth_code, low_byte, test_code, is_in, copy_code, failing_comparison, left_with, first_temporary, jump_if_zero, jump_if_nonzero, behind_left, pointer_code, pointer_operator, index_of, first_two, pointer_instructions, address_code, blocks, element_by, count_code, span_of, tested_code, widened_code, conversion_by, tested_by, check_code, are_as_wide, loaded_code, bounds_code, stepped_code, bounded_code, past_bounded, thinned_code, reached_code, followed_code, followed_operand, followed_by, span_in, reached_operand, word_by_word, load_word, store_word, global_code}
+use Rattle.cyc_lower.specs.ObjectCode.{begun_code, filled_code, ended_code, elements_code, stores_code, cells_code, slots_of_kinds, object_code, free_code, right_slot, saved_code, load_at}
 use Rattle.cyc_lower.specs.ControlCode.{compared_or, failing_jump, break_target, continue_target, outside_loops, inside_loop, leave_code, tag_operand, other_jump, clause_code, opened_code, closed_code, named_code, dynamic_code, closing_code, handlers_code, marks_code, kept_code, kept_code_in, restored_code, restored_code_in, behind_record, inside_try, inside_region}
 use Rattle.cyc_lower.specs.ExpressionCode.{source_of, source_slot, operand_of, left_of, value_slot, left_slot, value_operand, converted_operand, printed_operand, load_code, expression_code, arguments_code, converted_code, converted_operand_code, printed_code, initial_code, operations_code, slot_with, made_code, place_operand, place_offset, place_code, pointer_of, pointer_slot}
 use Rattle.cyc_lower.specs.Lowering.{assignment_code, discarded_code, first_code, second_code, pair_code, condition_code, condition_of, return_code, declaration_code, statement_code, items_code, lower_function, store_address_code, side_code, read_side, write_side, exchange_code, swap_code, caught_code, clauses_code, starts_with, raises_of}
@@ -73,7 +74,7 @@ widened_size (operands.Word w) = omega arith
 
 stepped_size : (span : Option ℕ) (n m t : ℕ) → code_size (stepped_code span n m t) ≤ 22
 stepped_size None n m t = omega arith
-stepped_size (Some words) n m t = by (words == 1)
+stepped_size (Some bytes) n m t = by (bytes == 4)
   where
     by : (narrow : Bool)
         → code_size ((if narrow then instructions.Binary plain_binary.ShiftLeft (t + 2) (operands.Slot m) (operands.Word 2) else instructions.Binary plain_binary.Multiply (t + 2) (operands.Slot m) (operands.Word 12)) ∷ instructions.Binary plain_binary.Add t (operands.Slot n) (operands.Slot (t + 2)) ∷ []) ≤ 22
@@ -245,18 +246,26 @@ loaded_size true o bytes d t = omega arith
 loaded_size false o bytes d t =
     omega (arith, both (address_code o bytes t) (instructions.Load (d + 2) (operands.Slot t) 8 ∷ instructions.Load (d + 1) (operands.Slot t) 4 ∷ instructions.Load d (operands.Slot t) 0 ∷ []), address_size o bytes t)
 
-object_size : (handle : Operand) (words d t : ℕ) → code_size (object_code handle words d t) ≡ 17 + 10 * words
-object_size handle words d t =
+cells_size : (ks : List Kind) (address at slot : ℕ) → code_size (cells_code ks address at slot) ≡ 10 * slots_of_kinds ks
+cells_size [] address at slot = refl
+cells_size (kind ∷ ks) address at slot =
+    let first = stores_code (words_of_kind kind) address (begins kind at) slot in
+    let others = cells_code ks address (behind kind at) (slot + words_of_kind kind) in
+    omega (arith, both first others, stores_size (words_of_kind kind) address (begins kind at) slot, cells_size ks address (behind kind at) (slot + words_of_kind kind))
+
+object_size : (handle : Operand) (ks : List Kind) (d t : ℕ) → code_size (object_code handle ks d t) ≡ 17 + 10 * slots_of_kinds ks
+object_size handle ks d t =
+    let words = slots_of_kinds ks in
     let move = instructions.Move d (operands.Slot (t + words)) ∷ [] in
     omega (
       arith,
-      cons (instructions.Ask (requests.Allocate (t + words) handle (operands.Word (max 1 words)))) (stores_code words (t + words) 0 t ++ move),
-      both (stores_code words (t + words) 0 t) move,
-      stores_size words (t + words) 0 t,
+      cons (instructions.Ask (requests.Allocate (t + words) handle (operands.Word (max 1 (words_for (bytes_from 0 ks)))))) (cells_code ks (t + words) 0 t ++ move),
+      both (cells_code ks (t + words) 0 t) move,
+      cells_size ks (t + words) 0 t,
     )
 
 -- an element of an array comes to its cell
-filled_size : (kind : Kind) (head t : ℕ) → code_size (filled_code (words_of_kind kind) head t) ≤ 80
+filled_size : (kind : Kind) (head t : ℕ) → code_size (filled_code kind head t) ≤ 80
 filled_size kinds.Int head t = omega arith
 filled_size kinds.Nullable head t = omega arith
 filled_size kinds.NonNull head t = omega arith
@@ -405,21 +414,20 @@ mutual
 
   made_size : (starts : Starts) → (i : Initial) (handle : Operand) (p d t : ℕ) → code_size (made_code starts i handle p d t) ≤ size_per_weight * (1 + initial_weight i)
   made_size starts (Plain kind a) handle p d t =
-      omega (arith, both (expression_code starts a p t t) (object_code handle (words_of_kind kind) d t), expression_size starts a p t t, object_size handle (words_of_kind kind) d t, kind_few kind)
+      omega (arith, both (expression_code starts a p t t) (object_code handle (kind ∷ []) d t), expression_size starts a p t t, object_size handle (kind ∷ []) d t, kind_few kind)
   made_size starts (Fields cs) handle p d t =
-      omega (arith, both (arguments_code starts cs p t) (object_code handle (all_passed cs) d t), fields_size starts cs p t, more_weight cs, object_size handle (all_passed cs) d t)
+      omega (arith, both (arguments_code starts cs p t) (object_code handle (kinds_passed cs) d t), fields_size starts cs p t, more_weight cs, object_size handle (kinds_passed cs) d t, passed_slots cs)
   made_size starts (Array w level n kind a) handle p d t =
       let first = expression_code starts n p t t in
       let m = p + length first in
-      let words = words_of_kind kind in
       let inner = expression_code (with_counter starts (t + 2)) a (m + 7 + 1) (t + 3) (t + 3) in
-      let filled = filled_code words (m + 7) t in
-      let elements = elements_code words inner (m + 7) d t in
+      let filled = filled_code kind (m + 7) t in
+      let elements = elements_code kind inner (m + 7) d t in
       let jump = instructions.Branch comparisons.Equal (operands.Slot (t + 2)) (operands.Slot (t + 1)) (m + 7 + 1 + length (inner ++ filled)) in
       omega (
         arith,
-        both first (begun_code starts handle words t ++ elements),
-        both (begun_code starts handle words t) elements,
+        both first (begun_code starts handle kind t ++ elements),
+        both (begun_code starts handle kind t) elements,
         filled_size kind (m + 7) t,
         cons jump ((inner ++ filled) ++ ended_code d t),
         both (inner ++ filled) (ended_code d t),

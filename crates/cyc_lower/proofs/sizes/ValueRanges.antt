@@ -27,12 +27,12 @@ use Rattle.std.specs.Prelude.{◌==◌, max, if◌then◌else◌}
 use Rattle.std.proofs.lemmas.Bool.{eqb-true}
 use Rattle.cyc_words.proofs.Lists.{all_append}
 use Rattle.cyc_meaning.specs.Operators.{null_exception, division_by_zero, array_bounds}
-use Rattle.cyc_meaning.specs.Values.{kind_of, words_of_kind, is_thin, is_kind}
+use Rattle.cyc_meaning.specs.Values.{kind_of, words_of_kind, begins, behind as cell_end, is_thin, is_kind}
 use Rattle.cyc_meaning.specs.FrameCount.{operand_words, converted_words, argument_words, expression_need, dereference_need, operations_need, place_words}
 use Rattle.cyc_meaning.specs.Pointers.{result_kind as operator_kind}
 use Rattle.cyc_lower.specs.Slots.{starts_of, slot_of, Types, global_of}
 use Rattle.cyc_lower.specs.ValueCode.{are_as_wide, converts_there, passed_words, moved_by, move_of, binary_operator, operand_or, code_unless, slot_or, code_unless_slot, left_with, next_slot, check_code, conversion_code, divisor_code, checked_code, operator_code, truth_code, test_code, copy_code, pointer_operator, left_kind, behind_left, pointer_code, index_code, pointer_instructions, address_code, addressed_by, guard_code, count_code, span_of, null_of, tested_code, widened_code, conversion_by, bounds_code, stepped_code, bounded_code, thinned_code, reached_code, followed_code, followed_operand, span_in, reached_operand, word_by_word, load_word, store_word, global_code}
-use Rattle.cyc_lower.specs.ObjectCode.{stores_code, object_code, free_code, saved_code}
+use Rattle.cyc_lower.specs.ObjectCode.{stores_code, cells_code, slots_of_kinds, object_code, free_code, saved_code}
 use Rattle.cyc_lower.specs.ControlCode.{counter_operand}
 use Rattle.cyc_lower.specs.ExpressionCode.{source_of, source_slot, operand_of, left_of, value_slot, slot_with, left_slot, value_operand, converted_operand, printed_operand, load_code, expression_code, converted_operand_code, place_operand, place_offset, place_code, pointer_slot}
 use Rattle.cyc_lower.specs.Lowering.{results_of, store_address_code, store_code}
@@ -290,7 +290,7 @@ module _ (program : PlainProgram) (r : Routine) (b : Numbering) (types : Types) 
 
   stepped_in : (span : Option ℕ) (n m t : ℕ) → n < r.slots → m < r.slots → t + 3 ≤ r.slots → AreIn (stepped_code span n m t)
   stepped_in None n m t first index room = tt
-  stepped_in (Some words) n m t first index room = (by (words == 1), ((omega (arith, room), first, omega (arith, room)), tt))
+  stepped_in (Some bytes) n m t first index room = (by (bytes == 4), ((omega (arith, room), first, omega (arith, room)), tt))
     where
       by : (narrow : Bool) → IsIn program r types.locals (if narrow then instructions.Binary plain_binary.ShiftLeft (t + 2) (operands.Slot m) (operands.Word 2) else instructions.Binary plain_binary.Multiply (t + 2) (operands.Slot m) (operands.Word 12))
       by true = (omega (arith, room), index, tt)
@@ -452,11 +452,19 @@ module _ (program : PlainProgram) (r : Routine) (b : Numbering) (types : Types) 
   saved_in words address (operands.Slot n) room inside = stores_in words address 0 n room inside
   saved_in words address (operands.Word n) room inside = ((room, tt), tt)
 
-  pub object_in : (handle : Operand) (words d t : ℕ) → IsOperand r handle → d < r.slots → t + words + 1 ≤ r.slots → AreIn (object_code handle words d t)
-  object_in handle words d t inside room few = (
-    record { answer_in_range = few; first_in_range = inside; second_in_range = tt },
-    append (stores_code words (t + words) 0 t) (instructions.Move d (operands.Slot (t + words)) ∷ []) (stores_in words (t + words) 0 t (omega (arith, few)) (omega (arith, few))) ((room, omega (arith, few)), tt),
-  )
+  cells_in : (ks : List Kind) (address at slot : ℕ) → address < r.slots → slot + slots_of_kinds ks ≤ r.slots → AreIn (cells_code ks address at slot)
+  cells_in [] address at slot room few = tt
+  cells_in (kind ∷ ks) address at slot room few =
+      append (stores_code (words_of_kind kind) address (begins kind at) slot) (cells_code ks address (cell_end kind at) (slot + words_of_kind kind))
+      (stores_in (words_of_kind kind) address (begins kind at) slot room (omega (arith, few)))
+      (cells_in ks address (cell_end kind at) (slot + words_of_kind kind) room (omega (arith, few)))
+
+  pub object_in : (handle : Operand) (ks : List Kind) (d t : ℕ) → IsOperand r handle → d < r.slots → t + slots_of_kinds ks + 1 ≤ r.slots → AreIn (object_code handle ks d t)
+  object_in handle ks d t inside room few =
+      let words = slots_of_kinds ks in (
+        record { answer_in_range = few; first_in_range = inside; second_in_range = tt },
+        append (cells_code ks (t + words) 0 t) (instructions.Move d (operands.Slot (t + words)) ∷ []) (cells_in ks (t + words) 0 t (omega (arith, few)) (omega (arith, few))) ((room, omega (arith, few)), tt),
+      )
 
   address_in : (o : Operand) (bytes d : ℕ) → IsOperand r o → d < r.slots → AreIn (address_code o bytes d)
   address_in o (suc bytes) d inside few = ((few, inside, tt), tt)

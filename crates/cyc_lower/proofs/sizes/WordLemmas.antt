@@ -27,19 +27,20 @@ use Rattle.cyc_plain.specs.WellFormed.{IsOfWord, HasWord, HasWords, is_return}
 use Rattle.cyc_lower.specs.Words.{IsOfWords, IsOfWordsCell, IsOfWordsObject, IsOfWordsConverted, AreOfWordsArguments, AreOfWordsOperations, IsOfWordsInitial, IsOfWordsStatement, AreOfWordsItems, IsOfWordsConstant, AreOfWordsGlobals, AreOfWordsFunctions, IsOfWordsProgram, IsOfWordsSide, IsOfWordsThrown, AreOfWordsClauses}
 use Rattle.cyc_plain.specs.declared.limits.TheConstants.{RECORD_WORDS, GLOBALS_BASE}
 use Rattle.cyc_lower.specs.declared.statements.Exits.{Exits}
-use Rattle.cyc_lower.specs.Slots.{with_counter, slot_of, Starts, bytes_from, field_in, global_of}
+use Rattle.cyc_lower.specs.Slots.{with_counter, slot_of, Starts, begins_word, field_from, field_in, global_of}
 use Rattle.std.specs.Prelude.{◌==◌, if◌then◌else◌, replicate, ◌%◌, ◌^◌}
 use Rattle.std.proofs.lemmas.List.Elements.{All-from_recursion}
 use Rattle.cyc_words.proofs.Lists.{all_append}
 use Rattle.cyc_types.specs.Types.{words_of, Ty}
 use Rattle.cyc_store.specs.declared.range.TheConstants.{HEAP, UNIQUE}
-use Rattle.cyc_meaning.specs.Values.{words_of_kind, is_thin, kind_of}
-use Rattle.cyc_lower.specs.ValueCode.{are_as_wide, converts_there, passed_words, converted_by, moved_by, move_of, operand_or, code_unless, slot_or, code_unless_slot, left_with, next_slot, check_code, conversion_code, divisor_code, checked_code, operator_code, truth_code, test_code, is_in, copy_code, failing_comparison, first_temporary, behind_left, pointer_code, index_of, first_two, pointer_instructions, address_code, addressed_by, guard_code, blocks, element_by, count_code, span_of, null_of, tested_code, widened_code, conversion_by, tested_by, all_passed, bounds_code, stepped_code, bounded_code, thinned_code, reached_code, followed_code, followed_operand, followed_by, span_in, reached_operand, word_by_word, load_word, store_word, global_code}
-use Rattle.cyc_lower.specs.ObjectCode.{begun_code, filled_code, ended_code, elements_code, stores_code, object_code, right_slot, saved_code, asked_code, load_at}
+use Rattle.cyc_meaning.specs.Values.{words_of_kind, bytes_of_kind, begins, behind, bytes_from, words_for, is_thin, kind_of}
+use Rattle.cyc_lower.specs.ValueCode.{are_as_wide, converts_there, passed_words, kinds_passed, converted_by, moved_by, move_of, operand_or, code_unless, slot_or, code_unless_slot, left_with, next_slot, check_code, conversion_code, divisor_code, checked_code, operator_code, truth_code, test_code, is_in, copy_code, failing_comparison, first_temporary, behind_left, pointer_code, index_of, first_two, pointer_instructions, address_code, addressed_by, guard_code, blocks, element_by, count_code, span_of, null_of, tested_code, widened_code, conversion_by, tested_by, bounds_code, stepped_code, bounded_code, thinned_code, reached_code, followed_code, followed_operand, followed_by, span_in, reached_operand, word_by_word, load_word, store_word, global_code}
+use Rattle.cyc_lower.specs.ObjectCode.{begun_code, filled_code, ended_code, elements_code, stores_code, cells_code, slots_of_kinds, object_code, right_slot, saved_code, asked_code, load_at}
 use Rattle.cyc_lower.specs.ControlCode.{counter_operand, compared_or, compared_of, outside_loops, inside_loop, leave_code, clause_code, opened_code, closed_code, named_code, dynamic_code, handlers_code, marks_code, kept_code, kept_code_in, restored_code, restored_code_in, behind_record, inside_try, inside_region}
 use Rattle.cyc_lower.specs.ExpressionCode.{source_of, source_slot, operand_of, left_of, value_slot, left_slot, value_operand, converted_operand, printed_operand, load_code, expression_code, arguments_code, converted_code, converted_operand_code, printed_code, initial_code, operations_code, slot_with, made_code, place_operand, place_offset, place_code, pointer_of, pointer_slot}
 use Rattle.cyc_lower.specs.Lowering.{assignment_code, discarded_code, first_code, second_code, pair_code, condition_code, condition_of, return_code, declaration_code, statement_code, items_code, initial_word, lower_function, lower_program, store_address_code, store_code, caught_code, clauses_code, function_code, side_code, read_side, write_side, exchange_code, swap_code, globals_of, lower_globals, starts_with, raises_of, scopes_of}
 use Rattle.cyc_lower.proofs.slots.Widths.{kind_few, type_words}
+use Rattle.cyc_lower.proofs.slots.CellBytes.{begins_within, behind_within, bytes_within, passed_slots}
 use Rattle.cyc_lower.specs.declared.statements.Opened.{Opened}
 use Rattle.cyc_lower.proofs.acceptance.LowerableLemmas.{all_few}
 
@@ -105,7 +106,7 @@ bounds_words starts index bound first second = guard_words starts array_bounds c
 
 stepped_words : (span : Option ℕ) (n m t : ℕ) → HaveWords (stepped_code span n m t)
 stepped_words None n m t = tt
-stepped_words (Some words) n m t = (by (words == 1), ((tt, tt), tt))
+stepped_words (Some bytes) n m t = (by (bytes == 4), ((tt, tt), tt))
   where
     by : (narrow : Bool) → IsMade (if narrow then instructions.Binary plain_binary.ShiftLeft (t + 2) (operands.Slot m) (operands.Word 2) else instructions.Binary plain_binary.Multiply (t + 2) (operands.Slot m) (operands.Word 12))
     by true = (tt, omega arith)
@@ -165,10 +166,19 @@ address_words : (o : Operand) (bytes d : ℕ) → IsOfWord o → IsWord bytes �
 address_words o zero d word small = copy_words (is_in o d) 1 o d word
 address_words o (suc bytes) d word small = ((word, small), tt)
 
-bytes_word : (ts : List Ty) (field bytes : ℕ) → IsWord bytes → IsWord (bytes_from bytes ts field)
+begins_small : (kind : Kind) (at : ℕ) → IsWord (begins_word kind at)
+begins_small kinds.Int at = omega arith
+begins_small kinds.Nullable at = omega arith
+begins_small kinds.NonNull at = omega arith
+begins_small kinds.Fat at = omega arith
+begins_small kinds.Handle at = omega arith
+begins_small kinds.Key at = omega arith
+
+bytes_word : (ts : List Ty) (field bytes : ℕ) → IsWord bytes → IsWord (field_from bytes ts field)
 bytes_word [] field bytes small = small
-bytes_word (t ∷ ts) zero bytes small = small
-bytes_word (t ∷ ts) (suc field) bytes small = bytes_word ts field (add_of bytes (4 * words_of t)) (IsWord-add_of bytes (4 * words_of t))
+bytes_word (t ∷ ts) zero bytes small = begins_small (kind_of t) bytes
+bytes_word (t ∷ ts) (suc field) bytes small =
+    bytes_word ts field (add_of (begins_word (kind_of t) bytes) (bytes_of_kind (kind_of t))) (IsWord-add_of (begins_word (kind_of t) bytes) (bytes_of_kind (kind_of t)))
 
 field_word : (s : Option StructType) (field : ℕ) → IsWord (field_in s field)
 field_word None field = omega arith
@@ -250,28 +260,37 @@ loaded_words : (narrow : Bool) (o : Operand) (bytes d t : ℕ) → IsOfWord o �
 loaded_words true o bytes d t word small = ((word, small), tt)
 loaded_words false o bytes d t word small = append (address_code o bytes t) _ (address_words o bytes t word small) ((tt, omega arith), ((tt, omega arith), ((tt, omega arith), tt)))
 
+-- the cells of an object, behind so many words at most
+cells_words : (ks : List Kind) (address at n slot : ℕ) → at ≤ 4 * n → n + slots_of_kinds ks ≤ 3000 → HaveWords (cells_code ks address at slot)
+cells_words [] address at n slot within few = tt
+cells_words (kind ∷ ks) address at n slot within few =
+    let first = stores_code (words_of_kind kind) address (begins kind at) slot in
+    append first (cells_code ks address (behind kind at) (slot + words_of_kind kind)) (stores_words (words_of_kind kind) address (begins kind at) slot (omega (arith, begins_within kind at n within, few)))
+    (cells_words ks address (behind kind at) (n + words_of_kind kind) (slot + words_of_kind kind) (behind_within kind at n within) (omega (arith, few)))
+
 -- a block has at most a word's count of words
-object_words : (handle : Operand) (words d t : ℕ) → IsOfWord handle → words ≤ 3000 → HaveWords (object_code handle words d t)
-object_words handle words d t word few =
-    ((word, at_least words few), append (stores_code words (t + words) 0 t) _ (stores_words words (t + words) 0 t (omega (arith, few))) (tt, tt))
+object_words : (handle : Operand) (ks : List Kind) (d t : ℕ) → IsOfWord handle → slots_of_kinds ks ≤ 3000 → HaveWords (object_code handle ks d t)
+object_words handle ks d t word few =
+    let words = slots_of_kinds ks in
+    ((word, at_least (words_for (bytes_from 0 ks)) (omega (arith, bytes_within ks 0 0 (omega arith), few))), append (cells_code ks (t + words) 0 t) _ (cells_words ks (t + words) 0 0 t (omega arith) (omega (arith, few))) (tt, tt))
   where
     at_least : (n : ℕ) → n ≤ 3000 → IsWord (max 1 n)
     at_least zero fits = omega arith
     at_least (suc n) fits = omega (arith, fits)
 
 -- an array begins
-begun_by : (starts : Starts) (handle : Operand) (words limit t : ℕ) → IsOfWord handle → IsWord words → IsWord limit
+begun_by : (starts : Starts) (handle : Operand) (kind : Kind) (limit t : ℕ) → IsOfWord handle → IsWord (words_of_kind kind) → IsWord limit
     → HaveWords (instructions.Branch comparisons.GreaterOrEqualUnsigned (operands.Slot t) (operands.Word limit) (starts.raises + array_size)
-    ∷ instructions.Move (t + 1) (operands.Slot t) ∷ instructions.Move (t + 2) (operands.Word 0) ∷ asked_code handle words (t + 3) t)
-begun_by starts handle words limit t word some few = ((tt, few), (tt, (omega arith, ((tt, some), (tt, ((tt, tt), ((word, tt), tt)))))))
+    ∷ instructions.Move (t + 1) (operands.Slot t) ∷ instructions.Move (t + 2) (operands.Word 0) ∷ asked_code handle kind (t + 3) t)
+begun_by starts handle kind limit t word some few = ((tt, few), (tt, (omega arith, ((tt, some), (tt, ((tt, tt), ((word, tt), tt)))))))
 
-begun_words : (starts : Starts) (kind : Kind) (handle : Operand) (t : ℕ) → IsOfWord handle → HaveWords (begun_code starts handle (words_of_kind kind) t)
-begun_words starts kinds.Int handle t word = begun_by starts handle 1 1001 t word (omega arith) (omega arith)
-begun_words starts kinds.Nullable handle t word = begun_by starts handle 1 1001 t word (omega arith) (omega arith)
-begun_words starts kinds.NonNull handle t word = begun_by starts handle 1 1001 t word (omega arith) (omega arith)
-begun_words starts kinds.Fat handle t word = begun_by starts handle 3 334 t word (omega arith) (omega arith)
-begun_words starts kinds.Handle handle t word = begun_by starts handle 1 1001 t word (omega arith) (omega arith)
-begun_words starts kinds.Key handle t word = begun_by starts handle 1 1001 t word (omega arith) (omega arith)
+begun_words : (starts : Starts) (kind : Kind) (handle : Operand) (t : ℕ) → IsOfWord handle → HaveWords (begun_code starts handle kind t)
+begun_words starts kinds.Int handle t word = begun_by starts handle kinds.Int 1001 t word (omega arith) (omega arith)
+begun_words starts kinds.Nullable handle t word = begun_by starts handle kinds.Nullable 1001 t word (omega arith) (omega arith)
+begun_words starts kinds.NonNull handle t word = begun_by starts handle kinds.NonNull 1001 t word (omega arith) (omega arith)
+begun_words starts kinds.Fat handle t word = begun_by starts handle kinds.Fat 334 t word (omega arith) (omega arith)
+begun_words starts kinds.Handle handle t word = begun_by starts handle kinds.Handle 1001 t word (omega arith) (omega arith)
+begun_words starts kinds.Key handle t word = begun_by starts handle kinds.Key 1001 t word (omega arith) (omega arith)
 
 -- an element comes to its cell
 filled_by : (narrow : Bool) (words head z t : ℕ) → words ≤ 3
@@ -281,8 +300,8 @@ filled_by : (narrow : Bool) (words head z t : ℕ) → words ≤ 3
 filled_by true words head z t few = ((tt, omega arith), ((tt, tt), append (stores_code words z 0 (t + 3)) _ (stores_words words z 0 (t + 3) (omega (arith, few))) ((tt, omega arith), (tt, tt))))
 filled_by false words head z t few = ((tt, omega arith), ((tt, tt), append (stores_code words z 0 (t + 3)) _ (stores_words words z 0 (t + 3) (omega (arith, few))) ((tt, omega arith), (tt, tt))))
 
-filled_words : (kind : Kind) (head t : ℕ) → HaveWords (filled_code (words_of_kind kind) head t)
-filled_words kind head t = filled_by (words_of_kind kind == 1) (words_of_kind kind) head (t + 3 + words_of_kind kind) t (kind_few kind)
+filled_words : (kind : Kind) (head t : ℕ) → HaveWords (filled_code kind head t)
+filled_words kind head t = filled_by (bytes_of_kind kind == 4) (words_of_kind kind) head (t + 3 + words_of_kind kind) t (kind_few kind)
 
 -- ---- locals that have these first slots
 
@@ -416,17 +435,16 @@ mutual
 
   made_words : (starts : Starts) → (i : Initial) (handle : Operand) (p d t : ℕ) → IsOfWord handle → IsOfWordsObject i → HaveWords (made_code starts i handle p d t)
   made_words starts (Plain kind a) handle p d t word words =
-      append (expression_code starts a p t t) (object_code handle (words_of_kind kind) d t) (expression_words starts a p t t words) (object_words handle (words_of_kind kind) d t word (omega (arith, kind_few kind)))
+      append (expression_code starts a p t t) (object_code handle (kind ∷ []) d t) (expression_words starts a p t t words) (object_words handle (kind ∷ []) d t word (omega (arith, kind_few kind)))
   made_words starts (Fields cs) handle p d t word (few, words) =
-      append (arguments_code starts cs p t) (object_code handle (all_passed cs) d t) (arguments_words starts cs p t words) (object_words handle (all_passed cs) d t word (omega (arith, few, all_few cs)))
+      append (arguments_code starts cs p t) (object_code handle (kinds_passed cs) d t) (arguments_words starts cs p t words) (object_words handle (kinds_passed cs) d t word (omega (arith, few, all_few cs, passed_slots cs)))
   made_words starts (Array w level n kind a) handle p d t word (count, element) =
       let first = expression_code starts n p t t in
       let m = p + length first in
-      let words = words_of_kind kind in
       let inner = expression_code (with_counter starts (t + 2)) a (m + 7 + 1) (t + 3) (t + 3) in
-      let filled = filled_code words (m + 7) t in
-      append first (begun_code starts handle words t ++ elements_code words inner (m + 7) d t) (expression_words starts n p t t count)
-      (append (begun_code starts handle words t) (elements_code words inner (m + 7) d t) (begun_words starts kind handle t word) (
+      let filled = filled_code kind (m + 7) t in
+      append first (begun_code starts handle kind t ++ elements_code kind inner (m + 7) d t) (expression_words starts n p t t count)
+      (append (begun_code starts handle kind t) (elements_code kind inner (m + 7) d t) (begun_words starts kind handle t word) (
         (tt, tt),
         append (inner ++ filled) (ended_code d t) (append inner filled (expression_words (with_counter starts (t + 2)) a (m + 7 + 1) (t + 3) (t + 3) element) (filled_words kind (m + 7) t))
             (omega arith, copy_words (is_in (operands.Slot t) d) 3 (operands.Slot t) d tt),

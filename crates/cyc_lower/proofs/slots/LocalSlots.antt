@@ -1,11 +1,12 @@
 -- The first slots of locals, and the bytes before a field, as far as they are given.
-use Rattle.std.proofs.Common.{◌≡◌, ℕ, suc, ◌+◌, ◌*◌, ◌<◌, ◌≤◌, List, [], ◌∷◌, ◌++◌, length, get_or, drop, sym, ap, ◌∙◌, arith, append_assoc, append-nil}
+use Rattle.std.proofs.Common.{◌≡◌, ℕ, suc, ◌+◌, ◌<◌, ◌≤◌, List, [], ◌∷◌, ◌++◌, length, get_or, drop, sym, ap, ◌∙◌, arith, append_assoc, append-nil}
 use Rattle.std.proofs.lemmas.List.{drop_all, drop_more}
 use Rattle.cyc_words.specs.Word.{add_of}
 use Rattle.cyc_types.specs.declared.ty.Ty.{Ty as TyCode}
 use Rattle.cyc_types.specs.Types.{Ty, words_of}
+use Rattle.cyc_meaning.specs.Values.{kind_of, bytes_of_kind}
 use Rattle.cyc_meaning.specs.FrameCount.{words_of_all}
-use Rattle.cyc_lower.specs.Slots.{starts_from, bytes_from}
+use Rattle.cyc_lower.specs.Slots.{starts_from, begins_word, field_from}
 
 -- by the types that these stand for
 module _ (view : List TyCode → List Ty) (one : TyCode → Ty) where
@@ -44,22 +45,24 @@ module _ (view : List TyCode → List Ty) (one : TyCode → Ty) where
 
   -- what is counted so far of the bytes before a field, with what is still to come
   abbrev pub BytesLeft : List TyCode → (field i bytes left : ℕ) → Type 0
-  BytesLeft ts field i bytes left = bytes_from bytes (view (drop i ts)) left ≡ bytes_from 0 (view ts) field
+  BytesLeft ts field i bytes left = field_from bytes (view (drop i ts)) left ≡ field_from 0 (view ts) field
 
   module _ (none : view [] ≡ []) (more : (t : TyCode) (ts : List TyCode) → view (t ∷ ts) ≡ one t ∷ view ts) (ts : List TyCode) (field i bytes left : ℕ) (is : BytesLeft ts field i bytes left) where
     next_field : (t : TyCode) → i < length ts → t ≡ get_or ts i t → view (drop i ts) ≡ one t ∷ view (drop (i + 1) ts)
     next_field t inside at = ap view (drop_more ts i t inside ∙ ap (λ (y : TyCode). y ∷ drop (i + 1) ts) (sym at)) ∙ more t (drop (i + 1) ts)
 
-    pub bytes_on : (new after : ℕ) (t : TyCode) → i < length ts → t ≡ get_or ts i t → new ≡ add_of bytes (4 * words_of (one t)) → left ≡ suc after → BytesLeft ts field (i + 1) new after
-    bytes_on new after t inside at new_is left_is =
-        ap (λ (n : ℕ). bytes_from n (view (drop (i + 1) ts)) after) new_is
-        ∙ ap (λ (us : List Ty). bytes_from bytes us (suc after)) (sym (next_field t inside at))
-        ∙ ap (bytes_from bytes (view (drop i ts))) (sym left_is)
+    pub bytes_on : (begin new after : ℕ) (t : TyCode) → i < length ts → t ≡ get_or ts i t → begin ≡ begins_word (kind_of (one t)) bytes
+        → new ≡ add_of begin (bytes_of_kind (kind_of (one t))) → left ≡ suc after → BytesLeft ts field (i + 1) new after
+    bytes_on begin new after t inside at begin_is new_is left_is =
+        ap (λ (n : ℕ). field_from n (view (drop (i + 1) ts)) after) (new_is ∙ ap (λ (n : ℕ). add_of n (bytes_of_kind (kind_of (one t)))) begin_is)
+        ∙ ap (λ (us : List Ty). field_from bytes us (suc after)) (sym (next_field t inside at))
+        ∙ ap (field_from bytes (view (drop i ts))) (sym left_is)
         ∙ is
 
-    pub bytes_there : (t : TyCode) → i < length ts → t ≡ get_or ts i t → left ≡ 0 → bytes ≡ bytes_from 0 (view ts) field
-    bytes_there t inside at none_left =
-        ap (λ (us : List Ty). bytes_from bytes us 0) (sym (next_field t inside at)) ∙ ap (bytes_from bytes (view (drop i ts))) (sym none_left) ∙ is
+    pub bytes_there : (begin : ℕ) (t : TyCode) → i < length ts → t ≡ get_or ts i t → begin ≡ begins_word (kind_of (one t)) bytes → left ≡ 0
+        → begin ≡ field_from 0 (view ts) field
+    bytes_there begin t inside at begin_is none_left =
+        begin_is ∙ ap (λ (us : List Ty). field_from bytes us 0) (sym (next_field t inside at)) ∙ ap (field_from bytes (view (drop i ts))) (sym none_left) ∙ is
 
-    pub bytes_given : length ts ≤ i → bytes ≡ bytes_from 0 (view ts) field
-    bytes_given done = ap (λ (us : List Ty). bytes_from bytes us left) (sym (ap view (drop_all i ts done) ∙ none)) ∙ is
+    pub bytes_given : length ts ≤ i → bytes ≡ field_from 0 (view ts) field
+    bytes_given done = ap (λ (us : List Ty). field_from bytes us left) (sym (ap view (drop_all i ts done) ∙ none)) ∙ is

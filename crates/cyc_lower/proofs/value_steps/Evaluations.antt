@@ -25,7 +25,7 @@ use Rattle.cyc_plain.specs.State.{Words, put, Frame, Configuration}
 use Rattle.cyc_plain.specs.Straight.{At as CodeAt}
 use Rattle.cyc_plain.specs.Step.{Choice, with_slots, advanced, performed, at}
 use Rattle.cyc_plain.proofs.SlotLaws.{put-same}
-use Rattle.cyc_meaning.specs.Values.{Int, Null, Thin, Handle, Operand as Kinded, kind_of, words_of_kind, is_thin}
+use Rattle.cyc_meaning.specs.Values.{Int, Null, Thin, Handle, Operand as Kinded, kind_of, words_of_kind, bytes_of_kind, is_thin}
 use Rattle.cyc_store.specs.declared.range.TheConstants.{HEAP, UNIQUE}
 use Rattle.cyc_meaning.specs.SourceMachine.{status_in}
 use Rattle.cyc_meaning.specs.State.{status_of, InRegion, World, heap_number, Environment, ConvertTo, Operate, Chain, Apply, Store, Pass, PlaceBy, MakePlain, MakeFields, MakeArray, Choose, Test, Follow, LoadFrom, Entry, Needs, NeedsPlace, Discard, Focus, Evaluating, Locating, Given, Running, FollowMember, TakeAddress, StoreTo, Owner, Unique, FreeObject, CloseByKey, CountElements, Index, Advance}
@@ -38,7 +38,7 @@ use Rattle.cyc_lower.proofs.place_steps.PlaceWords.{field_bytes, add_is}
 use Rattle.cyc_lower.proofs.slots.Slots.{slot-room, slot-low, words-there, words_positive}
 use Rattle.cyc_lower.proofs.slots.Widths.{kind_positive, type_words, made_kind, HasRoom, Outside}
 use Rattle.cyc_lower.proofs.relation.Moves.{moved_slots, moves, put_elsewhere, moved_elsewhere, moved_is}
-use Rattle.cyc_lower.specs.ValueCode.{failing_comparison, are_as_wide, converts_there, all_passed, move_of, left_with, null_of, followed_operand, span_in, operand_or, reached_operand, load_word, address_of_global}
+use Rattle.cyc_lower.specs.ValueCode.{failing_comparison, are_as_wide, converts_there, all_passed, kinds_passed, move_of, left_with, null_of, followed_operand, span_in, operand_or, reached_operand, load_word, address_of_global}
 use Rattle.cyc_lower.specs.ControlCode.{counter_operand, compared_or, compared_of}
 use Rattle.cyc_lower.specs.ExpressionCode.{operand_of, value_slot, source_of, source_slot, slot_with, pointer_of}
 use Rattle.cyc_lower.specs.Lowering.{lower_program}
@@ -405,22 +405,22 @@ module _ (source : Program) (pages calls : ℕ) where
       → Holds shared.tables c.active.slots (floor source c.active.function k) (held k)
       → MadeAt (code_of source c.active.function) (bounds_at source c.active.function) (types_on source c.active.function k) i handle d (top source c.active.function k) c.active.next q
       → LandsMade source c.active.function e.locals (made_kind i) d q c.frames k → IsMatched source pages calls (Running focus k₀ e w) (plain.Running c)
-  made_of focus k₀ owner handle (typed.Plain kind a) k e w c d q does lighter owned shared facts holds (m, at_a, wide, object) lands =
+  made_of focus k₀ owner handle (typed.Plain kind a) k e w c d q does lighter owned shared facts holds (m, at_a, same, object) lands =
       let g = c.active.function in
       silently source pages calls (Running focus k₀ e w) (Running (Evaluating a) (Needs (MakePlain owner kind) ∷ k) e w) (plain.Running c) does (
         shared,
         facts,
         into_slot (top source g k) m at_a holds
-            (in_temporary (omega arith) (handle, d, q, owned, refl, subst (λ n. ObjectAt (code_of source g) (bounds_at source g) (types_on source g k) handle 1 n (top source g k) d m q) (sym wide) object, lands)),
+            (in_temporary (omega arith) (handle, d, q, owned, refl, subst (λ i. ObjectAt (code_of source g) (bounds_at source g) (types_on source g k) handle (i ∷ []) (top source g k) d m q) (sym same) object, lands)),
       )
       (omega (arith, lighter))
-  made_of focus k₀ owner handle (typed.Fields NoArguments) k e w c d q does lighter owned shared facts holds (p, at_cs, (m, single, some, few, ask, stores, move, there)) lands = absurd (omega (arith, some))
-  made_of focus k₀ owner handle (typed.Fields (MoreArguments (Convert from to a) cs)) k e w c d q does lighter owned shared facts holds (p, (r, (s, at_a, at_to), at_cs), (m, single, some, few, ask, stores, move, there)) lands =
+  made_of focus k₀ owner handle (typed.Fields NoArguments) k e w c d q does lighter owned shared facts holds (p, at_cs, (m, some, few, ask, stores, move, there)) lands = absurd (omega (arith, some))
+  made_of focus k₀ owner handle (typed.Fields (MoreArguments (Convert from to a) cs)) k e w c d q does lighter owned shared facts holds (p, (r, (s, at_a, at_to), at_cs), object) lands =
       silently source pages calls (Running focus k₀ e w) (Running (Evaluating a) (Needs (ConvertTo from to (target_by a)) ∷ Needs (MakeFields owner [] cs) ∷ k) e w) (plain.Running c) does (
         shared,
         facts,
         into_slot (top source c.active.function k) s at_a holds
-            (in_temporary (omega arith) (r, at_to, (handle, d, p, q, words_of_kind to + all_passed cs, owned, refl, at_cs, (m, omega (arith, single), some, few, ask, stores, move, there), omega arith, lands))),
+            (in_temporary (omega arith) (r, at_to, (handle, d, p, q, to ∷ kinds_passed cs, owned, refl, at_cs, object, refl, lands))),
       )
       (omega (arith, lighter))
   made_of focus k₀ owner handle (typed.Array p level n kind a) k e w c d q does lighter owned shared facts holds (m, h, r, s, at_n, begun, level_is, at_a) lands =
@@ -731,8 +731,8 @@ module _ (source : Program) (pages calls : ℕ) where
       (top source c.active.function k) n c.active.next m
       → ValueAt (code_of source c.active.function) (bounds_at source c.active.function) (types_on source c.active.function k) i (top source c.active.function k + 3) x m r
       → CodeAt (code_of source c.active.function) r (instructions.Binary plain_binary.Add (top source c.active.function k + 2) (operands.Slot (n + 2)) x)
-      → ReachedAt (code_of source c.active.function) (bounds_at source c.active.function) (types_on source c.active.function k) (option_map words_of_kind target) n (top source c.active.function k + 2) (top source c.active.function k) (r + 1) q
-      → PlaceStack source c.active.function e.locals (reached_operand (option_map words_of_kind target) n (top source c.active.function k)) 0 q c.frames k
+      → ReachedAt (code_of source c.active.function) (bounds_at source c.active.function) (types_on source c.active.function k) (option_map bytes_of_kind target) n (top source c.active.function k + 2) (top source c.active.function k) (r + 1) q
+      → PlaceStack source c.active.function e.locals (reached_operand (option_map bytes_of_kind target) n (top source c.active.function k)) 0 q c.frames k
       → EvaluatingAt source t a e.locals c.active.function c.active.next c.active.slots c.frames (Needs (Index peek target i) ∷ k)
   pointer_begins t peek target a i n x m r q k e w c holds at_a at_i sum reached place =
       by (operand_of (starts_on source g k) i) (operand_of (starts_on source g k) a) refl refl at_a
@@ -756,8 +756,8 @@ module _ (source : Program) (pages calls : ℕ) where
             refl,
             at_i,
             subst (λ s. CodeAt (code_of source g) r (instructions.Binary plain_binary.Add (top source g k + 2) (operands.Slot (s + 2)) x)) there sum,
-            subst (λ s. ReachedAt (code_of source g) (bounds_at source g) (types_on source g k) (option_map words_of_kind target) s (top source g k + 2) (top source g k) (r + 1) q) there reached,
-            subst (λ s. PlaceStack source g e.locals (reached_operand (option_map words_of_kind target) s (top source g k)) 0 q c.frames k) there place,
+            subst (λ s. ReachedAt (code_of source g) (bounds_at source g) (types_on source g k) (option_map bytes_of_kind target) s (top source g k + 2) (top source g k) (r + 1) q) there reached,
+            subst (λ s. PlaceStack source g e.locals (reached_operand (option_map bytes_of_kind target) s (top source g k)) 0 q c.frames k) there place,
           )))
 
       by : (index pointer : Option Operand) → operand_of (starts_on source g k) i ≡ index → operand_of (starts_on source g k) a ≡ pointer
@@ -781,7 +781,7 @@ module _ (source : Program) (pages calls : ℕ) where
                 (operand_is (code_of source g) (bounds_at source g) (types_on source g k) a (top source g k) c.active.next m (operands.Slot n) at_pointer),
             i_is ∙ ap Some (sym y_is),
             subst (λ p. CodeAt (code_of source g) p (instructions.Binary plain_binary.Add (top source g k + 2) (operands.Slot (n + 2)) x)) (sym ends) sum,
-            subst (λ p. ReachedAt (code_of source g) (bounds_at source g) (types_on source g k) (option_map words_of_kind target) n (top source g k + 2) (top source g k) (p + 1) q) (sym ends) reached,
+            subst (λ p. ReachedAt (code_of source g) (bounds_at source g) (types_on source g k) (option_map bytes_of_kind target) n (top source g k + 2) (top source g k) (p + 1) q) (sym ends) reached,
             place,
           ))
 

@@ -36,7 +36,7 @@ use Rattle.cyc_plain.proofs.Placed.{holds_at}
 use Rattle.cyc_plain.proofs.Steps.{function_known}
 use Rattle.cyc_plain.proofs.SlotLaws.{put-same}
 use Rattle.cyc_plain.specs.Straight.{At}
-use Rattle.cyc_meaning.specs.Values.{Value, Int, Null, Thin, Fat, Handle, Key, Operand as Kinded, is_kind, is_thin, words_of_kind}
+use Rattle.cyc_meaning.specs.Values.{Value, Int, Null, Thin, Fat, Handle, Key, Operand as Kinded, is_kind, is_thin, words_of_kind, bytes_of_kind}
 use Rattle.cyc_meaning.specs.Operators.{Gives, Raises, has_no_result, binary_word, is_zero, unary_result, truth_result, truth_of, division_by_zero, null_exception}
 use Rattle.cyc_meaning.specs.Pointers.{takes_kind, followed, result_kind as operator_kind}
 use Rattle.cyc_meaning.specs.Places.{arrives, member_of}
@@ -193,7 +193,7 @@ module _ (source : Program) (pages calls : ℕ) where
   converts_by : (wide : Bool) (from to : Kind) (target : Option Kind) (v : Kinded) (o : Operand) (q : ℕ) (k : List Entry) (e : Environment) (w : World) (c : Configuration) → are_as_wide from to ≡ wide
       → step source (Running (Given v) (Needs (ConvertTo from to target) ∷ k) e w) ≡ computed to (conversion to v.value) k e w → leads_to w target (followed v.value) ≡ true → v.kind ≡ from → IsWell (computed to (conversion to v.value) k e w)
       → Stands v o k e w c
-      → ConversionBy (code_of source c.active.function) (bounds_at source c.active.function) (types_on source c.active.function k) wide to (option_map words_of_kind target) o (top source c.active.function k) c.active.next q
+      → ConversionBy (code_of source c.active.function) (bounds_at source c.active.function) (types_on source c.active.function k) wide to (option_map bytes_of_kind target) o (top source c.active.function k) c.active.next q
       → ValueStack source c.active.function e.locals to o q c.frames k → GoesBehind v (Needs (ConvertTo from to target) ∷ k) e w c
   converts_by true from to target v o q k e w c wide does leads kind well stands at stack =
       converted from to target v.kind v.value o k e w c well does (ap words_of_kind kind ∙ eqb-true (words_of_kind from) (words_of_kind to) wide) stands (q, at, stack)
@@ -1039,8 +1039,8 @@ module _ (source : Program) (pages calls : ℕ) where
       kind = same_kind v.kind pointer (and_left (is_kind v.kind pointer) (leads_to w target (followed v.value)) (is_fitting (is_kind v.kind pointer && leads_to w target (followed v.value)) (arrives (followed v.value) k e w) w well))
 
       by : (thin : Bool) → is_thin pointer ≡ thin
-          → FollowedAt (code_of source c.active.function) (bounds_at source c.active.function) (types_on source c.active.function k) thin (option_map words_of_kind target) o (top source c.active.function k) c.active.next q
-          → PlaceStack source c.active.function e.locals (followed_operand thin (option_map words_of_kind target) o (top source c.active.function k)) 0 q c.frames k
+          → FollowedAt (code_of source c.active.function) (bounds_at source c.active.function) (types_on source c.active.function k) thin (option_map bytes_of_kind target) o (top source c.active.function k) c.active.next q
+          → PlaceStack source c.active.function e.locals (followed_operand thin (option_map bytes_of_kind target) o (top source c.active.function k)) 0 q c.frames k
           → GoesBehind v (Needs (Follow pointer target) ∷ k) e w c
       by true thin check place = follows_thin pointer target v.kind v.value o k e w c well (shared, facts, is, holds) (q, thin, check, place)
       by false thin access place = follows_fat source pages calls pointer target v o q k e w c thin kind well shared facts is holds low access place

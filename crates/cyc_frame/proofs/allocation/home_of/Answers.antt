@@ -1,28 +1,18 @@
+use Rattle.std.proofs.Common.{◌≡◌, ℕ, sym, subst, ◌∙◌}
+use Rattle.std.specs.Prelude.{bit_and}
 use Rattle.cyc_plain.specs.Program.{routine_of}
-use Rattle.cyc_frame.proofs.Homes.{masked_both, masked_register, never_entered}
-use Rattle.cyc_frame.proofs.allocation.home_of.Goals.{else-slot-function-via-then-slot-function+else-mask_at-mask-ne0, else-slot-function-via-else-slot-function}
+use Rattle.cyc_frame.proofs.Homes.{next_both, next_register}
 use Rattle.cyc_frame.proofs.allocation.home_of.Goals as goal
 
-pub returns-then-kept-mask-eq0-clause-home : goal.returns-then-kept-mask-eq0-clause-home
-returns-then-kept-mask-eq0-clause-home c =
-    let mask = c.mask_at-mask in
-    let r = routine_of c.args.function.now in
-    masked_register c.args.plain.now r c.args.masks.now c.args.live.now c.args.kept c.requires.sound c.requires.numbered c.args.slot
-    mask.result mask.ensures c.if-mask-eq0.false mask.type_inv (elim c.else-slot-function.branch [
-      | else-slot-function-via-then-slot-function+else-mask_at-mask-ne0 w ↦
-          never_entered c.args.plain.now r c.args.masks.now c.args.live.now c.args.kept c.requires.sound c.requires.numbered c.args.slot
-          mask.result mask.ensures c.if-mask-eq0.false mask.type_inv w.mask_at.result w.mask_at.ensures w.if-mask_at-mask-ne0.false
-      | else-slot-function-via-else-slot-function w ↦ λ wanted. w.if-slot-function.false
-    ]) c.if-kept-mask-eq0.true
+pub returns-then-lives-mask_at-eq0-clause-home : goal.returns-then-lives-mask_at-eq0-clause-home
+returns-then-lives-mask_at-eq0-clause-home c =
+    let lives = c.args.lives.now in
+    next_register c.args.plain.now (routine_of c.args.function.now) c.args.masks.now lives.live.items lives.kept lives.barred c.requires.sound c.requires.numbered
+    c.args.taken c.args.slot c.args.given (sym c.may_have.ensures ∙ c.if-not-may_have.false) c.if-given-ge-MOST_REGISTERS.false
+    (subst (λ (n : ℕ). bit_and lives.kept n ≡ 0) c.mask_at.ensures c.if-lives-mask_at-eq0.true)
 
 pub returns-clause-home : goal.returns-clause-home
 returns-clause-home c =
-    let mask = c.mask_at-mask in
-    let r = routine_of c.args.function.now in
-    masked_both c.args.plain.now r c.args.masks.now c.args.live.now c.args.kept c.requires.sound c.requires.numbered c.args.slot
-    mask.result mask.ensures c.if-mask-eq0.false mask.type_inv (elim c.else-slot-function.branch [
-      | else-slot-function-via-then-slot-function+else-mask_at-mask-ne0 w ↦
-          never_entered c.args.plain.now r c.args.masks.now c.args.live.now c.args.kept c.requires.sound c.requires.numbered c.args.slot
-          mask.result mask.ensures c.if-mask-eq0.false mask.type_inv w.mask_at.result w.mask_at.ensures w.if-mask_at-mask-ne0.false
-      | else-slot-function-via-else-slot-function w ↦ λ wanted. w.if-slot-function.false
-    ])
+    let lives = c.args.lives.now in
+    next_both c.args.plain.now (routine_of c.args.function.now) c.args.masks.now lives.live.items lives.kept lives.barred c.requires.sound c.requires.numbered
+    c.args.taken c.args.slot c.args.given (sym c.may_have.ensures ∙ c.if-not-may_have.false) c.if-given-ge-MOST_REGISTERS.false

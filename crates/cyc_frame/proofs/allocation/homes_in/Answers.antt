@@ -2,7 +2,7 @@ use Rattle.std.proofs.Common.{ℕ, ◌+◌, ◌∷◌, [], ◌++◌, sym, subst}
 use Rattle.std.specs.Prelude.{List}
 use Rattle.cyc_plain.specs.Program.{routine_of}
 use Rattle.cyc_frame.specs.declared.home.Home.{Home}
-use Rattle.cyc_frame.specs.Allocation.{AreFirstHomes}
+use Rattle.cyc_frame.specs.Allocation.{AreFirstHomes, register_count}
 use Rattle.cyc_frame.proofs.Homes.{more_homes}
 use Rattle.cyc_frame.proofs.allocation.homes_in.Goals as goal
 
@@ -11,8 +11,10 @@ loop-slot-preserved c =
     let loop = c.loop-slot in
     let home = c.home_of-home in
     let r = routine_of c.args.function.now in
-    subst (λ (hs : List Home). AreFirstHomes c.args.plain.now r c.args.masks.now (loop.slot + 1) (loop.both + c.both_in-both.result) hs)
+    subst (λ (hs : List Home). AreFirstHomes c.args.plain.now r (loop.slot + 1) (loop.given + c.registers_in-given.result) (loop.both + c.both_in-both.result) hs)
     (sym c.in_ok-push.ensures.items)
-    (subst (λ (n : ℕ). AreFirstHomes c.args.plain.now r c.args.masks.now (loop.slot + 1) (loop.both + n) (loop.homes.items ++ home.result ∷ []))
+    (subst (λ (n : ℕ). AreFirstHomes c.args.plain.now r (loop.slot + 1) (loop.given + n) (loop.both + c.both_in-both.result) (loop.homes.items ++ home.result ∷ []))
+    (sym c.registers_in-given.ensures)
+    (subst (λ (n : ℕ). AreFirstHomes c.args.plain.now r (loop.slot + 1) (loop.given + register_count home.result) (loop.both + n) (loop.homes.items ++ home.result ∷ []))
     (sym c.both_in-both.ensures)
-    (more_homes c.args.plain.now r c.args.masks.now loop.homes.items home.result loop.slot loop.both loop.invariant home.ensures.home home.ensures.few))
+    (more_homes c.args.plain.now r loop.homes.items home.result loop.slot loop.given loop.both loop.invariant home.ensures.home home.ensures.few)))

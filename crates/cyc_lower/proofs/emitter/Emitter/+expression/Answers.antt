@@ -141,10 +141,10 @@ lower_expression-returns-in_ok-assigned-in-Assign t c =
 
 pub lower_object-returns-in_ok-words-in-Fields : goal.lower_object-returns-in_ok-words-in-Fields
 lower_object-returns-in_ok-words-in-Fields t c =
-    on_ok_weaker c.make_object-in-Fields.result
-    (made_fields (view_starts c.args.starts.now) c.args.initial.now c.in-Fields.values c.deref.result.now c.args.self.now.code.items c.lower_arguments.new.self.code.items c.make_object-in-Fields.new.self.code.items c.args.handle c.in_ok-words-in-Fields.words c.args.slot c.args.free
+    on_ok_weaker c.make_object.result
+    (made_fields (view_starts c.args.starts.now) c.args.initial.now c.in-Fields.values c.deref.result.now c.args.self.now.code.items c.lower_arguments.new.self.code.items c.make_object.new.self.code.items c.args.handle c.in_ok-words-in-Fields.words c.args.slot c.args.free
     c.in-Fields.is c.deref.ensures.value c.in_ok-words-in-Fields.ensures.0 c.in_ok-words-in-Fields.ensures.1)
-    c.make_object-in-Fields.ensures
+    c.make_object.ensures
 
 pub lower_expression-store-requires : goal.lower_expression-store-requires
 lower_expression-store-requires t c = (
@@ -165,7 +165,7 @@ pub lower_elements-returns : goal.lower_elements-returns
 lower_elements-returns t c =
     on_ok_weaker c.end_array.result
     (made_elements (view_starts c.args.starts.now) c.deref.result.now (view_expression c.args.element.now) c.args.self.now.code.items c.reserve.new.self.code.items c.lower_expression.new.self.code.items c.write_element.new.self.code.items c.jump_here_if_failing.new.self.code.items c.end_array.new.self.code.items
-    (instructions.Jump 0) c.last_element.result (words_of_kind c.args.kind) c.in_ok-head.head c.in_ok-behind.behind c.args.slot c.args.free c.in_ok-behind.ensures.0 (c.deref.ensures.value ∙ c.in_ok-counters.ensures) c.in_ok-head.ensures.0 c.in_ok-head.ensures.1
+    (instructions.Jump 0) c.last_element.result c.args.kind c.in_ok-head.head c.in_ok-behind.behind c.args.slot c.args.free c.in_ok-behind.ensures.0 (c.deref.ensures.value ∙ c.in_ok-counters.ensures) c.in_ok-head.ensures.0 c.in_ok-head.ensures.1
     c.in_ok-lower_expression.ensures c.in_ok-write_element.ensures c.last_element.ensures c.jump_here_if_failing.ensures)
     c.end_array.ensures
 

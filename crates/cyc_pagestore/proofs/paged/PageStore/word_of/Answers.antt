@@ -7,12 +7,6 @@ use Rattle.cyc_pagestore.proofs.Cutting.{words-all}
 use Rattle.cyc_pagestore.proofs.Finding.{pages-few, words-past}
 use Rattle.cyc_pagestore.proofs.paged.PageStore.word_of.Goals as goal
 
-pub overflow_mul-most : goal.overflow_mul-most
-overflow_mul-most c =
-    let f = c.self.inside in
-    let few = pages-few f.table f.lexicals.items f.classes f.ledger.blocks c.self.invariant.stored in
-    record { fits = omega (arith, few, c.most.ensures) }
-
 pub number_below-requires : goal.number_below-requires
 number_below-requires c =
     let f = c.self.inside in

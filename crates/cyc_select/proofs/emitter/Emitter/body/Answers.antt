@@ -2,6 +2,7 @@ use Rattle.std.proofs.Common.{sym, subst}
 use Rattle.cyc_plain.specs.Program.{Routine, routine_at}
 use Rattle.cyc_plain.specs.WellFormed.{IsInRange}
 use Rattle.cyc_select.specs.Emission.{IsTestFound}
+use Rattle.cyc_select.proofs.Numbering.{arguments_small}
 use Rattle.cyc_select.proofs.Found.{operand_found, test_found, request_found}
 use Rattle.cyc_select.proofs.emitter.Emitter.body.Goals as goal
 
@@ -22,3 +23,10 @@ ask-requires c =
     let r : Routine = routine_at program c.args.tables.now.function in
     request_found c.frame-frame.result.now r c.in-Ask.request c.frame-frame.ensures.slots
     (subst (IsInRange program r) c.in-Ask.is c.requires.in_range)
+
+pub spills_count-requires : goal.spills_count-requires
+spills_count-requires c =
+    let program = c.args.tables.now.plain.now in
+    let known = c.requires.known in
+    arguments_small program c.args.tables.now.frames.now c.args.tables.now.function known.ready.fit known.function_in_range c.in-Call.function c.in-Call.arguments c.in-Call.count c.in-Call.result
+    (subst (IsInRange program (routine_at program c.args.tables.now.function)) c.in-Call.is c.requires.in_range)

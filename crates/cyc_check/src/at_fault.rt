@@ -1,0 +1,106 @@
+//! What is known where a refused program's fault stands, for who says a person why it is refused.
+ghost use Rattle.std.specs.Prelude.{◌≡◌, ◌⊎◌, map, IfSome};
+ghost use Rattle.cyc_words.specs.Fault.{memory_fault};
+ghost use Rattle.cyc_syntax.specs.TreeView.{view_declaration};
+ghost use Rattle.cyc_types.specs.typing.Programs.{IsRefusedProgram};
+
+use crate::statements::check_items;
+use crate::tree::check;
+use cyc_expressions::{check_expression, check_looked, check_place};
+use cyc_forms::{Given, span_of, type_of_side};
+use cyc_heads::{members, signature_of};
+use cyc_scope::{Program, Scope, Stop, Tables};
+use cyc_syntax::{Block, Expr, Ident, Parameters, Tree, WrittenType};
+use cyc_types::Ty;
+use cyc_types::typed::ValueType;
+use cyc_words::Fault;
+use std::alloc::Global;
+
+/// The fault that `check` refuses a tree with.
+pub fn refusal(alloc: Global, tree: &Tree) -> Option<Fault>
+    // Only what is refused has one, unless memory ran out.
+    ensures { IfSome result (λ f. (f ≡ memory_fault) ⊎ IsRefusedProgram tree.now.names (map view_declaration tree.now.declarations.items) f) }
+{
+    match check(alloc, tree) {
+        Ok(_) => None,
+        Err(fault) => Some(fault),
+    }
+}
+
+/// The scope where a body begins.
+fn scope_of<'p>(
+    alloc: Global,
+    program: &'p Program,
+    returned: &Option<WrittenType>,
+    name: Ident,
+    parameters: &Parameters,
+) -> Result<Scope<'p>, Stop> {
+    let mut tables = Tables::new(alloc);
+    let names = &mut tables.names;
+    let signature = signature_of(alloc, program.known(), names, returned, parameters)?;
+    Scope::of_body(
+        alloc,
+        program,
+        tables,
+        &signature,
+        name,
+        members(parameters),
+    )
+}
+
+/// The scope where the first fault of a function's body stands: of a part that is refused nothing is left again. Where the body has none,
+/// that at its end.
+///
+/// # Errors
+///
+/// Where memory ran out before the body began.
+pub fn scope_at_fault<'p>(
+    alloc: Global,
+    program: &'p Program,
+    returned: &Option<WrittenType>,
+    name: Ident,
+    parameters: &Parameters,
+    body: &Block,
+) -> Result<Scope<'p>, Stop> {
+    let mut scope = scope_of(alloc, program, returned, name, parameters)?;
+    let _ = check_items(&mut scope, &body.items);
+    Ok(scope)
+}
+
+// ---- types
+
+fn kept(given: Given<'_>) -> Option<ValueType> {
+    match given {
+        Given::Void => Some(ValueType::Void),
+        Given::Null => Some(ValueType::Null),
+        Given::Int | Given::HeapHandle | Given::Value(_) => match given.of_type() {
+            Ok(of_type) => Some(ValueType::Value { of_type }),
+            Err(_) => None,
+        },
+    }
+}
+
+/// The type of an expression, whose value is used or only looked at; none where it is refused.
+pub fn value_type(
+    scope: &mut Scope<'_>,
+    expression: &Expr,
+    is_looked_at: bool,
+) -> Option<ValueType> {
+    let checked = if is_looked_at {
+        check_looked(scope, expression)
+    } else {
+        check_expression(scope, expression)
+    };
+    match checked {
+        Ok(node) => kept(Given::by(&node)),
+        Err(_) => None,
+    }
+}
+
+/// The type of what is at a place; none where it is refused.
+pub fn place_type(scope: &mut Scope<'_>, expression: &Expr) -> Option<Ty> {
+    match check_place(scope, expression, span_of(expression)) {
+        Ok(found) => type_of_side(&found.side).share().ok(),
+        Err(_) => None,
+    }
+}
