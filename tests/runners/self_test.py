@@ -494,6 +494,7 @@ GOAL = "note: src/a.rt:9:1: it is not proved that what the function ensures hold
 FALSE_GOAL = f"{GOAL}; the facts known there allow values at which this goal is false"
 LEFT = "fn mid::a::f: no proof: expected answers in ./proofs/a/f/Answers.antt; `search` did not prove `returns`"
 REFUSED = "fn mid::a::f: not proved"
+IN_CYCLE = "no proof: in `mid::a::h`, of this cycle of calls: "
 NONE, SOME = "only=1 proved=0", "only=2 proved=1"
 TYPES = "expected type `A`, but this has type `B`"
 GONE = "./proofs/a/f/Answers.antt:5:3: error: `returns`: `goal.returns`: module `Goals` has no `returns` that can be named from here"
@@ -506,6 +507,8 @@ ANSWERS_TO_BODIES = [
     (1, [GONE, GOAL, REFUSED, NONE], "refused by a"),
     (1, [GOAL, "fn mid::b::g: not proved", "fn mid::a::f: no proof: it calls `mid::b::g`, which is not proved", SOME], "not refused by a"),
     (1, [GOAL, f"{LEFT}; it calls `mid::b::g`, which is not proved", NONE], None),
+    (1, [f"fn mid::a::f: {IN_CYCLE}it calls `mid::b::g`, which is not proved", NONE], "not refused by a"),
+    (1, [GOAL, f"fn mid::a::f: {IN_CYCLE}it calls `mid::b::g`, which is not proved", NONE], None),
     (1, [f"./proofs/b/g/Answers.antt:5:3: error: `returns`: {TYPES}", REFUSED, NONE], "refused by a"),
     (1, [f"./proofs/Lemmas.antt:5:3: error: `lemma`: {TYPES}", REFUSED, NONE], "refused by a"),
     (1, ["src/a.rt:9:1: error[E0308]: mismatched types"], "it cannot be read"),

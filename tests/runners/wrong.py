@@ -280,8 +280,8 @@ def rounds_of(cases, bodies, is_alone):
 ERROR = re.compile(r"(\S+?\.(?:antt|rt)):\d+:\d+: error(\[[\w-]+\])?: (.*)")
 GOAL = re.compile(r"note: \S+\.rt:\d+:\d+: it is not proved that ")
 COUNTS = re.compile(r"only=\d+ proved=\d+|logic=.*")
-# What is said of a function whose own proof holds, where one that it calls has none.
-RESTS = re.compile(r"no proof: it calls [^;]*, which (is|are) not proved")
+# What is said of a function whose own proof holds, where one that it calls, or that its cycle of calls does, has none.
+RESTS = re.compile(r"no proof: (in `[^`]*`, of this cycle of calls: )?it calls [^;]*, which (is|are) not proved")
 # What a note says of a goal that does not hold.
 IS_FALSE = "the facts known there allow values at which this goal is false"
 # Errors that say no more than that another declaration was refused.
