@@ -5,9 +5,10 @@
 
 crates/cyc_bench makes calls of a store in memory and of one on a pool of pages, each of 65,536 pages. With 1, 1,000 and 60,000
 pages in use a unique block of 16 words is made and freed, a region is opened and closed, blocks of 16 words are made in regions
-of 64, and words of the pages are loaded and saved. Then an image runs that loads and stores words of one block, the region with
-all pages in use is closed, and stores are made. store.c does the first three with malloc and free, of blocks of 64 bytes and of
-4,096. Each is run five times, in turn, and the least time counts.
+of 64, and words of the pages are loaded and saved. Then the region with all pages in use is closed, and stores are made. store.c
+does the first three with malloc and free, of blocks of 64 bytes and of 4,096. Each is run five times, in turn, and the least time
+counts. At the end an image runs that loads and stores words of one block, 300 times, each of them so short that on a busy machine
+some have a processor to themselves.
 """
 import os
 import subprocess
@@ -19,6 +20,7 @@ CRATE = os.path.join(HERE, "..", "crates", "cyc_bench")
 PROGRAM = os.path.join(CRATE, "out", "cyc_bench")
 CALLS = 2_000_000
 RUNS = 5
+SHORT_RUNS = 300
 STORES = ("plain", "paged")
 IN_USE = (1, 1_000, 60_000)
 # of each kind of call, what it is, and whether store.c makes such calls too
@@ -31,10 +33,13 @@ KINDS = {
 }
 # of each other kind, what it is, and for which numbers it is asked, each with its words
 TIMES = {
-    "run": ("a run of 220 million instructions", {1: "on a block of the heap", 3: "on one on its second page", 2: "on a unique block"}),
     "close": ("a region closed", {1: "of 1 page", 60_000: "of 60,000 pages"}),
     "new": ("a store made", {1_024: "of 1,024 pages", 65_536: "of 65,536 pages"}),
 }
+# the places of the block of an image that runs
+PLACES = {1: "a block of the heap", 3: "one on its second page", 2: "a unique block"}
+# how many instructions the image executes
+INSTRUCTIONS = 1_100_000
 
 
 def milliseconds(store, kind, number):
@@ -64,6 +69,15 @@ def least(program):
     return {key: min(them) for key, them in times.items()}
 
 
+def least_of_short(place):
+    """The least milliseconds of an image's run, by store."""
+    times = {store: [] for store in STORES}
+    for _ in range(SHORT_RUNS):
+        for store, them in times.items():
+            them.append(milliseconds(store, "short", place))
+    return {store: min(them) for store, them in times.items()}
+
+
 def main():
     subprocess.run(["rt", "run"], cwd=CRATE, check=True, stdout=subprocess.DEVNULL)
     with tempfile.TemporaryDirectory() as folder:
@@ -81,6 +95,10 @@ def main():
         for number, more in numbers.items():
             plain, paged = (times[store, kind, number] for store in STORES)
             print(f"  {f'{what} {more}':58} {plain:10.4f} {paged:10.4f} {paged / plain:8.2f}")
+    print("stores: nanoseconds of an instruction of an image that loads and stores words, and the second to the first")
+    for place, what in PLACES.items():
+        plain, paged = (time * 1e6 / INSTRUCTIONS for time in least_of_short(place).values())
+        print(f"  {what:58} {plain:10.2f} {paged:10.2f} {paged / plain:8.2f}")
 
 
 if __name__ == "__main__":

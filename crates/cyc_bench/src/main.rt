@@ -7,7 +7,7 @@ use cyc_elf::read_image;
 use cyc_machine::{Event, Limits, Machine};
 use cyc_pagestore::PageStore;
 use cyc_store::{LEAST_PAGES, MOST_BLOCK_WORDS, MOST_PAGES, PlainStore, Store, UNIQUE};
-use image::{INSTRUCTIONS, Place, file_of};
+use image::{INSTRUCTIONS, Length, Place, file_of};
 use std::alloc::Global;
 use std::env;
 use std::process::ExitCode;
@@ -177,24 +177,33 @@ fn place_of(number: u32) -> Option<Place> {
     }
 }
 
+/// The length of the image that a kind of call runs.
+fn length_of(kind: &str) -> Option<Length> {
+    match kind {
+        "run" => Some(Length::Long),
+        "short" => Some(Length::Short),
+        _ => None,
+    }
+}
+
 /// The nanoseconds that the image takes over a store in memory, with its block at the place with this number.
-fn run_plain(rt: &HostRuntime, number: u32) -> Option<u64> {
-    let file = file_of(rt.alloc(), place_of(number)?)?;
+fn run_plain(rt: &HostRuntime, length: Length, number: u32) -> Option<u64> {
+    let file = file_of(rt.alloc(), place_of(number)?, length)?;
     let limits = Limits::new(1024, 4096)?;
     run(rt, &mut machine_plain(rt.alloc(), &file, limits)?)
 }
 
 /// The nanoseconds that the image takes over a store on a pool, with its block at the place with this number.
-fn run_paged(rt: &HostRuntime, number: u32) -> Option<u64> {
-    let file = file_of(rt.alloc(), place_of(number)?)?;
+fn run_paged(rt: &HostRuntime, length: Length, number: u32) -> Option<u64> {
+    let file = file_of(rt.alloc(), place_of(number)?, length)?;
     let limits = Limits::new(1024, 4096)?;
     run(rt, &mut machine_paged(rt.alloc(), &file, limits)?)
 }
 
 /// The nanoseconds of one kind of call over a store in memory.
 fn plain(rt: &HostRuntime, kind: &str, number: u32) -> Option<u64> {
-    if kind == "run" {
-        return run_plain(rt, number);
+    if let Some(length) = length_of(kind) {
+        return run_plain(rt, length, number);
     }
     if kind == "new" {
         let start = Instant::now(rt).ok()?;
@@ -206,8 +215,8 @@ fn plain(rt: &HostRuntime, kind: &str, number: u32) -> Option<u64> {
 
 /// The nanoseconds of one kind of call over a store on a pool.
 fn paged(rt: &HostRuntime, kind: &str, number: u32) -> Option<u64> {
-    if kind == "run" {
-        return run_paged(rt, number);
+    if let Some(length) = length_of(kind) {
+        return run_paged(rt, length, number);
     }
     if kind == "new" {
         let start = Instant::now(rt).ok()?;

@@ -12,10 +12,11 @@ use Rattle.cyc_store.specs.declared.row.Row.{Row}
 use Rattle.cyc_store.specs.declared.row.TheConstants.{NONE}
 use Rattle.cyc_store.proofs.LookupLemmas.{when_other}
 use Rattle.cyc_store.proofs.TieLemmas.{chain-same}
+use Rattle.cyc_store.proofs.TieClosing.{one-all, all-from}
 use Rattle.cyc_pagestore.specs.Links.{head_or_none, relinked, removed, next_of, longer_of}
 use Rattle.cyc_pagestore.specs.Live.{reach_by}
 use Rattle.cyc_pagestore.specs.Table.{IsRoot, Backing, reach_of, IsMember, IsRegion, Backs}
-use Rattle.cyc_pagestore.proofs.Rows.{one-all, all-from, removed-out, removed-in, removed-apart, fronted-apart, relinked-other, relinked-row, relinked-chain}
+use Rattle.cyc_pagestore.proofs.Rows.{removed-out, removed-in, removed-apart, fronted-apart, relinked-other, relinked-row, relinked-chain}
 use Rattle.cyc_pagestore.proofs.Reaching.{reach-by_serial, reach-stale, reach-empty, reach-same}
 
 -- a function with another value at one place

@@ -18,6 +18,7 @@ use Rattle.cyc_store.specs.declared.range.TheConstants.{STORE_BASE, UNIQUE}
 use Rattle.cyc_store.proofs.KeptServices.{memory-same, kept-opened}
 use Rattle.cyc_store.proofs.KeptStart.{no_regions, new_slots, all_new, first_layout, first-laid}
 use Rattle.cyc_store.proofs.ServiceLemmas.{start-sound}
+use Rattle.cyc_store.proofs.PagedStart.{are-distinct}
 use Rattle.cyc_rawpages.specs.Pool.{PoolState, IsFree, new_pool}
 use Rattle.cyc_pagestore.specs.declared.step.Step.TheVariants.{Made, Taken, Began}
 use Rattle.cyc_pagestore.specs.declared.table.Spot.{Spot}
@@ -26,7 +27,7 @@ use Rattle.cyc_pagestore.specs.Live.{Readies}
 use Rattle.cyc_pagestore.specs.Table.{AreAlone, TableState, blank_table, Opens, no_spot, IsBacked}
 use Rattle.cyc_pagestore.specs.Stored.{IsStored}
 use Rattle.cyc_pagestore.proofs.Rows.{relinked-length, relinked-row, relinked-chain}
-use Rattle.cyc_pagestore.proofs.Blank.{same-at, each-at, numbers-apart, within, new-backed}
+use Rattle.cyc_pagestore.proofs.Blank.{same-at, each-at, within, new-backed}
 use Rattle.cyc_pagestore.proofs.Calls.{view_of, open-keeps, open-gives}
 use Rattle.cyc_pagestore.proofs.Pooled.{serial_of_newer, serials_one}
 use Rattle.cyc_pagestore.proofs.Taking.{with_items, v, u, v-kept, draws, room}
@@ -124,7 +125,7 @@ module _ (lexicals : Vec ℕ) (n : ℕ) (few : n ≤ 65536) where
     rows = λ page. record { marks = ap (λ (q : Row). q.filled) (row-is page).1; plays = ap (λ (q : Row). q.role) (row-is page).1 };
     given = order;
     free = sym (ap (λ m. order ++ numbers_from m (n - m)) rows-many ∙ ap (λ m. order ++ numbers_from n m) (less n) ∙ append-nil order);
-    linked = relinked-chain (replicate n (free_row NONE)) order (within n few) (numbers-apart 0 n);
+    linked = relinked-chain (replicate n (free_row NONE)) order (within n few) (are-distinct 0 n);
     within = subst (λ m. AllByRecursion (λ (page : ℕ). page < m) order) (length-replicate n (free_row NONE) ∙ sym rows-many) (within n few);
     homes = λ page h owned other. absurd (let e : None ≡ Some h = owned in cc);
     roots = λ h r found. absurd (let e : None ≡ Some r = found in cc);

@@ -9,12 +9,14 @@ use Rattle.cyc_store.specs.Table.{free_row, row_at}
 use Rattle.cyc_store.specs.Kept.{IsOneOf, numbers_from}
 use Rattle.cyc_store.specs.declared.row.Row.{Row}
 use Rattle.cyc_store.specs.declared.row.TheConstants.{NONE}
+use Rattle.cyc_store.proofs.TieClosing.{all-from}
+use Rattle.cyc_store.proofs.PagedStart.{are-distinct}
 use Rattle.cyc_rawpages.specs.Pool.{PoolState, new_pool}
 use Rattle.cyc_pagestore.specs.declared.step.Step.TheVariants.{Made}
 use Rattle.cyc_pagestore.specs.declared.table.Spot.{Spot}
 use Rattle.cyc_pagestore.specs.Links.{Links, no_links, after}
 use Rattle.cyc_pagestore.specs.Table.{no_spot, spot_at, backing_of, reach_of, Backs, IsBacked}
-use Rattle.cyc_pagestore.proofs.Rows.{all-from, relinked-length, relinked-row, relinked-chain}
+use Rattle.cyc_pagestore.proofs.Rows.{relinked-length, relinked-row, relinked-chain}
 use Rattle.cyc_pagestore.proofs.Reaching.{reach-empty}
 use Rattle.cyc_pagestore.proofs.Backing.{rest-no_root}
 
@@ -46,10 +48,6 @@ numbers-in first (suc count) p low high = elim (cases_eq p first) [
   | inl same ↦ inl same
   | inr other ↦ inr (numbers-in (suc first) count p (omega (arith, low, other)) (omega (arith, high)))
 ]
-
-pub numbers-apart : (first count : ℕ) → IsDistinct (numbers_from first count)
-numbers-apart first zero = tt
-numbers-apart first (suc count) = (all-from (λ y. first ≢ y) (numbers_from (suc first) count) (λ y inside e. let (low, high) = numbers-out (suc first) count y inside in omega (arith, low, e)), numbers-apart (suc first) count)
 
 -- ---- all of it
 
@@ -85,7 +83,7 @@ module _ (n : ℕ) (few : n ≤ 65536) where
   none q = same-at n 0 q
 
   unfilled : (q : ℕ) → reach_of (backing_of p spots) q ≡ 0
-  unfilled q = reach-empty (backing_of p spots).serial (backing_of p spots).owner (backing_of p spots).fill q (none q)
+  unfilled q = reach-empty (backing_of p spots).serial (backing_of p spots).owner (backing_of p spots).fill q (let e = none q in omega (arith, e))
 
   backs : Backs (backing_of p spots) 1 (λ (q : ℕ). row_at l.rows q) l.free l.order
   backs = record {
@@ -98,8 +96,8 @@ module _ (n : ℕ) (few : n ≤ 65536) where
     newest = λ q below. ap (λ (s : Row). s.newest) (row-is q).1 ∙ sym (ap (λ (s : Spot). s.newest) (spot-is q));
     idle = λ q below idle. ap (λ (s : Spot). s.newest) (spot-is q);
     held = λ q below. inl (unfilled q);
-    linked = relinked-chain blank order within (numbers-apart 0 n);
-    apart = numbers-apart 0 n;
+    linked = relinked-chain blank order within (are-distinct 0 n);
+    apart = are-distinct 0 n;
     free = λ q inside. let b = (numbers-out 0 n q inside).1 in let lt : q < n = omega (arith, b) in (lt, each-at n true false q lt);
     all = λ q below free. numbers-in 0 n q (omega arith) (omega (arith, below));
     unused = λ q inside. ap (λ (s : Spot). s.role) (spot-is q);

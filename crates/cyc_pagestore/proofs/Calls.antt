@@ -1,8 +1,9 @@
 -- What the calls of a table of pages over a pool owe.
-use Rattle.std.proofs.Common.{◌≡◌, ℕ, zero, suc, ◌+◌, ◌^◌, ◌<◌, ◌≤◌, Bool, true, false, List, [], ◌∷◌, ◌++◌, length, set, replicate, refl, sym, ap, subst, ◌∙◌, arith}
-use Rattle.std.specs.Prelude.{slice_index, slice_index_or}
+use Rattle.std.proofs.Common.{◌≡◌, ℕ, zero, suc, ◌+◌, ◌*◌, ◌^◌, ◌<◌, ◌≤◌, Bool, true, false, List, [], ◌∷◌, ◌++◌, length, set, replicate, refl, sym, ap, subst, ◌∙◌, inl, inr, arith}
+use Rattle.std.specs.Prelude.{◌⊎◌, slice_index, slice_index_or}
+use Rattle.std.proofs.lemmas.Bool.{true≢false}
 use Rattle.std.proofs.lemmas.List.{get_or_default}
-use Rattle.cyc_store.specs.Table.{marked_between}
+use Rattle.cyc_store.specs.Table.{marked_between, row_at}
 use Rattle.cyc_store.specs.declared.row.Role.{Role}
 use Rattle.cyc_store.specs.declared.row.Role.TheVariants.{Rest, Slots}
 use Rattle.cyc_store.specs.declared.row.TheConstants.{NONE}
@@ -12,7 +13,7 @@ use Rattle.cyc_pagestore.specs.declared.step.Step.TheVariants.{Taken, Began, Add
 use Rattle.cyc_pagestore.specs.declared.table.Spot.{Spot}
 use Rattle.cyc_pagestore.specs.Links.{Links, after}
 use Rattle.cyc_pagestore.specs.Live.{Readies}
-use Rattle.cyc_pagestore.specs.Table.{TableState, row_of, IsFull, IsRoot, Takes, Opens, Adds, Cuts, Fills, Closes, Marks, no_spot, spot_at, IsBacked}
+use Rattle.cyc_pagestore.specs.Table.{TableState, row_of, IsFull, IsIdlePast, IsRoot, Takes, Opens, Adds, Cuts, Fills, Closes, Marks, no_spot, spot_at, IsBacked}
 use Rattle.cyc_pagestore.proofs.Backing.{within}
 use Rattle.cyc_pagestore.proofs.Pooled.{none-first, page-inside, taken-backed, taken-not_free, taken-alone, taken-rest, ready-backed, begun-backed, cut-backed, added-backed, root-apart, newest-there, root-head, filled-backed, closed-backed}
 
@@ -100,7 +101,7 @@ module _ (p : PoolState) (pages : ℕ) (spots : List Spot) (next : ℕ) (l : Lin
 
       module _ (q : PoolState) (made : q ≡ record p1 {
         owners = set p1.owners page root;
-        fills = set p1.fills page words;
+        fills = set p1.fills page (1024 * page + words);
         serials = set p1.serials page (slice_index p1.serials root);
         chains = set (set p1.chains root (chain_at p1.chains root ++ page ∷ [])) page [];
       }) (m : Links) (noted : m ≡ after l1 (Added root page words)) where
@@ -143,15 +144,47 @@ module _ (p : PoolState) (pages : ℕ) (spots : List Spot) (next : ℕ) (l : Lin
     newest-row : (row_of x root).newest ≡ s.newest
     newest-row = ap (λ (t : TableState). (row_of t root).newest) (sym view) ∙ is.backs.newest root (there-in root there) ∙ ap (λ (t : Spot). t.newest) spot-is
 
-    module _ (filled : ℕ) (q : PoolState) (made : q ≡ record p { fills = set p.fills s.newest filled }) (m : Links) (noted : m ≡ after l (Filled s.newest filled)) where
+    module _ (filled : ℕ) (q : PoolState) (made : q ≡ record p { fills = set p.fills s.newest (1024 * s.newest + filled) }) (m : Links) (noted : m ≡ after l (Filled s.newest filled)) where
       pub fill-keeps : IsBacked q pages spots next m
       fill-keeps = subst (λ (u : PoolState × Links). IsBacked u.0 pages spots next u.1) (λ j. (sym made j, sym noted j))
-          (subst (λ (t : Spot). IsBacked (record p { fills = set p.fills t.newest filled }) pages spots next (after l (Filled t.newest filled))) spot-is
+          (subst (λ (t : Spot). IsBacked (record p { fills = set p.fills t.newest (1024 * t.newest + filled) }) pages spots next (after l (Filled t.newest filled))) spot-is
           (filled-backed p pages spots next l is root (there-in root there) (root-in root there role) filled))
 
       pub fill-gives : Fills x (view_of q m) (row_of x root).newest filled
       fill-gives = subst (λ n. Fills x (view_of q m) n filled) (sym newest-row)
           (subst (λ (t : TableState). Fills t (view_of q m) s.newest filled) view (λ j. view_of (made j) (noted j)))
+
+  -- ---- a page that is free
+  free-idle : (page : ℕ) → page < p.pages → IsFree p.free page → ((row_at l.rows page).role ≡ Rest) × ((row_at l.rows page).filled ≡ 0)
+  free-idle page there free = (
+    is.backs.role page there ∙ is.backs.unused page (page-inside p pages spots next l is page there free),
+    is.backs.filled page there ∙ elim (is.backs.held page there) [
+      | inl none ↦ none
+      | inr (root, which) ↦ (let region = is.backs.root _ (is.backs.owned page there) root in
+          absurd (true≢false (sym free ∙ (region.members page (region.chained page which)).taken)))
+    ],
+  )
+
+  pub idle-past : (end : ℕ) → ((page : ℕ) → page < p.pages → IsFree p.free page ⊎ (1024 * page + 1024 ≤ end)) → IsIdlePast x end
+  idle-past end taken = subst (λ (t : TableState). IsIdlePast t end) view (λ page there. elim (taken page there) [
+    | inl free ↦ inl (free-idle page there free)
+    | inr low ↦ inr low
+  ])
+
+  -- ---- words are written
+  pub words-keep : (words : List ℕ) → length words ≡ length p.words → (q : PoolState) → q ≡ record p { words = words } → IsBacked q pages spots next l
+  words-keep words whole q made = subst (λ (t : PoolState). IsBacked t pages spots next l) (sym made) (record {
+    counted = is.counted;
+    whole = record { few = is.whole.few; fills = is.whole.fills; owners = is.whole.owners; serials = is.whole.serials; owned = is.whole.owned };
+    words = whole ∙ is.words;
+    bits = is.bits;
+    free = is.free;
+    chains = is.chains;
+    placed = is.placed;
+    rows = is.rows;
+    last = is.last;
+    backs = is.backs;
+  })
 
   -- ---- words are marked
   module _ (bits : List Bool) (whole : length bits ≡ length p.bits) (q : PoolState) (made : q ≡ record p { bits = bits }) where

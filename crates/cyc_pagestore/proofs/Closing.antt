@@ -12,7 +12,8 @@ use Rattle.cyc_store.specs.declared.row.TheConstants.{NONE}
 use Rattle.cyc_pagestore.specs.Links.{moved, chain_from}
 use Rattle.cyc_pagestore.specs.Table.{IsRoot, Backing, reach_of, IsMember, IsRegion, Backs}
 use Rattle.cyc_store.proofs.TieLemmas.{chain-same}
-use Rattle.cyc_pagestore.proofs.Rows.{one-all, all-from, not-away, one-cases, moved-out, moved-in, moved-apart}
+use Rattle.cyc_store.proofs.TieClosing.{one-all, all-from}
+use Rattle.cyc_pagestore.proofs.Rows.{not-away, one-cases, moved-out, moved-in, moved-apart}
 use Rattle.cyc_pagestore.proofs.Reaching.{reach-stale, reach-empty, reach-same}
 use Rattle.cyc_pagestore.proofs.Backing.{with_at, at-same, at-other, rest-no_root, root-in, region-stays, as-row, root-member}
 

@@ -1,34 +1,45 @@
 -- What is found in a store on a table of pages over a pool: the region that a handle names, the block that begins at an
 -- address, and the word there.
-use Rattle.std.proofs.Common.{◌≡◌, ◌≢◌, ℕ, ◌+◌, ◌*◌, ◌/◌, ◌%◌, ◌^◌, ◌<◌, ◌≤◌, Bool, true, false, List, length, length-set, set, None, Some, sym, ap, subst, ◌∙◌}
-use Rattle.std.specs.Prelude.{◌⊎◌, is_some, slice_index, slice_index_or}
+use Rattle.std.proofs.Common.{◌≡◌, ◌≢◌, ℕ, ◌+◌, ◌*◌, ◌/◌, ◌%◌, ◌^◌, ◌-◌, ◌<◌, ◌≤◌, Bool, true, false, List, length, length-set, set, None, Some, sym, ap, subst, ◌∙◌, inl, inr, lit<, arith}
+use Rattle.std.specs.Prelude.{◌⊎◌, Option, is_some, slice_index, slice_index_or}
+use Rattle.std.proofs.Math.Nat.{mod-lt}
+use Rattle.std.proofs.lemmas.Bool.{cases_eq, cases_lt}
 use Rattle.std.proofs.lemmas.List.{get_or_default}
 use Rattle.cyc_words.specs.Demand.{greatest_class}
 use Rattle.cyc_words.proofs.Booleans.{some_there}
 use Rattle.cyc_store.specs.Ledger.{Blocks, Stored, store_of}
 use Rattle.cyc_store.specs.Lookup.{lookup}
-use Rattle.cyc_store.specs.State.{StoreState, Home, address_of, handle_of, saved, word_at}
+use Rattle.cyc_store.specs.State.{StoreState, Sort, Heap, Lexical, Dynamic, Uniques, Home, homes, holder, address_of, handle_of, saved, word_at}
 use Rattle.cyc_store.specs.Services.{names_dynamic}
 use Rattle.cyc_store.specs.Ordered.{IsOrdered}
-use Rattle.cyc_store.specs.Kept.{handle_of_page}
+use Rattle.cyc_store.specs.Kept.{handle_of_page, role_of, sort_of}
+use Rattle.cyc_store.specs.Table.{row_at}
 use Rattle.cyc_store.specs.declared.row.Role.TheVariants as role
-use Rattle.cyc_store.specs.declared.range.TheConstants.{STORE_BASE, PAGE_WORDS}
+use Rattle.cyc_store.specs.declared.range.TheConstants.{STORE_BASE, PAGE_WORDS, UNIQUE}
 use Rattle.cyc_store.specs.declared.row.PageTable.{PageTable}
 use Rattle.cyc_store.specs.declared.row.Row.{Row}
 use Rattle.cyc_store.specs.declared.row.ClassSlots.{ClassSlots}
 use Rattle.cyc_store.proofs.KeptClosing.{even-none, past-none, other-none, others-none, root-named, odd-handle}
 use Rattle.cyc_store.proofs.KeptBlocks.{block-unplaced, block-past, block-other, block-class, block-inner, block-dead, block-live}
-use Rattle.cyc_store.proofs.KeptLoads.{load-none, load-inside, load-word}
+use Rattle.cyc_store.proofs.KeptLoads.{load-dead, load-none, load-inside, load-word}
 use Rattle.cyc_store.proofs.KeptSaving.{save-kept, save-saved}
-use Rattle.cyc_pagestore.specs.Table.{TableState, row_of, IsRoot}
+use Rattle.cyc_pagestore.specs.Table.{TableState, row_of, IsIdlePast, IsRoot}
 use Rattle.cyc_pagestore.specs.Stored.{Reads, IsStored}
 use Rattle.cyc_pagestore.proofs.Taking.{same-size}
-use Rattle.cyc_pagestore.proofs.Storing.{rows-all, row-read, stored-held}
+use Rattle.cyc_pagestore.proofs.Storing.{rows-all, row-read, stored-held, live-marked}
 use Rattle.cyc_pagestore.proofs.Cutting.{words-all}
 
 -- the region of a handle that names one
 pub region-of : (v w : Stored) (h : ℕ) → v ≡ w → is_some (lookup handle_of w.blocks.regions h) ≡ true → (r : Home) × (lookup handle_of v.blocks.regions h ≡ Some r)
 region-of v w h same some = some_there (lookup handle_of v.blocks.regions h) (subst (λ (u : Stored). is_some (lookup handle_of u.blocks.regions h) ≡ true) (sym same) some)
+
+-- what a page is used for that has slots
+rest-apart : (sort : Option Sort) (class : ℕ) → role_of sort (Some UNIQUE) class ≡ role.Rest → ⊥
+rest-apart None class e = cc
+rest-apart (Some Heap) class e = cc
+rest-apart (Some Lexical) class e = cc
+rest-apart (Some Dynamic) class e = cc
+rest-apart (Some Uniques) class e = cc
 
 module _ (x : TableState) (lexicals : List ℕ) (classes : List ClassSlots) (b : Blocks) (s : IsStored x lexicals classes b) where
   abbrev t : PageTable
@@ -112,6 +123,44 @@ module _ (x : TableState) (lexicals : List ℕ) (classes : List ClassSlots) (b :
   pub words-past : (address : ℕ) → (address < STORE_BASE) ⊎ (address % 4 ≢ 0) ⊎ (STORE_BASE + 4 * (1024 * x.most) ≤ address) → word_at (store_of x.most x.words b) address ≡ None
   words-past address which = subst (λ (d : StoreState). word_at d address ≡ None) (stored-held x lexicals classes b s)
       (load-none t lexicals classes b s.kept address (1024 * x.most) (sym (ap length s.reads.words ∙ words-all x lexicals classes b s)) which)
+
+  -- a page that is used for nothing has no word of a live block
+  idle-dead : (word : ℕ) → word < length x.words → (row_of x (word / 1024)).role ≡ role.Rest → (row_of x (word / 1024)).filled ≡ 0
+      → false ≡ is_some (holder (homes (store_of x.most x.words b)) (STORE_BASE + 4 * word))
+  idle-dead word inside rest none = live-marked x lexicals classes b s word inside false (omega (arith, none)) (sym unmarked)
+    where
+      sort : Option Sort
+      sort = sort_of (lookup handle_of b.regions (handle_of_page (word / 1024)))
+
+      no-block : s.kept.layout.pages.owner (word / 1024) ≡ Some UNIQUE → ⊥
+      no-block owner = rest-apart sort (s.kept.layout.class (word / 1024)) (ap (λ o. role_of sort o (s.kept.layout.class (word / 1024))) (sym owner)
+          ∙ sym (s.kept.tied.rows (word / 1024)).plays ∙ ap (λ (rs : List Row). (row_at rs (word / 1024)).role) s.reads.rows ∙ rest)
+
+      unmarked : slice_index_or x.live word false ≡ false
+      unmarked = subst (λ (ms : List Bool). slice_index_or ms word false ≡ false) s.reads.live
+          (subst (λ n. slice_index_or t.live.items n false ≡ false) {x = 1024 * (word / 1024) + word % 1024} {y = word} (omega arith)
+          (s.kept.tied.unmarked (word / 1024) (word % 1024) no-block (mod-lt word (lit< tt))))
+
+  -- no address from that of a word on, behind which no page is in use, is one of a live block's word
+  pub words-unmade : (made address : ℕ) → IsIdlePast x made → (address < STORE_BASE) ⊎ (address % 4 ≢ 0) ⊎ (STORE_BASE + 4 * made ≤ address)
+      → word_at (store_of x.most x.words b) address ≡ None
+  words-unmade made address idle which = elim which [
+    | inl low ↦ words-past address (inl low)
+    | inr (inl between) ↦ words-past address (inr (inl between))
+    | inr (inr past) ↦ elim (cases_eq (address % 4) 0) [
+      | inr between ↦ words-past address (inr (inl between))
+      | inl whole ↦ elim (cases_lt address (STORE_BASE + 4 * (1024 * x.most))) [
+        | inr beyond ↦ words-past address (inr (inr beyond))
+        | inl below ↦ behind ((address - STORE_BASE) / 4) (omega (arith, whole, past)) (omega (arith, whole, past, below)) (omega (arith, whole, past))
+      ]
+    ]
+  ]
+    where
+      behind : (word : ℕ) → address ≡ 536870912 + 4 * word → word < 1024 * x.most → made ≤ word → word_at (store_of x.most x.words b) address ≡ None
+      behind word at there past = elim (idle (word / 1024) (omega (arith, there))) [
+        | inl (rest, none) ↦ load-dead (store_of x.most x.words b) address word at (idle-dead word (subst (λ n. word < n) (sym (words-all x lexicals classes b s)) there) rest none)
+        | inr low ↦ absurd (omega (arith, low, past))
+      ]
 
   pub pages-few : x.most ≤ 65536
   pages-few = subst (λ n. n ≤ 65536) s.reads.most s.kept.tied.most

@@ -1,5 +1,5 @@
 -- A pool and its spots keep a table through each of the table's calls, as lists.
-use Rattle.std.proofs.Common.{◌≡◌, ℕ, ◌+◌, ◌-◌, ◌^◌, ◌<◌, Bool, true, false, List, [], ◌∷◌, ◌++◌, length, set, length-set, refl, sym, ap, subst, ◌∙◌, inl, inr, arith, get_or-set_same, get_or-set_other}
+use Rattle.std.proofs.Common.{◌≡◌, ℕ, ◌+◌, ◌*◌, ◌-◌, ◌^◌, ◌<◌, Bool, true, false, List, [], ◌∷◌, ◌++◌, length, set, length-set, refl, sym, ap, subst, ◌∙◌, inl, inr, arith, get_or-set_same, get_or-set_other}
 use Rattle.std.specs.Prelude.{◌⊎◌, slice_index, slice_index_or}
 use Rattle.std.proofs.lemmas.Bool.{cases_eq}
 use mathlib.Core.Path.{fun_ext}
@@ -15,7 +15,7 @@ use Rattle.cyc_rawpages.specs.Pool.{PoolState, IsFree, IsHead}
 use Rattle.cyc_pagestore.specs.declared.step.Step.TheVariants.{Taken, Began, Added, Filled, Cut, Closed}
 use Rattle.cyc_pagestore.specs.declared.table.Spot.{Spot}
 use Rattle.cyc_pagestore.specs.Links.{Links, removed, first_of, next_of, longer_of, slots_of, added_rows, after}
-use Rattle.cyc_pagestore.specs.Live.{reach, AreNewer, AreOne, Readies}
+use Rattle.cyc_pagestore.specs.Live.{filled_by, reach, AreNewer, AreOne, Readies}
 use Rattle.cyc_pagestore.specs.Table.{IsRoot, no_spot, spot_at, Backing, backing_of, Backs, IsBacked}
 use Rattle.cyc_pagestore.proofs.Rows.{relinked-length}
 use Rattle.cyc_pagestore.proofs.Backing.{with_at, at-same, at-other, root-away, taken-backs, readied-backs, cut-backs, begun-backs, added-backs, filled-backs, newest-member}
@@ -30,6 +30,14 @@ spots-set : {A : Type 0} (of : Spot → A) (spots : List Spot) (page : ℕ) (x :
 spots-set of spots page x there = fun_ext (λ q. elim (cases_eq q page) [
   | inl same ↦ ap (λ n. of (spot_at (set spots page x) n)) same ∙ ap of (get_or-set_same spots page x no_spot there) ∙ sym (at-same (λ n. of (spot_at spots n)) page (of x) q same)
   | inr other ↦ ap of (get_or-set_other spots page q x no_spot other) ∙ sym (at-other (λ n. of (spot_at spots n)) page (of x) q other)
+])
+
+-- what pages have filled, after the fill mark of one was written
+fill-set : (fills : List ℕ) (page mark filled : ℕ) → page < length fills → mark - 1024 * page ≡ filled
+    → ◌≡◌ {A = ℕ → ℕ} (λ q. filled_by (set fills page mark) q) (with_at (λ (q : ℕ). filled_by fills q) page filled)
+fill-set fills page mark filled there is = fun_ext (λ q. elim (cases_eq q page) [
+  | inl same ↦ ap (λ n. filled_by (set fills page mark) n) same ∙ ap (λ n. n - 1024 * page) (get_or-set_same fills page mark 0 there) ∙ is ∙ sym (at-same (λ (n : ℕ). filled_by fills n) page filled q same)
+  | inr other ↦ ap (λ n. n - 1024 * q) (get_or-set_other fills page q mark 0 other) ∙ sym (at-other (λ (n : ℕ). filled_by fills n) page filled q other)
 ])
 
 -- to write what is there changes nothing
@@ -154,7 +162,7 @@ module _ (p : PoolState) (pages : ℕ) (spots : List Spot) (next : ℕ) (l : Lin
       placed = is.placed;
       rows = is.rows;
       last = small;
-      backs = readied-backs b next (λ (page : ℕ). row_at l.rows page) l.free l.order is.backs (λ (page : ℕ). slice_index q.serials page) (λ (page : ℕ). slice_index q.fills page) s
+      backs = readied-backs b next (λ (page : ℕ). row_at l.rows page) l.free l.order is.backs (λ (page : ℕ). slice_index q.serials page) (λ (page : ℕ). filled_by q.fills page) s
           (λ page below. ap (λ (os : List ℕ). reach (record q { owners = os }) page) (sym same-owners) ∙ ready.reach page below)
           (λ page below. ready.newer page (subst (λ n. page < n) (sym same-count) below))
           (λ page other below also e. sym (ap (λ (os : List ℕ). slice_index os page) same-owners)
@@ -181,7 +189,7 @@ module _ (p : PoolState) (pages : ℕ) (spots : List Spot) (next : ℕ) (l : Lin
       }
       begun-backing = λ j. record b {
         owner = read-set p.owners page page 0 (subst (λ n. page < n) (sym is.whole.owners) there) j;
-        fill = read-set p.fills page 0 0 (subst (λ n. page < n) (sym is.whole.fills) there) j;
+        fill = fill-set p.fills page 0 0 (subst (λ n. page < n) (sym is.whole.fills) there) (omega arith) j;
         serial = read-set p.serials page next 0 (subst (λ n. page < n) (sym is.whole.serials) there) j;
         role = spots-set (λ (s : Spot). s.role) spots page (record { role = role; newest = page }) (in_spots page there) j;
         newest = spots-set (λ (s : Spot). s.newest) spots page (record { role = role; newest = page }) (in_spots page there) j;
@@ -221,7 +229,7 @@ module _ (p : PoolState) (pages : ℕ) (spots : List Spot) (next : ℕ) (l : Lin
 
       cut-backing : backing_of p-cut cut_spots ≡ record b { fill = with_at b.fill page 0; role = with_at b.role page (Slots class); newest = with_at b.newest page NONE }
       cut-backing = λ j. record b {
-        fill = read-set p.fills page 0 0 (subst (λ n. page < n) (sym is.whole.fills) there) j;
+        fill = fill-set p.fills page 0 0 (subst (λ n. page < n) (sym is.whole.fills) there) (omega arith) j;
         role = spots-set (λ (s : Spot). s.role) spots page (record { role = Slots class; newest = NONE }) (in_spots page there) j;
         newest = spots-set (λ (s : Spot). s.newest) spots page (record { role = Slots class; newest = NONE }) (in_spots page there) j;
       }
@@ -251,7 +259,7 @@ module _ (p : PoolState) (pages : ℕ) (spots : List Spot) (next : ℕ) (l : Lin
       abbrev p-added : PoolState
       p-added = record p {
         owners = set p.owners page root;
-        fills = set p.fills page words;
+        fills = set p.fills page (1024 * page + words);
         serials = set p.serials page (slice_index p.serials root);
         chains = set (set p.chains root (chain_at p.chains root ++ page ∷ [])) page [];
       }
@@ -268,7 +276,7 @@ module _ (p : PoolState) (pages : ℕ) (spots : List Spot) (next : ℕ) (l : Lin
       }
       added-backing = λ j. record b {
         owner = read-set p.owners page root 0 (subst (λ n. page < n) (sym is.whole.owners) there) j;
-        fill = read-set p.fills page words 0 (subst (λ n. page < n) (sym is.whole.fills) there) j;
+        fill = fill-set p.fills page (1024 * page + words) words (subst (λ n. page < n) (sym is.whole.fills) there) (omega arith) j;
         serial = read-set p.serials page (slice_index p.serials root) 0 (subst (λ n. page < n) (sym is.whole.serials) there) j;
         chain = (read-set (set p.chains root (chain_at p.chains root ++ page ∷ [])) page [] [] (subst (λ n. page < n) (sym (length-set p.chains root (chain_at p.chains root ++ page ∷ []) ∙ is.chains)) there)
             ∙ ap (λ f. with_at f page []) (read-set p.chains root (chain_at p.chains root ++ page ∷ []) [] (subst (λ n. root < n) (sym is.chains) below))) j;
@@ -288,7 +296,7 @@ module _ (p : PoolState) (pages : ℕ) (spots : List Spot) (next : ℕ) (l : Lin
         counted = is.counted;
         whole = record {
           few = is.whole.few;
-          fills = length-set p.fills page words ∙ is.whole.fills;
+          fills = length-set p.fills page (1024 * page + words) ∙ is.whole.fills;
           owners = length-set p.owners page root ∙ is.whole.owners;
           serials = length-set p.serials page (slice_index p.serials root) ∙ is.whole.serials;
           owned = λ q small. added.owned q small;
@@ -324,15 +332,15 @@ module _ (p : PoolState) (pages : ℕ) (spots : List Spot) (next : ℕ) (l : Lin
     -- it is filled so far
     module _ (v : ℕ) where
       abbrev p-filled : PoolState
-      p-filled = record p { fills = set p.fills newest v }
+      p-filled = record p { fills = set p.fills newest (1024 * newest + v) }
 
       filled-backing : backing_of p-filled spots ≡ record b { fill = with_at b.fill newest v }
-      filled-backing = λ j. record b { fill = read-set p.fills newest v 0 (subst (λ n. newest < n) (sym is.whole.fills) newest-there) j }
+      filled-backing = λ j. record b { fill = fill-set p.fills newest (1024 * newest + v) v (subst (λ n. newest < n) (sym is.whole.fills) newest-there) (omega arith) j }
 
       pub filled-backed : IsBacked p-filled pages spots next (after l (Filled newest v))
       filled-backed = record {
         counted = is.counted;
-        whole = record { few = is.whole.few; fills = length-set p.fills newest v ∙ is.whole.fills; owners = is.whole.owners; serials = is.whole.serials; owned = is.whole.owned };
+        whole = record { few = is.whole.few; fills = length-set p.fills newest (1024 * newest + v) ∙ is.whole.fills; owners = is.whole.owners; serials = is.whole.serials; owned = is.whole.owned };
         words = is.words;
         bits = is.bits;
         free = is.free;
@@ -367,7 +375,7 @@ module _ (p : PoolState) (pages : ℕ) (spots : List Spot) (next : ℕ) (l : Lin
         newest = with_at b.newest root NONE;
       }
       closed-backing = λ j. record b {
-        fill = read-set p.fills root 0 0 (subst (λ n. root < n) (sym is.whole.fills) there) j;
+        fill = fill-set p.fills root 0 0 (subst (λ n. root < n) (sym is.whole.fills) there) (omega arith) j;
         serial = read-set p.serials root next 0 (subst (λ n. root < n) (sym is.whole.serials) there) j;
         free = λ (q : ℕ). slice_index_or (freed p.free (chain_at p.chains root)) q false;
         chain = read-set p.chains root [] [] (subst (λ n. root < n) (sym is.chains) there) j;

@@ -23,12 +23,6 @@ reach-same serial owner fill serial' owner' fill' page o s t f = λ j. if s j ==
 
 -- ---- whether a word is within a page's live words
 
-pub lt-from : (m n : ℕ) → nat_lt m n ≡ true → m < n
-lt-from m n e = elim (cases_lt m n) [
-  | inl lt ↦ lt
-  | inr le ↦ absurd (false≢true (sym (le-ltb m n le) ∙ e))
-]
-
 pub le-from : (m n : ℕ) → nat_lt m n ≡ false → n ≤ m
 le-from m n e = elim (cases_lt m n) [
   | inl lt ↦ absurd (true≢false (sym (lt-ltb m n lt) ∙ e))

@@ -11,18 +11,10 @@ use Rattle.cyc_store.specs.declared.row.Row.{Row}
 use Rattle.cyc_store.specs.declared.row.TheConstants.{NONE}
 use Rattle.cyc_store.proofs.LookupLemmas.{when_other}
 use Rattle.cyc_store.proofs.TieLemmas.{chain-same}
+use Rattle.cyc_store.proofs.TieClosing.{one-all, all-from}
 use Rattle.cyc_pagestore.specs.Links.{head_or_none, relinked, removed, moved}
 
 -- ---- elements
-
-pub one-all : (P : ℕ → Type 0) (xs : List ℕ) (p : ℕ) → AllByRecursion P xs → IsOneOf xs p → P p
-one-all P [] p all inside = absurd inside
-one-all P (x ∷ xs) p all (inl same) = subst P (sym same) all.0
-one-all P (x ∷ xs) p all (inr inside) = one-all P xs p all.1 inside
-
-pub all-from : (P : ℕ → Type 0) (xs : List ℕ) → ((p : ℕ) → IsOneOf xs p → P p) → AllByRecursion P xs
-all-from P [] each = tt
-all-from P (x ∷ xs) each = (each x (inl refl), all-from P xs (λ p inside. each p (inr inside)))
 
 pub away-from : (xs : List ℕ) (p : ℕ) → (IsOneOf xs p → ⊥) → AllByRecursion (λ x. p ≢ x) xs
 away-from xs p never = all-from (λ x. p ≢ x) xs (λ x inside e. never (subst (IsOneOf xs) (sym e) inside))

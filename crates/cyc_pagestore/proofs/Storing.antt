@@ -20,10 +20,11 @@ use Rattle.cyc_store.proofs.KeptServices.{Rewrites, lexical-few, regions-few, ke
 use Rattle.cyc_store.proofs.KeptClosing.{close-kept}
 use Rattle.cyc_store.proofs.KeptMaking.{rooted, first-counted, root-there, root-small}
 use Rattle.cyc_store.proofs.KeptWords.{kept-below, kept-marks}
+use Rattle.cyc_store.proofs.TieClosing.{one-all}
 use Rattle.cyc_pagestore.specs.Table.{TableState, row_of, IsFull, IsRoot, Takes, Opens, Closes}
 use Rattle.cyc_pagestore.specs.Stored.{Reads, IsStored}
 use Rattle.cyc_pagestore.specs.Links.{removed, first_of}
-use Rattle.cyc_pagestore.proofs.Rows.{one-all, relinked-length}
+use Rattle.cyc_pagestore.proofs.Rows.{relinked-length}
 use Rattle.cyc_pagestore.proofs.Taking.{stored-few, words-count, same-size, v, u, v-kept, draws, room}
 
 given-length : (rows : List Row) (page count free : ℕ) → length (given_rows rows page count free) ≡ length rows

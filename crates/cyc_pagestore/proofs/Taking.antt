@@ -21,10 +21,11 @@ use Rattle.cyc_store.specs.declared.row.ClassSlots.{ClassSlots}
 use Rattle.cyc_store.specs.declared.range.TheConstants.{PAGE_WORDS}
 use Rattle.cyc_store.proofs.TieLemmas.{chain-same}
 use Rattle.cyc_store.proofs.LookupLemmas.{when_other, not_both}
+use Rattle.cyc_store.proofs.TieClosing.{one-all, all-from}
 use Rattle.cyc_pagestore.specs.Links.{head_or_none, relinked, removed}
 use Rattle.cyc_pagestore.specs.Table.{TableState, Takes}
 use Rattle.cyc_pagestore.specs.Stored.{Reads, IsStored}
-use Rattle.cyc_pagestore.proofs.Rows.{one-all, all-from, removed-out, fronted-apart, relinked-length, relinked-other, relinked-row, relinked-chain}
+use Rattle.cyc_pagestore.proofs.Rows.{removed-out, fronted-apart, relinked-length, relinked-other, relinked-row, relinked-chain}
 
 -- ---- a table in memory that reads so
 

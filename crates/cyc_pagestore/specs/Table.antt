@@ -1,5 +1,5 @@
 -- What a table of pages over a pool says, what its calls do, and how the pool says it.
-use Rattle.std.specs.Prelude.{◌≡◌, ℕ, ◌*◌, ◌^◌, ◌<◌, ◌≤◌, ◌⊎◌, Bool, true, false, List, [], ◌∷◌, length, replicate, set, slice_index, slice_index_or}
+use Rattle.std.specs.Prelude.{◌≡◌, ℕ, ◌+◌, ◌*◌, ◌^◌, ◌<◌, ◌≤◌, ◌⊎◌, Bool, true, false, List, [], ◌∷◌, length, replicate, set, slice_index, slice_index_or}
 use Rattle.std.specs.List.{AllByRecursion}
 use Rattle.cyc_words.specs.Simulation.{IsDistinct}
 use Rattle.cyc_store.specs.Table.{free_row, row_at, given_rows, given_free, marked_between}
@@ -12,7 +12,7 @@ use Rattle.cyc_rawpages.specs.Lists.{chain_at}
 use Rattle.cyc_rawpages.specs.Pool.{PoolState, IsFree}
 use Rattle.cyc_pagestore.specs.declared.table.Spot.{Spot}
 use Rattle.cyc_pagestore.specs.Links.{Links, head_or_none, relinked, removed, first_of, added_rows, slots_of}
-use Rattle.cyc_pagestore.specs.Live.{reach_by, IsWhole}
+use Rattle.cyc_pagestore.specs.Live.{filled_by, reach_by, IsWhole}
 
 -- what is read of a table: a row for each page, the first free page, and the words and marks of all pages
 pub record TableState : Type 0 where
@@ -45,6 +45,10 @@ pub record AreAlone (p : PoolState) : Type 0 where
 pub record IsFull (t : TableState) : Type 0 where
   pub past : length t.rows ≤ t.free
   pub all : t.most ≤ length t.rows
+
+-- each page with a word from this one on is used for nothing
+abbrev pub IsIdlePast : TableState → (end : ℕ) → Type 0
+IsIdlePast t end = (page : ℕ) → page < t.most → (((row_of t page).role ≡ Rest) × ((row_of t page).filled ≡ 0)) ⊎ (1024 * page + 1024 ≤ end)
 
 -- the role of a region's first page
 abbrev pub IsRoot : Role → Type 0
@@ -115,7 +119,7 @@ backing_of p spots = record {
   pages = p.pages;
   serial = λ (page : ℕ). slice_index p.serials page;
   owner = λ (page : ℕ). slice_index p.owners page;
-  fill = λ (page : ℕ). slice_index p.fills page;
+  fill = λ (page : ℕ). filled_by p.fills page;
   free = λ (page : ℕ). slice_index_or p.free page false;
   chain = λ (page : ℕ). chain_at p.chains page;
   role = λ (page : ℕ). (spot_at spots page).role;

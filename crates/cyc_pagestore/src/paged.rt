@@ -42,17 +42,17 @@ impl Model for PageStore {
     ghost invariant = { λ s. IsPagedStore s.table s.lexicals s.classes s.ledger.blocks };
 }
 
-/// The number of the word at an address, where it is one of the words of so many pages. One test is for all else that an address may
+/// The number of the word at an address, where it is one of so many of the store's first. One test is for all else that an address may
 /// be: what it is past a multiple of 4 stands above every number of a word, and so does one below the store's first.
 #[inline(always)]
-fn number_below(pages: u32, address: u32) -> Option<u32>
-    requires { pages ≤ MOST_PAGES }
-    ensures { MatchOption result ((address < STORE_BASE) ⊎ (address % 4 ≢ 0) ⊎ (STORE_BASE + 4 * (1024 * pages) ≤ address))
-        (λ word. (word < 1024 * pages) × (address ≡ STORE_BASE + 4 * word)) }
+fn number_below(count: usize, address: u32) -> Option<u32>
+    requires { count ≤ 0x400_0000 }
+    ensures { MatchOption result ((address < STORE_BASE) ⊎ (address % 4 ≢ 0) ⊎ (STORE_BASE + 4 * count ≤ address))
+        (λ word. (word < count) × (address ≡ STORE_BASE + 4 * word)) }
 {
     let distance = address.wrapping_sub(STORE_BASE);
     let word = distance / 4 + distance % 4 * 0x4000_0000;
-    if word / 1024 < pages {
+    if (word as usize) < count {
         Some(word)
     } else {
         None
@@ -136,13 +136,13 @@ impl PageStore {
         self.table.is_marked(word)
     }
 
-    /// The number of the word with this address, where it is one of a live block.
+    /// The number of the word with this address, where it is one of a live block. One that is not written is none.
     #[inline(always)]
     fn word_of(&self, address: u32) -> Option<u32>
         ensures { MatchOption result (word_at (held_of self.now) address ≡ None)
             (λ word. (word < length self.now.words) × (address ≡ STORE_BASE + 4 * word) × (is_some (word_at (held_of self.now) address) ≡ true)) }
     {
-        let Some(word) = number_below(self.table.most(), address) else {
+        let Some(word) = number_below(self.table.made(), address) else {
             return None;
         };
         if self.is_live(word) { Some(word) } else { None }

@@ -1,51 +1,50 @@
 //! The serials of pages: each opening and each closing of a region draws a new one for the region's first page.
 
-ghost use Rattle.std.specs.Prelude.{◌≡◌, ◌≤◌, ◌<◌, ℕ, nat_lt};
+ghost use Rattle.std.specs.Prelude.{◌≡◌, ◌≤◌, ◌<◌, ◌*◌, ◌/◌, ◌%◌, ℕ, nat_lt};
 ghost use Rattle.cyc_rawpages.specs.Pool.{PoolState};
 ghost use Rattle.cyc_pagestore.specs.Live.{IsWhole, AreNewer, AreOne, Readies, reach, Renumbers};
 
 use cyc_rawpages::{PageNo, Pool};
 
-/// How many words of a page are live by its fill mark: all up to it, if the page has the serial of its owner, else none.
+/// How many words of a page are live by its fill mark: all before it, if the page has the serial of its owner, else none.
 #[inline]
 pub(crate) fn reach(pool: &Pool, page: u32) -> u32
     requires whole { IsWhole pool.now }
     requires there { page < pool.now.pages }
     ensures { result ≡ reach pool.now page }
 {
+    let first = 1024 * page;
     let page = PageNo { number: page };
     let fill = pool.fill(page);
-    if fill == 0 {
+    if fill <= first {
         return 0;
     }
     let owner = PageNo {
         number: pool.owner(page),
     };
     if pool.serial(page) == pool.serial(owner) {
-        fill
+        fill - first
     } else {
         0
     }
 }
 
-/// Whether a page has more of its words live by its fill mark than these.
+/// Whether a word is live by the fill mark of its page.
 #[inline]
-pub(crate) fn is_within(pool: &Pool, page: u32, offset: u32) -> bool
+pub(crate) fn is_within(pool: &Pool, word: u32) -> bool
     requires whole { IsWhole pool.now }
-    requires there { page < pool.now.pages }
-    ensures { result ≡ nat_lt offset (reach pool.now page) }
+    requires there { word < 1024 * pool.now.pages }
+    ensures { result ≡ nat_lt (word % 1024) (reach pool.now (word / 1024)) }
 {
-    let page = PageNo { number: page };
-    if pool.fill(page) <= offset {
+    let page = PageNo {
+        number: word / 1024,
+    };
+    if pool.fill(page) <= word {
         return false;
     }
     let owner = PageNo {
         number: pool.owner(page),
     };
-    // most regions have one page, which is its own owner: no second header is looked at
-    if owner.number == page.number {
-        return true;
-    }
     pool.serial(page) == pool.serial(owner)
 }
 
@@ -57,8 +56,9 @@ fn renumber(pool: &mut Pool, pages: u32)
     ensures { Renumbers pool.old pool.new }
 {
     for number in 0..pages {
-        let fill = reach(pool, number);
-        pool.set_fill(PageNo { number }, fill);
+        if reach(pool, number) == 0 {
+            pool.set_fill(PageNo { number }, 0);
+        }
     }
     for number in 0..pages {
         let owner = pool.owner(PageNo { number });

@@ -2,7 +2,7 @@
 
 ghost use Rattle.std.specs.Prelude.{◌≡◌, [], ◌∷◌, ◌+◌, ◌*◌, ◌/◌, ◌%◌, ◌^◌, ◌<◌, ◌≤◌, IfOk, MatchOption, false, length, nat_lt, set, slice_index, slice_index_or};
 ghost use Rattle.cyc_rawpages.specs.Pool.{IsFree};
-ghost use Rattle.cyc_pagestore.specs.Table.{AreAlone, blank_table, IsFull, IsRoot, Opens, Adds, Cuts, Fills, Closes, Marks, row_of};
+ghost use Rattle.cyc_pagestore.specs.Table.{AreAlone, blank_table, IsFull, IsIdlePast, IsRoot, Opens, Adds, Cuts, Fills, Closes, Marks, row_of};
 
 use super::links::Roster;
 use super::serial::{is_within, next_serial, reach};
@@ -90,6 +90,15 @@ impl PoolTable {
         })
     }
 
+    /// How many words, from the first on, are written: no page with another one is in use.
+    #[inline]
+    pub(crate) fn made(&self) -> usize
+        ensures within { result ≤ 1024 * self.now.most }
+        ensures idle { IsIdlePast self.now result }
+    {
+        self.pool.made()
+    }
+
     /// A word, by its number among the words of all pages.
     #[inline]
     pub(crate) fn word(&self, word: u32) -> u32
@@ -169,7 +178,7 @@ impl PoolTable {
         requires { word < 1024 * self.now.most }
         ensures { result ≡ nat_lt (word % 1024) (row_of self.now (word / 1024)).filled }
     {
-        is_within(&self.pool, word / 1024, word % 1024)
+        is_within(&self.pool, word)
     }
 
     /// What a page is used for.
@@ -231,7 +240,7 @@ impl PoolTable {
         let head = PageNo { number: root };
         let serial = self.pool.serial(head);
         self.pool.set_owner(page, root);
-        self.pool.set_fill(page, words);
+        self.pool.set_fill(page, 1024 * page.number + words);
         self.pool.set_serial(page, serial);
         self.pool.chain_push(head, page);
         let role = self.spots[root as usize].role;
@@ -265,10 +274,12 @@ impl PoolTable {
     pub(crate) fn fill(&mut self, root: u32, filled: u32)
         requires there { root < self.old.most }
         requires root { IsRoot (row_of self.old root).role }
+        requires few { filled ≤ 1024 }
         ensures { Fills self.old self.new (row_of self.old root).newest filled }
     {
         let page = self.spots[root as usize].newest;
-        self.pool.set_fill(PageNo { number: page }, filled);
+        self.pool
+            .set_fill(PageNo { number: page }, 1024 * page + filled);
         self.roster = Roster::with(&self.roster, &Step::Filled(page, filled));
     }
 

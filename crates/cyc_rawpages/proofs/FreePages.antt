@@ -1,8 +1,8 @@
 -- The free pages as a set, by the list in which they are linked.
-use Rattle.std.proofs.Common.{◌≡◌, ℕ, ◌<◌, List, [], ◌∷◌, ◌++◌, replicate, set, refl, sym, ap, ◌∙◌}
+use Rattle.std.proofs.Common.{◌≡◌, ℕ, ◌<◌, List, [], ◌∷◌, ◌++◌, replicate, set, refl, sym, ap, ◌∙◌, inl, inr}
 use Rattle.std.specs.Prelude.{◌==◌, true, false}
 use Rattle.std.specs.List.{AllByRecursion}
-use Rattle.std.proofs.lemmas.Bool.{cond-true, cond-false, eq-eqb, ne_eqb}
+use Rattle.std.proofs.lemmas.Bool.{cases_eq, cond-true, cond-false, eq-eqb, ne_eqb}
 use Rattle.cyc_rawpages.specs.Lists.{is_among, freed}
 use Rattle.cyc_rawpages.specs.Pool.{tabulate, IsFree}
 use Rattle.cyc_rawpages.proofs.Columns.{tab-read, tab-set, tab-all}
@@ -10,12 +10,19 @@ use Rattle.cyc_rawpages.proofs.Columns.{tab-read, tab-set, tab-all}
 pub first-among : (x : ℕ) (xs : List ℕ) → is_among (x ∷ xs) x ≡ true
 first-among x xs = cond-true (x == x) true (is_among xs x) (eq-eqb x x refl)
 
-other-among : (x : ℕ) (xs : List ℕ) (page : ℕ) → (page ≡ x → ⊥) → is_among (x ∷ xs) page ≡ is_among xs page
+pub other-among : (x : ℕ) (xs : List ℕ) (page : ℕ) → (page ≡ x → ⊥) → is_among (x ∷ xs) page ≡ is_among xs page
 other-among x xs page other = cond-false (page == x) true (is_among xs page) (ne_eqb page x other)
 
 none-among : (xs : List ℕ) (page : ℕ) → AllByRecursion (λ x. page ≡ x → ⊥) xs → is_among xs page ≡ false
 none-among [] page apart = refl
 none-among (x ∷ xs) page apart = other-among x xs page apart.0 ∙ none-among xs page apart.1
+
+pub among-behind : (xs ys : List ℕ) (page : ℕ) → is_among ys page ≡ true → is_among (xs ++ ys) page ≡ true
+among-behind [] ys page among = among
+among-behind (x ∷ xs) ys page among = elim (cases_eq page x) [
+  | inl same ↦ cond-true (page == x) true (is_among (xs ++ ys) page) (eq-eqb page x same)
+  | inr other ↦ other-among x (xs ++ ys) page other ∙ among-behind xs ys page among
+]
 
 pub free-none : (pages : ℕ) → tabulate pages (is_among []) ≡ replicate pages false
 free-none pages = tab-all pages (is_among []) false (λ i below. refl)

@@ -77,6 +77,13 @@ no-chain zero head = refl
 no-chain (suc n) zero = refl
 no-chain (suc n) (suc head) = no-chain n head
 
+among-numbers : (first count page : ℕ) → first ≤ page → page < first + count → is_among (numbers_from first count) page ≡ true
+among-numbers first zero page from to = absurd (omega (arith, from, to))
+among-numbers first (suc count) page from to = elim (cases_eq page first) [
+  | inl same ↦ cond-true (page == first) true (is_among (numbers_from (suc first) count) page) (eq-eqb page first same)
+  | inr other ↦ cond-false (page == first) true (is_among (numbers_from (suc first) count) page) (ne_eqb page first other) ∙ among-numbers (suc first) count page (omega (arith, from, other)) (omega (arith, to))
+]
+
 pub fresh-pool : (pages : ℕ) (old new : Parts) (first : ℕ) → pages ≤ 65536 → length old.words ≡ 1024 * pages → LinksAll pages old new first → IsPool pages new first (all_free pages)
 fresh-pool pages old new first few long is = record {
   whole = is.whole;
@@ -90,6 +97,7 @@ fresh-pool pages old new first few long is = record {
     apart = distinct-numbers 0 pages;
     run = λ head below. subst (IsChain pages (field_of new NEXT) (field_of new TAIL) (λ _. NONE) head) (sym (no-chain pages head)) tt;
   };
+  made = λ page below. inl (among-numbers 0 pages page (omega arith) (omega (arith, below)));
 }
 
 zero-at : (n i : ℕ) → slice_index (replicate n 0) i ≡ 0
@@ -97,15 +105,8 @@ zero-at zero i = refl
 zero-at (suc n) zero = refl
 zero-at (suc n) (suc i) = zero-at n i
 
-among-numbers : (first count page : ℕ) → first ≤ page → page < first + count → is_among (numbers_from first count) page ≡ true
-among-numbers first zero page from to = absurd (omega (arith, from, to))
-among-numbers first (suc count) page from to = elim (cases_eq page first) [
-  | inl same ↦ cond-true (page == first) true (is_among (numbers_from (suc first) count) page) (eq-eqb page first same)
-  | inr other ↦ cond-false (page == first) true (is_among (numbers_from (suc first) count) page) (ne_eqb page first other) ∙ among-numbers (suc first) count page (omega (arith, from, other)) (omega (arith, to))
-]
-
 abbrev blank : (heads words : ℕ) → Parts
-blank heads words = record { heads = replicate heads 0; words = replicate words 0 }
+blank heads words = record { heads = replicate heads 0; words = replicate words 0; made = 0 }
 
 pub fresh-state : (pages n : ℕ) → state_of pages (blank n (1024 * pages)) (all_free pages) ≡ new_pool pages
 fresh-state pages n =

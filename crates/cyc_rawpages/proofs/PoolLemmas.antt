@@ -1,5 +1,5 @@
 -- What the calls of a pool owe.
-use Rattle.std.proofs.Common.{◌≡◌, ℕ, ◌+◌, ◌*◌, ◌/◌, ◌%◌, ◌^◌, ◌<◌, List, [], ◌∷◌, ◌++◌, drop, length, replicate, set, sym, ap, subst, ◌∙◌, arith, inl, inr, length-set, get_or-set_same}
+use Rattle.std.proofs.Common.{◌≡◌, ℕ, ◌+◌, ◌*◌, ◌/◌, ◌%◌, ◌^◌, ◌<◌, ◌≤◌, List, [], ◌∷◌, ◌++◌, drop, length, replicate, set, sym, ap, subst, ◌∙◌, arith, inl, inr, length-set, get_or-set_same}
 use Rattle.std.specs.Prelude.{◌==◌, false, slice_index, slice_index_or}
 use Rattle.std.specs.List.{AllByRecursion}
 use Rattle.std.specs.Int.{bit_at}
@@ -10,7 +10,7 @@ use Rattle.cyc_rawpages.specs.Words.{Parts, headed}
 use Rattle.cyc_rawpages.specs.Pool.{PoolState, tabulate, header_at, field_of, bits_at, bit_of, state_of, put, IsFree, IsHead, IsDistinct, IsChain, IsLinkedUp, IsPool}
 use Rattle.cyc_rawpages.specs.declared.header.TheConstants.{NEXT, TAIL, NONE}
 use Rattle.cyc_rawpages.proofs.Columns.{tab-read, field-kept}
-use Rattle.cyc_rawpages.proofs.FreePages.{free-none as none-free, free-first, free-taken, free-given}
+use Rattle.cyc_rawpages.proofs.FreePages.{other-among, among-behind, free-none as none-free, free-first, free-taken, free-given}
 use Rattle.cyc_rawpages.proofs.Links.{put-same, put-other, all-map, free-none, free-some, free-there, taken, tail-in, given, pushed}
 
 -- where a header stands
@@ -40,6 +40,7 @@ module _ (pages : ℕ) (raw : Parts) (first : ℕ) (l : Lists) (is : IsPool page
     words = is.words;
     up = subst (λ (u : (ℕ → ℕ) × (ℕ → ℕ)). IsLinkedUp pages u.0 u.1 first l)
         (λ j. ((λ p. sym (field-kept pages raw k v NEXT p (ne p).0) j), (λ p. sym (field-kept pages raw k v TAIL p (ne p).1) j))) is.up;
+    made = is.made;
   }
 
   pub first-there : (first ≡ NONE → ⊥) → first < pages
@@ -48,8 +49,9 @@ module _ (pages : ℕ) (raw : Parts) (first : ℕ) (l : Lists) (is : IsPool page
       free-there pages (field_of raw NEXT) (field_of raw TAIL) first l is.up had.0 had.1
 
   -- the first free page was taken
-  pub pool-taken : (first ≡ NONE → ⊥) → IsPool pages (headed raw (header_at first TAIL) first) (field_of raw NEXT first) (after l (Taken first))
-  pool-taken some =
+  pub pool-taken : (first ≡ NONE → ⊥) → (made : ℕ) → raw.made ≤ made → 1024 * (first + 1) ≤ made
+      → IsPool pages (record (headed raw (header_at first TAIL) first) { made = made }) (field_of raw NEXT first) (after l (Taken first))
+  pool-taken some made more least =
       let had = free-some pages (field_of raw NEXT) (field_of raw TAIL) first l is.up some in
       let there = free-there pages (field_of raw NEXT) (field_of raw TAIL) first l is.up had.0 had.1 in
       let k = header_at first TAIL in
@@ -59,6 +61,13 @@ module _ (pages : ℕ) (raw : Parts) (first : ℕ) (l : Lists) (is : IsPool page
         up = subst (λ (u : (ℕ → ℕ) × (ℕ → ℕ)). IsLinkedUp pages u.0 u.1 (field_of raw NEXT first) (after l (Taken first)))
             (λ j. (sym (field-apart pages first TAIL first NEXT raw (omega arith) (omega arith) (λ e. omega (arith, e))) j, sym (field-put pages first TAIL first raw (header-in pages first TAIL raw is.whole there (omega arith))) j))
             (taken pages (field_of raw NEXT) (field_of raw TAIL) first l is.up had.0 had.1);
+        made = λ page below. elim (cases_eq page first) [
+          | inl same ↦ inr (omega (arith, same, least))
+          | inr other ↦ elim (is.made page below) [
+            | inl among ↦ inl (ap (λ xs. is_among (drop 1 xs) page) had.1 ∙ sym (other-among first had.0 page other) ∙ sym (ap (λ xs. is_among xs page) had.1) ∙ among)
+            | inr low ↦ inr (omega (arith, low, more))
+          ]
+        ];
       }
 
   pub first-free : (first ≡ NONE → ⊥) → IsFree (tabulate pages (is_among l.free)) first
@@ -90,6 +99,10 @@ module _ (pages : ℕ) (raw : Parts) (first : ℕ) (l : Lists) (is : IsPool page
       up = subst (λ (u : (ℕ → ℕ) × (ℕ → ℕ)). IsLinkedUp pages u.0 u.1 head (after l (Given head)))
           (λ j. (sym (field-put pages tail NEXT first raw (header-in pages tail NEXT raw is.whole tail-there (omega arith))) j, sym (field-apart pages tail NEXT first TAIL raw (omega arith) (omega arith) (λ same. omega (arith, same))) j))
           (given pages (field_of raw NEXT) (field_of raw TAIL) first l is.up head rest below e);
+      made = λ page there. elim (is.made page there) [
+        | inl among ↦ inl (among-behind (chain_at l.chains head) l.free page among)
+        | inr low ↦ inr low
+      ];
     }
 
     pub given-free : tabulate pages (is_among (chain_at l.chains head ++ l.free)) ≡ freed (tabulate pages (is_among l.free)) (chain_at l.chains head)
@@ -111,6 +124,7 @@ module _ (pages : ℕ) (raw : Parts) (first : ℕ) (l : Lists) (is : IsPool page
                 sym (field-put pages head TAIL page mid (header-in pages head TAIL mid long below (omega arith)) ∙ ap (λ f. put f head page) (field-apart pages tail NEXT page TAIL raw (omega arith) (omega arith) (λ same. omega (arith, same)))) j,
               ))
               (pushed pages (field_of raw NEXT) (field_of raw TAIL) first l is.up head page rest below there ne e alone);
+          made = is.made;
         }
 
 -- ---- a serial in two halves

@@ -85,12 +85,12 @@ module _ (old new : List (Option ℕ)) (from to : ℕ) (is : AreWritten old from
 -- ---- what is read of a block, and what a write changes
 pub parts-first : (heads words : ℕ) (cs : List (Option ℕ)) → length cs ≡ length (empty (heads + words))
     → ((i : ℕ) → 0 ≤ i → i < heads → get_or cs i None ≡ Some 0) → ((i : ℕ) → heads ≤ i → get_or cs i None ≡ get_or (empty (heads + words)) i None)
-    → parts_of heads cs ≡ record { heads = replicate heads 0; words = replicate words 0 }
+    → parts_of heads 0 cs ≡ record { heads = replicate heads 0; words = replicate words 0; made = 0 }
 parts-first heads words cs long cleared above =
-    ap (λ ws. record { heads = take heads ws; words = drop heads ws })
+    ap (λ ws. record { heads = take heads ws; words = drop heads ws; made = 0 })
     (words-cleared (empty (heads + words)) cs 0 heads (record { filled = λ i lt. absurd (omega (arith, lt)); blank = λ i past. none-at (heads + words) i })
     cleared (λ i lt. absurd (omega (arith, lt))) above long ∙ words-none (heads + words))
-    ∙ (λ j. record { heads = take-zeros heads words j; words = drop-zeros heads words j })
+    ∙ (λ j. record { heads = take-zeros heads words j; words = drop-zeros heads words j; made = 0 })
   where
     take-zeros : (n m : ℕ) → take n (zeros (n + m)) ≡ zeros n
     take-zeros zero m = refl
@@ -100,27 +100,36 @@ parts-first heads words cs long cleared above =
     drop-zeros zero m = ap zeros {x = 0 + m} (omega arith)
     drop-zeros (suc n) m = subst (λ k. drop (suc n) (zeros k) ≡ zeros m) {x = suc (n + m)} (omega arith) (drop-zeros n m)
 
-pub head-within : (heads : ℕ) (cs : List (Option ℕ)) (now : Parts) (i : ℕ) → parts_of heads cs ≡ now → i < length now.heads → (i < heads) × (i < length cs)
-head-within heads cs now i is there =
+pub head-within : (heads made : ℕ) (cs : List (Option ℕ)) (now : Parts) (i : ℕ) → parts_of heads made cs ≡ now → i < length now.heads → (i < heads) × (i < length cs)
+head-within heads made cs now i is there =
     let long = length-take heads (words_of cs) in let same = ap (λ (p : Parts). length p.heads) is in
     (omega (arith, there, same, long), omega (arith, there, same, long, length-words cs))
 
-pub word-within : (heads : ℕ) (cs : List (Option ℕ)) (now : Parts) (i : ℕ) → parts_of heads cs ≡ now → i < length now.words → heads + i < length cs
-word-within heads cs now i is there =
+pub word-within : (heads made : ℕ) (cs : List (Option ℕ)) (now : Parts) (i : ℕ) → parts_of heads made cs ≡ now → i < length now.words → heads + i < length cs
+word-within heads made cs now i is there =
     let long = length-drop heads (words_of cs) in let same = ap (λ (p : Parts). length p.words) is in omega (arith, there, same, long, length-words cs)
 
-pub head-is : (heads : ℕ) (cs : List (Option ℕ)) (now : Parts) (i w : ℕ) → parts_of heads cs ≡ now → i < heads → get_or cs i None ≡ Some w → w ≡ slice_index now.heads i
-head-is heads cs now i w is low e = ap value_of (sym e) ∙ sym (words-at cs i) ∙ sym (get_or-take heads (words_of cs) i 0 low) ∙ ap (λ (p : Parts). slice_index p.heads i) is
+pub words-within : (heads made : ℕ) (cs : List (Option ℕ)) (now : Parts) (count : ℕ) → parts_of heads made cs ≡ now → count ≤ length now.words → heads ≤ length cs → heads + count ≤ length cs
+words-within heads made cs now count is there few =
+    let long = length-drop heads (words_of cs) in let same = ap (λ (p : Parts). length p.words) is in omega (arith, there, few, same, long, length-words cs)
 
-pub word-is : (heads : ℕ) (cs : List (Option ℕ)) (now : Parts) (i : ℕ) (c : Option ℕ) → parts_of heads cs ≡ now → get_or cs (heads + i) None ≡ c → value_of c ≡ slice_index now.words i
-word-is heads cs now i c is e = ap value_of (sym e) ∙ sym (words-at cs (heads + i)) ∙ sym (get_or-drop heads (words_of cs) i 0) ∙ ap (λ (p : Parts). slice_index p.words i) is
+pub made-within : (heads made : ℕ) (cs : List (Option ℕ)) (now : Parts) → parts_of heads made cs ≡ now → heads + made ≤ length cs → made ≤ length now.words
+made-within heads made cs now is there =
+    let long = length-drop heads (words_of cs) in let same = ap (λ (p : Parts). length p.words) is in omega (arith, there, same, long, length-words cs)
 
-pub head-set : (heads : ℕ) (cs : List (Option ℕ)) (i w : ℕ) → i < heads → parts_of heads (set cs i (Some w)) ≡ headed (parts_of heads cs) i w
-head-set heads cs i w low =
+pub head-is : (heads made : ℕ) (cs : List (Option ℕ)) (now : Parts) (i w : ℕ) → parts_of heads made cs ≡ now → i < heads → get_or cs i None ≡ Some w → w ≡ slice_index now.heads i
+head-is heads made cs now i w is low e = ap value_of (sym e) ∙ sym (words-at cs i) ∙ sym (get_or-take heads (words_of cs) i 0 low) ∙ ap (λ (p : Parts). slice_index p.heads i) is
+
+pub word-is : (heads made : ℕ) (cs : List (Option ℕ)) (now : Parts) (i : ℕ) (c : Option ℕ) → parts_of heads made cs ≡ now → get_or cs (heads + i) None ≡ c → value_of c ≡ slice_index now.words i
+word-is heads made cs now i c is e = ap value_of (sym e) ∙ sym (words-at cs (heads + i)) ∙ sym (get_or-drop heads (words_of cs) i 0) ∙ ap (λ (p : Parts). slice_index p.words i) is
+
+pub head-set : (heads made : ℕ) (cs : List (Option ℕ)) (i w : ℕ) → i < heads → parts_of heads made (set cs i (Some w)) ≡ headed (parts_of heads made cs) i w
+head-set heads made cs i w low =
     let ws = words_of cs in
-    ap (λ us. record { heads = take heads us; words = drop heads us }) (words-set cs i w) ∙ (λ j. record { heads = take-set-lt heads ws i w low j; words = drop-set-lt heads ws i w low j })
+    ap (λ us. record { heads = take heads us; words = drop heads us; made = made }) (words-set cs i w) ∙ (λ j. record { heads = take-set-lt heads ws i w low j; words = drop-set-lt heads ws i w low j; made = made })
 
-pub word-set : (heads : ℕ) (cs : List (Option ℕ)) (i w : ℕ) → parts_of heads (set cs (heads + i) (Some w)) ≡ record (parts_of heads cs) { words = set (parts_of heads cs).words i w }
-word-set heads cs i w =
+pub word-set : (heads made : ℕ) (cs : List (Option ℕ)) (i w : ℕ)
+    → parts_of heads made (set cs (heads + i) (Some w)) ≡ record (parts_of heads made cs) { words = set (parts_of heads made cs).words i w }
+word-set heads made cs i w =
     let ws = words_of cs in
-    ap (λ us. record { heads = take heads us; words = drop heads us }) (words-set cs (heads + i) w) ∙ (λ j. record { heads = take-set-le heads ws (heads + i) w (omega arith) j; words = drop-set-add heads ws i w j })
+    ap (λ us. record { heads = take heads us; words = drop heads us; made = made }) (words-set cs (heads + i) w) ∙ (λ j. record { heads = take-set-le heads ws (heads + i) w (omega arith) j; words = drop-set-add heads ws i w j; made = made })

@@ -1,5 +1,5 @@
 -- What a pool holds, and how its block says it.
-use Rattle.std.specs.Prelude.{◌≡◌, ℕ, zero, suc, replicate, ◌+◌, ◌*◌, ◌/◌, ◌%◌, ◌^◌, ◌<◌, ◌≤◌, ◌==◌, ◌&&◌, nat_le, nat_lt, Bool, true, false, if◌then◌else◌, List, [], ◌∷◌, length, slice_index, slice_index_or}
+use Rattle.std.specs.Prelude.{◌≡◌, ℕ, zero, suc, replicate, ◌+◌, ◌*◌, ◌/◌, ◌%◌, ◌^◌, ◌<◌, ◌≤◌, ◌==◌, ◌&&◌, ◌⊎◌, nat_le, nat_lt, Bool, true, false, if◌then◌else◌, List, [], ◌∷◌, length, slice_index, slice_index_or}
 use Rattle.std.specs.List.{AllByRecursion}
 use Rattle.std.specs.Int.{bit_at}
 use Rattle.cyc_rawpages.specs.Lists.{Lists, chain_at, numbers_from, is_among}
@@ -121,6 +121,8 @@ pub record IsPool (pages : ℕ) (raw : Parts) (first : ℕ) (l : Lists) : Type 0
   pub whole : length raw.heads ≡ HEAD_WORDS * pages
   pub words : length raw.words ≡ PAGE_WORDS * pages
   pub up : IsLinkedUp pages (field_of raw NEXT) (field_of raw TAIL) first l
+  -- the words of a page that is not free are written
+  pub made : (page : ℕ) → page < pages → (is_among l.free page ≡ true) ⊎ (PAGE_WORDS * page + PAGE_WORDS ≤ raw.made)
 
 -- the pages were linked to one another, and nothing else was written
 pub record LinksAll (pages : ℕ) (old new : Parts) (first : ℕ) : Type 0 where

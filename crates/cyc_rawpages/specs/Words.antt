@@ -6,10 +6,11 @@ use Rattle.cyc_rawpages.specs.declared.cells.Cells.{Cells}
 use Rattle.cyc_rawpages.specs.declared.cells.Lease.{Lease}
 use Rattle.cyc_rawpages.specs.Ownership.{IsFilled}
 
--- What is read of a block: its heads, and its words behind them.
+-- What is read of a block: its heads, its words behind them, and of how many words, from the first on, each is written.
 pub record Parts : Type 0 where
   pub heads : List ℕ
   pub words : List ℕ
+  pub made : ℕ
 
 -- a head was written
 abbrev pub headed : Parts → (index word : ℕ) → Parts
@@ -24,8 +25,8 @@ abbrev pub words_of : List (Option ℕ) → List ℕ
 words_of [] = []
 words_of (c ∷ cs) = value_of c ∷ words_of cs
 
-abbrev pub parts_of : (heads : ℕ) → List (Option ℕ) → Parts
-parts_of heads cs = record { heads = take heads (words_of cs); words = drop heads (words_of cs) }
+abbrev pub parts_of : (heads made : ℕ) → List (Option ℕ) → Parts
+parts_of heads made cs = record { heads = take heads (words_of cs); words = drop heads (words_of cs); made = made }
 
 -- the places before this one hold words, and the others none
 pub record AreWritten (cs : List (Option ℕ)) (end : ℕ) : Type 0 where

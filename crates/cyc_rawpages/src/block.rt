@@ -30,7 +30,7 @@ impl Model for Block {
 
     ghost Value = { Parts };
 
-    ghost view = { λ b. parts_of b.heads b.cells.slots };
+    ghost view = { λ b. parts_of b.heads b.made b.cells.slots };
 
     ghost invariant = { λ b. IsBlock b.start b.count b.heads b.made b.cells b.lease b.alloc };
 }
@@ -55,7 +55,7 @@ impl Block {
     /// A block of so many heads and words, each 0.
     pub fn new(alloc: Global, heads: usize, words: usize) -> Result<Block, AllocError>
         requires { heads + words < 2 ^ 32 }
-        ensures { IfOk result (λ b. b ≡ record { heads = replicate heads 0; words = replicate words 0 }) }
+        ensures { IfOk result (λ b. b ≡ record { heads = replicate heads 0; words = replicate words 0; made = 0 }) }
     {
         let count = heads + words;
         let Some((start, mut cells, lease)) = acquire(&alloc, count) else {
@@ -91,6 +91,44 @@ impl Block {
         self.cells.write(self.start, index, word)
     }
 
+    /// Of how many words, from the first on, each is written.
+    #[inline]
+    pub fn made(&self) -> usize
+        ensures is { result ≡ self.now.made }
+        ensures within { result ≤ length self.now.words }
+    {
+        self.made
+    }
+
+    /// Writes a 0 at each of so many words, from the first on, where none was written.
+    #[inline]
+    pub fn make(&mut self, count: usize)
+        requires { count ≤ length self.old.words }
+        ensures same { self.new ≡ record self.old { made = self.new.made } }
+        ensures more { (self.old.made ≤ self.new.made) × (count ≤ self.new.made) }
+    {
+        if self.made < count {
+            self.make_far(count);
+        }
+    }
+
+    /// Writes a 0 at each of so many words, from the first on, where none was written, as at the last of them.
+    #[cold]
+    #[inline(never)]
+    fn make_far(&mut self, count: usize)
+        requires there { count ≤ length self.old.words }
+        requires more { self.old.made < count }
+        ensures { self.new ≡ record self.old { made = count } }
+    {
+        clear(
+            &mut self.cells,
+            self.start,
+            self.heads + self.made,
+            self.heads + count,
+        );
+        self.made = count;
+    }
+
     /// The word at an index.
     #[inline]
     pub fn word(&self, index: usize) -> u32
@@ -108,7 +146,8 @@ impl Block {
     #[inline]
     pub fn set_word(&mut self, index: usize, word: u32)
         requires { index < length self.old.words }
-        ensures { self.new ≡ record self.old { words = slice_set self.old.words index word } }
+        ensures set { self.new ≡ record self.old { words = slice_set self.old.words index word; made = self.new.made } }
+        ensures more { self.old.made ≤ self.new.made }
     {
         if index < self.made {
             self.cells.write(self.start, self.heads + index, word)
@@ -122,7 +161,8 @@ impl Block {
     #[inline(never)]
     fn set_far_word(&mut self, index: usize, word: u32)
         requires { index < length self.old.words }
-        ensures { self.new ≡ record self.old { words = slice_set self.old.words index word } }
+        ensures set { self.new ≡ record self.old { words = slice_set self.old.words index word; made = self.new.made } }
+        ensures more { self.old.made ≤ self.new.made }
     {
         let words = self.count - self.heads;
         let made = (index + STRETCH).min(words).max(self.made);

@@ -1,6 +1,6 @@
 //! A pool of pages over one block of memory.
 
-ghost use Rattle.std.specs.Prelude.{◌==◌, ◌≡◌, ◌≢◌, ℕ, [], ◌∷◌, ◌++◌, ◌+◌, ◌*◌, ◌%◌, ◌<◌, ◌≤◌, IfOk, MatchOption, false, length, replicate, set, slice_index, slice_index_or};
+ghost use Rattle.std.specs.Prelude.{◌==◌, ◌≡◌, ◌≢◌, ℕ, [], ◌∷◌, ◌++◌, ◌+◌, ◌*◌, ◌%◌, ◌<◌, ◌≤◌, ◌⊎◌, IfOk, MatchOption, false, length, replicate, set, slice_index, slice_index_or};
 ghost use Rattle.cyc_rawpages.specs.Lists.{chain_at, freed};
 ghost use Rattle.cyc_rawpages.specs.Pool.{IsFree, IsHead, LinksAll, between, new_pool};
 
@@ -99,6 +99,7 @@ impl Pool {
         }
         self.first = self.block.head(header_at(page, NEXT));
         self.block.set_head(header_at(page, TAIL), page);
+        self.block.make(PAGE_WORDS as usize * (page as usize + 1));
         self.roll = Roll::with(&self.roll, &Change::Taken(page));
         Some(PageNo { number: page })
     }
@@ -129,6 +130,15 @@ impl Pool {
         self.block.set_head(header_at(tail, NEXT), self.first);
         self.first = head;
         self.roll = Roll::with(&self.roll, &Change::Given(head));
+    }
+
+    /// How many words, from those of the first page on, are written, as are those of each page that is not free. The others are 0.
+    #[inline]
+    pub fn made(&self) -> usize
+        ensures within { result ≤ PAGE_WORDS * self.now.pages }
+        ensures taken { (page : ℕ) → page < self.now.pages → IsFree self.now.free page ⊎ (PAGE_WORDS * page + PAGE_WORDS ≤ result) }
+    {
+        self.block.made()
     }
 
     /// A word of a page.

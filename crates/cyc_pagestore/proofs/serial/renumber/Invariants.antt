@@ -1,23 +1,23 @@
 use Rattle.std.proofs.Common.{◌≡◌, ◌≤◌, ◌<◌, ℕ, ◌+◌, length}
 use Rattle.std.specs.Prelude.{slice_index}
-use Rattle.cyc_pagestore.specs.Live.{reach}
+use Rattle.cyc_pagestore.specs.Live.{filled_by, reach}
 use Rattle.cyc_pagestore.proofs.serial.renumber.Given as goal
 
--- the fill marks of the first pages are what is live by them
+-- what the first pages have filled is what is live by it
 abbrev pub invariant-loop-number : goal.invariant-loop-number
 invariant-loop-number l = record {
   same : l.pool ≡ record l.fn.pool { fills = l.pool.fills };
   count : length l.pool.fills ≡ length l.fn.pool.fills;
-  done : (page : ℕ) → page < l.number → slice_index l.pool.fills page ≡ reach l.fn.pool page;
+  done : (page : ℕ) → page < l.number → filled_by l.pool.fills page ≡ reach l.fn.pool page;
   left : (page : ℕ) → l.number ≤ page → slice_index l.pool.fills page ≡ slice_index l.fn.pool.fills page;
 }
 
--- all fill marks are, and the first pages have the serials of their owners
+-- what all pages have filled is, and the first pages have the serials of their owners
 abbrev pub invariant-loop-number-2 : goal.invariant-loop-number-2
 invariant-loop-number-2 l = record {
   same : l.pool ≡ record l.fn.pool { fills = l.pool.fills; serials = l.pool.serials };
   fill_count : length l.pool.fills ≡ length l.fn.pool.fills;
   serial_count : length l.pool.serials ≡ length l.fn.pool.serials;
-  fills : (page : ℕ) → page < l.fn.pool.pages → slice_index l.pool.fills page ≡ reach l.fn.pool page;
+  fills : (page : ℕ) → page < l.fn.pool.pages → filled_by l.pool.fills page ≡ reach l.fn.pool page;
   done : (page : ℕ) → page < l.number → slice_index l.pool.serials page ≡ slice_index l.fn.pool.owners page + 1;
 }

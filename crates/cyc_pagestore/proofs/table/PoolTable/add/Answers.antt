@@ -1,4 +1,4 @@
-use Rattle.std.proofs.Common.{ℕ, List, [], ◌∷◌, ◌++◌, ◌<◌, set, slice_index, ap, sym, subst, ◌∙◌}
+use Rattle.std.proofs.Common.{ℕ, List, [], ◌∷◌, ◌++◌, ◌+◌, ◌*◌, ◌<◌, set, slice_index, ap, sym, subst, ◌∙◌}
 use Rattle.cyc_rawpages.specs.Lists.{chain_at}
 use Rattle.cyc_rawpages.specs.Pool.{PoolState, IsHead}
 use Rattle.cyc_pagestore.specs.declared.step.Step.TheVariants.{Added}
@@ -38,7 +38,7 @@ invariant_of-self-2 c =
     ∙ ap (λ (t : PoolState). record t { chains = set (set t.chains root (chain_at t.chains root ++ page ∷ [])) page [] })
     (c.set_serial.ensures ∙ ap (λ n. record c.set_fill.new.self { serials = set c.set_fill.new.self.serials page n }) (c.serial-serial.ensures ∙ ap (λ (t : PoolState). slice_index t.serials root) got.2)
     ∙ ap (λ (t : PoolState). record t { serials = set t.serials page (slice_index f.pool.serials root) })
-    (c.set_fill.ensures ∙ ap (λ (t : PoolState). record t { fills = set t.fills page words })
+    (c.set_fill.ensures ∙ ap (λ (t : PoolState). record t { fills = set t.fills page (1024 * page + words) })
     (c.set_owner.ensures ∙ ap (λ (t : PoolState). record t { owners = set t.owners page root }) got.2))))
     c.with-self-inside.result.links (c.with-self-inside.ensures ∙ ap (λ (m : Links). after m (Added root page words)) c.with-taken.ensures))
 
@@ -52,6 +52,6 @@ returns c =
     ∙ ap (λ (t : PoolState). record t { chains = set (set t.chains root (chain_at t.chains root ++ page ∷ [])) page [] })
     (c.set_serial.ensures ∙ ap (λ n. record c.set_fill.new.self { serials = set c.set_fill.new.self.serials page n }) (c.serial-serial.ensures ∙ ap (λ (t : PoolState). slice_index t.serials root) got.2)
     ∙ ap (λ (t : PoolState). record t { serials = set t.serials page (slice_index f.pool.serials root) })
-    (c.set_fill.ensures ∙ ap (λ (t : PoolState). record t { fills = set t.fills page words })
+    (c.set_fill.ensures ∙ ap (λ (t : PoolState). record t { fills = set t.fills page (1024 * page + words) })
     (c.set_owner.ensures ∙ ap (λ (t : PoolState). record t { owners = set t.owners page root }) got.2))))
     c.with-self-inside.result.links (c.with-self-inside.ensures ∙ ap (λ (m : Links). after m (Added root page words)) c.with-taken.ensures)

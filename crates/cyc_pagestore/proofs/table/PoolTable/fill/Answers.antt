@@ -1,5 +1,19 @@
+use Rattle.std.proofs.Common.{arith}
 use Rattle.cyc_pagestore.proofs.Calls.{fill-there, fill-keeps, fill-gives}
 use Rattle.cyc_pagestore.proofs.table.PoolTable.fill.Goals as goal
+
+-- the page is one of 65,536
+pub overflow_mul-page : goal.overflow_mul-page
+overflow_mul-page c =
+    let f = c.self.inside in let few = c.self.invariant.whole.few in
+    let there = fill-there f.pool f.pages f.spots.items f.next f.roster.links c.self.invariant c.args.self.now c.self.view_is c.args.root c.requires.there c.requires.root c.index.result.now c.index.ensures in
+    omega (arith, there, few)
+
+pub overflow_add-page : goal.overflow_add-page
+overflow_add-page c =
+    let f = c.self.inside in let few = c.self.invariant.whole.few in let last = c.requires.few in
+    let there = fill-there f.pool f.pages f.spots.items f.next f.roster.links c.self.invariant c.args.self.now c.self.view_is c.args.root c.requires.there c.requires.root c.index.result.now c.index.ensures in
+    omega (arith, there, few, last)
 
 pub set_fill-requires : goal.set_fill-requires
 set_fill-requires c =

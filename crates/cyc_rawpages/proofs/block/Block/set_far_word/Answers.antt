@@ -6,21 +6,21 @@ use Rattle.cyc_rawpages.proofs.block.Block.set_far_word.Goals as goal
 
 pub overflow_add-index : goal.overflow_add-index
 overflow_add-index c =
-    let s = c.self.inside in let few = s.cells.few in let there = word-within s.heads s.cells.slots _ c.args.index c.self.view_is c.requires in record { fits = omega (arith, few, there) }
+    let s = c.self.inside in let few = s.cells.few in let there = word-within s.heads s.made s.cells.slots _ c.args.index c.self.view_is c.requires in record { fits = omega (arith, few, there) }
 
 pub overflow_add-self-inside-3 : goal.overflow_add-self-inside-3
 overflow_add-self-inside-3 c =
-    let s = c.self.inside in let few = s.cells.few in let there = word-within s.heads s.cells.slots _ c.args.index c.self.view_is c.requires in record { fits = omega (arith, few, there) }
+    let s = c.self.inside in let few = s.cells.few in let there = word-within s.heads s.made s.cells.slots _ c.args.index c.self.view_is c.requires in record { fits = omega (arith, few, there) }
 
 pub write-requires : goal.write-requires
 write-requires c =
-    let s = c.self.inside in let there = word-within s.heads s.cells.slots _ c.args.index c.self.view_is c.requires in let long = c.clear.ensures.many in
+    let s = c.self.inside in let there = word-within s.heads s.made s.cells.slots _ c.args.index c.self.view_is c.requires in let long = c.clear.ensures.many in
     (sym (c.clear.ensures.at ∙ c.self.invariant.at), omega (arith, there, long))
 
 pub invariant_of-self : goal.invariant_of-self
 invariant_of-self c =
     let s = c.self.inside in let is = c.self.invariant in let cs = s.cells.slots in let new = c.clear.new.cells.slots in let i = c.args.index in let w = c.args.word in
-    let there = word-within s.heads cs _ i c.self.view_is c.requires in let many = is.many in let fits = is.few in let long = c.clear.ensures.many in
+    let there = word-within s.heads s.made cs _ i c.self.view_is c.requires in let many = is.many in let fits = is.few in let long = c.clear.ensures.many in
     let least = c.min.ensures in let most = c.max-made.ensures in let to = s.heads + c.max-made.result in
     let low : s.heads + i < to = omega (arith, there, many, least, most) in
     record {
@@ -35,10 +35,14 @@ invariant_of-self c =
       by = is.by;
     }
 
-pub returns : goal.returns
-returns c =
-    let s = c.self.inside in let cs = s.cells.slots in let new = c.clear.new.cells.slots in let i = c.args.index in let w = c.args.word in
-    ap (parts_of s.heads) c.write.ensures.1 ∙ word-set s.heads new i w
-    ∙ ap (λ ws. record { heads = take s.heads ws; words = set (drop s.heads ws) i w })
+pub returns-clause-more : goal.returns-clause-more
+returns-clause-more c =
+    let most = c.max-made.ensures in let old = ap (λ (p : Parts). p.made) c.self.view_is in omega (arith, most, old)
+
+pub returns-clause-set : goal.returns-clause-set
+returns-clause-set c =
+    let s = c.self.inside in let made = c.max-made.result in let cs = s.cells.slots in let new = c.clear.new.cells.slots in let i = c.args.index in let w = c.args.word in
+    ap (parts_of s.heads made) c.write.ensures.1 ∙ word-set s.heads made new i w
+    ∙ ap (λ ws. record { heads = take s.heads ws; words = set (drop s.heads ws) i w; made = made })
     (words-cleared cs new (s.heads + s.made) (s.heads + c.max-made.result) c.self.invariant.written c.clear.ensures.cleared c.clear.ensures.below c.clear.ensures.above c.clear.ensures.many)
-    ∙ ap (λ (p : Parts). record p { words = set p.words i w }) c.self.view_is
+    ∙ ap (λ (p : Parts). record p { words = set p.words i w; made = made }) c.self.view_is

@@ -7,7 +7,7 @@ use Rattle.cyc_rawpages.proofs.block.Block.set_head.Goals as goal
 pub invariant_of-self : goal.invariant_of-self
 invariant_of-self c =
     let s = c.self.inside in let is = c.self.invariant in let cs = s.cells.slots in let i = c.args.index in
-    let there = head-within s.heads cs _ i c.self.view_is c.requires in let low = there.0 in
+    let there = head-within s.heads s.made cs _ i c.self.view_is c.requires in let low = there.0 in
     record {
       at = c.write.ensures.0 ∙ is.at;
       many = ap length c.write.ensures.1 ∙ length-set cs i (Some c.args.word) ∙ is.many;
@@ -21,5 +21,5 @@ invariant_of-self c =
 pub returns : goal.returns
 returns c =
     let s = c.self.inside in let cs = s.cells.slots in let i = c.args.index in
-    ap (parts_of s.heads) c.write.ensures.1 ∙ head-set s.heads cs i c.args.word (head-within s.heads cs _ i c.self.view_is c.requires).0
+    ap (parts_of s.heads s.made) c.write.ensures.1 ∙ head-set s.heads s.made cs i c.args.word (head-within s.heads s.made cs _ i c.self.view_is c.requires).0
     ∙ ap (λ (p : Parts). headed p i c.args.word) c.self.view_is

@@ -12,13 +12,13 @@ invariant_of-self c =
       many = ap length c.write.ensures.1 ∙ length-set cs i (Some c.args.word) ∙ is.many;
       few = is.few;
       written = subst (λ ds. AreWritten ds (s.heads + s.made)) (sym c.write.ensures.1)
-          (written-set cs (s.heads + s.made) i c.args.word (omega (arith, low)) (word-within s.heads cs _ c.args.index c.self.view_is c.requires) is.written);
+          (written-set cs (s.heads + s.made) i c.args.word (omega (arith, low)) (word-within s.heads s.made cs _ c.args.index c.self.view_is c.requires) is.written);
       leased = is.leased;
       size = is.size;
       by = is.by;
     }
 
-pub returns-then-index-self : goal.returns-then-index-self
-returns-then-index-self c =
+pub returns-then-index-self-clause-set : goal.returns-then-index-self-clause-set
+returns-then-index-self-clause-set c =
     let s = c.self.inside in let cs = s.cells.slots in let i = c.args.index in
-    ap (parts_of s.heads) c.write.ensures.1 ∙ word-set s.heads cs i c.args.word ∙ ap (λ (p : Parts). record p { words = set p.words i c.args.word }) c.self.view_is
+    ap (parts_of s.heads s.made) c.write.ensures.1 ∙ word-set s.heads s.made cs i c.args.word ∙ ap (λ (p : Parts). record p { words = set p.words i c.args.word; made = s.made }) c.self.view_is
