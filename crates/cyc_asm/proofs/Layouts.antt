@@ -8,6 +8,7 @@ use Rattle.std.proofs.lemmas.Grind.{flat_map-append}
 use Rattle.std.proofs.lemmas.List.{take_all}
 use Rattle.std.proofs.lemmas.List.Sums.{sum_by-append}
 use Rattle.std.proofs.lemmas.Option.{slice_get_within, get_or_from_slice_get, slice_get-get_or}
+use Rattle.cyc_words.proofs.Booleans.{and_right, and_left}
 use Rattle.cyc_machine.specs.State.{text_base}
 use Rattle.cyc_isa.specs.declared.instr.Instr.{Instr}
 use Rattle.cyc_select.specs.declared.code.Condition.{Condition}
@@ -121,21 +122,13 @@ addresses_fit code fits = record {
   below = λ line inside. omega (arith, fits, position-less code.lines line (length code.lines) inside (omega arith), position-most code.lines (length code.lines) (omega arith));
 }
 
-and-first : (a b : Bool) → (a && b) ≡ true → a ≡ true
-and-first true b both = refl
-and-first false b both = both
-
-and-second : (a b : Bool) → (a && b) ≡ true → b ≡ true
-and-second true b both = both
-and-second false b both = cc
-
 -- a near label is in reach
 -- (Of the four words that a branch may take, a near one has at most two.)
 pub near_below : (code : List Line) (from to : ℕ) (condition : Condition) → is_near code from to ≡ true → slice_get code from ≡ Some (lines.Branch condition to) → to < length code → from < to → position code to ≤ position code from + 32765
 near_below code from to condition near found in_to up =
     let line : Line = lines.Branch condition to in
     let most = (between_lines code (suc from) to up (omega (arith, in_to))).most in
-    let first : most_before code to ≤ most_before code from + MAX_REACH = leb-true (most_before code to) (most_before code from + MAX_REACH) (and-first (nat_le (most_before code to) (most_before code from + MAX_REACH)) (nat_le (most_before code from) (most_before code to + MAX_REACH)) near) in
+    let first : most_before code to ≤ most_before code from + MAX_REACH = leb-true (most_before code to) (most_before code from + MAX_REACH) (and_left (nat_le (most_before code to) (most_before code from + MAX_REACH)) (nat_le (most_before code from) (most_before code to + MAX_REACH)) near) in
     let wide = most_before-suc code from line found in
     let narrow = position-suc code from line found in
     let few : tail_width (is_near code from to) ≡ 1 = ap tail_width near in
@@ -144,7 +137,7 @@ near_below code from to condition near found in_to up =
 pub near_above : (code : List Line) (from to : ℕ) → is_near code from to ≡ true → from < length code → to < length code → to ≤ from → position code from ≤ position code to + 32767
 near_above code from to near in_from in_to up =
     let most = (between_lines code to from up (omega (arith, in_from))).most in
-    let second : most_before code from ≤ most_before code to + MAX_REACH = leb-true (most_before code from) (most_before code to + MAX_REACH) (and-second (nat_le (most_before code to) (most_before code from + MAX_REACH)) (nat_le (most_before code from) (most_before code to + MAX_REACH)) near) in
+    let second : most_before code from ≤ most_before code to + MAX_REACH = leb-true (most_before code from) (most_before code to + MAX_REACH) (and_right (nat_le (most_before code to) (most_before code from + MAX_REACH)) (nat_le (most_before code from) (most_before code to + MAX_REACH)) near) in
     omega (arith, most, second)
 
 range_more : (from count : ℕ) → range_with_len from (suc count) ≡ range_with_len from count ++ (from + count) ∷ []

@@ -5,6 +5,7 @@ use Rattle.std.specs.Prelude.{if◌then◌else◌, slice_index, slice_set}
 use Rattle.std.proofs.lemmas.Bool.{eq-eqb}
 use Rattle.std.proofs.lemmas.List.{get_or-set_other, set_comm}
 use Rattle.cyc_words.specs.WordBytes.{byte_in, with_byte, word_of}
+use Rattle.cyc_words.proofs.Booleans.{and_right, and_left}
 use Rattle.cyc_isa.specs.Effect.{immediate_result, load_upper_result, arithmetic_result, shift_result, high_result, low_result, memory_address, branch_taken, branch_zero_taken}
 use Rattle.cyc_isa.specs.Uses.{reads, names_result, writes}
 use Rattle.cyc_isa.specs.declared.operand.Register.{Register}
@@ -36,14 +37,6 @@ or_left false b none = refl
 or_right : (a b : Bool) → (a || b) ≡ false → b ≡ false
 or_right true b none = absurd (let e : true ≡ false = none in cc)
 or_right false b none = none
-
-pub and_left : (a b : Bool) → (a && b) ≡ true → a ≡ true
-and_left true b both = refl
-and_left false b both = both
-
-pub and_right : (a b : Bool) → (a && b) ≡ true → b ≡ true
-and_right true b both = both
-and_right false b both = absurd (let e : false ≡ true = both in cc)
 
 pub not_true : (b : Bool) → not b ≡ true → b ≡ false
 not_true true is = absurd (let e : false ≡ true = is in cc)

@@ -9,6 +9,7 @@ use Rattle.cyc_words.specs.Word.{add_of, signed}
 use Rattle.cyc_words.specs.Simulation.{Machine, Running, Ended, Failed, Matching, IsOnTheWay, IsMatchedStep, IsStepped, Steps, Comes}
 use Rattle.cyc_words.proofs.Simulation.{running_ended}
 use Rattle.cyc_words.proofs.Matching.{by_one, way_before}
+use Rattle.cyc_words.proofs.Booleans.{and_right, and_left, not_not}
 use Rattle.cyc_isa.specs.Effect.{branch_target, jump_target, return_address}
 use Rattle.cyc_isa.specs.Uses.{reads, writes}
 use Rattle.cyc_isa.specs.declared.instr.Instr.{Instr}
@@ -42,14 +43,10 @@ use Rattle.cyc_asm.specs.Slots.{is_movable, leaves, moves, label_of, filling}
 use Rattle.cyc_asm.specs.Layout.{is_near}
 use Rattle.cyc_asm.specs.Text.{IsAt, IsJumpAt, IsTextOf, Stands, StandsBranch, StandsFrom, StandsFilled, StandsOrdinary, own, nothing, branch_of, inverse_of, return_register}
 use Rattle.cyc_asm.proofs.Fetching.{world_at, fetches, goes_to, through}
-use Rattle.cyc_asm.proofs.Moving.{and_left, and_right, not_true, did, with_word, movable_ordinary, movable_does, after_runs, same_stack, stays, holds_stays, commutes, same_refusal}
+use Rattle.cyc_asm.proofs.Moving.{not_true, did, with_word, movable_ordinary, movable_does, after_runs, same_stack, stays, holds_stays, commutes, same_refusal}
 use Rattle.cyc_asm.proofs.Ordinary.{Shown, same_cause, performed}
 use Rattle.cyc_asm.proofs.Fillings.{is_jump, IsFilled, filled, filled_moves, named_empty, behind_empty, ordinary_empty}
 use Rattle.cyc_asm.proofs.Stretches.{in_own}
-
-not-not : (b : Bool) → not (not b) ≡ b
-not-not true = refl
-not-not false = refl
 
 -- ---- where a return goes
 
@@ -108,7 +105,7 @@ running_over end is = let e : phases.Running ≡ phases.Over end = is in cc
 -- (`words` has the word of each register)
 holds-inverse : (words : ℕ → ℕ) (condition : Condition) → holds_of words (inverse_of condition) ≡ not (holds_of words condition)
 holds-inverse words (conditions.Registers Equal left right) = refl
-holds-inverse words (conditions.Registers NotEqual left right) = sym (not-not (nat_eq (words left.number) (words right.number)))
+holds-inverse words (conditions.Registers NotEqual left right) = sym (not_not (nat_eq (words left.number) (words right.number)))
 holds-inverse words (conditions.Sign signs.LessOrEqual source) = not_above (signed (words source.number)) (pos 0)
 holds-inverse words (conditions.Sign signs.Greater source) = not_below (signed (words source.number)) (pos 0)
 holds-inverse words (conditions.Sign signs.Less source) = not_below (pos 0) (signed (words source.number))

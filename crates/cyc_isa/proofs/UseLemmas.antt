@@ -1,6 +1,7 @@
 -- Which registers an instruction may set.
 use Rattle.std.proofs.Common.{◌≡◌, ◌≢◌, ℕ, Bool, true, false, not, ◌==◌, ◌&&◌, refl, sym, ◌∙◌}
 use Rattle.std.proofs.lemmas.Bool.{eqb-true}
+use Rattle.cyc_words.proofs.Booleans.{and_right}
 use Rattle.cyc_isa.specs.Uses.{names_result, writes}
 use Rattle.cyc_isa.specs.declared.instr.Instr.{Instr}
 use Rattle.cyc_isa.specs.declared.instr.Instr.TheVariants.{Immediate, LoadUpper, Memory, Branch, BranchZero, Jump, Shift, ShiftVariable, JumpRegister, JumpRegisterLink, Exception, MoveFrom, MultiplyDivide, Arithmetic}
@@ -8,10 +9,6 @@ use Rattle.cyc_isa.specs.declared.instr.MemoryOp.TheVariants.{LoadWord, StoreWor
 use Rattle.cyc_isa.specs.declared.instr.JumpOp.TheVariants.{Plain, AndLink}
 use Rattle.cyc_isa.specs.declared.instr.ExceptionOp.{ExceptionOp}
 use Rattle.cyc_isa.specs.declared.operand.TrapCode.{TrapCode}
-
-second : (a b : Bool) → (a && b) ≡ true → b ≡ true
-second true b both = both
-second false b both = cc
 
 same : (register m n : ℕ) → (register == m) ≡ true → (register == n) ≡ true → m ≡ n
 same register m n first other = sym (eqb-true register m first) ∙ eqb-true register n other
@@ -37,4 +34,4 @@ one_result (MultiplyDivide op l r) m n free first other = cc
 one_result (Arithmetic op d l r) m n free first other = same d.number m n first other
 
 pub set_alone : (i : Instr) (m n : ℕ) → ((op : ExceptionOp) (code : TrapCode) → i ≢ Exception op code) → writes i m ≡ true → writes i n ≡ true → m ≡ n
-set_alone i m n free first other = one_result i m n free (second (not (m == 0)) (names_result i m) first) (second (not (n == 0)) (names_result i n) other)
+set_alone i m n free first other = one_result i m n free (and_right (not (m == 0)) (names_result i m) first) (and_right (not (n == 0)) (names_result i n) other)

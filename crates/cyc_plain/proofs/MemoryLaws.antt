@@ -42,7 +42,7 @@ numbered-none is_asked base a apart = go (numbered is_asked base a) refl
 
 -- ---- slots that are named by their address
 
-or_either : (a b : Bool) → (a || b) ≡ true → (a ≡ true) ⊎ (b ≡ true)
+pub or_either : (a b : Bool) → (a || b) ≡ true → (a ≡ true) ⊎ (b ≡ true)
 or_either true b is = inl refl
 or_either false b is = inr is
 

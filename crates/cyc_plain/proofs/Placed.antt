@@ -18,6 +18,7 @@ use Rattle.cyc_plain.specs.Operators.{has_no_result, binary_result, compares}
 use Rattle.cyc_plain.specs.Requests.{destination_of}
 use Rattle.cyc_words.specs.Simulation as simulation
 use Rattle.cyc_words.specs.Simulation.{Run}
+use Rattle.cyc_words.proofs.Lists.{slice_get_below}
 use Rattle.cyc_plain.specs.Program.{Routine, Program, no_routine, routine_at}
 use Rattle.cyc_plain.specs.State.{put, Handler, Open, Caught, Activation, Frame, Configuration, State, Running, Ended, Stuck, status_of, place_of}
 use Rattle.cyc_plain.specs.Memory.{Range, OfGlobals, OfStore, OfSlots, range_of, global_at, slot_at, put_or, with_waiting, memory_at, with_global, with_slot, with_word}
@@ -31,11 +32,6 @@ pub below_of_get : {X : Type 0} (xs : List X) (k : ℕ) (x : X) → slice_get xs
 below_of_get [] k x at = absurd (let e : None ≡ Some x = at in cc)
 below_of_get (y ∷ ys) zero x at = omega arith
 below_of_get (y ∷ ys) (suc k) x at = omega (arith, below_of_get ys k x at)
-
-get_below : {X : Type 0} (xs : List X) (k : ℕ) → k < length xs → (x : X) × (slice_get xs k ≡ Some x)
-get_below [] k below = absurd (omega arith)
-get_below (y ∷ ys) zero below = (y, refl)
-get_below (y ∷ ys) (suc k) below = get_below ys k (omega arith)
 
 -- what holds of all elements holds of one
 pub holds_at : {X : Type 0} (P : X → Type 0) (xs : List X) (k : ℕ) (x : X) → All P xs → slice_get xs k ≡ Some x → P x
@@ -327,7 +323,7 @@ fails program choice c (instructions.StoreByte address offset source) at range f
 
 fails_placed : (program : Program) (choice : Choice) (s : State) → IsWellFormed program → IsPlaced program s → status_of s ≡ simulation.Running → status_of (step program choice s) ≡ simulation.Failed → Stops program s
 fails_placed program choice (Running c) well ((inside, next), handling, waiting) running failed =
-    let (i, at) = get_below (routine_at program c.active.function).code c.active.next next in
+    let (i, at) = slice_get_below (routine_at program c.active.function).code c.active.next next in
     let range = holds_at (IsInRange program (routine_at program c.active.function)) (routine_at program c.active.function).code c.active.next i (routine_in program c.active.function well inside).instructions at in
     fails program choice c i at range (subst (λ (o : Option Instruction). status_of (executed program choice c o) ≡ simulation.Failed) at failed)
 fails_placed program choice (Ended ending output input) well placed running failed = absurd (let e : simulation.Ended ending ≡ simulation.Running = running in cc)

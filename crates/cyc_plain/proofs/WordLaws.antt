@@ -65,11 +65,11 @@ IsWord-binary_result binary.GreaterOrEqual a b v w = truth_word (int_le (signed 
 
 -- ---- slots and input
 
-either_word : (b : Bool) (x y : ℕ) → IsWord x → IsWord y → IsWord (if b then x else y)
+pub either_word : (b : Bool) (x y : ℕ) → IsWord x → IsWord y → IsWord (if b then x else y)
 either_word true x y v w = v
 either_word false x y v w = w
 
-put_words : (words : Words) (number word : ℕ) → AreWords words → IsWord word → AreWords (put words number word)
+pub put_words : (words : Words) (number word : ℕ) → AreWords words → IsWord word → AreWords (put words number word)
 put_words words number word all w other = either_word (other == number) word (words other) w (all other)
 
 copied_words : (from to : Words) (source count destination : ℕ) → AreWords from → AreWords to → AreWords (copied from source count to destination)
@@ -287,7 +287,7 @@ words_stay program pages calls (suc n) old new words holds (mid, (choice, allowe
     subst HoldsWords (sym is) (limited_either HoldsWords pages calls old (step program choice old) (λ within. words_step program choice old words allowed holds) tt) in
     words_stay program pages calls n mid new words next rest
 
-bytes_are_words : (input : List ℕ) → AllByRecursion (λ b. b < 256) input → AllByRecursion IsWord input
+pub bytes_are_words : (input : List ℕ) → AllByRecursion (λ b. b < 256) input → AllByRecursion IsWord input
 bytes_are_words [] all = tt
 bytes_are_words (b ∷ input) (first, rest) = ((omega (arith, first)), bytes_are_words input rest)
 

@@ -57,7 +57,7 @@ fn operator_count(frame: &Frame, operator: BinaryOperator, parts: Parts) -> usiz
 }
 
 /// The lines of a move of several words, one by one.
-#[tactic(auto, using(crate::proofs::Counts::moves_next))]
+#[tactic(auto, using(crate::proofs::emission::Counts::moves_next))]
 fn moves_count(frame: &Frame, destination: usize, source: usize, count: usize) -> usize
     requires few { count ≤ GREATEST_VALUE }
     requires source { source + count ≤ MOST_FRAME_WORDS }
@@ -75,7 +75,7 @@ fn moves_count(frame: &Frame, destination: usize, source: usize, count: usize) -
 }
 
 /// The lines of a move of several words.
-#[tactic(auto, using(crate::proofs::Counts::length_registers))]
+#[tactic(auto, using(crate::proofs::emission::Counts::length_registers))]
 fn move_words_count(frame: &Frame, destination: usize, source: usize, count: usize) -> usize
     requires few { count ≤ GREATEST_VALUE }
     requires source { source + count ≤ MOST_FRAME_WORDS }
@@ -97,7 +97,7 @@ fn spill_count(frame: &Frame, slot: usize) -> usize
 }
 
 /// Before a call, the lines that bring what it passes into memory.
-#[tactic(auto, using(crate::proofs::Counts::spills_next))]
+#[tactic(auto, using(crate::proofs::emission::Counts::spills_next))]
 pub(crate) fn spills_count(frame: &Frame, slot: usize, count: usize) -> usize
     requires { slot + count ≤ MOST_FRAME_WORDS }
     ensures value { result ≡ spills_count frame.now slot count }
@@ -121,7 +121,7 @@ fn return_count(plain: &Plain, function: usize) -> usize
 }
 
 /// The lines of an instruction up to what it does.
-#[tactic(auto, using(crate::proofs::Numbering::source_small, crate::proofs::Numbering::target_small, crate::proofs::Numbering::arguments_small))]
+#[tactic(auto, using(crate::proofs::emission::Numbering::source_small, crate::proofs::emission::Numbering::target_small, crate::proofs::emission::Numbering::arguments_small))]
 fn body_count(plain: &Plain, frames: &[Frame], function: usize, instruction: Instruction) -> usize
     requires fit { AreFrames plain.now frames.now }
     requires function { function < length plain.now.functions }
@@ -226,7 +226,7 @@ fn behind_count(plain: &Plain, frames: &[Frame], function: usize, instruction: I
 }
 
 /// The lines of an instruction.
-#[tactic(auto, using(crate::proofs::Numbering::count_fits))]
+#[tactic(auto, using(crate::proofs::emission::Numbering::count_fits))]
 fn count_of(plain: &Plain, frames: &[Frame], function: usize, instruction: Instruction) -> usize
     requires fit { AreFrames plain.now frames.now }
     requires function { function < length plain.now.functions }

@@ -27,6 +27,7 @@ use Rattle.cyc_store.proofs.Responses.{serves-lexical, sound-lexical, serves-dyn
 use Rattle.cyc_store.proofs.RegionServices.{opened-laid}
 use Rattle.cyc_store.proofs.TieLemmas.{all-fresh, none-free, taken-again, taken-new, IsDrawn, drawn-tied}
 use Rattle.cyc_store.proofs.TieOpening.{first_row, with_row, lexicals_with, fresh-handle, opened-tied}
+use Rattle.cyc_store.proofs.PagedStart.{are-many}
 
 -- ---- what is held
 
@@ -138,10 +139,6 @@ kept-unchanged t u lexicals classes b same k = record {
   tied = subst (λ table. IsTied table lexicals (λ (class : ℕ). slice_index_or classes class no_slots) b k.layout) (sym (same-table t u same)) k.tied;
 }
 
-numbers-length : (first count : ℕ) → length (numbers_from first count) ≡ count
-numbers-length first zero = refl
-numbers-length first (suc count) = ap suc (numbers-length (suc first) count)
-
 -- ---- a page is taken
 
 module _ (t : PageTable) (lexicals : List ℕ) (classes : List ClassSlots) (b : Blocks) (k : IsKept t lexicals classes b) where
@@ -172,7 +169,7 @@ module _ (t : PageTable) (lexicals : List ℕ) (classes : List ClassSlots) (b : 
   kept-used past = k.whole.words ∙ ap (λ n. PAGE_WORDS * n) (counted (length t.rows.items) t.most (length k.layout.free) (demand s) k.tied.few fresh k.laid.paged.count)
     where
       fresh : length k.layout.free ≡ t.most - length t.rows.items
-      fresh = ap length (all-fresh (table_of t) lexicals slots b k.layout k.tied past) ∙ numbers-length (length t.rows.items) (t.most - length t.rows.items)
+      fresh = ap length (all-fresh (table_of t) lexicals slots b k.layout k.tied past) ∙ are-many (length t.rows.items) (t.most - length t.rows.items)
 
       counted : (n m l d : ℕ) → n ≤ m → l ≡ m - n → l + d ≡ m → n ≡ d
       counted n m l d few fresh count = omega (arith, few, fresh, count)

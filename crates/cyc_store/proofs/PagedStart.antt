@@ -38,11 +38,11 @@ above : (x first count : ℕ) → x < first → AllByRecursion (λ (y : ℕ). x 
 above x first zero less = tt
 above x first (suc count) less = (not_below x first less, above x (suc first) count (next x first less))
 
-are-distinct : (first count : ℕ) → IsDistinct (numbers_from first count)
+pub are-distinct : (first count : ℕ) → IsDistinct (numbers_from first count)
 are-distinct first zero = tt
 are-distinct first (suc count) = (above first (suc first) count (below_next first), are-distinct (suc first) count)
 
-are-many : (first count : ℕ) → length (numbers_from first count) ≡ count
+pub are-many : (first count : ℕ) → length (numbers_from first count) ≡ count
 are-many first zero = refl
 are-many first (suc count) = ap suc (are-many (suc first) count)
 

@@ -35,12 +35,12 @@ one-cases (x ∷ xs) p = elim (cases_eq p x) [
   ]
 ]
 
-one-all : (P : ℕ → Type 0) (xs : List ℕ) (p : ℕ) → AllByRecursion P xs → IsOneOf xs p → P p
+pub one-all : (P : ℕ → Type 0) (xs : List ℕ) (p : ℕ) → AllByRecursion P xs → IsOneOf xs p → P p
 one-all P [] p all inside = absurd inside
 one-all P (x ∷ xs) p all (inl same) = subst P (sym same) all.0
 one-all P (x ∷ xs) p all (inr inside) = one-all P xs p all.1 inside
 
-all-from : (P : ℕ → Type 0) (xs : List ℕ) → ((p : ℕ) → IsOneOf xs p → P p) → AllByRecursion P xs
+pub all-from : (P : ℕ → Type 0) (xs : List ℕ) → ((p : ℕ) → IsOneOf xs p → P p) → AllByRecursion P xs
 all-from P [] each = tt
 all-from P (x ∷ xs) each = (each x (inl refl), all-from P xs (λ p inside. each p (inr inside)))
 

@@ -9,8 +9,8 @@ use Rattle.cyc_select.specs.declared.code.Line.{Line}
 use Rattle.cyc_select.specs.Labelled.{Labelled, IsCode}
 use Rattle.cyc_select.specs.Selection.{start_code, function_line, function_lines, select_of}
 use Rattle.cyc_select.specs.Emission.{function_starts}
-use Rattle.cyc_select.proofs.Numbering.{words_small, starts_length, starts_at}
-use Rattle.cyc_select.proofs.Whole.{is_code}
+use Rattle.cyc_select.proofs.emission.Numbering.{words_small, starts_length, starts_at}
+use Rattle.cyc_select.proofs.layout.Whole.{is_code}
 use Rattle.cyc_select.proofs.selection.selected.Goals as goal
 
 -- the lines of the start, and behind them those of the functions

@@ -1,6 +1,6 @@
 use Rattle.std.proofs.Common.{◌++◌}
 use Rattle.cyc_select.specs.Selection.{ordinary, copies}
-use Rattle.cyc_select.proofs.Emitting.{copied}
+use Rattle.cyc_select.proofs.emission.Emitting.{copied}
 use Rattle.cyc_select.proofs.emitter.Emitter.arguments.Goals as goal
 
 pub loop-slot-preserved : goal.loop-slot-preserved

@@ -1,6 +1,6 @@
 use Rattle.std.proofs.Common.{sym, subst, ◌∙◌}
 use Rattle.cyc_select.specs.Emission.{IsPlanFound}
-use Rattle.cyc_select.proofs.Found.{binary_found}
+use Rattle.cyc_select.proofs.values.Found.{binary_found}
 use Rattle.cyc_select.proofs.emitter.Emitter.binary.Goals as goal
 
 pub plan-requires-clause-found : goal.plan-requires-clause-found

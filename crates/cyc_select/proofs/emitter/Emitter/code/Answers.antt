@@ -1,5 +1,5 @@
 use Rattle.std.proofs.Common.{arith}
-use Rattle.cyc_select.proofs.Numbering.{known_fits}
+use Rattle.cyc_select.proofs.emission.Numbering.{known_fits}
 use Rattle.cyc_select.proofs.emitter.Emitter.code.Goals as goal
 
 pub instruction-requires-clause-fits : goal.instruction-requires-clause-fits

@@ -5,7 +5,7 @@ use Rattle.cyc_plain.specs.declared.limits.TheConstants.{MOST_SIZE}
 use Rattle.cyc_plain.specs.Program.{Routine, routine_at, instruction_size, size}
 use Rattle.cyc_select.specs.Selection.{function_line}
 use Rattle.cyc_select.specs.Emission.{instruction_lines, most_lines}
-use Rattle.cyc_select.proofs.Numbering.{ready_starts, ready_start, ready_size, ready_fits}
+use Rattle.cyc_select.proofs.emission.Numbering.{ready_starts, ready_start, ready_size, ready_fits}
 use Rattle.cyc_select.proofs.emitter.Emitter.function.Goals as goal
 
 pub offset_bounds-program-function : goal.offset_bounds-program-function

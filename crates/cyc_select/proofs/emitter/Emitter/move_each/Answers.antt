@@ -1,6 +1,6 @@
 use Rattle.std.proofs.Common.{◌++◌}
 use Rattle.cyc_select.specs.Selection.{ordinary, moves}
-use Rattle.cyc_select.proofs.Emitting.{moved_next}
+use Rattle.cyc_select.proofs.emission.Emitting.{moved_next}
 use Rattle.cyc_select.proofs.emitter.Emitter.move_each.Goals as goal
 
 pub loop-word-preserved : goal.loop-word-preserved

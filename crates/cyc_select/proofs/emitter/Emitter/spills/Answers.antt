@@ -1,6 +1,6 @@
 use Rattle.std.proofs.Common.{◌++◌}
 use Rattle.cyc_select.specs.Selection.{ordinary, spills}
-use Rattle.cyc_select.proofs.Emitting.{spilled_next}
+use Rattle.cyc_select.proofs.emission.Emitting.{spilled_next}
 use Rattle.cyc_select.proofs.emitter.Emitter.spills.Goals as goal
 
 pub loop-word-preserved : goal.loop-word-preserved

@@ -4,7 +4,7 @@ use Rattle.cyc_frame.specs.Frame.{Frame}
 use Rattle.cyc_frame.specs.Layout.{frame_at}
 use Rattle.cyc_frame.specs.declared.frame.TheConstants.{MOST_FRAME_WORDS}
 use Rattle.cyc_select.specs.Emission.{AreReached}
-use Rattle.cyc_select.proofs.Numbering.{words_small, slots_reached, homes_reached}
+use Rattle.cyc_select.proofs.emission.Numbering.{words_small, slots_reached, homes_reached}
 use Rattle.cyc_select.proofs.tables.Tables.frame.Goals as goal
 
 pub returns-clause-words : goal.returns-clause-words

@@ -1,5 +1,5 @@
 use Rattle.std.proofs.Common.{◌<◌, length, arith, rules}
-use Rattle.cyc_select.proofs.Numbering.{known_line, known_lines}
+use Rattle.cyc_select.proofs.emission.Numbering.{known_line, known_lines}
 use Rattle.cyc_select.proofs.tables.Tables.line.Goals as goal
 
 pub offset_bounds-self-index : goal.offset_bounds-self-index

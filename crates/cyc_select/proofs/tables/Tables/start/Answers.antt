@@ -1,5 +1,5 @@
 use Rattle.std.proofs.Common.{◌<◌, length, arith, rules}
-use Rattle.cyc_select.proofs.Numbering.{ready_start, ready_starts}
+use Rattle.cyc_select.proofs.emission.Numbering.{ready_start, ready_starts}
 use Rattle.cyc_select.proofs.tables.Tables.start.Goals as goal
 
 pub offset_bounds-self-function : goal.offset_bounds-self-function

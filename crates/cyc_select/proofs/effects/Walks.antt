@@ -1,0 +1,561 @@
+-- Walks: stretches of a run of labelled code through lines whose numbers rise.
+use Rattle.std.proofs.Common.{◌≡◌, ◌≢◌, ℕ, suc, ◌+◌, ◌-◌, ◌<◌, ◌≤◌, ◌%◌, drop, Bool, true, List, [], ◌∷◌, ◌++◌, length, Option, Some, None, slice_get, refl, sym, ap, subst, ◌∙◌, arith, inl, inr}
+use Rattle.std.specs.Prelude.{if◌then◌else◌, Contains}
+use Rattle.std.specs.List.{AllByRecursion, range_with_len}
+use Rattle.std.proofs.lemmas.List.FromFn.{get_or-range_with_len, length-range_with_len}
+use Rattle.cyc_machine.specs.declared.constants.TheConstants.{RETURN_ADDRESS}
+use Rattle.cyc_isa.specs.Effect.{branch_taken, branch_zero_taken, memory_address, high_result}
+use Rattle.cyc_isa.specs.declared.instr.Instr.{Instr}
+use Rattle.cyc_isa.specs.declared.instr.Instr.TheVariants.{Immediate, LoadUpper, Memory, Branch, BranchZero, Jump, Shift, ShiftVariable, JumpRegister, JumpRegisterLink, Exception, MoveFrom, MultiplyDivide, Arithmetic}
+use Rattle.cyc_isa.specs.declared.instr.MemoryOp.TheVariants.{LoadWord, StoreWord, LoadByte, StoreByte}
+use Rattle.cyc_isa.specs.declared.operand.Register.{Register}
+use Rattle.cyc_isa.specs.declared.instr.MoveFromOp.TheVariants.{High, Low}
+use Rattle.cyc_words.specs.WordBytes.{word_of}
+use Rattle.cyc_words.proofs.WordBytesLemmas.{byte-small, with_byte-word}
+use Rattle.cyc_words.specs.Simulation as simulation
+use Rattle.cyc_words.specs.Simulation.{Machine, Comes, IsDistinct}
+use Rattle.cyc_store.specs.State.{StoreState}
+use Rattle.cyc_store.specs.Services as services
+use Rattle.cyc_store.specs.Services.{Call, Answer, refusal}
+use Rattle.cyc_plain.specs.State.{Words, AreWords, put}
+use Rattle.cyc_plain.specs.Step.{HasAnswerWords}
+use Rattle.cyc_plain.specs.declared.instruction.Request.{Request}
+use Rattle.cyc_plain.proofs.SlotLaws.{put-same, put-other}
+use Rattle.cyc_plain.proofs.Placed.{holds_at}
+use Rattle.cyc_isa.specs.Encoding.{IsEncodable}
+use Rattle.cyc_isa.proofs.EffectLemmas.{IsWord-immediate_result, IsWord-load_upper_result, IsWord-arithmetic_result, IsWord-shift_result, IsWord-low_result, IsWord-high_result}
+use Rattle.std.proofs.lemmas.Bool.{cases_eq}
+use Rattle.cyc_plain.proofs.WordLaws.{put_words}
+use Rattle.cyc_select.specs.declared.code.Condition.{Condition}
+use Rattle.cyc_select.specs.declared.code.Condition.TheVariants as conditions
+use Rattle.cyc_select.specs.declared.code.Line.{Line}
+use Rattle.cyc_select.specs.declared.code.Line.TheVariants as lines
+use Rattle.cyc_select.specs.Labelled.{Labelled, IsFormed, IsFormedLine, is_ordinary, AreAddresses}
+use Rattle.cyc_words.specs.Ending.{Ending, Returned, Uncaught, Full}
+use Rattle.cyc_words.specs.Word.{IsWord, signed}
+use Rattle.cyc_isa.specs.Decoding.{trap_code_of}
+use Rattle.cyc_select.specs.Machine.{Configuration, State, Running, Ended, Step, Executes, ExecutesAt, Performs, PerformsOrdinary, machine, status_of, output_of, linked, at, word_in, holds_of, IsReturnPoint}
+use Rattle.cyc_select.specs.Selection.{ordinary, syscall, service_number}
+use Rattle.cyc_select.proofs.relation.Cells.{IsLive}
+use Rattle.cyc_select.proofs.effects.Views.{Contents, saved_in, View, Width, OneWord, OneByte, load_op, store_op, word_place, loaded_part, stored_word, does_r, does_w, IsSafe, IsWritable, moved, answered_r, view_at, view_seen, view_put, view_answered}
+use Rattle.cyc_select.proofs.effects.Effects.{performed, moved_view, loads_live, stores_live, loaded_view, saved_view, call_by, asked_call, given_answer, store_serves, store_is_full, byte_of, given_byte, gets_byte, printed_byte, puts_byte, ends_returned, ends_uncaught, ends_full}
+
+-- ---- rising places
+
+abbrev pub Rises : (lo hi : ℕ) → List ℕ → Type 0
+Rises lo hi [] = lo ≤ hi
+Rises lo hi (p ∷ places) = (lo ≤ p) × Rises (suc p) hi places
+
+apart : (x lo hi : ℕ) (places : List ℕ) → x < lo → Rises lo hi places → AllByRecursion (λ (y : ℕ). x ≢ y) places
+apart x lo hi [] below rises = tt
+apart x lo hi (p ∷ places) below (first, rest) = ((λ e. absurd (omega (arith, e, first, below))), apart x (suc p) hi places (omega arith) rest)
+
+pub rising_distinct : (lo hi : ℕ) (places : List ℕ) → Rises lo hi places → IsDistinct places
+rising_distinct lo hi [] rises = tt
+rising_distinct lo hi (p ∷ places) (first, rest) = (apart p (suc p) hi places (omega arith) rest, rising_distinct (suc p) hi places rest)
+
+rising_below : (lo hi : ℕ) (places : List ℕ) → Rises lo hi places → lo ≤ hi
+rising_below lo hi [] rises = rises
+rising_below lo hi (p ∷ places) (first, rest) = omega (arith, first, rising_below (suc p) hi places rest)
+
+in_range : (a n q : ℕ) → a ≤ q → q < a + n → Contains (range_with_len a n) q
+in_range a n q from below = (q - a, omega (arith, length-range_with_len a n), get_or-range_with_len a n (q - a) q (omega arith) ∙ (let e : a + (q - a) ≡ q = omega arith in e))
+
+pub rising_inside : (a n lo : ℕ) (places : List ℕ) → a ≤ lo → Rises lo (a + n) places → AllByRecursion (Contains (range_with_len a n)) places
+rising_inside a n lo [] from rises = tt
+rising_inside a n lo (p ∷ places) from (first, rest) =
+    (in_range a n p (omega arith) (omega (arith, rising_below (suc p) (a + n) places rest)), rising_inside a n (suc p) places (omega arith) rest)
+
+-- a stretch seen otherwise
+pub comes_map : (m : Machine) (Way Goal Way' Goal' : m.State → Type 0) (places : List m.Place) (s : m.State)
+    → ((t : m.State) → Way t → Way' t) → ((t : m.State) → Goal t → Goal' t) → Comes m Way Goal places s → Comes m Way' Goal' places s
+comes_map m Way Goal Way' Goal' [] s ways goals comes = goals s comes
+comes_map m Way Goal Way' Goal' (p ∷ places) s ways goals (stands, way, goes) =
+    (stands, ways s way, λ next step. comes_map m Way Goal Way' Goal' places next ways goals (goes next step))
+
+-- ---- code that stands at a line
+
+abbrev pub Stands : Labelled → ℕ → List Line → Type 0
+Stands code k [] = Unit {0}
+Stands code k (l ∷ ls) = (slice_get code.lines k ≡ Some l) × Stands code (k + 1) ls
+
+stands_to : (code : Labelled) (k j : ℕ) (ls : List Line) → k ≡ j → Stands code k ls → Stands code j ls
+stands_to code k j ls same stands = subst (λ (n : ℕ). Stands code n ls) same stands
+
+pub stands_front : (code : Labelled) (k : ℕ) (xs ys : List Line) → Stands code k (xs ++ ys) → Stands code k xs
+stands_front code k [] ys stands = tt
+stands_front code k (x ∷ xs) ys (first, rest) = (first, stands_front code (k + 1) xs ys rest)
+
+pub stands_back : (code : Labelled) (k : ℕ) (xs ys : List Line) → Stands code k (xs ++ ys) → Stands code (k + length xs) ys
+stands_back code k [] ys stands = stands_to code k (k + 0) ys (omega arith) stands
+stands_back code k (x ∷ xs) ys (first, rest) = stands_to code (k + 1 + length xs) (k + suc (length xs)) ys (omega arith) (stands_back code (k + 1) xs ys rest)
+
+-- up to a line, and with it
+pub stands_until : (code : Labelled) (k : ℕ) (xs : List Line) (y : Line) (ys : List Line) → Stands code k (xs ++ y ∷ ys) → Stands code k (xs ++ y ∷ [])
+stands_until code k [] y ys (first, rest) = (first, tt)
+stands_until code k (x ∷ xs) y ys (first, rest) = (first, stands_until code (k + 1) xs y ys rest)
+
+-- the same of ordinary lines
+pub stands_first : (code : Labelled) (k : ℕ) (xs ys : List Instr) → Stands code k (ordinary (xs ++ ys)) → Stands code k (ordinary xs)
+stands_first code k [] ys stands = tt
+stands_first code k (x ∷ xs) ys (first, rest) = (first, stands_first code (k + 1) xs ys rest)
+
+pub stands_behind : (code : Labelled) (k : ℕ) (xs ys : List Instr) → Stands code k (ordinary (xs ++ ys)) → Stands code (k + length xs) (ordinary ys)
+stands_behind code k [] ys stands = stands_to code k (k + 0) (ordinary ys) (omega arith) stands
+stands_behind code k (x ∷ xs) ys (first, rest) = stands_to code (k + 1 + length xs) (k + suc (length xs)) (ordinary ys) (omega arith) (stands_behind code (k + 1) xs ys rest)
+
+-- ---- one after another
+
+abbrev pub after_r : List Instr → (r : Words) (w : Contents) → Words
+after_r [] r w = r
+after_r (i ∷ is) r w = after_r is (does_r i r w) (does_w i r w)
+
+abbrev pub after_w : List Instr → (r : Words) (w : Contents) → Contents
+after_w [] r w = w
+after_w (i ∷ is) r w = after_w is (does_r i r w) (does_w i r w)
+
+abbrev pub AreSafe : (globals stack : ℕ) → List Instr → (r : Words) (w : Contents) → Type 0
+AreSafe globals stack [] r w = Unit {0}
+AreSafe globals stack (i ∷ is) r w = IsSafe globals stack i r × AreSafe globals stack is (does_r i r w) (does_w i r w)
+
+pub after_r-append : (is js : List Instr) (r : Words) (w : Contents) → after_r (is ++ js) r w ≡ after_r js (after_r is r w) (after_w is r w)
+after_r-append [] js r w = refl
+after_r-append (i ∷ is) js r w = after_r-append is js (does_r i r w) (does_w i r w)
+
+pub after_w-append : (is js : List Instr) (r : Words) (w : Contents) → after_w (is ++ js) r w ≡ after_w js (after_r is r w) (after_w is r w)
+after_w-append [] js r w = refl
+after_w-append (i ∷ is) js r w = after_w-append is js (does_r i r w) (does_w i r w)
+
+-- what is loaded of a word is one, and so is what a store leaves of it
+part_word : (width : Width) (address word : ℕ) → IsWord word → IsWord (loaded_part width address word)
+part_word OneWord address word is = is
+part_word OneByte address word is = let small = byte-small word (address % 4) in omega (arith, small)
+
+pub stored_is_word : (width : Width) (address old word : ℕ) → IsWord old → IsWord word → IsWord (stored_word width address old word)
+stored_is_word OneWord address old word before is = is
+stored_is_word OneByte address old word before is = with_byte-word old (address % 4) (word % 256) before (omega arith)
+
+does_words_r : (i : Instr) (r : Words) (w : Contents) → IsEncodable i → AreWords r → AreWords w.words → AreWords (does_r i r w)
+does_words_r (Immediate op target source half) r w fits all mem = put_words r target.number _ all (IsWord-immediate_result op (r source.number) half (all source.number) fits)
+does_words_r (LoadUpper target half) r w fits all mem = put_words r target.number _ all (IsWord-load_upper_result half fits)
+does_words_r (Memory LoadWord target base offset) r w fits all mem = put_words r target.number _ all (mem (memory_address (r base.number) offset))
+does_words_r (Memory StoreWord source base offset) r w fits all mem = all
+does_words_r (Memory LoadByte target base offset) r w fits all mem =
+    put_words r target.number _ all (part_word OneByte (memory_address (r base.number) offset) (w.words (word_of (memory_address (r base.number) offset))) (mem (word_of (memory_address (r base.number) offset))))
+does_words_r (Memory StoreByte source base offset) r w fits all mem = all
+does_words_r (Branch op left right offset) r w fits all mem = all
+does_words_r (BranchZero op source offset) r w fits all mem = all
+does_words_r (Jump op index) r w fits all mem = all
+does_words_r (Shift op destination source amount) r w fits all mem = put_words r destination.number _ all (IsWord-shift_result op (r source.number) amount.bits (all source.number))
+does_words_r (ShiftVariable op destination source by) r w fits all mem = put_words r destination.number _ all (IsWord-shift_result op (r source.number) (r by.number) (all source.number))
+does_words_r (JumpRegister source) r w fits all mem = all
+does_words_r (JumpRegisterLink destination source) r w fits all mem = all
+does_words_r (Exception op code) r w fits all mem = all
+does_words_r (MoveFrom High destination) r w fits all mem = put_words r destination.number _ all (all 32)
+does_words_r (MoveFrom Low destination) r w fits all mem = put_words r destination.number _ all (all 33)
+does_words_r (MultiplyDivide op left right) r w fits all mem =
+    put_words (put r 32 (high_result op (r left.number) (r right.number))) 33 _
+    (put_words r 32 _ all (IsWord-high_result op (r left.number) (r right.number) (all left.number) (all right.number)))
+    (IsWord-low_result op (r left.number) (r right.number))
+does_words_r (Arithmetic op destination left right) r w fits all mem =
+    put_words r destination.number _ all (IsWord-arithmetic_result op (r left.number) (r right.number) (all left.number) (all right.number))
+
+does_words_w : (i : Instr) (r : Words) (w : Contents) → AreWords r → AreWords w.words → AreWords (does_w i r w).words
+does_words_w (Memory StoreWord source base offset) r w all mem = put_words w.words (memory_address (r base.number) offset) (r source.number) mem (all source.number)
+does_words_w (Memory LoadWord target base offset) r w all mem = mem
+does_words_w (Memory StoreByte source base offset) r w all mem =
+    let address : ℕ = memory_address (r base.number) offset in
+    put_words w.words (word_of address) (stored_word OneByte address (w.words (word_of address)) (r source.number)) mem (stored_is_word OneByte address (w.words (word_of address)) (r source.number) (mem (word_of address)) (all source.number))
+does_words_w (Memory LoadByte target base offset) r w all mem = mem
+does_words_w (Immediate op target source half) r w all mem = mem
+does_words_w (LoadUpper target half) r w all mem = mem
+does_words_w (Branch op left right offset) r w all mem = mem
+does_words_w (BranchZero op source offset) r w all mem = mem
+does_words_w (Jump op index) r w all mem = mem
+does_words_w (Shift op destination source amount) r w all mem = mem
+does_words_w (ShiftVariable op destination source by) r w all mem = mem
+does_words_w (JumpRegister source) r w all mem = mem
+does_words_w (JumpRegisterLink destination source) r w all mem = mem
+does_words_w (Exception op code) r w all mem = mem
+does_words_w (MoveFrom op destination) r w all mem = mem
+does_words_w (MultiplyDivide op left right) r w all mem = mem
+does_words_w (Arithmetic op destination left right) r w all mem = mem
+
+safe_ordinary : (globals stack : ℕ) (i : Instr) (r : Words) → IsSafe globals stack i r → is_ordinary i ≡ true
+safe_ordinary globals stack (Immediate op target source half) r safe = refl
+safe_ordinary globals stack (LoadUpper target half) r safe = refl
+safe_ordinary globals stack (Memory op target base offset) r safe = refl
+safe_ordinary globals stack (Branch op left right offset) r safe = absurd safe
+safe_ordinary globals stack (BranchZero op source offset) r safe = absurd safe
+safe_ordinary globals stack (Jump op index) r safe = absurd safe
+safe_ordinary globals stack (Shift op destination source amount) r safe = refl
+safe_ordinary globals stack (ShiftVariable op destination source by) r safe = refl
+safe_ordinary globals stack (JumpRegister source) r safe = absurd safe
+safe_ordinary globals stack (JumpRegisterLink destination source) r safe = absurd safe
+safe_ordinary globals stack (Exception op code) r safe = absurd safe
+safe_ordinary globals stack (MoveFrom op destination) r safe = refl
+safe_ordinary globals stack (MultiplyDivide op left right) r safe = refl
+safe_ordinary globals stack (Arithmetic op destination left right) r safe = refl
+
+module _ (code : Labelled) (formed : IsFormed code) (addresses : ℕ → ℕ) (globals stack : ℕ) where
+  -- under way, with this printed
+  abbrev pub Quiet : List ℕ → State → Type 0
+  Quiet out t = (status_of t ≡ simulation.Running) × (output_of t ≡ out)
+
+  -- Each run from here meets so many places at least, which rise from one line to another, and comes to the goal.
+  pub record Walk (least lo hi : ℕ) (out : List ℕ) (Goal : State → Type 0) (t : State) : Type 0 where
+    pub places : List ℕ
+    pub enough : least ≤ length places
+    pub rises : Rises lo hi places
+    pub comes : Comes (machine code addresses) (Quiet out) Goal places t
+
+  pub walk_end : (lo hi : ℕ) (out : List ℕ) (Goal : State → Type 0) (t : State) → lo ≤ hi → Goal t → Walk 0 lo hi out Goal t
+  walk_end lo hi out Goal t below goal = record { places = []; enough = omega arith; rises = below; comes = goal }
+
+  pub walk_step : (n lo hi : ℕ) (out : List ℕ) (Goal : State → Type 0) (c : Configuration) (u : State) → lo ≤ c.line → c.output ≡ out
+      → ((next : State) → Step code addresses (Running c) next → next ≡ u) → Walk n (suc c.line) hi out Goal u → Walk (suc n) lo hi out Goal (Running c)
+  walk_step n lo hi out Goal c u from output only rest = record {
+    places = c.line ∷ rest.places;
+    enough = omega (arith, rest.enough);
+    rises = (from, rest.rises);
+    comes = (refl, (refl, output), λ next step. subst (λ (t : State). Comes (machine code addresses) (Quiet out) Goal rest.places t) (sym (only next step)) rest.comes);
+  }
+
+  pub walk_few : (m n lo hi : ℕ) (out : List ℕ) (Goal : State → Type 0) (t : State) → m ≤ n → Walk n lo hi out Goal t → Walk m lo hi out Goal t
+  walk_few m n lo hi out Goal t fewer walk = record { places = walk.places; enough = omega (arith, walk.enough); rises = walk.rises; comes = walk.comes }
+
+  rises_from : (lo from hi : ℕ) (places : List ℕ) → lo ≤ from → Rises from hi places → Rises lo hi places
+  rises_from lo from hi [] below rises = omega arith
+  rises_from lo from hi (p ∷ places) below (first, rest) = ((omega arith), rest)
+
+  pub walk_from : (n lo from hi : ℕ) (out : List ℕ) (Goal : State → Type 0) (t : State) → lo ≤ from → Walk n from hi out Goal t → Walk n lo hi out Goal t
+  walk_from n lo from hi out Goal t below walk = record { places = walk.places; enough = walk.enough; rises = rises_from lo from hi walk.places below walk.rises; comes = walk.comes }
+
+  -- The run stands at this line, and registers and memory are these.
+  pub record Now (line : ℕ) (out rest : List ℕ) (r : Words) (w : Contents) (c : Configuration) : Type 0 where
+    pub view : View globals stack c r w
+    pub r_words : AreWords r
+    pub w_words : AreWords w.words
+    pub at_line : c.line ≡ line
+    pub output : c.output ≡ out
+    pub input : c.input ≡ rest
+
+  pub now_at : (k j : ℕ) (out input : List ℕ) (r : Words) (w : Contents) (c : Configuration) → k ≡ j → Now k out input r w c → Now j out input r w c
+  now_at k j out input r w c same now = record { view = now.view; r_words = now.r_words; w_words = now.w_words; at_line = now.at_line ∙ same; output = now.output; input = now.input }
+
+  pub now_is : (k : ℕ) (out input : List ℕ) (r : Words) (w : Contents) (r' : Words) (w' : Contents) (c : Configuration) → r ≡ r' → w ≡ w' → Now k out input r w c → Now k out input r' w' c
+  now_is k out input r w r' w' c same_r same_w now =
+      subst (λ (x : Words). Now k out input x w' c) same_r (subst (λ (x : Contents). Now k out input r x c) same_w now)
+
+  executes_line : (c : Configuration) (l : Line) (next : State) → slice_get code.lines c.line ≡ Some l → Step code addresses (Running c) next → Executes code addresses c l next
+  executes_line c l next stands step = subst (λ (o : Option Line). ExecutesAt code addresses c o next) stands step
+
+  stands_now : (k : ℕ) (out input : List ℕ) (r : Words) (w : Contents) (c : Configuration) (l : Line) → Now k out input r w c → slice_get code.lines k ≡ Some l → slice_get code.lines c.line ≡ Some l
+  stands_now k out input r w c l now stands = ap (slice_get code.lines) now.at_line ∙ stands
+
+  -- an ordinary instruction, whatever it does
+  pub performs_now : (k : ℕ) (out input : List ℕ) (r : Words) (w : Contents) (c : Configuration) (i : Instr) (next : State) → Now k out input r w c → slice_get code.lines k ≡ Some (lines.Ordinary i) → is_ordinary i ≡ true
+      → Step code addresses (Running c) next → Performs c i next
+  performs_now k out input r w c i next now stands is step =
+      subst (λ (b : Bool). PerformsOrdinary b c i next) is
+      (executes_line c (lines.Ordinary i) next (stands_now k out input r w c (lines.Ordinary i) now stands) step)
+
+  pub moved_now : (k : ℕ) (out input : List ℕ) (r : Words) (w : Contents) (c : Configuration) (i : Instr) → Now k out input r w c → IsEncodable i → View globals stack (moved c i) (does_r i r w) (does_w i r w)
+      → Now (k + 1) out input (does_r i r w) (does_w i r w) (moved c i)
+  moved_now k out input r w c i now fits view = record { view = view; r_words = does_words_r i r w fits now.r_words now.w_words; w_words = does_words_w i r w now.r_words now.w_words; at_line = ap (λ (n : ℕ). n + 1) now.at_line; output = now.output; input = now.input }
+
+  -- A stretch of safe instructions. (The view of what is left does not depend on what is next.)
+  pub walk_block : (is : List Instr) (n k lo hi : ℕ) (out input : List ℕ) (Goal : State → Type 0) (r : Words) (w : Contents) (c : Configuration)
+      → Now k out input r w c → Stands code k (ordinary is) → AreSafe globals stack is r w → lo ≤ k
+      → ((d : Configuration) → Now (k + length is) out input (after_r is r w) (after_w is r w) d → Walk n (k + length is) hi out Goal (Running d))
+      → Walk (length is + n) lo hi out Goal (Running c)
+  walk_block [] n k lo hi out input Goal r w c now stands safe from goes =
+      walk_few (0 + n) n lo hi out Goal (Running c) (omega arith)
+      (walk_from n lo (k + 0) hi out Goal (Running c) (omega arith) (goes c (now_at k (k + 0) out input r w c (omega arith) now)))
+  walk_block (i ∷ is) n k lo hi out input Goal r w c now (stands, rest) (safe, others) from goes =
+      let ordinary_one = safe_ordinary globals stack i r safe in
+      let view = moved_view globals stack c r w now.view i safe in
+      let fits = (holds_at (IsFormedLine (length code.lines)) code.lines k (lines.Ordinary i) formed stands).1 in
+      walk_few (suc (length is) + n) (suc (length is + n)) lo hi out Goal (Running c) (omega arith)
+      (walk_step (length is + n) lo hi out Goal c (Running (moved c i)) (omega (arith, from, now.at_line)) now.output (λ next step. performed globals stack c r w now.view i next safe (performs_now k out input r w c i next now stands ordinary_one step))
+      (walk_from (length is + n) (suc c.line) (k + 1) hi out Goal (Running (moved c i)) (omega (arith, now.at_line))
+      (walk_block is n (k + 1) (k + 1) hi out input Goal (does_r i r w) (does_w i r w) (moved c i) (moved_now k out input r w c i now fits view) rest others (omega arith)
+      (λ d later.
+      walk_from n (k + 1 + length is) (k + suc (length is)) hi out Goal (Running d) (omega arith)
+      (goes d (now_at (k + 1 + length is) (k + suc (length is)) out input _ _ d (omega arith) later))))))
+
+  -- ---- words of live blocks
+
+  -- one comes to a register
+  pub walk_load : (width : Width) (n k lo hi : ℕ) (out input : List ℕ) (Goal : State → Type 0) (r : Words) (w : Contents) (c : Configuration) (target base : Register) (offset word : ℕ)
+      → Now k out input r w c → slice_get code.lines k ≡ Some (lines.Ordinary (Memory (load_op width) target base offset)) → lo ≤ k → IsWritable target.number
+      → IsLive w.store (word_place width (memory_address (r base.number) offset)) word → IsWord word
+      → ((d : Configuration) → Now (k + 1) out input (put r target.number (loaded_part width (memory_address (r base.number) offset) word)) w d → Walk n (suc k) hi out Goal (Running d))
+      → Walk (suc n) lo hi out Goal (Running c)
+  walk_load width n k lo hi out input Goal r w c target base offset word now stands from writable live is_word rest =
+      let i : Instr = Memory (load_op width) target base offset in
+      walk_step n lo hi out Goal c (Running (moved c i)) (omega (arith, from, now.at_line)) now.output
+      (λ next step. loads_live globals stack c r w now.view width target base offset word next live (performs_now k out input r w c i next now stands refl step))
+      (walk_from n (suc c.line) (suc k) hi out Goal (Running (moved c i)) (omega (arith, now.at_line))
+      (rest (moved c i) (record {
+        view = loaded_view globals stack c r w now.view width target base offset word writable live;
+        r_words = put_words r target.number _ now.r_words (part_word width (memory_address (r base.number) offset) word is_word);
+        w_words = now.w_words;
+        at_line = ap (λ (x : ℕ). x + 1) now.at_line;
+        output = now.output;
+        input = now.input;
+      })))
+
+  -- one is written
+  pub walk_save : (width : Width) (n k lo hi : ℕ) (out input : List ℕ) (Goal : State → Type 0) (r : Words) (w : Contents) (c : Configuration) (source base : Register) (offset old : ℕ)
+      → Now k out input r w c → slice_get code.lines k ≡ Some (lines.Ordinary (Memory (store_op width) source base offset)) → lo ≤ k
+      → IsLive w.store (word_place width (memory_address (r base.number) offset)) old
+      → ((d : Configuration) → Now (k + 1) out input r (saved_in w (word_place width (memory_address (r base.number) offset)) (stored_word width (memory_address (r base.number) offset) old (r source.number))) d → Walk n (suc k) hi out Goal (Running d))
+      → Walk (suc n) lo hi out Goal (Running c)
+  walk_save width n k lo hi out input Goal r w c source base offset old now stands from live rest =
+      let i : Instr = Memory (store_op width) source base offset in
+      walk_step n lo hi out Goal c (Running (moved c i)) (omega (arith, from, now.at_line)) now.output
+      (λ next step. stores_live globals stack c r w now.view width source base offset old next live (performs_now k out input r w c i next now stands refl step))
+      (walk_from n (suc c.line) (suc k) hi out Goal (Running (moved c i)) (omega (arith, now.at_line))
+      (rest (moved c i) (record {
+        view = saved_view globals stack c r w now.view width source base offset old live;
+        r_words = now.r_words;
+        w_words = now.w_words;
+        at_line = ap (λ (x : ℕ). x + 1) now.at_line;
+        output = now.output;
+        input = now.input;
+      })))
+
+  -- ---- branches, jumps, calls and returns
+
+  at_now : (k j : ℕ) (out input : List ℕ) (r : Words) (w : Contents) (c : Configuration) → Now k out input r w c → Now j out input r w (at c j)
+  at_now k j out input r w c now = record { view = view_at globals stack c r w now.view j; r_words = now.r_words; w_words = now.w_words; at_line = refl; output = now.output; input = now.input }
+
+  holds_now : (k : ℕ) (out input : List ℕ) (r : Words) (w : Contents) (c : Configuration) → Now k out input r w c → (condition : Condition) → holds_of (word_in c) condition ≡ holds_of r condition
+  holds_now k out input r w c now (conditions.Registers op left right) =
+      ap (λ (x : ℕ). branch_taken op x (word_in c right.number)) (now.view.reg left.number left.in_range) ∙ ap (branch_taken op (r left.number)) (now.view.reg right.number right.in_range)
+  holds_now k out input r w c now (conditions.Sign op source) = ap (branch_zero_taken op) (now.view.reg source.number source.in_range)
+
+  pub walk_branch : (n k lo hi : ℕ) (out input : List ℕ) (Goal : State → Type 0) (r : Words) (w : Contents) (c : Configuration) (condition : Condition) (label target : ℕ)
+      → Now k out input r w c → slice_get code.lines k ≡ Some (lines.Branch condition label) → lo ≤ k
+      → (if holds_of r condition then label else k + 1) ≡ target
+      → ((d : Configuration) → Now target out input r w d → Walk n (suc k) hi out Goal (Running d))
+      → Walk (suc n) lo hi out Goal (Running c)
+  walk_branch n k lo hi out input Goal r w c condition label target now stands from goes_to rest =
+      let there : (if holds_of (word_in c) condition then label else c.line + 1) ≡ target =
+      ap (λ (b : Bool). if b then label else c.line + 1) (holds_now k out input r w c now condition)
+      ∙ (ap (λ (x : ℕ). if holds_of r condition then label else x + 1) now.at_line ∙ goes_to) in
+      walk_step n lo hi out Goal c (Running (at c target)) (omega (arith, from, now.at_line)) now.output
+      (λ next step.
+      executes_line c (lines.Branch condition label) next (stands_now k out input r w c (lines.Branch condition label) now stands) step
+      ∙ ap (λ (x : ℕ). Running (at c x)) there)
+      (walk_from n (suc c.line) (suc k) hi out Goal (Running (at c target)) (omega (arith, now.at_line)) (rest (at c target) (at_now k target out input r w c now)))
+
+  pub walk_jump : (n k lo hi : ℕ) (out input : List ℕ) (Goal : State → Type 0) (r : Words) (w : Contents) (c : Configuration) (label : ℕ)
+      → Now k out input r w c → slice_get code.lines k ≡ Some (lines.Jump label) → lo ≤ k
+      → ((d : Configuration) → Now label out input r w d → Walk n (suc k) hi out Goal (Running d))
+      → Walk (suc n) lo hi out Goal (Running c)
+  walk_jump n k lo hi out input Goal r w c label now stands from rest =
+      walk_step n lo hi out Goal c (Running (at c label)) (omega (arith, from, now.at_line)) now.output
+      (λ next step. executes_line c (lines.Jump label) next (stands_now k out input r w c (lines.Jump label) now stands) step)
+      (walk_from n (suc c.line) (suc k) hi out Goal (Running (at c label)) (omega (arith, now.at_line)) (rest (at c label) (at_now k label out input r w c now)))
+
+  pub walk_call : (n k lo hi : ℕ) (out input : List ℕ) (Goal : State → Type 0) (r : Words) (w : Contents) (c : Configuration) (label : ℕ)
+      → Now k out input r w c → slice_get code.lines k ≡ Some (lines.Call label) → lo ≤ k → IsWord (addresses (k + 1))
+      → ((d : Configuration) → Now label out input (put r RETURN_ADDRESS (addresses (k + 1))) w d → Walk n (suc k) hi out Goal (Running d))
+      → Walk (suc n) lo hi out Goal (Running c)
+  walk_call n k lo hi out input Goal r w c label now stands from word rest =
+      let view = view_put globals stack c r w now.view RETURN_ADDRESS (addresses (c.line + 1)) (addresses (k + 1)) label (omega arith) refl (ap (λ (x : ℕ). addresses (x + 1)) now.at_line) in
+      walk_step n lo hi out Goal c (Running (at (linked addresses c) label)) (omega (arith, from, now.at_line)) now.output
+      (λ next step. executes_line c (lines.Call label) next (stands_now k out input r w c (lines.Call label) now stands) step)
+      (walk_from n (suc c.line) (suc k) hi out Goal (Running (at (linked addresses c) label)) (omega (arith, now.at_line))
+      (rest (at (linked addresses c) label) (record { view = view; r_words = put_words r RETURN_ADDRESS (addresses (k + 1)) now.r_words word; w_words = now.w_words; at_line = refl; output = now.output; input = now.input })))
+
+  pub walk_return : (n k lo hi : ℕ) (out input : List ℕ) (Goal : State → Type 0) (r : Words) (w : Contents) (c : Configuration) (line : ℕ)
+      → AreAddresses code addresses → Now k out input r w c → slice_get code.lines k ≡ Some lines.Return → lo ≤ k → IsReturnPoint code line → r RETURN_ADDRESS ≡ addresses line
+      → ((d : Configuration) → Now line out input r w d → Walk n (suc k) hi out Goal (Running d))
+      → Walk (suc n) lo hi out Goal (Running c)
+  walk_return n k lo hi out input Goal r w c line lie now stands from point is_address rest =
+      let holds : word_in c RETURN_ADDRESS ≡ addresses line = now.view.reg RETURN_ADDRESS (omega arith) ∙ is_address in
+      walk_step n lo hi out Goal c (Running (at c line)) (omega (arith, from, now.at_line)) now.output
+      (λ next step. elim (executes_line c lines.Return next (stands_now k out input r w c lines.Return now stands) step) [
+        | inl (other, found, lies, is) ↦ is ∙ ap (λ (x : ℕ). Running (at c x)) (lie.apart other line found.inside point.inside (lies ∙ holds))
+        | inr (nowhere, is) ↦ absurd (nowhere line point (sym holds))
+      ])
+      (walk_from n (suc c.line) (suc k) hi out Goal (Running (at c line)) (omega (arith, now.at_line)) (rest (at c line) (at_now k line out input r w c now)))
+
+  -- ---- services
+
+  syscall_now : (k : ℕ) (out input : List ℕ) (r : Words) (w : Contents) (c : Configuration) (next : State) → Now k out input r w c → slice_get code.lines k ≡ Some (lines.Ordinary syscall)
+      → Step code addresses (Running c) next → Performs c syscall next
+  syscall_now k out input r w c next now stands step = performs_now k out input r w c syscall next now stands refl step
+
+  pub walk_get : (n k lo hi : ℕ) (out input : List ℕ) (Goal : State → Type 0) (r : Words) (w : Contents) (c : Configuration)
+      → Now k out input r w c → slice_get code.lines k ≡ Some (lines.Ordinary syscall) → lo ≤ k → r 2 ≡ 1 → IsWord (byte_of input)
+      → ((d : Configuration) → Now (k + 1) out (drop 1 input) (put r 2 (byte_of input)) w d → Walk n (suc k) hi out Goal (Running d))
+      → Walk (suc n) lo hi out Goal (Running c)
+  walk_get n k lo hi out input Goal r w c now stands from number word rest =
+      let view = view_put globals stack c r w now.view 2 (byte_of c.input) (byte_of input) (c.line + 1) (omega arith) refl (ap byte_of now.input) in
+      walk_step n lo hi out Goal c (Running (given_byte c)) (omega (arith, from, now.at_line)) now.output
+      (λ next step. gets_byte c (trap_code_of 0) next (now.view.reg 2 (omega arith) ∙ number) (syscall_now k out input r w c next now stands step))
+      (walk_from n (suc c.line) (suc k) hi out Goal (Running (given_byte c)) (omega (arith, now.at_line))
+      (rest (given_byte c) (record { view = view_seen globals stack _ _ w view (c.line + 1) c.output (drop 1 c.input); r_words = put_words r 2 (byte_of input) now.r_words word; w_words = now.w_words; at_line = ap (λ (x : ℕ). x + 1) now.at_line; output = now.output; input = ap (drop 1) now.input })))
+
+  -- the goal is reached as soon as a byte is printed, or the run has ended
+  pub walk_put : (k lo hi : ℕ) (out input : List ℕ) (Goal : State → Type 0) (r : Words) (w : Contents) (c : Configuration)
+      → Now k out input r w c → slice_get code.lines k ≡ Some (lines.Ordinary syscall) → lo ≤ k → suc k ≤ hi → r 2 ≡ 2
+      → ((d : Configuration) → Now (k + 1) (out ++ r 4 % 256 ∷ []) input r w d → Goal (Running d))
+      → Walk 1 lo hi out Goal (Running c)
+  walk_put k lo hi out input Goal r w c now stands from below number rest =
+      walk_step 0 lo hi out Goal c (Running (printed_byte c)) (omega (arith, from, now.at_line)) now.output
+      (λ next step. puts_byte c (trap_code_of 0) next (now.view.reg 2 (omega arith) ∙ number) (syscall_now k out input r w c next now stands step))
+      (walk_end (suc c.line) hi out Goal (Running (printed_byte c)) (omega (arith, below, now.at_line))
+      (rest (printed_byte c) (record {
+        view = view_seen globals stack c r w now.view (c.line + 1) (c.output ++ word_in c 4 % 256 ∷ []) c.input;
+        r_words = now.r_words;
+        w_words = now.w_words;
+        at_line = ap (λ (x : ℕ). x + 1) now.at_line;
+        output = ap (λ (l : List ℕ). l ++ word_in c 4 % 256 ∷ []) now.output ∙ ap (λ (x : ℕ). out ++ x % 256 ∷ []) (now.view.reg 4 (omega arith));
+        input = now.input;
+      })))
+
+  ended_as : (k : ℕ) (out input : List ℕ) (r : Words) (w : Contents) (c : Configuration) (ending ended : Ending) → Now k out input r w c → ending ≡ ended
+      → Ended ending c.output c.input ≡ Ended ended out input
+  ended_as k out input r w c ending ended now same =
+      ap (λ (e : Ending). Ended e c.output c.input) same
+      ∙ (ap (λ (l : List ℕ). Ended ended l c.input) now.output ∙ ap (λ (l : List ℕ). Ended ended out l) now.input)
+
+  pub walk_returned : (k lo hi : ℕ) (out input : List ℕ) (Goal : State → Type 0) (r : Words) (w : Contents) (c : Configuration)
+      → Now k out input r w c → slice_get code.lines k ≡ Some (lines.Ordinary syscall) → lo ≤ k → suc k ≤ hi → r 2 ≡ 3
+      → Goal (Ended (Returned (signed (r 4))) out input) → Walk 1 lo hi out Goal (Running c)
+  walk_returned k lo hi out input Goal r w c now stands from below number goal =
+      walk_step 0 lo hi out Goal c (Ended (Returned (signed (r 4))) out input) (omega (arith, from, now.at_line)) now.output
+      (λ next step.
+      ends_returned c (trap_code_of 0) next (now.view.reg 2 (omega arith) ∙ number) (syscall_now k out input r w c next now stands step)
+      ∙ ended_as k out input r w c _ _ now (ap (λ (x : ℕ). Returned (signed x)) (now.view.reg 4 (omega arith))))
+      (walk_end (suc c.line) hi out Goal _ (omega (arith, below, now.at_line)) goal)
+
+  pub walk_uncaught : (k lo hi : ℕ) (out input : List ℕ) (Goal : State → Type 0) (r : Words) (w : Contents) (c : Configuration)
+      → Now k out input r w c → slice_get code.lines k ≡ Some (lines.Ordinary syscall) → lo ≤ k → suc k ≤ hi → r 2 ≡ 4
+      → Goal (Ended (Uncaught (r 4) (signed (r 5))) out input) → Walk 1 lo hi out Goal (Running c)
+  walk_uncaught k lo hi out input Goal r w c now stands from below number goal =
+      walk_step 0 lo hi out Goal c (Ended (Uncaught (r 4) (signed (r 5))) out input) (omega (arith, from, now.at_line)) now.output
+      (λ next step.
+      ends_uncaught c (trap_code_of 0) next (now.view.reg 2 (omega arith) ∙ number) (syscall_now k out input r w c next now stands step)
+      ∙ ended_as k out input r w c _ _ now
+      (ap (λ (x : ℕ). Uncaught x (signed (word_in c 5))) (now.view.reg 4 (omega arith)) ∙ ap (λ (x : ℕ). Uncaught (r 4) (signed x)) (now.view.reg 5 (omega arith))))
+      (walk_end (suc c.line) hi out Goal _ (omega (arith, below, now.at_line)) goal)
+
+  pub walk_full : (k lo hi : ℕ) (out input : List ℕ) (Goal : State → Type 0) (r : Words) (w : Contents) (c : Configuration)
+      → Now k out input r w c → slice_get code.lines k ≡ Some (lines.Ordinary syscall) → lo ≤ k → suc k ≤ hi → r 2 ≡ 11
+      → Goal (Ended Full out input) → Walk 1 lo hi out Goal (Running c)
+  walk_full k lo hi out input Goal r w c now stands from below number goal =
+      walk_step 0 lo hi out Goal c (Ended Full out input) (omega (arith, from, now.at_line)) now.output
+      (λ next step.
+      ends_full c (trap_code_of 0) next (now.view.reg 2 (omega arith) ∙ number) (syscall_now k out input r w c next now stands step)
+      ∙ ended_as k out input r w c _ _ now refl)
+      (walk_end (suc c.line) hi out Goal _ (omega (arith, below, now.at_line)) goal)
+
+  -- ---- calls of the store
+
+  -- the lines of a block from one on
+  abbrev pub lines_from : ℕ → List Instr → List ℕ
+  lines_from k [] = []
+  lines_from k (i ∷ is) = k ∷ lines_from (k + 1) is
+
+  pub lines_rise : (is : List Instr) (lo k hi : ℕ) → lo ≤ k → k + length is ≤ hi → Rises lo hi (lines_from k is)
+  lines_rise [] lo k hi from below = omega (arith, from, below)
+  lines_rise (i ∷ is) lo k hi from below = (from, lines_rise is (suc k) (k + 1) hi (omega arith) (omega (arith, below)))
+
+  -- safe instructions at the end of a stretch
+  pub comes_block : (is : List Instr) (k : ℕ) (out input : List ℕ) (Goal : State → Type 0) (r : Words) (w : Contents) (c : Configuration)
+      → Now k out input r w c → Stands code k (ordinary is) → AreSafe globals stack is r w
+      → ((d : Configuration) → Now (k + length is) out input (after_r is r w) (after_w is r w) d → Goal (Running d))
+      → Comes (machine code addresses) (Quiet out) Goal (lines_from k is) (Running c)
+  comes_block [] k out input Goal r w c now stands safe goes = goes c (now_at k (k + 0) out input r w c (omega arith) now)
+  comes_block (i ∷ is) k out input Goal r w c now (stands, rest) (safe, others) goes =
+      let ordinary_one = safe_ordinary globals stack i r safe in
+      let view = moved_view globals stack c r w now.view i safe in
+      let fits = (holds_at (IsFormedLine (length code.lines)) code.lines k (lines.Ordinary i) formed stands).1 in (
+        now.at_line,
+        (refl, now.output),
+        λ next step.
+            subst (Comes (machine code addresses) (Quiet out) Goal (lines_from (k + 1) is))
+            (sym (performed globals stack c r w now.view i next safe (performs_now k out input r w c i next now stands ordinary_one step)))
+            (comes_block is (k + 1) out input Goal (does_r i r w) (does_w i r w) (moved c i) (moved_now k out input r w c i now fits view) rest others
+            (λ d later. goes d (now_at (k + 1 + length is) (k + suc (length is)) out input _ _ d (omega arith) later))),
+      )
+
+  answered_words : (a : Answer) (r : Words) → AreWords r → HasAnswerWords a → AreWords (answered_r a r)
+  answered_words (services.Refused why) r all words = all
+  answered_words services.Done r all words = all
+  answered_words (services.Opened handle) r all word = put_words r 2 handle all word
+  answered_words (services.OpenedLexical handle mark) r all (first, second) = put_words (put r 2 handle) 3 mark (put_words r 2 handle all first) second
+  answered_words (services.Allocated address) r all word = put_words r 2 address all word
+
+  module _ (request : Request) (k lo hi : ℕ) (out input : List ℕ) (Goal : State → Type 0) (r : Words) (w : Contents) (c : Configuration) (call : Call) (store : StoreState)
+      (now : Now k out input r w c) (stands : slice_get code.lines k ≡ Some (lines.Ordinary syscall)) (from : lo ≤ k)
+      (number : r 2 ≡ service_number request) (is_call : call_by request (r 4) (r 5) ≡ call) (store_is : w.store ≡ store) where
+    here : c.store ≡ store
+    here = now.view.store ∙ store_is
+
+    asks : asked_call request c ≡ call
+    asks =
+        ap (λ (x : ℕ). call_by request x (word_in c 5)) (now.view.reg 4 (omega arith))
+        ∙ (ap (call_by request (r 4)) (now.view.reg 5 (omega arith)) ∙ is_call)
+
+    refused : refusal c.store (asked_call request c) ≡ refusal store call
+    refused = ap (refusal c.store) asks ∙ ap (λ (s : StoreState). refusal s call) here
+
+    numbered : word_in c 2 ≡ service_number request
+    numbered = now.view.reg 2 (omega arith) ∙ number
+
+    -- The store serves the call. The places behind it do not depend on what it chooses.
+    pub walk_served : (n : ℕ) (places : List ℕ) → refusal store call ≡ None
+        → ((choice : services.Choice) → services.IsAllowed store call choice → HasAnswerWords (services.answer store call choice)) → n ≤ length places → Rises (suc k) hi places
+        → ((choice : services.Choice) → services.IsAllowed store call choice → (d : Configuration)
+        → Now (k + 1) out input (answered_r (services.answer store call choice) r) (record w { store = services.served store call choice }) d
+        → Comes (machine code addresses) (Quiet out) Goal places (Running d))
+        → Walk (suc n) lo hi out Goal (Running c)
+    walk_served n places free words enough rises rest = record {
+      places = k ∷ places;
+      enough = omega (arith, enough);
+      rises = (from, rises);
+      comes = (
+        now.at_line,
+        (refl, now.output),
+        λ next step.
+            let (choice, allowed, is) = store_serves c (trap_code_of 0) next request numbered (refused ∙ free) (syscall_now k out input r w c next now stands step) in
+            let may : services.IsAllowed store call choice =
+            subst (λ (s : StoreState). services.IsAllowed s call choice) here (subst (λ (a : Call). services.IsAllowed c.store a choice) asks allowed) in
+            let answer_is : services.answer c.store (asked_call request c) choice ≡ services.answer store call choice =
+            ap (λ (a : Call). services.answer c.store a choice) asks ∙ ap (λ (s : StoreState). services.answer s call choice) here in
+            let leaves : services.served c.store (asked_call request c) choice ≡ services.served store call choice =
+            ap (λ (a : Call). services.served c.store a choice) asks ∙ ap (λ (s : StoreState). services.served s call choice) here in
+            let given : Answer = services.answer c.store (asked_call request c) choice in
+            let left : Configuration = given_answer c (services.answer c.store (asked_call request c) choice) (services.served c.store (asked_call request c) choice) in
+            let behind : Now (k + 1) out input (answered_r (services.answer c.store (asked_call request c) choice) r) (record w { store = services.served store call choice })
+            (given_answer c (services.answer c.store (asked_call request c) choice) (services.served c.store (asked_call request c) choice)) =
+            record {
+              view = view_answered globals stack c r w now.view (services.answer c.store (asked_call request c) choice) (c.line + 1) (services.served store call choice) (services.served c.store (asked_call request c) choice) leaves;
+              r_words = answered_words (services.answer c.store (asked_call request c) choice) r now.r_words (subst HasAnswerWords (sym answer_is) (words choice may));
+              w_words = now.w_words;
+              at_line = ap (λ (x : ℕ). x + 1) now.at_line;
+              output = now.output;
+              input = now.input;
+            } in
+            subst (Comes (machine code addresses) (Quiet out) Goal places) (sym is)
+            (rest choice may left
+            (now_is (k + 1) out input (answered_r given r) (record w { store = services.served store call choice }) (answered_r (services.answer store call choice) r) (record w { store = services.served store call choice }) left
+            (ap (λ (a : Answer). answered_r a r) answer_is) refl behind)),
+      );
+    }
+
+    -- there is no room for what it would come to
+    pub walk_no_room : suc k ≤ hi → refusal store call ≡ Some services.Full → Goal (Ended Full out input) → Walk 1 lo hi out Goal (Running c)
+    walk_no_room below full goal =
+        walk_step 0 lo hi out Goal c (Ended Full out input) (omega (arith, from, now.at_line)) now.output
+        (λ next step.
+        store_is_full c (trap_code_of 0) next request numbered (refused ∙ full) (syscall_now k out input r w c next now stands step)
+        ∙ ended_as k out input r w c _ _ now refl)
+        (walk_end (suc c.line) hi out Goal _ (omega (arith, below, now.at_line)) goal)

@@ -1,0 +1,230 @@
+-- Numbers of lines: sums over what stands before.
+use Rattle.std.proofs.Common.{◌≡◌, ℕ, zero, suc, ◌+◌, ◌<◌, ◌≤◌, Bool, true, false, List, [], ◌∷◌, ◌++◌, length, drop, take, refl, sym, ap, subst, ◌∙◌, inl, inr, arith}
+use Rattle.std.specs.Prelude.{sum_by, slice_index_or, if◌then◌else◌}
+use Rattle.std.proofs.lemmas.Bool.{cases_lt}
+use Rattle.std.proofs.lemmas.List.{drop_more, get_or_past}
+use Rattle.std.proofs.lemmas.List.Sums.{sum_by-cons, sum_by-drop_more, sum_by-take-drop, sum_by-take-le}
+use Rattle.cyc_plain.specs.declared.instruction.BinaryOperator.{BinaryOperator}
+use Rattle.cyc_plain.specs.declared.instruction.BinaryOperator.TheVariants as binary
+use Rattle.cyc_plain.specs.declared.instruction.Instruction.{Instruction}
+use Rattle.cyc_plain.specs.declared.instruction.Instruction.TheVariants as plain
+use Rattle.cyc_plain.specs.Requests.{second_operand}
+use Rattle.cyc_plain.specs.Program.{Program, Routine, no_routine, routine_at, operator_size, instruction_size, size}
+use Rattle.cyc_plain.specs.WellFormed.{IsCallInRange, IsMoveInRange, IsRoutine, IsWellFormed}
+use Rattle.cyc_plain.specs.declared.limits.TheConstants.{GREATEST_VALUE, MOST_SIZE}
+use Rattle.cyc_frame.specs.declared.frame.TheConstants.{MOST_FRAME_WORDS}
+use Rattle.cyc_frame.specs.Homes.{AreHomes}
+use Rattle.cyc_frame.specs.Layout.{IsFrame, AreFrames, frame_at}
+use Rattle.cyc_frame.specs.Frame.{Frame}
+use Rattle.cyc_select.specs.declared.constants.TheConstants.{START_LINES}
+use Rattle.cyc_select.specs.Selection.{reload_count, ending_count, count_of, function_count, functions_count, function_line, instruction_line, code_lines, function_lines}
+use Rattle.cyc_select.specs.Plans.{test_of}
+use Rattle.cyc_select.specs.Emission.{AreReached, AreFew, most_lines, instruction_lines, function_starts, AreReady, AreTables}
+use Rattle.cyc_select.proofs.emission.Counts.{move_small, move_words_small, spills_few, give_small, keep_few, argument_small, regions_small, word_small, load_small, operand_small, address_small, unary_small, test_small, operator_small}
+
+abbrev no_frame : Frame
+no_frame = record { words = 0; return_address = 0; first_slot = 0; homes = [] }
+
+-- ---- an instruction has few lines for each unit of its size
+
+if_small : (b : Bool) → (if b then 4 else 0) ≤ 4
+if_small true = omega arith
+if_small false = omega arith
+
+ending_small : (program : Program) (function : ℕ) → ending_count program function ≤ 4
+ending_small program function = if_small _
+
+-- an operator has words for its lines
+operator_fits : (operator : BinaryOperator) → 11 ≤ operator_size operator
+operator_fits binary.Divide = omega arith
+operator_fits binary.Remainder = omega arith
+operator_fits operator = omega arith
+
+-- few registers of a function are read again behind a call
+abbrev pub ReadsFew : List Frame → (function : ℕ) → Type 0
+ReadsFew frames function = reload_count (frame_at frames function) ≤ 6
+
+pub count_small : (program : Program) (frames : List Frame) (function : ℕ) → ReadsFew frames function → AreFew program → (i : Instruction) → count_of program frames function i ≤ instruction_size i
+count_small program frames function fit few (plain.Move destination source) = omega (arith, move_small (frame_at frames function) destination source)
+count_small program frames function fit few (plain.Unary operator destination operand) = omega (arith, unary_small (frame_at frames function) operator operand destination)
+count_small program frames function fit few (plain.Binary operator destination left right) = omega (arith, operator_small (frame_at frames function) operator destination left right, operator_fits operator)
+count_small program frames function fit few (plain.Jump target) = omega arith
+count_small program frames function fit few (plain.Branch comparison left right target) = omega (arith, test_small (frame_at frames function) (test_of comparison left right))
+count_small program frames function fit few (plain.Call f a n r) = omega (arith, few f, fit, spills_few (frame_at frames function) a n)
+count_small program frames function fit few (plain.Return v) = omega (arith, few function, ending_small program function)
+count_small program frames function fit few (plain.ReadByte destination) = omega (arith, give_small (frame_at frames function) destination)
+count_small program frames function fit few (plain.WriteByte source) = omega (arith, load_small source)
+count_small program frames function fit few (plain.AddressOf destination slot count) = omega (arith, keep_few (frame_at frames function) destination)
+count_small program frames function fit few (plain.LoadGlobal destination global) = omega (arith, keep_few (frame_at frames function) destination)
+count_small program frames function fit few (plain.StoreGlobal global source) = omega (arith, operand_small (frame_at frames function) source)
+count_small program frames function fit few (plain.MoveWords destination source count) = omega (arith, move_words_small (frame_at frames function) destination source count)
+count_small program frames function fit few (plain.Load destination address offset) = omega (arith, address_small (frame_at frames function) address offset, keep_few (frame_at frames function) destination)
+count_small program frames function fit few (plain.LoadByte destination address offset) = omega (arith, address_small (frame_at frames function) address offset, keep_few (frame_at frames function) destination)
+count_small program frames function fit few (plain.Store address offset source) = omega (arith, address_small (frame_at frames function) address offset, operand_small (frame_at frames function) source)
+count_small program frames function fit few (plain.StoreByte address offset source) = omega (arith, address_small (frame_at frames function) address offset, operand_small (frame_at frames function) source)
+count_small program frames function fit few (plain.Ask request) = omega (arith, regions_small request, argument_small (second_operand request))
+count_small program frames function fit few (plain.CountLexical destination) = omega (arith, give_small (frame_at frames function) destination)
+count_small program frames function fit few (plain.Try first handler) = omega (arith, fit)
+count_small program frames function fit few (plain.Leave first) = omega arith
+count_small program frames function fit few (plain.Throw tag value) = omega (arith, load_small tag, load_small value)
+count_small program frames function fit few (plain.Finish v) = omega (arith, few function, ending_small program function)
+count_small program frames function fit few (plain.Uncaught tag value) = omega (arith, word_small tag, load_small value)
+
+-- where there is no function no register is read again
+pub reads_few : (program : Program) (frames : List Frame) → AreFrames program frames → (k : ℕ) → ReadsFew frames k
+reads_few program frames fit k = elim (cases_lt k (length program.functions)) [
+  | inl below ↦ (fit.homes k below).few
+  | inr past ↦
+      subst (λ (frame : Frame). reload_count frame ≤ 6) (sym (get_or_past frames k no_frame (omega (arith, past, fit.as_many)))) (let e : 0 ≤ 6 = omega arith in e)
+]
+
+pub count_fits : (program : Program) (frames : List Frame) (function : ℕ) → AreFrames program frames → AreFew program → (i : Instruction) → count_of program frames function i ≤ instruction_size i
+count_fits program frames function fit few i = count_small program frames function (reads_few program frames fit function) few i
+
+code_small : (program : Program) (frames : List Frame) (function : ℕ) → ReadsFew frames function → AreFew program → (code : List Instruction) → sum_by (count_of program frames function) code ≤ sum_by instruction_size code
+code_small program frames function fit few [] = omega arith
+code_small program frames function fit few (i ∷ code) =
+    omega (arith, sum_by-cons (count_of program frames function) i code, sum_by-cons instruction_size i code, count_small program frames function fit few i, code_small program frames function fit few code)
+
+functions_small : (program : Program) (frames : List Frame) (first : ℕ) → ((k : ℕ) → ReadsFew frames k) → AreFew program → (routines : List Routine) → functions_count program frames first routines ≤ sum_by size routines
+functions_small program frames first fit few [] = omega arith
+functions_small program frames first fit few (r ∷ routines) =
+    omega (arith, sum_by-cons size r routines, code_small program frames first (fit first) few r.code, functions_small program frames (suc first) fit few routines)
+
+-- a function begins where it still fits
+pub start_fits : (program : Program) (frames : List Frame) → ((k : ℕ) → ReadsFew frames k) → AreFew program → (k : ℕ) → k < length program.functions
+    → function_line program frames k + size (routine_at program k) ≤ START_LINES + sum_by size program.functions
+start_fits program frames fit few k below =
+    omega (arith, functions_small program frames 0 fit few (take k program.functions), sum_by-drop_more size program.functions k no_routine below, sum_by-take-drop size program.functions k)
+
+-- and so do its instructions
+pub line_fits : (program : Program) (frames : List Frame) → ((k : ℕ) → ReadsFew frames k) → AreFew program → (k : ℕ) → k < length program.functions → (index : ℕ)
+    → instruction_line program frames k index ≤ START_LINES + sum_by size program.functions
+line_fits program frames fit few k below index =
+    omega (arith, start_fits program frames fit few k below, code_small program frames k (fit k) few (routine_at program k).code, sum_by-take-le (count_of program frames k) (routine_at program k).code index)
+
+-- ---- what a well-formed program says of all its functions
+
+-- where there is none, nothing is returned
+routines_few : (routines : List Routine) → ((k : ℕ) → k < length routines → (slice_index_or routines k no_routine).results ≤ GREATEST_VALUE)
+    → (k : ℕ) → (slice_index_or routines k no_routine).results ≤ GREATEST_VALUE
+routines_few [] few zero = omega arith
+routines_few [] few (suc k) = omega arith
+routines_few (r ∷ routines) few zero = few 0 (omega arith)
+routines_few (r ∷ routines) few (suc k) = routines_few routines (λ j below. few (suc j) (omega arith)) k
+
+routine_stands : (program : Program) → IsWellFormed program → (k : ℕ) → k < length program.functions → IsRoutine program (routine_at program k)
+routine_stands program well k below = well.functions k no_routine below
+
+pub are_few : (program : Program) → IsWellFormed program → AreFew program
+are_few program well = routines_few program.functions (λ k below. (routine_stands program well k below).results)
+
+-- ---- frames
+
+slots_below : (r : Routine) (frame : Frame) → IsFrame r frame → (n : ℕ) → n ≡ r.slots → AreReached frame 0 n
+slots_below r frame fit zero is = inl refl
+slots_below r frame fit (suc n) is = inr (omega (arith, fit.inside n (omega arith), fit.within, fit.small))
+
+pub slots_reached : (r : Routine) (frame : Frame) → IsFrame r frame → AreReached frame 0 r.slots
+slots_reached r frame fit = slots_below r frame fit r.slots refl
+
+pub homes_reached : (program : Program) (r : Routine) (frame : Frame) → IsFrame r frame → AreHomes program r frame.homes → AreReached frame 0 (length frame.homes)
+homes_reached program r frame fit right = slots_below r frame fit (length frame.homes) right.as_many
+
+pub words_small : (r : Routine) (frame : Frame) → IsFrame r frame → frame.words ≤ MOST_FRAME_WORDS
+words_small r frame fit = omega (arith, fit.within, fit.small)
+
+-- the slots of a function are so few
+slots_end : (r : Routine) (frame : Frame) → IsFrame r frame → (past : ℕ) → past ≤ r.slots → past ≤ MOST_FRAME_WORDS
+slots_end r frame fit zero below = omega arith
+slots_end r frame fit (suc slot) below = omega (arith, fit.inside slot (omega (arith, below)), fit.within, fit.small)
+
+module _ (program : Program) (frames : List Frame) (function : ℕ) (fit : AreFrames program frames) (known : function < length program.functions)
+    (destination source count : ℕ) (in_range : IsMoveInRange (routine_at program function) destination source count) where
+  pub source_small : source + count ≤ MOST_FRAME_WORDS
+  source_small =
+      slots_end (routine_at program function) (frame_at frames function) (fit.each function known) (source + count) (omega (arith, in_range.source_in_range))
+
+  pub target_small : destination + count ≤ MOST_FRAME_WORDS
+  target_small =
+      slots_end (routine_at program function) (frame_at frames function) (fit.each function known) (destination + count)
+      (omega (arith, in_range.destination_in_range))
+
+pub arguments_small : (program : Program) (frames : List Frame) (function : ℕ) → AreFrames program frames → function < length program.functions
+    → (callee arguments count result : ℕ) → IsCallInRange program (routine_at program function) callee arguments count result → arguments + count ≤ MOST_FRAME_WORDS
+arguments_small program frames function fit known callee arguments count result in_range =
+    slots_end (routine_at program function) (frame_at frames function) (fit.each function known) (arguments + count) (omega (arith, in_range.arguments_in_range))
+
+-- ---- tables
+
+pub lines_length : (program : Program) (frames : List Frame) (function here : ℕ) (code : List Instruction) → length (instruction_lines program frames function here code) ≡ length code
+lines_length program frames function here [] = refl
+lines_length program frames function here (i ∷ code) = ap suc (lines_length program frames function (here + count_of program frames function i) code)
+
+pub lines_at : (program : Program) (frames : List Frame) (function here : ℕ) (code : List Instruction) (k d : ℕ) → k < length code
+    → slice_index_or (instruction_lines program frames function here code) k d ≡ here + sum_by (count_of program frames function) (take k code)
+lines_at program frames function here [] k d below = absurd (omega arith)
+lines_at program frames function here (i ∷ code) zero d below = omega arith
+lines_at program frames function here (i ∷ code) (suc k) d below =
+    omega (arith, lines_at program frames function (here + count_of program frames function i) code k d (omega arith), sum_by-cons (count_of program frames function) i (take k code))
+
+pub starts_length : (program : Program) (frames : List Frame) (function here : ℕ) (routines : List Routine) → length (function_starts program frames function here routines) ≡ length routines
+starts_length program frames function here [] = refl
+starts_length program frames function here (r ∷ routines) = ap suc (starts_length program frames (suc function) (here + function_count program frames function r) routines)
+
+pub starts_at : (program : Program) (frames : List Frame) (function here : ℕ) (routines : List Routine) (k d : ℕ) → k < length routines
+    → slice_index_or (function_starts program frames function here routines) k d ≡ here + functions_count program frames function (take k routines)
+starts_at program frames function here [] k d below = absurd (omega arith)
+starts_at program frames function here (r ∷ routines) zero d below = omega arith
+starts_at program frames function here (r ∷ routines) (suc k) d below =
+    omega (arith, starts_at program frames (suc function) (here + function_count program frames function r) routines k d (omega arith))
+
+module _ {program : Program} {frames : List Frame} {starts : List ℕ} (ready : AreReady program frames starts) where
+  pub ready_starts : length starts ≡ length program.functions
+  ready_starts = ap length ready.starts_are ∙ starts_length program frames 0 START_LINES program.functions
+
+  pub ready_start : (k : ℕ) → k < length program.functions → slice_index_or starts k 0 ≡ function_line program frames k
+  ready_start k below = ap (λ (s : List ℕ). slice_index_or s k 0) ready.starts_are ∙ starts_at program frames 0 START_LINES program.functions k 0 below
+
+  pub ready_size : (k : ℕ) → k < length program.functions → size (routine_at program k) ≤ MOST_SIZE
+  ready_size k below =
+      omega (arith, ready.few, sum_by-drop_more size program.functions k no_routine below, sum_by-take-drop size program.functions k)
+
+  pub ready_fits : (k : ℕ) → k < length program.functions → function_line program frames k + size (routine_at program k) ≤ most_lines
+  ready_fits k below = omega (arith, ready.few, start_fits program frames (reads_few program frames ready.fit) (are_few program ready.well_formed) k below)
+
+module _ {program : Program} {frames : List Frame} {starts lines : List ℕ} {function : ℕ} (known : AreTables program frames starts lines function) where
+  pub known_lines : length lines ≡ length (routine_at program function).code
+  known_lines = ap length known.lines_are ∙ lines_length program frames function (function_line program frames function) (routine_at program function).code
+
+  pub known_line : (k : ℕ) → k < length (routine_at program function).code → slice_index_or lines k 0 ≡ instruction_line program frames function k
+  known_line k below = ap (λ (s : List ℕ). slice_index_or s k 0) known.lines_are ∙ lines_at program frames function (function_line program frames function) (routine_at program function).code k 0 below
+
+  pub known_fits : (k : ℕ) → instruction_line program frames function k ≤ most_lines
+  known_fits k =
+      omega (arith, line_fits program frames (reads_few program frames known.ready.fit) (are_few program known.ready.well_formed) function known.function_in_range k, known.ready.few)
+
+-- ---- one function behind the other
+
+count_next : (program : Program) (frames : List Frame) (first : ℕ) (routines : List Routine) (k n : ℕ) → n ≡ first + k → k < length routines
+    → functions_count program frames first (take (suc k) routines) ≡ functions_count program frames first (take k routines) + function_count program frames n (slice_index_or routines k no_routine)
+count_next program frames first [] k n here below = absurd (omega arith)
+count_next program frames first (r ∷ routines) zero n here below =
+    let same : n ≡ first = omega arith in
+    omega (arith, ap (λ (m : ℕ). function_count program frames m r) same)
+count_next program frames first (r ∷ routines) (suc k) n here below =
+    omega (arith, count_next program frames (suc first) routines k n (omega arith) (omega arith))
+
+pub start_next : (program : Program) (frames : List Frame) (k : ℕ) → k < length program.functions → function_line program frames k + function_count program frames k (routine_at program k) ≡ function_line program frames (suc k)
+start_next program frames k below = omega (arith, count_next program frames 0 program.functions k k (omega arith) below)
+
+pub functions_next : (program : Program) (frames : List Frame) (k : ℕ) → k < length program.functions
+    → function_lines program frames k (function_line program frames k) (drop k program.functions)
+    ≡ code_lines program frames k (function_line program frames k) (routine_at program k).code ++ function_lines program frames (k + 1) (function_line program frames (k + 1)) (drop (k + 1) program.functions)
+functions_next program frames k below =
+    let one : suc k ≡ k + 1 = omega arith in
+    let own = code_lines program frames k (function_line program frames k) (routine_at program k).code in
+    let rest = drop (k + 1) program.functions in
+    ap (λ (rs : List Routine). function_lines program frames k (function_line program frames k) rs) (drop_more program.functions k no_routine below)
+    ∙ ap (λ (n : ℕ). own ++ function_lines program frames (suc k) n rest) (start_next program frames k below)
+    ∙ ap (λ (n : ℕ). own ++ function_lines program frames n (function_line program frames n) rest) one

@@ -1,0 +1,212 @@
+-- The code has few words for each unit of the program's size.
+use Rattle.std.proofs.Common.{◌≡◌, ℕ, suc, ◌+◌, ◌*◌, ◌≤◌, Bool, true, false, List, [], ◌∷◌, ◌++◌, length, refl, ap, arith, length-append}
+use Rattle.std.specs.Prelude.{sum_by, ◌==◌, if◌then◌else◌}
+use Rattle.std.specs.List.{range_with_len}
+use Rattle.std.proofs.lemmas.List.Sums.{sum_by-cons, sum_by-append}
+use Rattle.std.proofs.lemmas.Option.{get_or_from_slice_get}
+use Rattle.cyc_isa.specs.declared.instr.Instr.{Instr}
+use Rattle.cyc_plain.specs.declared.instruction.Instruction.{Instruction}
+use Rattle.cyc_plain.specs.declared.instruction.Instruction.TheVariants as plain
+use Rattle.cyc_plain.specs.declared.instruction.BinaryOperator.{BinaryOperator}
+use Rattle.cyc_plain.specs.declared.instruction.BinaryOperator.TheVariants as binary
+use Rattle.cyc_plain.specs.declared.instruction.Operand.{Operand}
+use Rattle.cyc_plain.specs.Requests.{first_operand, second_operand}
+use Rattle.cyc_isa.specs.declared.instr.ArithmeticOp.TheVariants as arithmetic
+use Rattle.cyc_isa.specs.declared.instr.MultiplyDivideOp.TheVariants.{Divide}
+use Rattle.cyc_isa.specs.declared.instr.MemoryOp.{MemoryOp}
+use Rattle.cyc_isa.specs.declared.instr.MemoryOp.TheVariants.{LoadWord, StoreWord, LoadByte, StoreByte}
+use Rattle.cyc_isa.specs.declared.instr.MoveFromOp.{MoveFromOp}
+use Rattle.cyc_machine.specs.declared.constants.TheConstants.{ARGUMENT, END_UNCAUGHT, PUT_BYTE, SECOND_ARGUMENT, SERVICE, RETURN_ADDRESS}
+use Rattle.cyc_plain.specs.Program.{Routine, Program, routine_at, operator_size, instruction_size, size}
+use Rattle.cyc_frame.specs.Layout.{frame_at}
+use Rattle.cyc_frame.specs.Frame.{Frame}
+use Rattle.cyc_select.specs.declared.code.Line.{Line}
+use Rattle.cyc_select.specs.declared.code.Condition.TheVariants as conditions
+use Rattle.cyc_select.specs.declared.code.Line.TheVariants as lines
+use Rattle.cyc_select.specs.declared.constants.TheConstants.{FIRST, SECOND, THIRD, CALLS, FRAME, HANDLERS, REGIONS, ZERO}
+use Rattle.cyc_select.specs.declared.plan.Plan.{Plan}
+use Rattle.cyc_select.specs.declared.plan.Test.{Test}
+use Rattle.cyc_select.specs.declared.plan.Test.TheVariants as tests
+use Rattle.cyc_select.specs.Plans.{unary_plan, binary_plan, test_of}
+use Rattle.cyc_select.specs.Labelled.{Labelled, words_of, all_words}
+use Rattle.cyc_select.specs.Selected.{words_at}
+use Rattle.cyc_select.specs.Selection.{arithmetic_of, multiply_divide_of, move_from_of, slot_offset, recorded_code, caught_code, reload_count, value_register, move_to, keep_code, give_code, moved_code, reloads, opened_code, made_in, ordinary, argument_code, service_number, answer_code, unwound_code, address_code, at_address, copies, store_all, upper_of_global, at_global, word_code, load_code, load_count, operand_code, operand_register, plan_code, test_code, branch_line, branch_code, quotient_code, divided_code, divide_code, is_tested, part_of, result_registers, ending_code, operator_code, body, behind, count_of, function_count, function_line, instruction_line, code_lines, function_lines, small, syscall, store, add_immediate, minus, push_frame, load, regions_code, load_at, store_at, spills, spills_count, calling_code}
+use Rattle.cyc_isa.specs.Decoding.{register_of}
+use Rattle.cyc_isa.specs.declared.instr.BranchOp.TheVariants as branch
+use Rattle.cyc_select.proofs.steps.Calls.{length-copies}
+use Rattle.cyc_select.proofs.emission.Counts.{length_keep, length_give, length_move, length_moved, length_spills, spills_few, move_words_small, keep_few, give_small, move_small, argument_small, regions_small, length_argument, length_answer, length_regions, length_stores, length_registers, word_small, load_small, operand_small, address_small, plan_small, unary_small, test_small, length_word, length_load, length_operand, length_address, length_plan, length_test, length_divided}
+use Rattle.cyc_select.proofs.steps.Returns.{loaded, length_loaded}
+use Rattle.cyc_select.proofs.emission.Numbering.{ReadsFew}
+use Rattle.cyc_select.proofs.relation.Values.{length_reloads}
+use Rattle.cyc_select.proofs.effects.Walks.{Stands}
+
+words_ordinary : (is : List Instr) → all_words (ordinary is) ≡ length is
+words_ordinary [] = refl
+words_ordinary (i ∷ is) = omega (arith, sum_by-cons words_of (lines.Ordinary i) (ordinary is), words_ordinary is)
+
+-- the words of lines that stand
+pub words_range : (code : Labelled) (a : ℕ) (ls : List Line) → Stands code a ls → sum_by (words_at code) (range_with_len a (length ls)) ≡ all_words ls
+words_range code a [] stands = refl
+words_range code a (l ∷ ls) (first, rest) =
+    let here : words_at code a ≡ words_of l = ap words_of (get_or_from_slice_get code.lines a l lines.Return first) in
+    omega (arith, sum_by-cons (words_at code) a (range_with_len (a + 1) (length ls)), sum_by-cons words_of l ls, here, words_range code (a + 1) ls rest)
+
+module _ (program : Program) (frames : List Frame) (reads_few : (function : ℕ) → ReadsFew frames function) (few_results : (function : ℕ) → (routine_at program function).results ≤ 3) where
+  divide_words : (frame : Frame) (here : ℕ) (which : MoveFromOp) (destination : ℕ) (left right : Operand) → all_words (divide_code frame here which destination left right) ≤ 14
+  divide_words frame here which destination left right =
+      let behind : List Line = lines.Branch (conditions.Registers branch.NotEqual (register_of SECOND) (register_of THIRD)) (here + (load_count left + load_count right) + 4) ∷ quotient_code frame which destination in
+      let last : List Instr =
+      arithmetic_of arithmetic.SubtractUnsigned FIRST ZERO FIRST ∷ small SECOND 1 ∷ multiply_divide_of Divide FIRST SECOND ∷ move_from_of which (made_in frame destination) ∷ keep_code frame destination in
+      omega (arith, sum_by-append words_of (ordinary (divided_code frame left right)) behind, words_ordinary (divided_code frame left right), length_divided frame left right, load_small left, load_small right, words_ordinary last, length_keep frame destination, keep_few frame destination, sum_by-cons words_of (lines.Branch (conditions.Registers branch.NotEqual (register_of SECOND) (register_of THIRD)) (here + (load_count left + load_count right) + 4)) (quotient_code frame which destination))
+
+  plan_words : (frame : Frame) (plan : Plan) (destination : ℕ) → all_words (ordinary (plan_code frame plan destination)) ≤ 8
+  plan_words frame plan destination = omega (arith, words_ordinary (plan_code frame plan destination), length_plan frame plan destination, plan_small frame plan destination)
+
+  words_either : (b : Bool) (divided planned : List Line) → all_words divided ≤ 14 → all_words planned ≤ 8 → all_words (if b then divided else planned) ≤ 14
+  words_either true divided planned few small = few
+  words_either false divided planned few small = omega (arith, small)
+
+  tested_words : (frame : Frame) (here : ℕ) (operator : BinaryOperator) (destination : ℕ) (left right : Operand) → all_words (operator_code frame here operator destination left right) ≤ 14
+  tested_words frame here operator destination left right =
+      words_either (is_tested operator right) (divide_code frame here (part_of operator) destination left right) (ordinary (plan_code frame (binary_plan operator left right) destination))
+      (divide_words frame here (part_of operator) destination left right) (plan_words frame (binary_plan operator left right) destination)
+
+  -- only a division has the words of one that is tested
+  operator_words : (frame : Frame) (here : ℕ) (operator : BinaryOperator) (destination : ℕ) (left right : Operand) → all_words (operator_code frame here operator destination left right) ≤ operator_size operator
+  operator_words frame here binary.Divide destination left right = omega (arith, tested_words frame here binary.Divide destination left right)
+  operator_words frame here binary.Remainder destination left right = omega (arith, tested_words frame here binary.Remainder destination left right)
+  operator_words frame here operator destination left right = omega (arith, plan_words frame (binary_plan operator left right) destination)
+
+  branch_words : (frame : Frame) (test : Test) (label : ℕ) → words_of (branch_line frame test label) ≤ 4
+  branch_words frame (tests.Operands op left right) label = omega arith
+  branch_words frame (tests.Sign op operand) label = omega arith
+  branch_words frame (tests.Computed plan) label = omega arith
+
+  test_words : (frame : Frame) (test : Test) (label : ℕ) → all_words (branch_code frame test label) ≤ 10
+  test_words frame test label =
+      omega (arith, sum_by-append words_of (ordinary (test_code frame test)) (branch_line frame test label ∷ []), words_ordinary (test_code frame test), length_test frame test, test_small frame test, branch_words frame test label)
+
+  ending_words : (b : Bool) (frame : Frame) (here value : ℕ) → all_words (ending_code b frame here value) ≤ 7
+  ending_words true frame here value = omega arith
+  ending_words false frame here value = omega arith
+
+  load_words_few : (function : ℕ) (op : MemoryOp) (destination : ℕ) (address : Operand) (offset : ℕ) → all_words (load_at (frame_at frames function) op destination address offset) + 0 ≤ 10
+  load_words_few function op destination address offset =
+      let is : List Instr = address_code (frame_at frames function) address offset in
+      let last : List Instr = at_address (frame_at frames function) op (made_in (frame_at frames function) destination) address offset ∷ keep_code (frame_at frames function) destination in
+      omega (arith, words_ordinary (is ++ last), length-append is last, length_address (frame_at frames function) address offset, address_small (frame_at frames function) address offset, length_keep (frame_at frames function) destination, keep_few (frame_at frames function) destination)
+
+  store_words_few : (function : ℕ) (op : MemoryOp) (address : Operand) (offset : ℕ) (source : Operand) → all_words (store_at (frame_at frames function) op address offset source) + 0 ≤ 10
+  store_words_few function op address offset source =
+      let is : List Instr = address_code (frame_at frames function) address offset in
+      let js : List Instr = operand_code (frame_at frames function) SECOND source in
+      let last : List Instr = at_address (frame_at frames function) op (operand_register (frame_at frames function) SECOND source) address offset ∷ [] in
+      omega (arith, words_ordinary (is ++ (js ++ last)), length-append is (js ++ last), length-append js last, length_address (frame_at frames function) address offset, address_small (frame_at frames function) address offset, length_operand (frame_at frames function) SECOND source, operand_small (frame_at frames function) source)
+
+  body_words : (function here : ℕ) (i : Instruction) → all_words (body program frames function here i) + all_words (behind program frames function i) ≤ instruction_size i
+  body_words function here (plain.Move destination source) =
+      omega (arith, words_ordinary (move_to (value_register (frame_at frames function) destination) (frame_at frames function) destination source), length_move (frame_at frames function) destination source, move_small (frame_at frames function) destination source)
+  body_words function here (plain.Unary operator destination operand) =
+      omega (arith, words_ordinary (plan_code (frame_at frames function) (unary_plan operator operand) destination), length_plan (frame_at frames function) (unary_plan operator operand) destination, unary_small (frame_at frames function) operator operand destination)
+  body_words function here (plain.Binary operator destination left right) = omega (arith, operator_words (frame_at frames function) here operator destination left right)
+  body_words function here (plain.Jump target) = omega arith
+  body_words function here (plain.Branch comparison left right target) = omega (arith, test_words (frame_at frames function) (test_of comparison left right) (instruction_line program frames function target))
+  body_words function here (plain.Call callee arguments count result) =
+      let spilled : ℕ = here + spills_count (frame_at frames function) arguments count in
+      let calling : List Line = calling_code (frame_at frames function) (frame_at frames callee) spilled (function_line program frames callee) arguments count in
+      let front = sum_by-append words_of (ordinary (spills (frame_at frames function) arguments count)) calling in
+      let spill_words = words_ordinary (spills (frame_at frames function) arguments count) in
+      let first : List Line = lines.Branch (conditions.Registers branch.NotEqual (register_of CALLS) (register_of 0)) (spilled + 3) ∷ ordinary (small 2 11 ∷ syscall ∷ store RETURN_ADDRESS (4 * (frame_at frames function).return_address) ∷ add_immediate CALLS CALLS (minus 1) ∷ push_frame (frame_at frames callee) ∷ []) in
+      let passed = words_ordinary (copies (frame_at frames function) (frame_at frames callee) arguments 0 count) in
+      let long = length-copies (frame_at frames function) (frame_at frames callee) arguments 0 count in
+      let a = sum_by-append words_of (lines.Branch (conditions.Registers branch.NotEqual (register_of CALLS) (register_of 0)) (spilled + 3) ∷ ordinary (small 2 11 ∷ syscall ∷ store RETURN_ADDRESS (4 * (frame_at frames function).return_address) ∷ add_immediate CALLS CALLS (minus 1) ∷ push_frame (frame_at frames callee) ∷ [])) (ordinary (copies (frame_at frames function) (frame_at frames callee) arguments 0 count) ++ lines.Call (function_line program frames callee) ∷ []) in
+      let b = sum_by-append words_of (ordinary (copies (frame_at frames function) (frame_at frames callee) arguments 0 count)) (lines.Call (function_line program frames callee) ∷ []) in
+      let kept = words_ordinary (load RETURN_ADDRESS (4 * (frame_at frames function).return_address) ∷ add_immediate CALLS CALLS 1 ∷ (store_all (frame_at frames function) result (result_registers (routine_at program callee).results) ++ reloads (frame_at frames function))) in
+      let both = length-append (store_all (frame_at frames function) result (result_registers (routine_at program callee).results)) (reloads (frame_at frames function)) in
+      let stores = length_stores (frame_at frames function) result (result_registers (routine_at program callee).results) in
+      let registers = length_registers (routine_at program callee).results (few_results callee) in
+      omega (arith, front, spill_words, length_spills (frame_at frames function) arguments count, spills_few (frame_at frames function) arguments count, passed, long, a, b, kept, both, stores, registers, few_results callee, length_reloads (frame_at frames function), reads_few function)
+  body_words function here (plain.Return value) =
+      let e = ending_code (function == program.main) (frame_at frames function) here value in
+      let a = sum_by-append words_of (ending_code (function == program.main) (frame_at frames function) here value ++ ordinary (loaded (frame_at frames function) value (routine_at program function).results)) (lines.Return ∷ []) in
+      let b = sum_by-append words_of (ending_code (function == program.main) (frame_at frames function) here value) (ordinary (loaded (frame_at frames function) value (routine_at program function).results)) in
+      let c = words_ordinary (loaded (frame_at frames function) value (routine_at program function).results) in
+      let d = length_loaded (frame_at frames function) value (routine_at program function).results (few_results function) in
+      omega (arith, a, b, c, d, ending_words (function == program.main) (frame_at frames function) here value, few_results function)
+  body_words function here (plain.Finish value) =
+      let e = ending_code (function == program.main) (frame_at frames function) here value in
+      let a = sum_by-append words_of (ending_code (function == program.main) (frame_at frames function) here value ++ ordinary (loaded (frame_at frames function) value (routine_at program function).results)) (lines.Return ∷ []) in
+      let b = sum_by-append words_of (ending_code (function == program.main) (frame_at frames function) here value) (ordinary (loaded (frame_at frames function) value (routine_at program function).results)) in
+      let c = words_ordinary (loaded (frame_at frames function) value (routine_at program function).results) in
+      let d = length_loaded (frame_at frames function) value (routine_at program function).results (few_results function) in
+      omega (arith, a, b, c, d, ending_words (function == program.main) (frame_at frames function) here value, few_results function)
+  body_words function here (plain.ReadByte destination) =
+      omega (arith, words_ordinary (small 2 1 ∷ syscall ∷ give_code (frame_at frames function) 2 destination), length_give (frame_at frames function) 2 destination, give_small (frame_at frames function) destination)
+  body_words function here (plain.WriteByte source) =
+      omega (arith, words_ordinary (load_code (frame_at frames function) ARGUMENT source ++ small SERVICE PUT_BYTE ∷ syscall ∷ []), length-append (load_code (frame_at frames function) ARGUMENT source) (small SERVICE PUT_BYTE ∷ syscall ∷ []), length_load (frame_at frames function) ARGUMENT source, load_small source)
+  body_words function here (plain.AddressOf destination slot count) =
+      omega (arith, words_ordinary (add_immediate (made_in (frame_at frames function) destination) FRAME (slot_offset (frame_at frames function) slot) ∷ keep_code (frame_at frames function) destination), length_keep (frame_at frames function) destination, keep_few (frame_at frames function) destination)
+  body_words function here (plain.LoadGlobal destination global) =
+      omega (arith, words_ordinary (upper_of_global global ∷ at_global LoadWord (made_in (frame_at frames function) destination) global ∷ keep_code (frame_at frames function) destination), length_keep (frame_at frames function) destination, keep_few (frame_at frames function) destination)
+  body_words function here (plain.StoreGlobal global source) =
+      omega (arith, words_ordinary (operand_code (frame_at frames function) FIRST source ++ upper_of_global global ∷ at_global StoreWord (operand_register (frame_at frames function) FIRST source) global ∷ []), length-append (operand_code (frame_at frames function) FIRST source) (upper_of_global global ∷ at_global StoreWord (operand_register (frame_at frames function) FIRST source) global ∷ []), length_operand (frame_at frames function) FIRST source, operand_small (frame_at frames function) source)
+  body_words function here (plain.MoveWords destination source count) =
+      omega (arith, words_ordinary (moved_code (frame_at frames function) destination source count), length_moved (frame_at frames function) destination source count, move_words_small (frame_at frames function) destination source count)
+  body_words function here (plain.Load destination address offset) = load_words_few function LoadWord destination address offset
+  body_words function here (plain.Store address offset source) = store_words_few function StoreWord address offset source
+  body_words function here (plain.LoadByte destination address offset) = load_words_few function LoadByte destination address offset
+  body_words function here (plain.StoreByte address offset source) = store_words_few function StoreByte address offset source
+  body_words function here (plain.Ask request) =
+      let is : List Instr = argument_code (frame_at frames function) ARGUMENT (first_operand request) in
+      let js : List Instr = argument_code (frame_at frames function) SECOND_ARGUMENT (second_operand request) in
+      let last : List Instr = small SERVICE (service_number request) ∷ syscall ∷ (regions_code request ++ answer_code (frame_at frames function) request) in
+      omega (arith, words_ordinary (is ++ (js ++ last)), length-append is (js ++ last), length-append js last, length_argument (frame_at frames function) ARGUMENT (first_operand request), length_argument (frame_at frames function) SECOND_ARGUMENT (second_operand request), length-append (regions_code request) (answer_code (frame_at frames function) request), length_regions request, length_answer (frame_at frames function) request, regions_small request, argument_small (second_operand request))
+  body_words function here (plain.CountLexical destination) =
+      omega (arith, words_ordinary (give_code (frame_at frames function) REGIONS destination), length_give (frame_at frames function) REGIONS destination, give_small (frame_at frames function) destination)
+  body_words function here (plain.Try first handler) =
+      let last : List Line = lines.Jump (instruction_line program frames function handler) ∷ ordinary (opened_code (frame_at frames function) first) in
+      let rest : List Line = ordinary (caught_code (frame_at frames function) first) ++ last in
+      let call : Line = lines.Call (here + 9 + reload_count (frame_at frames function)) in
+      let length_caught : length (caught_code (frame_at frames function) first) ≡ 3 + reload_count (frame_at frames function) =
+      (let e : suc (suc (suc (length (reloads (frame_at frames function))))) ≡ 3 + reload_count (frame_at frames function) = omega (arith, length_reloads (frame_at frames function)) in e) in
+      omega (
+        arith,
+        sum_by-append words_of (ordinary (recorded_code (frame_at frames function) first)) (call ∷ rest),
+        sum_by-cons words_of call rest,
+        sum_by-append words_of (ordinary (caught_code (frame_at frames function) first)) last,
+        words_ordinary (caught_code (frame_at frames function) first),
+        length_caught,
+        reads_few function,
+      )
+  body_words function here (plain.Leave first) = omega arith
+  body_words function here (plain.Throw tag value) =
+      let is : List Instr = load_code (frame_at frames function) ARGUMENT tag ++ load_code (frame_at frames function) SECOND_ARGUMENT value in
+      let last : List Line = lines.Branch (conditions.Registers branch.NotEqual (register_of HANDLERS) (register_of ZERO)) (here + (load_count tag + load_count value) + 3) ∷ ordinary (small SERVICE END_UNCAUGHT ∷ syscall ∷ []) ++ (ordinary unwound_code ++ lines.Return ∷ []) in
+      omega (arith, sum_by-append words_of (ordinary is) last, words_ordinary is, length-append (load_code (frame_at frames function) ARGUMENT tag) (load_code (frame_at frames function) SECOND_ARGUMENT value), length_load (frame_at frames function) ARGUMENT tag, length_load (frame_at frames function) SECOND_ARGUMENT value, load_small tag, load_small value)
+  body_words function here (plain.Uncaught tag value) =
+      let last : List Instr = small SERVICE END_UNCAUGHT ∷ syscall ∷ [] in
+      let loads : List Instr = load_code (frame_at frames function) SECOND_ARGUMENT value ++ last in
+      omega (arith, words_ordinary (word_code ARGUMENT tag ++ loads), length-append (word_code ARGUMENT tag) loads, length_word ARGUMENT tag, length-append (load_code (frame_at frames function) SECOND_ARGUMENT value) last, length_load (frame_at frames function) SECOND_ARGUMENT value, load_small value, word_small tag)
+
+  pub code_words : (function here : ℕ) (code : List Instruction) → all_words (code_lines program frames function here code) ≤ sum_by instruction_size code
+  code_words function here [] = omega arith
+  code_words function here (i ∷ code) =
+      omega (
+        arith,
+        body_words function here i,
+        code_words function (here + count_of program frames function i) code,
+        sum_by-append words_of (body program frames function here i ++ behind program frames function i) (code_lines program frames function (here + count_of program frames function i) code),
+        sum_by-append words_of (body program frames function here i) (behind program frames function i),
+        sum_by-cons instruction_size i code,
+      )
+
+  pub functions_words : (function here : ℕ) (routines : List Routine) → all_words (function_lines program frames function here routines) ≤ sum_by size routines
+  functions_words function here [] = omega arith
+  functions_words function here (r ∷ routines) =
+      omega (
+        arith,
+        code_words function here r.code,
+        functions_words (suc function) (here + function_count program frames function r) routines,
+        sum_by-append words_of (code_lines program frames function here r.code) (function_lines program frames (suc function) (here + function_count program frames function r) routines),
+        sum_by-cons size r routines,
+      )

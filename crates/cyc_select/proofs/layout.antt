@@ -1,0 +1,6 @@
+-- the code is formed, has its places, and stands where the counts say
+pub mod Whole
+pub mod Formed
+pub mod Parts
+pub mod Structure
+pub mod Lines

@@ -1,0 +1,615 @@
+-- Each line of the code is formed, and each part has few words.
+use Rattle.std.proofs.Common.{◌≡◌, ℕ, zero, suc, ◌+◌, ◌*◌, ◌/◌, ◌%◌, ◌^◌, ◌<◌, ◌≤◌, Bool, true, false, List, [], ◌∷◌, ◌++◌, length, take, Option, None, Some, slice_get, refl, sym, ap, subst, ◌∙◌, arith, inl, inr, length-append}
+use Rattle.std.specs.Prelude.{All, sum_by, ◌==◌, nat_lt, if◌then◌else◌, slice_index_or}
+use Rattle.std.specs.List.{AllByRecursion}
+use Rattle.std.proofs.lemmas.Bool.{cases_lt, eqb-true, ltb-true}
+use Rattle.std.proofs.lemmas.List.{get_or_past}
+use Rattle.std.proofs.lemmas.List.Sums.{sum_by-cons}
+use Rattle.cyc_words.specs.Word.{IsWord}
+use Rattle.cyc_words.proofs.Lists.{slice_get_below, all_append}
+use Rattle.cyc_isa.specs.declared.instr.Instr.{Instr}
+use Rattle.cyc_machine.specs.State.{data_base}
+use Rattle.cyc_plain.specs.declared.instruction.Instruction.{Instruction}
+use Rattle.cyc_plain.specs.declared.instruction.Instruction.TheVariants as plain
+use Rattle.cyc_plain.specs.declared.instruction.BinaryOperator.{BinaryOperator}
+use Rattle.cyc_plain.specs.declared.instruction.UnaryOperator.{UnaryOperator}
+use Rattle.cyc_plain.specs.declared.instruction.Operand.{Operand}
+use Rattle.cyc_plain.specs.declared.instruction.Operand.TheVariants as operands
+use Rattle.cyc_isa.specs.Decoding.{register_of}
+use Rattle.cyc_isa.specs.declared.instr.BranchOp.TheVariants as branch
+use Rattle.cyc_isa.specs.declared.instr.MemoryOp.{MemoryOp}
+use Rattle.cyc_isa.specs.declared.instr.MemoryOp.TheVariants.{LoadWord, StoreWord, LoadByte, StoreByte}
+use Rattle.cyc_isa.specs.declared.instr.MoveFromOp.{MoveFromOp}
+use Rattle.cyc_machine.specs.declared.constants.TheConstants.{ARGUMENT, END_UNCAUGHT, PUT_BYTE, SECOND_ARGUMENT, SERVICE}
+use Rattle.cyc_plain.specs.Program.{Routine, Program, CodePlace, no_routine, routine_at}
+use Rattle.cyc_plain.specs.Step.{instruction_at}
+use Rattle.cyc_plain.specs.declared.instruction.Request.{Request}
+use Rattle.cyc_plain.specs.declared.instruction.Request.TheVariants as requests
+use Rattle.cyc_plain.specs.Requests.{first_operand, second_operand, answer_count, destination_of}
+use Rattle.cyc_plain.specs.WellFormed.{IsOperand, IsArgument, IsInRange, IsWellFormed, HasWords, IsOfWord, IsArgumentOfWord, HasWord}
+use Rattle.cyc_plain.proofs.Placed.{holds_at, routine_in, below_of_get, has_code}
+use Rattle.cyc_plain.proofs.Steps.{function_known}
+use Rattle.cyc_frame.specs.Layout.{AreFrames, frame_at, slot_word}
+use Rattle.cyc_frame.specs.Uses.{is_crossing}
+use Rattle.cyc_frame.specs.Frame.{Frame}
+use Rattle.cyc_frame.specs.declared.home.Home.{Home}
+use Rattle.cyc_frame.specs.declared.home.Home.TheVariants as homes
+use Rattle.cyc_select.specs.declared.constants.TheConstants.{FIRST, SECOND, THIRD, ZERO, START_LINES, HANDLERS, REGIONS}
+use Rattle.cyc_select.specs.declared.code.Line.{Line}
+use Rattle.cyc_select.specs.declared.code.Condition.TheVariants as conditions
+use Rattle.cyc_select.specs.declared.code.Line.TheVariants as lines
+use Rattle.cyc_select.specs.declared.plan.Operation.{Operation}
+use Rattle.cyc_select.specs.declared.plan.Operation.TheVariants as operations
+use Rattle.cyc_select.specs.declared.plan.Outcome.{Outcome}
+use Rattle.cyc_select.specs.declared.plan.Outcome.TheVariants as outcomes
+use Rattle.cyc_select.specs.declared.plan.Plan.{Plan}
+use Rattle.cyc_select.specs.declared.plan.Test.{Test}
+use Rattle.cyc_select.specs.declared.plan.Test.TheVariants as tests
+use Rattle.cyc_select.specs.Plans.{unary_plan, binary_plan, test_of}
+use Rattle.cyc_select.specs.Labelled.{Labelled, IsFormed, IsFormedLine}
+use Rattle.cyc_select.specs.Numbers.{fits_signed, is_zero_word}
+use Rattle.cyc_select.specs.Selection.{value_register, is_kept, load_from, fetch_from, move_to, keep_code, give_to, give_code, load_words, reloads_from, reloads, opened_code, made_in, slot_offset, ordinary, result_registers, argument_code, service_number, answer_code, unwound_code, far_plan, address_code, near_half, at_address, copies, load_all, store_all, moves, all_moved, store_slot, pop_frame, load_upper, constant, or_immediate, is_tested, part_of, plan_count, small, syscall, add_immediate, minus, upper_of_global, at_global, word_code, load_code, load_count, operand_code, operand_register, operands_code, operation_code, outcome_code, operation_of, computed_code, plan_code, test_code, branch_line, quotient_code, loads_code, divided_code, divide_code, divide_count, ending_code, ending_count, operator_code, operator_count, body, behind, body_count, count_of, function_count, functions_count, function_line, instruction_line, code_lines, function_lines, start_lines, select_of, regions_code, load_at, store_at, spill, spills, spills_count, calling_code}
+use Rattle.cyc_select.proofs.layout.Lines.{line_first}
+use Rattle.cyc_select.proofs.values.Plans.{AllOfTest, all_unary, all_binary, all_test}
+use Rattle.cyc_select.proofs.emission.Counts.{operation_some, move_some, move_words_some, give_some, length_registers, answer_few, service_small}
+use Rattle.cyc_select.proofs.steps.Returns.{loaded}
+use Rattle.cyc_select.proofs.layout.Structure.{length_body, stand}
+use Rattle.cyc_select.proofs.effects.Walks.{Stands}
+
+-- ---- lists
+
+all_from : {X : Type 0} (P : X → Type 0) (xs : List X) → AllByRecursion P xs → All P xs
+all_from P [] all k d below = absurd (omega arith)
+all_from P (x ∷ xs) (one, rest) zero d below = one
+all_from P (x ∷ xs) (one, rest) (suc k) d below = all_from P xs rest k d (omega arith)
+
+-- what stands lies within the code
+within_code : (code : Labelled) (n : ℕ) (ls : List Line) → 0 < length ls → Stands code n ls → n + length ls ≤ length code.lines
+within_code code n [] some stands = absurd (omega (arith, some))
+within_code code n (l ∷ []) some (first, rest) = omega (arith, below_of_get code.lines n l first)
+within_code code n (l ∷ m ∷ ls) some (first, rest) = omega (arith, within_code code (n + 1) (m ∷ ls) (omega arith) rest)
+
+-- ---- over all parts of the code
+
+module _ (program : Program) (frames : List Frame) (P : Line → Type 0) where
+  code_all : (function here : ℕ) (code : List Instruction)
+      → ((index n : ℕ) (i : Instruction) → slice_get code index ≡ Some i → n ≡ here + sum_by (count_of program frames function) (take index code) → AllByRecursion P (body program frames function n i ++ behind program frames function i))
+      → AllByRecursion P (code_lines program frames function here code)
+  code_all function here [] each = tt
+  code_all function here (i ∷ code) each =
+      all_append P (body program frames function here i ++ behind program frames function i) (code_lines program frames function (here + count_of program frames function i) code)
+      (each 0 here i refl (omega arith))
+      (code_all function (here + count_of program frames function i) code
+      (λ index n j at is. each (suc index) n j at (omega (arith, is, sum_by-cons (count_of program frames function) i (take index code)))))
+
+  functions_all : (first here : ℕ) (routines : List Routine)
+      → ((k n : ℕ) → k < length routines → n ≡ here + functions_count program frames first (take k routines) → AllByRecursion P (code_lines program frames (first + k) n (slice_index_or routines k no_routine).code))
+      → AllByRecursion P (function_lines program frames first here routines)
+  functions_all first here [] each = tt
+  functions_all first here (r ∷ routines) each =
+      let same : first + 0 ≡ first = omega arith in
+      all_append P (code_lines program frames first here r.code) (function_lines program frames (suc first) (here + function_count program frames first r) routines)
+      (subst (λ (f : ℕ). AllByRecursion P (code_lines program frames f here r.code)) same (each 0 here (omega arith) (omega arith)))
+      (functions_all (suc first) (here + function_count program frames first r) routines
+      (λ k n below is.
+      let next : first + suc k ≡ suc first + k = omega arith in
+      subst (λ (f : ℕ). AllByRecursion P (code_lines program frames f n (slice_index_or routines k no_routine).code)) next (each (suc k) n (omega (arith, below)) (omega (arith, is)))))
+
+pub few_results : (program : Program) → IsWellFormed program → (function : ℕ) → (routine_at program function).results ≤ 3
+few_results program well function = elim (cases_lt function (length program.functions)) [
+  | inl below ↦ (routine_in program function well below).results
+  | inr past ↦ subst (λ (r : Routine). r.results ≤ 3) (sym (get_or_past program.functions function no_routine past)) (let e : 0 ≤ 3 = omega arith in e)
+]
+
+some_either : (b : Bool) (m n : ℕ) → 0 < m → 0 < n → 0 < (if b then m else n)
+some_either true m n first second = first
+some_either false m n first second = second
+
+-- what an instruction of the program names is there
+pub range_at : (program : Program) → IsWellFormed program → (place : CodePlace) (i : Instruction) → instruction_at program place ≡ Some i → IsInRange program (routine_at program place.function) i
+range_at program well place i at =
+    holds_at (IsInRange program (routine_at program place.function)) (routine_at program place.function).code place.index i
+    (routine_in program place.function well (function_known program place i at)).instructions at
+
+pub count_some : (program : Program) (frames : List Frame) (function : ℕ) (i : Instruction) → IsInRange program (routine_at program function) i → 0 < body_count program frames function i
+count_some program frames function (plain.Move destination source) in_range = move_some (frame_at frames function) destination source
+count_some program frames function (plain.Unary operator destination operand) in_range = omega (arith, operation_some (unary_plan operator operand).operation)
+count_some program frames function (plain.Binary operator destination left right) in_range = some_either (is_tested operator right) _ _ (omega arith) (omega (arith, operation_some (binary_plan operator left right).operation))
+count_some program frames function (plain.Jump target) in_range = omega arith
+count_some program frames function (plain.Branch comparison left right target) in_range = omega arith
+count_some program frames function (plain.Call callee arguments count result) in_range = omega arith
+count_some program frames function (plain.Return value) in_range = omega arith
+count_some program frames function (plain.ReadByte destination) in_range = omega arith
+count_some program frames function (plain.WriteByte source) in_range = omega arith
+count_some program frames function (plain.AddressOf destination slot count) in_range = omega arith
+count_some program frames function (plain.LoadGlobal destination global) in_range = omega arith
+count_some program frames function (plain.StoreGlobal global source) in_range = omega arith
+count_some program frames function (plain.MoveWords destination source count) in_range = move_words_some (frame_at frames function) destination source count in_range.some in_range.few
+count_some program frames function (plain.Load destination address offset) in_range = omega arith
+count_some program frames function (plain.Store address offset source) in_range = omega arith
+count_some program frames function (plain.LoadByte destination address offset) in_range = omega arith
+count_some program frames function (plain.StoreByte address offset source) in_range = omega arith
+count_some program frames function (plain.Ask request) in_range = omega arith
+count_some program frames function (plain.CountLexical destination) in_range = give_some (frame_at frames function) destination
+count_some program frames function (plain.Try first handler) in_range = omega arith
+count_some program frames function (plain.Leave first) in_range = omega arith
+count_some program frames function (plain.Throw tag value) in_range = omega arith
+count_some program frames function (plain.Finish value) in_range = omega arith
+count_some program frames function (plain.Uncaught tag value) in_range = omega arith
+
+module _ (program : Program) (well : IsWellFormed program) (words : HasWords program) (frames : List Frame) (fit : AreFrames program frames) where
+  total : ℕ
+  total = length (select_of program frames).lines
+
+  abbrev Formed : List Line → Type 0
+  Formed ls = AllByRecursion (IsFormedLine (length (select_of program frames).lines)) ls
+
+  -- the lines of an instruction are in the code
+  line_known : (function index : ℕ) (i : Instruction) → instruction_at program (record { function = function; index = index }) ≡ Some i
+      → instruction_line program frames function index + body_count program frames function i ≤ length (select_of program frames).lines
+  line_known function index i at =
+      let n : ℕ = instruction_line program frames function index in
+      let long = length_body program frames (few_results program well) function (instruction_line program frames function index) i in
+      let both = length-append (body program frames function (instruction_line program frames function index) i) (behind program frames function i) in
+      omega (
+        arith,
+        long,
+        both,
+        within_code (select_of program frames) (instruction_line program frames function index) (body program frames function (instruction_line program frames function index) i ++ behind program frames function i) (omega (arith, long, both, count_some program frames function i (range_at program well (record { function = function; index = index }) i at))) (stand program frames (few_results program well) function index i at),
+      )
+
+  target_known : (function target : ℕ) → target < length (routine_at program function).code → instruction_line program frames function target < length (select_of program frames).lines
+  target_known function target below =
+      let (i, at) = slice_get_below (routine_at program function).code target below in
+      omega (arith, line_known function target i at, count_some program frames function i (range_at program well (record { function = function; index = target }) i at))
+
+  function_known_line : (function : ℕ) → function < length program.functions → function_line program frames function < length (select_of program frames).lines
+  function_known_line function below =
+      subst (λ (n : ℕ). n < length (select_of program frames).lines) (line_first program frames function)
+      (target_known function 0 (has_code program (routine_at program function) (routine_in program function well below)))
+
+  module _ (function : ℕ) (known : function < length program.functions) where
+    abbrev frame : Frame
+    frame = frame_at frames function
+
+    abbrev slots : ℕ
+    slots = (routine_at program function).slots
+
+    slot_fits : (slot : ℕ) → slot < slots → slot_offset frame slot < 2 ^ 16
+    slot_fits slot below = let f = fit.each function known in omega (arith, f.inside slot below, f.within, f.small)
+
+    frame_fits : 4 * frame.words < 2 ^ 16
+    frame_fits = let f = fit.each function known in omega (arith, f.within, f.small)
+
+    return_fits : 4 * frame.return_address < 2 ^ 16
+    return_fits = let f = fit.each function known in omega (arith, f.return_inside, f.within, f.small)
+
+    loaded_formed : (o : Option ℕ) (target slot : ℕ) → slot < slots → Formed (ordinary (load_from o frame target slot ∷ []))
+    loaded_formed None target slot below = ((refl, slot_fits slot below), tt)
+    loaded_formed (Some register) target slot below = ((refl, tt), tt)
+
+    loads_formed : (slot : ℕ) (targets : List ℕ) → slot + length targets ≤ slots → Formed (ordinary (load_all frame slot targets))
+    loads_formed slot [] fits = tt
+    loads_formed slot (target ∷ targets) fits = ((loaded_formed (value_register frame slot) target slot (omega (arith, fits))).0, loads_formed (suc slot) targets (omega (arith, fits)))
+
+    words_formed : (slot : ℕ) (targets : List ℕ) → slot + length targets ≤ slots → Formed (ordinary (load_words frame slot targets))
+    words_formed slot [] fits = tt
+    words_formed slot (target ∷ targets) fits = ((refl, slot_fits slot (omega (arith, fits))), words_formed (suc slot) targets (omega (arith, fits)))
+
+    reload_formed : (slot : ℕ) (hs : List Home) → slot + length hs ≤ slots → Formed (ordinary (reloads_from frame slot hs))
+    reload_formed slot [] fits = tt
+    reload_formed slot (homes.Memory ∷ hs) fits = reload_formed (suc slot) hs (omega (arith, fits))
+    reload_formed slot (homes.Both register ∷ hs) fits = ((refl, slot_fits slot (omega (arith, fits))), reload_formed (suc slot) hs (omega (arith, fits)))
+    reload_formed slot (homes.Register register ∷ hs) fits = reload_formed (suc slot) hs (omega (arith, fits))
+
+    reloads_formed : Formed (ordinary (reloads frame))
+    reloads_formed = reload_formed 0 frame.homes (omega (arith, (fit.homes function known).as_many))
+
+    keep_formed : (slot : ℕ) → slot < slots → Formed (ordinary (keep_code frame slot))
+    keep_formed slot below = go (is_kept frame slot)
+      where
+        go : (b : Bool) → Formed (ordinary (if b then store_slot frame (made_in frame slot) slot ∷ [] else []))
+        go true = ((refl, slot_fits slot below), tt)
+        go false = tt
+
+    give_formed : (source slot : ℕ) → slot < slots → Formed (ordinary (give_code frame source slot))
+    give_formed source slot below = go (value_register frame slot)
+      where
+        go : (o : Option ℕ) → Formed (ordinary (give_to o frame source slot))
+        go None = ((refl, slot_fits slot below), tt)
+        go (Some register) = ((refl, tt), keep_formed slot below)
+
+    stores_formed : (slot : ℕ) (sources : List ℕ) → slot + length sources ≤ slots → Formed (ordinary (store_all frame slot sources))
+    stores_formed slot [] fits = tt
+    stores_formed slot (source ∷ sources) fits = ((refl, slot_fits slot (omega (arith, fits))), stores_formed (suc slot) sources (omega (arith, fits)))
+
+    formed_append : (xs ys : List Instr) → Formed (ordinary xs) → Formed (ordinary ys) → Formed (ordinary (xs ++ ys))
+    formed_append [] ys first second = second
+    formed_append (x ∷ xs) ys (one, rest) second = (one, formed_append xs ys rest second)
+
+    spills_formed : (slot count : ℕ) → slot + count ≤ slots → Formed (ordinary (spills frame slot count))
+    spills_formed slot zero fits = tt
+    spills_formed slot (suc count) fits = formed_append (spill frame slot) (spills frame (suc slot) count) (one (is_kept frame slot)) (spills_formed (suc slot) count (omega (arith, fits)))
+      where
+        one : (b : Bool) → Formed (ordinary (if b then [] else store_slot frame (made_in frame slot) slot ∷ []))
+        one true = tt
+        one false = ((refl, slot_fits slot (omega (arith, fits))), tt)
+
+    copies_formed : (callee : Frame) (callee_slots : ℕ) → callee.words ≤ 256 → ((slot : ℕ) → slot < callee_slots → slot_word callee slot < callee.words)
+        → (source slot count : ℕ) → source + count ≤ slots → slot + count ≤ callee_slots → Formed (ordinary (copies frame callee source slot count))
+    copies_formed callee callee_slots small inside source slot zero source_fits slot_fits = tt
+    copies_formed callee callee_slots small inside source slot (suc count) source_fits slot_fits =
+        let f = fit.each function known in (
+          (refl, omega (arith, f.inside source (omega (arith, source_fits)), f.within, f.small, small)),
+          (
+            (refl, omega (arith, inside slot (omega (arith, slot_fits)), small)),
+            copies_formed callee callee_slots small inside (suc source) (suc slot) count (omega (arith, source_fits)) (omega (arith, slot_fits)),
+          ),
+        )
+
+    regions_formed : (request : Request) → Formed (ordinary (regions_code request))
+    regions_formed (requests.OpenLexical destination) = ((refl, (omega arith)), tt)
+    regions_formed (requests.CloseTo mark) = ((refl, (omega arith)), tt)
+    regions_formed (requests.OpenDynamic destination) = tt
+    regions_formed (requests.CloseDynamic handle) = tt
+    regions_formed (requests.Allocate destination handle words) = tt
+    regions_formed (requests.Free address) = tt
+
+    high_fits : (word : ℕ) → IsWord word → word / 2 ^ 16 < 2 ^ 16
+    high_fits word is_word = omega (arith, is_word)
+
+    low_fits : (word : ℕ) → word % 2 ^ 16 < 2 ^ 16
+    low_fits word = omega arith
+
+    -- ---- operands, plans and tests
+
+    -- an operand that there is
+    abbrev IsThere : Operand → Type 0
+    IsThere o = IsOperand (routine_at program function) o × IsOfWord o
+
+    word_formed : (target word : ℕ) → IsWord word → Formed (ordinary (word_code target word))
+    word_formed target word fits = go (fits_signed word) (nat_lt word (2 ^ 16)) (word % 2 ^ 16 == 0) refl
+      where
+        go : (a b c : Bool) → nat_lt word (2 ^ 16) ≡ b
+            → Formed (ordinary (if a then small target (word % 2 ^ 16) ∷ [] else (if b then or_immediate target word ∷ [] else (if c then load_upper target word ∷ [] else constant target word))))
+        go true b c low = ((refl, low_fits word), tt)
+        go false true c low = ((refl, ltb-true word (2 ^ 16) low), tt)
+        go false false true low = ((refl, high_fits word fits), tt)
+        go false false false low = ((refl, high_fits word fits), ((refl, low_fits word), tt))
+
+    load_formed : (target : ℕ) (o : Operand) → IsThere o → Formed (ordinary (load_code frame target o))
+    load_formed target (operands.Slot number) (below, fits) = loaded_formed (value_register frame number) target number below
+    load_formed target (operands.Word word) (below, fits) = word_formed target word fits
+
+    argument_formed : (register : ℕ) (o : Option Operand) → IsArgument (routine_at program function) o → IsArgumentOfWord o → Formed (ordinary (argument_code frame register o))
+    argument_formed register None there fits = tt
+    argument_formed register (Some operand) there fits = load_formed register operand (there, fits)
+
+    either_formed : (b : Bool) (is : List Instr) → Formed (ordinary is) → Formed (ordinary (if b then [] else is))
+    either_formed true is all = tt
+    either_formed false is all = all
+
+    operand_formed : (register : ℕ) (o : Operand) → IsThere o → Formed (ordinary (operand_code frame register o))
+    operand_formed register (operands.Slot number) (below, fits) = fetch_formed (value_register frame number)
+      where
+        fetch_formed : (o : Option ℕ) → Formed (ordinary (fetch_from o frame register number))
+        fetch_formed None = ((refl, slot_fits number below), tt)
+        fetch_formed (Some own) = tt
+    operand_formed register (operands.Word word) (there, fits) = either_formed (is_zero_word (operands.Word word)) (word_code register word) (word_formed register word fits)
+
+    operands_formed : (left right : Operand) → IsThere left → IsThere right → Formed (ordinary (operands_code frame left right))
+    operands_formed left right l r =
+        formed_append (operand_code frame FIRST left) (operand_code frame SECOND right) (operand_formed FIRST left l) (operand_formed SECOND right r)
+
+    abbrev HalfFits : Operation → Type 0
+    HalfFits (operations.Immediate op half) = half < 2 ^ 16
+    HalfFits operation = Unit {0}
+
+    operation_formed : (o : Operation) (target left right : ℕ) → HalfFits o → Formed (ordinary (operation_code o target left right))
+    operation_formed (operations.Arithmetic op) target left right fits = ((refl, tt), tt)
+    operation_formed (operations.Immediate op half) target left right fits = ((refl, fits), tt)
+    operation_formed (operations.Shift op) target left right fits = ((refl, tt), tt)
+    operation_formed (operations.ShiftBy op amount) target left right fits = ((refl, tt), tt)
+    operation_formed (operations.MultiplyDivide op from) target left right fits = ((refl, tt), ((refl, tt), tt))
+
+    outcome_formed : (o : Outcome) (target : ℕ) → Formed (ordinary (outcome_code o target))
+    outcome_formed outcomes.AsItIs target = tt
+    outcome_formed outcomes.WhetherZero target = ((refl, (omega arith)), tt)
+    outcome_formed outcomes.WhetherNotZero target = ((refl, tt), tt)
+
+    -- a plan whose operands and whose number are there
+    abbrev IsPlanThere : Plan → Type 0
+    IsPlanThere plan = IsThere plan.left × IsThere plan.right × HalfFits plan.operation
+
+    operation_of_formed : (target : ℕ) (plan : Plan) → IsPlanThere plan → Formed (ordinary (operation_of frame target plan))
+    operation_of_formed target plan (l, r, fits) =
+        let last : List Instr = operation_code plan.operation target (operand_register frame FIRST plan.left) (operand_register frame SECOND plan.right) in
+        formed_append (operands_code frame plan.left plan.right) last (operands_formed plan.left plan.right l r) (operation_formed plan.operation target _ _ fits)
+
+    plan_formed : (plan : Plan) (destination : ℕ) → IsPlanThere plan → destination < slots → Formed (ordinary (plan_code frame plan destination))
+    plan_formed plan destination there below =
+        let target : ℕ = made_in frame destination in
+        formed_append (computed_code frame target plan) (keep_code frame destination)
+        (formed_append (operation_of frame target plan) (outcome_code plan.outcome target) (operation_of_formed target plan there) (outcome_formed plan.outcome target))
+        (keep_formed destination below)
+
+    address_formed : (address : Operand) (offset : ℕ) → IsThere address → IsWord offset → Formed (ordinary (address_code frame address offset))
+    address_formed address offset there fits = go (fits_signed offset)
+      where
+        go : (b : Bool) → Formed (ordinary (if b then operand_code frame FIRST address else operation_of frame FIRST (far_plan address offset)))
+        go true = operand_formed FIRST address there
+        go false = operation_of_formed FIRST (far_plan address offset) (there, (tt, fits), tt)
+
+    near_fits : (offset : ℕ) → near_half offset < 2 ^ 16
+    near_fits offset = go (fits_signed offset)
+      where
+        go : (b : Bool) → (if b then offset % 2 ^ 16 else 0) < 2 ^ 16
+        go true = omega arith
+        go false = omega arith
+
+    zero_there : IsThere (operands.Word 0)
+    zero_there = (tt, omega arith)
+
+    unary_there : (operator : UnaryOperator) (operand : Operand) → IsThere operand → IsPlanThere (unary_plan operator operand)
+    unary_there = all_unary IsThere zero_there IsPlanThere (λ op left right outcome l r. (l, r, tt)) (λ op left half outcome fits l. (l, zero_there, fits))
+
+    binary_there : (operator : BinaryOperator) (left right : Operand) → is_tested operator right ≡ false → IsThere left → IsThere right → IsPlanThere (binary_plan operator left right)
+    binary_there =
+        all_binary IsThere zero_there IsPlanThere (λ op left right outcome l r. (l, r, tt)) (λ op left half outcome fits l. (l, zero_there, fits))
+        (λ op left right l r. (l, r, tt)) (λ op left right amount l. (l, zero_there, tt)) (λ left right l r. (l, r, tt)) (λ from left right plain l r. (l, r, tt))
+
+    test_formed : (test : Test) → AllOfTest IsThere zero_there IsPlanThere (λ op left right outcome l r. (l, r, tt)) (λ op left half outcome fits l. (l, zero_there, fits)) test → Formed (ordinary (test_code frame test))
+    test_formed (tests.Operands op left right) (l, r) = operands_formed left right l r
+    test_formed (tests.Sign op operand) o = operand_formed FIRST operand o
+    test_formed (tests.Computed plan) there = operation_of_formed FIRST plan there
+
+    branch_formed : (test : Test) (label : ℕ) → label < length (select_of program frames).lines → IsFormedLine (length (select_of program frames).lines) (branch_line frame test label)
+    branch_formed (tests.Operands op left right) label below = below
+    branch_formed (tests.Sign op operand) label below = below
+    branch_formed (tests.Computed plan) label below = below
+
+    divide_formed : (which : MoveFromOp) (destination : ℕ) (left right : Operand) (n : ℕ) → destination < slots → IsThere left → IsThere right → n + (divide_count frame destination left right) ≤ length (select_of program frames).lines
+        → Formed (divide_code frame n which destination left right)
+    divide_formed which destination left right n below l r long =
+        let loads = formed_append (load_code frame FIRST left) (load_code frame SECOND right) (load_formed FIRST left l) (load_formed SECOND right r) in
+        all_append (IsFormedLine (length (select_of program frames).lines)) (ordinary (divided_code frame left right))
+        (lines.Branch (conditions.Registers branch.NotEqual (register_of SECOND) (register_of THIRD)) (n + (load_count left + load_count right) + 4) ∷ quotient_code frame which destination)
+        (formed_append (loads_code frame left right) (add_immediate THIRD ZERO (minus 1) ∷ []) loads ((refl, (omega arith)), tt))
+        ((omega (arith, long)), ((refl, tt), ((refl, (omega arith)), ((refl, tt), ((refl, tt), keep_formed destination below)))))
+
+    operator_formed : (operator : BinaryOperator) (destination : ℕ) (left right : Operand) (n : ℕ) → destination < slots → IsThere left → IsThere right → n + operator_count frame operator destination left right ≤ length (select_of program frames).lines
+        → Formed (operator_code frame n operator destination left right)
+    operator_formed operator destination left right n below l r long = go (is_tested operator right) refl long
+      where
+        go : (b : Bool) → is_tested operator right ≡ b → n + (if b then divide_count frame destination left right else plan_count frame (binary_plan operator left right) destination) ≤ length (select_of program frames).lines
+            → Formed (if b then divide_code frame n (part_of operator) destination left right else ordinary (plan_code frame (binary_plan operator left right) destination))
+        go true tested fits = divide_formed (part_of operator) destination left right n below l r fits
+        go false plain fits = plan_formed (binary_plan operator left right) destination (binary_there operator left right plain l r) below
+
+    ending_formed : (b : Bool) (n value : ℕ) → (function == program.main) ≡ b → value + (routine_at program function).results ≤ slots → n + (ending_count program function + (routine_at program function).results + 2) ≤ length (select_of program frames).lines → Formed (ending_code b frame n value)
+    ending_formed false n value is fits long = tt
+    ending_formed true n value is fits long =
+        let one : (routine_at program function).results ≡ 1 = ap (λ (f : ℕ). (routine_at program f).results) (eqb-true function program.main is) ∙ well.main_results in
+        let four : ending_count program function ≡ 4 = ap (λ (b : Bool). if b then 4 else 0) is in
+        ((omega (arith, long, four)), ((loaded_formed (value_register frame value) ARGUMENT value (omega (arith, fits, one))).0, ((refl, (omega arith)), ((refl, tt), tt))))
+
+    upper_fits : (global : ℕ) → global < length program.globals → (data_base + 4 * global + 2 ^ 15) / 2 ^ 16 < 2 ^ 16
+    upper_fits global below = omega (arith, below, well.globals)
+
+    move_formed : (destination : ℕ) (source : Operand) → destination < slots → IsOperand (routine_at program function) source × IsOfWord source
+        → Formed (ordinary (move_to (value_register frame destination) frame destination source))
+    move_formed destination source below there = go (value_register frame destination)
+      where
+        go : (o : Option ℕ) → Formed (ordinary (move_to o frame destination source))
+        go None =
+            formed_append (operand_code frame FIRST source) (store_slot frame (operand_register frame FIRST source) destination ∷ []) (operand_formed FIRST source there) ((refl, slot_fits destination below), tt)
+        go (Some register) = formed_append (load_code frame register source) (keep_code frame destination) (load_formed register source there) (keep_formed destination below)
+
+    moves_formed : (destination source count : ℕ) → destination + count ≤ slots → source + count ≤ slots → Formed (ordinary (moves frame destination source count))
+    moves_formed destination source zero to from = tt
+    moves_formed destination source (suc count) to from =
+        formed_append (move_to (value_register frame destination) frame destination (operands.Slot source)) (moves frame (suc destination) (suc source) count)
+        (move_formed destination (operands.Slot source) (omega (arith, to)) ((omega (arith, from)), tt))
+        (moves_formed (suc destination) (suc source) count (omega (arith, to)) (omega (arith, from)))
+
+    load_formed_at : (op : MemoryOp) (destination : ℕ) (address : Operand) (offset : ℕ) → destination < slots → IsThere address → IsWord offset → Formed (load_at frame op destination address offset)
+    load_formed_at op destination address offset below there near =
+        formed_append (address_code frame address offset) (at_address frame op (made_in frame destination) address offset ∷ keep_code frame destination) (address_formed address offset there near)
+        ((refl, near_fits offset), keep_formed destination below)
+
+    store_formed_at : (op : MemoryOp) (address : Operand) (offset : ℕ) (source : Operand) → IsThere address → IsWord offset → IsThere source → Formed (store_at frame op address offset source)
+    store_formed_at op address offset source there near also =
+        let js : List Instr = operand_code frame SECOND source in
+        let last : List Instr = at_address frame op (operand_register frame SECOND source) address offset ∷ [] in
+        formed_append (address_code frame address offset) (js ++ last) (address_formed address offset there near)
+        (formed_append js last (operand_formed SECOND source also) ((refl, near_fits offset), tt))
+
+    body_formed : (i : Instruction) (n : ℕ) → IsInRange program (routine_at program function) i → HasWord i → n + body_count program frames function i ≤ length (select_of program frames).lines → Formed (body program frames function n i)
+    body_formed (plain.Move destination source) n (a, b) fits long = move_formed destination source a (b, fits)
+    body_formed (plain.Unary operator destination operand) n (a, b) fits long =
+        plan_formed (unary_plan operator operand) destination (unary_there operator operand (b, fits)) a
+    body_formed (plain.Binary operator destination left right) n (a, b, e) (fits, also) long = operator_formed operator destination left right n a (b, fits) (e, also) long
+    body_formed (plain.Jump target) n below fits long = (target_known function target below, tt)
+    body_formed (plain.Branch comparison left right target) n (a, b, below) (fits, also) long =
+        let test : Test = test_of comparison left right in
+        all_append (IsFormedLine (length (select_of program frames).lines)) (ordinary (test_code frame (test_of comparison left right))) (branch_line frame (test_of comparison left right) (instruction_line program frames function target) ∷ [])
+        (test_formed test (all_test IsThere zero_there IsPlanThere (λ op l r outcome x y. (x, y, tt)) (λ op l half outcome small x. (x, zero_there, small)) comparison left right (a, fits) (b, also)))
+        (branch_formed test (instruction_line program frames function target) (target_known function target below), tt)
+    body_formed (plain.Call callee arguments count result) n in_range fits long =
+        let its = fit.each callee in_range.function_in_range in
+        let spilled : ℕ = n + spills_count frame arguments count in
+        all_append (IsFormedLine (length (select_of program frames).lines)) (ordinary (spills frame arguments count)) (calling_code frame (frame_at frames callee) spilled (function_line program frames callee) arguments count)
+        (spills_formed arguments count in_range.arguments_in_range) (
+          (omega (arith, long)),
+          (
+            (refl, (omega arith)),
+            (
+              (refl, tt),
+              (
+                (refl, return_fits),
+                (
+                  (refl, (omega arith)),
+                  (
+                    (refl, (omega (arith, its.return_inside))),
+                    all_append (IsFormedLine (length (select_of program frames).lines)) (ordinary (copies frame (frame_at frames callee) arguments 0 count)) (lines.Call (function_line program frames callee) ∷ [])
+                        (copies_formed (frame_at frames callee) (routine_at program callee).slots (omega (arith, its.within, its.small)) its.inside arguments 0 count in_range.arguments_in_range
+                        (let takes = in_range.takes in let parameters = (routine_in program callee well in_range.function_in_range).parameters in omega (arith, takes, parameters)))
+                        (function_known_line callee in_range.function_in_range, tt),
+                  ),
+                ),
+              ),
+            ),
+          ),
+        )
+    body_formed (plain.Return value) n in_range fits long =
+        let few = few_results program well function in
+        let registers = length_registers (routine_at program function).results few in
+        all_append (IsFormedLine (length (select_of program frames).lines)) (ending_code (function == program.main) frame n value ++ ordinary (loaded frame value (routine_at program function).results)) (lines.Return ∷ [])
+        (all_append (IsFormedLine (length (select_of program frames).lines)) (ending_code (function == program.main) frame n value) (ordinary (loaded frame value (routine_at program function).results))
+        (ending_formed (function == program.main) n value refl in_range long)
+        (formed_append (load_all frame value (result_registers (routine_at program function).results)) (pop_frame frame ∷ []) (loads_formed value (result_registers (routine_at program function).results) (omega (arith, registers, in_range))) ((refl, frame_fits), tt)))
+        (tt, tt)
+    body_formed (plain.Finish value) n in_range fits long =
+        let few = few_results program well function in
+        let registers = length_registers (routine_at program function).results few in
+        all_append (IsFormedLine (length (select_of program frames).lines)) (ending_code (function == program.main) frame n value ++ ordinary (loaded frame value (routine_at program function).results)) (lines.Return ∷ [])
+        (all_append (IsFormedLine (length (select_of program frames).lines)) (ending_code (function == program.main) frame n value) (ordinary (loaded frame value (routine_at program function).results))
+        (ending_formed (function == program.main) n value refl in_range long)
+        (formed_append (load_all frame value (result_registers (routine_at program function).results)) (pop_frame frame ∷ []) (loads_formed value (result_registers (routine_at program function).results) (omega (arith, registers, in_range))) ((refl, frame_fits), tt)))
+        (tt, tt)
+    body_formed (plain.ReadByte destination) n below fits long = ((refl, (omega arith)), ((refl, tt), give_formed SERVICE destination below))
+    body_formed (plain.WriteByte source) n below fits long =
+        formed_append (load_code frame ARGUMENT source) (small SERVICE PUT_BYTE ∷ syscall ∷ []) (load_formed ARGUMENT source (below, fits)) ((refl, (omega arith)), ((refl, tt), tt))
+    body_formed (plain.AddressOf destination slot count) n (a, some, named) fits long =
+        ((refl, slot_fits slot (omega (arith, some, named))), keep_formed destination a)
+    body_formed (plain.LoadGlobal destination global) n (a, b) fits long =
+        ((refl, upper_fits global b), ((refl, low_fits (data_base + 4 * global)), keep_formed destination a))
+    body_formed (plain.StoreGlobal global source) n (a, b) fits long =
+        formed_append (operand_code frame FIRST source) (upper_of_global global ∷ at_global StoreWord (operand_register frame FIRST source) global ∷ []) (operand_formed FIRST source (b, fits))
+        ((refl, upper_fits global a), ((refl, low_fits (data_base + 4 * global)), tt))
+    body_formed (plain.MoveWords destination source count) n in_range fits long =
+        go (is_crossing destination source count)
+      where
+        go : (b : Bool) → Formed (ordinary (if b then all_moved frame destination source count else moves frame destination source count))
+        go true =
+            let registers = length_registers count in_range.few in
+            formed_append (load_words frame source (result_registers count)) (store_all frame destination (result_registers count))
+            (words_formed source (result_registers count) (omega (arith, registers, in_range.source_in_range)))
+            (stores_formed destination (result_registers count) (omega (arith, registers, in_range.destination_in_range)))
+        go false = moves_formed destination source count in_range.destination_in_range in_range.source_in_range
+    body_formed (plain.Load destination address offset) n (a, b) (fits, near) long = load_formed_at LoadWord destination address offset a (b, fits) near
+    body_formed (plain.Store address offset source) n (a, b) (fits, near, also) long = store_formed_at StoreWord address offset source (a, fits) near (b, also)
+    body_formed (plain.LoadByte destination address offset) n (a, b) (fits, near) long = load_formed_at LoadByte destination address offset a (b, fits) near
+    body_formed (plain.StoreByte address offset source) n (a, b) (fits, near, also) long = store_formed_at StoreByte address offset source (a, fits) near (b, also)
+    body_formed (plain.Ask request) n in_range (fits, also) long =
+        let js : List Instr = argument_code frame SECOND_ARGUMENT (second_operand request) in
+        let last : List Instr = small SERVICE (service_number request) ∷ syscall ∷ (regions_code request ++ answer_code frame request) in
+        let registers = length_registers (answer_count request) (omega (arith, answer_few request)) in
+        formed_append (argument_code frame ARGUMENT (first_operand request)) (js ++ last) (argument_formed ARGUMENT (first_operand request) in_range.first_in_range fits)
+        (formed_append js last (argument_formed SECOND_ARGUMENT (second_operand request) in_range.second_in_range also) (
+          (refl, omega (arith, service_small request)),
+          (
+            (refl, tt),
+            formed_append (regions_code request) (answer_code frame request) (regions_formed request)
+                (stores_formed (destination_of request) (result_registers (answer_count request)) (omega (arith, registers, in_range.answer_in_range))),
+          ),
+        ))
+    body_formed (plain.CountLexical destination) n below fits long = give_formed REGIONS destination below
+    body_formed (plain.Try first handler) n in_range fits long =
+        let inside : first + 4 ≤ slots = in_range.record_in_range in (
+          (refl, slot_fits first (omega (arith, inside))),
+          (
+            (refl, slot_fits (first + 1) (omega (arith, inside))),
+            (
+              (refl, slot_fits (first + 3) (omega (arith, inside))),
+              (
+                (refl, return_fits),
+                (
+                  (omega (arith, long)),
+                  (
+                    (refl, return_fits),
+                    (
+                      (refl, slot_fits first (omega (arith, inside))),
+                      (
+                        (refl, slot_fits (suc first) (omega (arith, inside))),
+                        all_append (IsFormedLine (length (select_of program frames).lines)) (ordinary (reloads frame))
+                            (lines.Jump (instruction_line program frames function handler) ∷ ordinary (opened_code frame first)) reloads_formed (
+                              target_known function handler in_range.handler_in_range,
+                              ((refl, slot_fits (first + 2) (omega (arith, inside))), ((refl, return_fits), ((refl, slot_fits first (omega (arith, inside))), tt))),
+                            ),
+                      ),
+                    ),
+                  ),
+                ),
+              ),
+            ),
+          ),
+        )
+    body_formed (plain.Leave first) n in_range fits long = ((refl, slot_fits first (let inside : first + 4 ≤ slots = in_range in omega (arith, inside))), tt)
+    body_formed (plain.Throw tag value) n (a, b) (fits, also) long =
+        all_append (IsFormedLine (length (select_of program frames).lines)) (ordinary (load_code frame ARGUMENT tag ++ load_code frame SECOND_ARGUMENT value))
+        (lines.Branch (conditions.Registers branch.NotEqual (register_of HANDLERS) (register_of ZERO)) (n + (load_count tag + load_count value) + 3) ∷ ordinary (small SERVICE END_UNCAUGHT ∷ syscall ∷ []) ++ (ordinary unwound_code ++ lines.Return ∷ []))
+        (formed_append (load_code frame ARGUMENT tag) (load_code frame SECOND_ARGUMENT value) (load_formed ARGUMENT tag (a, fits)) (load_formed SECOND_ARGUMENT value (b, also)))
+        ((omega (arith, long)), ((refl, (omega arith)), ((refl, tt), ((refl, (omega arith)), ((refl, (omega arith)), ((refl, (omega arith)), ((refl, (omega arith)), (tt, tt))))))))
+    body_formed (plain.Uncaught tag value) n below (tag_fits, value_fits) long =
+        formed_append (word_code ARGUMENT tag) (load_code frame SECOND_ARGUMENT value ++ small SERVICE END_UNCAUGHT ∷ syscall ∷ []) (word_formed ARGUMENT tag tag_fits)
+        (formed_append (load_code frame SECOND_ARGUMENT value) (small SERVICE END_UNCAUGHT ∷ syscall ∷ []) (load_formed SECOND_ARGUMENT value (below, value_fits)) ((refl, (omega arith)), ((refl, tt), tt)))
+
+    behind_formed : (i : Instruction) → IsInRange program (routine_at program function) i → Formed (behind program frames function i)
+    behind_formed (plain.Call callee arguments count result) in_range =
+        let registers = length_registers (routine_at program callee).results (few_results program well callee) in (
+          (refl, return_fits),
+          (
+            (refl, (omega arith)),
+            formed_append (store_all frame result (result_registers (routine_at program callee).results)) (reloads frame)
+                (stores_formed result (result_registers (routine_at program callee).results) (omega (arith, registers, in_range.result_in_range))) reloads_formed,
+          ),
+        )
+    behind_formed (plain.Move destination source) in_range = tt
+    behind_formed (plain.Unary operator destination operand) in_range = tt
+    behind_formed (plain.Binary operator destination left right) in_range = tt
+    behind_formed (plain.Jump target) in_range = tt
+    behind_formed (plain.Branch comparison left right target) in_range = tt
+    behind_formed (plain.Return value) in_range = tt
+    behind_formed (plain.ReadByte destination) in_range = tt
+    behind_formed (plain.WriteByte source) in_range = tt
+    behind_formed (plain.AddressOf destination slot count) in_range = tt
+    behind_formed (plain.LoadGlobal destination global) in_range = tt
+    behind_formed (plain.StoreGlobal global source) in_range = tt
+    behind_formed (plain.MoveWords destination source count) in_range = tt
+    behind_formed (plain.Load destination address offset) in_range = tt
+    behind_formed (plain.Store address offset source) in_range = tt
+    behind_formed (plain.LoadByte destination address offset) in_range = tt
+    behind_formed (plain.StoreByte address offset source) in_range = tt
+    behind_formed (plain.Ask request) in_range = tt
+    behind_formed (plain.CountLexical destination) in_range = tt
+    behind_formed (plain.Try first handler) in_range = tt
+    behind_formed (plain.Leave first) in_range = tt
+    behind_formed (plain.Throw tag value) in_range = tt
+    behind_formed (plain.Finish value) in_range = tt
+    behind_formed (plain.Uncaught tag value) in_range = tt
+
+  function_formed : (function n : ℕ) → function < length program.functions → n ≡ function_line program frames function → Formed (code_lines program frames function n (routine_at program function).code)
+  function_formed function n known is =
+      code_all program frames (IsFormedLine (length (select_of program frames).lines)) function n (routine_at program function).code
+      (λ index m i at m_is.
+      let routine = routine_in program function well known in
+      let in_range = holds_at (IsInRange program (routine_at program function)) (routine_at program function).code index i routine.instructions at in
+      let has_word = holds_at HasWord (routine_at program function).code index i (words.functions function no_routine known) at in
+      let here : m ≡ instruction_line program frames function index = omega (arith, m_is, is) in
+      all_append (IsFormedLine (length (select_of program frames).lines)) (body program frames function m i) (behind program frames function i)
+      (body_formed function known i m in_range has_word (omega (arith, here, line_known function index i at)))
+      (behind_formed function known i in_range))
+
+  main_some : 0 < (frame_at frames program.main).words
+  main_some = let f = fit.each program.main well.main in omega (arith, f.return_inside)
+
+  pub formed : IsFormed (select_of program frames)
+  formed =
+      all_from (IsFormedLine (length (select_of program frames).lines)) (start_lines program frames ++ function_lines program frames 0 START_LINES program.functions)
+      (all_append (IsFormedLine (length (select_of program frames).lines)) (start_lines program frames) (function_lines program frames 0 START_LINES program.functions)
+      ((refl, (omega arith)), ((refl, (omega (arith, main_some))), (function_known_line program.main well.main, tt)))
+      (functions_all program frames (IsFormedLine (length (select_of program frames).lines)) 0 START_LINES program.functions
+      (λ k n below is.
+      let same : k ≡ 0 + k = omega arith in
+      subst (λ (f : ℕ). Formed (code_lines program frames f n (routine_at program k).code)) same (function_formed k n below is))))

@@ -1,0 +1,209 @@
+-- Each line belongs to the start or to one place.
+use Rattle.std.proofs.Common.{◌≡◌, ℕ, zero, suc, ◌+◌, ◌-◌, ◌<◌, ◌≤◌, true, false, List, [], ◌∷◌, ◌++◌, length, map, take, Option, Some, slice_get, refl, sym, ap, subst, ◌∙◌, arith, inl, inr, length-append}
+use Rattle.std.specs.Prelude.{sum_by, slice_index_or, flat_map, Contains, IsSomeAnd}
+use Rattle.std.specs.List.{range_with_len}
+use Rattle.std.proofs.lemmas.Grind.{flat_map-append}
+use Rattle.std.proofs.lemmas.List.FromFn.{get_or-map-range_with_len, length-map-range_with_len, length-range_with_len}
+use Rattle.std.proofs.lemmas.List.Elements.{Contains-append_cases}
+use Rattle.cyc_words.proofs.Lists.{slice_get_below}
+use Rattle.cyc_plain.specs.declared.instruction.Instruction.{Instruction}
+use Rattle.cyc_plain.specs.declared.instruction.Instruction.TheVariants as plain
+use Rattle.cyc_plain.specs.Program.{Routine, Program, CodePlace, no_routine, routine_at, places_from, places_of}
+use Rattle.cyc_plain.specs.WellFormed.{IsWellFormed, leaves}
+use Rattle.cyc_plain.proofs.Placed.{routine_in}
+use Rattle.cyc_frame.specs.Frame.{Frame}
+use Rattle.cyc_select.specs.declared.constants.TheConstants.{START_LINES}
+use Rattle.cyc_select.specs.Selection.{body_count, behind_count, count_of, function_count, functions_count, function_line, instruction_line, start_lines, function_lines, select_of}
+use Rattle.cyc_select.proofs.layout.Formed.{few_results, range_at, count_some}
+use Rattle.cyc_select.proofs.layout.Lines.{line_next, line_first}
+use Rattle.cyc_select.proofs.runs.Runs.{behind_of, previous_count, body_of, own_of, previous_fits}
+use Rattle.cyc_select.proofs.layout.Structure.{length_functions}
+
+pub range_append : (a n m : ℕ) → range_with_len a n ++ range_with_len (a + n) m ≡ range_with_len a (n + m)
+range_append a zero m =
+    let here : a + 0 ≡ a = omega arith in
+    let long : 0 + m ≡ m = omega arith in
+    ap (λ (x : ℕ). range_with_len x m) here ∙ ap (range_with_len a) (sym long)
+range_append a (suc n) m =
+    let there : a + suc n ≡ a + 1 + n = omega arith in
+    let long : suc n + m ≡ suc (n + m) = omega arith in
+    ap (λ (l : List ℕ). a ∷ l) (ap (λ (x : ℕ). range_with_len (a + 1) n ++ range_with_len x m) there ∙ range_append (a + 1) n m) ∙ ap (range_with_len a) (sym long)
+
+leaves_none : (program : Program) (frames : List Frame) (function : ℕ) (i : Instruction) → leaves i ≡ true → behind_count program frames function i ≡ 0
+leaves_none program frames function (plain.Call callee arguments count result) last = absurd (let e : false ≡ true = last in cc)
+leaves_none program frames function (plain.Move destination source) last = refl
+leaves_none program frames function (plain.Unary operator destination operand) last = refl
+leaves_none program frames function (plain.Binary operator destination left right) last = refl
+leaves_none program frames function (plain.Jump target) last = refl
+leaves_none program frames function (plain.Branch comparison left right target) last = refl
+leaves_none program frames function (plain.Return value) last = refl
+leaves_none program frames function (plain.ReadByte destination) last = refl
+leaves_none program frames function (plain.WriteByte source) last = refl
+leaves_none program frames function (plain.AddressOf destination slot count) last = refl
+leaves_none program frames function (plain.LoadGlobal destination global) last = refl
+leaves_none program frames function (plain.StoreGlobal global source) last = refl
+leaves_none program frames function (plain.MoveWords destination source count) last = refl
+leaves_none program frames function (plain.Load destination address offset) last = refl
+leaves_none program frames function (plain.Store address offset source) last = refl
+leaves_none program frames function (plain.LoadByte destination address offset) last = refl
+leaves_none program frames function (plain.StoreByte address offset source) last = refl
+leaves_none program frames function (plain.Ask request) last = refl
+leaves_none program frames function (plain.CountLexical destination) last = refl
+leaves_none program frames function (plain.Try first handler) last = refl
+leaves_none program frames function (plain.Leave first) last = refl
+leaves_none program frames function (plain.Throw tag value) last = refl
+leaves_none program frames function (plain.Finish value) last = refl
+leaves_none program frames function (plain.Uncaught tag value) last = refl
+
+some_last : (r : Routine) (i : Instruction) → IsSomeAnd (slice_get r.code (length r.code - 1)) (λ j. leaves j ≡ true) → slice_get r.code (length r.code - 1) ≡ Some i → leaves i ≡ true
+some_last r i last at = subst (λ (o : Option Instruction). IsSomeAnd o (λ j. leaves j ≡ true)) at last
+
+take_all : {X : Type 0} (xs : List X) → take (length xs) xs ≡ xs
+take_all [] = refl
+take_all (x ∷ xs) = ap (λ (l : List _). x ∷ l) (take_all xs)
+
+functions_next : (program : Program) (frames : List Frame) (first : ℕ) (routines : List Routine) (k : ℕ) → k < length routines
+    → functions_count program frames first (take (suc k) routines) ≡ functions_count program frames first (take k routines) + function_count program frames (first + k) (slice_index_or routines k no_routine)
+functions_next program frames first [] k below = absurd (omega arith)
+functions_next program frames first (r ∷ routines) zero below =
+    let same : first ≡ first + 0 = omega arith in
+    let e : function_count program frames first r ≡ function_count program frames (first + 0) r = ap (λ (f : ℕ). function_count program frames f r) same in
+    omega (arith, e)
+functions_next program frames first (r ∷ routines) (suc k) below =
+    let rest = functions_next program frames (suc first) routines k (omega arith) in
+    let same : suc first + k ≡ first + suc k = omega arith in
+    omega (arith, rest, ap (λ (f : ℕ). function_count program frames f (slice_index_or routines k no_routine)) same)
+
+abbrev pub place_in : ℕ → ℕ → CodePlace
+place_in function index = record { function = function; index = index }
+
+module _ (program : Program) (well : IsWellFormed program) (frames : List Frame) where
+  -- the lines of a function end here
+  abbrev end_of : ℕ → ℕ
+  end_of function = function_line program frames function + function_count program frames function (routine_at program function)
+
+  abbrev first_of : (function index : ℕ) → ℕ
+  first_of function index = instruction_line program frames function index - previous_count program frames function (routine_at program function).code index
+
+  last_line : (function : ℕ) → instruction_line program frames function (length (routine_at program function).code) ≡ end_of function
+  last_line function = ap (λ (code : List Instruction). function_line program frames function + sum_by (count_of program frames function) code) (take_all (routine_at program function).code)
+
+  last_previous : (function : ℕ) → function < length program.functions → (k : ℕ) → k ≡ length (routine_at program function).code → previous_count program frames function (routine_at program function).code k ≡ 0
+  last_previous function known zero is = refl
+  last_previous function known (suc k) is =
+      let routine = routine_in program function well known in
+      let (i, at) = slice_get_below (routine_at program function).code k (omega (arith, is)) in
+      let last : length (routine_at program function).code - 1 ≡ k = omega (arith, is) in
+      ap (behind_of program frames function) at ∙ leaves_none program frames function i (some_last (routine_at program function) i routine.last (ap (slice_get (routine_at program function).code) last ∙ at))
+
+  own_from : (function : ℕ) → function < length program.functions → (k n : ℕ) → k + n ≡ length (routine_at program function).code
+      → flat_map (own_of program frames) (map (place_in function) (range_with_len k n)) ≡ range_with_len (first_of function k) (end_of function - first_of function k)
+  own_from function known k zero long =
+      let at_end : k ≡ length (routine_at program function).code = omega (arith, long) in
+      let previous = last_previous function known k at_end in
+      let line : instruction_line program frames function k ≡ end_of function = ap (instruction_line program frames function) at_end ∙ last_line function in
+      let none : end_of function - first_of function k ≡ 0 = omega (arith, previous, line) in
+      ap (range_with_len (first_of function k)) (sym none)
+  own_from function known k (suc n) long =
+      let (i, at) = slice_get_below (routine_at program function).code k (omega (arith, long)) in
+      let next = line_next program frames function k i at in
+      let fits = previous_fits program frames function k in
+      let one : k + 1 ≡ suc k = omega arith in
+      let previous : previous_count program frames function (routine_at program function).code (k + 1) ≡ behind_count program frames function i = ap (previous_count program frames function (routine_at program function).code) one ∙ ap (behind_of program frames function) at in
+      let own_body : body_of program frames function (slice_get (routine_at program function).code k) ≡ body_count program frames function i = ap (body_of program frames function) at in
+      let from : first_of function (k + 1) ≡ first_of function k + (previous_count program frames function (routine_at program function).code k + body_of program frames function (slice_get (routine_at program function).code k)) = omega (arith, next, fits, previous, own_body) in
+      let end = first_before function known (k + 1) n (omega (arith, long)) in
+      let whole : (previous_count program frames function (routine_at program function).code k + body_of program frames function (slice_get (routine_at program function).code k)) + (end_of function - first_of function (k + 1)) ≡ end_of function - first_of function k = omega (arith, from, end) in
+      ap (λ (l : List ℕ). own_of program frames (place_in function k) ++ l) (own_from function known (k + 1) n (omega (arith, long)))
+      ∙ (ap (λ (x : ℕ). own_of program frames (place_in function k) ++ range_with_len x (end_of function - first_of function (k + 1))) from
+      ∙ (range_append (first_of function k) (previous_count program frames function (routine_at program function).code k + body_of program frames function (slice_get (routine_at program function).code k)) (end_of function - first_of function (k + 1))
+      ∙ ap (range_with_len (first_of function k)) whole))
+    where
+      first_before : (function : ℕ) → function < length program.functions → (k n : ℕ) → k + n ≡ length (routine_at program function).code → first_of function k ≤ end_of function
+      first_before function known k zero long =
+          let at_end : k ≡ length (routine_at program function).code = omega (arith, long) in
+          omega (arith, ap (instruction_line program frames function) at_end, last_line function)
+      first_before function known k (suc n) long =
+          let (i, at) = slice_get_below (routine_at program function).code k (omega (arith, long)) in
+          let next = line_next program frames function k i at in
+          let one : k + 1 ≡ suc k = omega arith in
+          let previous : previous_count program frames function (routine_at program function).code (k + 1) ≡ behind_count program frames function i = ap (previous_count program frames function (routine_at program function).code) one ∙ ap (behind_of program frames function) at in
+          omega (arith, next, previous, first_before function known (k + 1) n (omega (arith, long)))
+
+  -- the lines of a function are those of its places
+  pub own_function : (function : ℕ) → function < length program.functions
+      → flat_map (own_of program frames) (map (place_in function) (range_with_len 0 (length (routine_at program function).code))) ≡ range_with_len (function_line program frames function) (function_count program frames function (routine_at program function))
+  own_function function known =
+      let first = line_first program frames function in
+      let from : first_of function 0 ≡ function_line program frames function = omega (arith, first) in
+      let long : end_of function - first_of function 0 ≡ function_count program frames function (routine_at program function) = omega (arith, first) in
+      own_from function known 0 (length (routine_at program function).code) (omega arith)
+      ∙ (ap (λ (x : ℕ). range_with_len x (end_of function - first_of function 0)) from ∙ ap (range_with_len (function_line program frames function)) long)
+
+  own_functions : (first : ℕ) (routines : List Routine) → first + length routines ≡ length program.functions → ((k : ℕ) → k < length routines → slice_index_or routines k no_routine ≡ routine_at program (first + k))
+      → flat_map (own_of program frames) (places_from first routines) ≡ range_with_len (function_line program frames first) (functions_count program frames first routines)
+  own_functions first [] long same = refl
+  own_functions first (r ∷ routines) long same =
+      let known : first < length program.functions = omega (arith, long) in
+      let here : first + 0 ≡ first = omega arith in
+      let is : r ≡ routine_at program first = same 0 (omega arith) ∙ ap (routine_at program) here in
+      let one : functions_count program frames 0 (take (suc first) program.functions) ≡ functions_count program frames 0 (take first program.functions) + function_count program frames (0 + first) (routine_at program first) = functions_next program frames 0 program.functions first known in
+      let zero_first : 0 + first ≡ first = omega arith in
+      let next : function_line program frames (suc first) ≡ function_line program frames first + function_count program frames first r = omega (arith, one, ap (λ (f : ℕ). function_count program frames f (routine_at program first)) zero_first, ap (function_count program frames first) is) in
+      flat_map-append (own_of program frames) (map (place_in first) (range_with_len 0 (length r.code))) (places_from (suc first) routines)
+      ∙ (ap (λ (s : Routine). flat_map (own_of program frames) (map (place_in first) (range_with_len 0 (length s.code))) ++ flat_map (own_of program frames) (places_from (suc first) routines)) is
+      ∙ (ap (λ (l : List ℕ). l ++ flat_map (own_of program frames) (places_from (suc first) routines)) (own_function first known)
+      ∙ (ap (λ (s : Routine). range_with_len (function_line program frames first) (function_count program frames first s) ++ flat_map (own_of program frames) (places_from (suc first) routines)) (sym is)
+      ∙ (ap (λ (l : List ℕ). range_with_len (function_line program frames first) (function_count program frames first r) ++ l)
+      (own_functions (suc first) routines (omega (arith, long)) (λ k below. let e : first + suc k ≡ suc first + k = omega arith in same (suc k) (omega (arith, below)) ∙ ap (routine_at program) e))
+      ∙ (ap (λ (x : ℕ). range_with_len (function_line program frames first) (function_count program frames first r) ++ range_with_len x (functions_count program frames (suc first) routines)) next
+      ∙ range_append (function_line program frames first) (function_count program frames first r) (functions_count program frames (suc first) routines))))))
+
+  pub parts : range_with_len 0 3 ++ flat_map (own_of program frames) (places_of program) ≡ range_with_len 0 (length (select_of program frames).lines)
+  parts =
+      let none : function_line program frames 0 ≡ 3 = omega arith in
+      let total = length-append (start_lines program frames) (function_lines program frames 0 START_LINES program.functions) in
+      let long = length_functions program frames (few_results program well) 0 START_LINES program.functions in
+      let all : 3 + functions_count program frames 0 program.functions ≡ length (select_of program frames).lines = omega (arith, total, long) in
+      let same : (k : ℕ) → k < length program.functions → slice_index_or program.functions k no_routine ≡ routine_at program (0 + k) =
+      λ k below. let e : k ≡ 0 + k = omega arith in ap (routine_at program) e in
+      ap (λ (l : List ℕ). range_with_len 0 3 ++ l) (own_functions 0 program.functions (omega arith) same)
+      ∙ (ap (λ (x : ℕ). range_with_len 0 3 ++ range_with_len x (functions_count program frames 0 program.functions)) none
+      ∙ (range_append 0 3 (functions_count program frames 0 program.functions) ∙ ap (range_with_len 0) all))
+
+-- ---- each place has a line
+
+index_below : (function n : ℕ) (place : CodePlace) → Contains (map (place_in function) (range_with_len 0 n)) place → (place.function ≡ function) × (place.index < n)
+index_below function n place (k, below, at) =
+    let long = length-map-range_with_len (place_in function) 0 n in
+    let inside : k < n = omega (arith, below, long) in
+    let start : 0 + k ≡ k = omega arith in
+    let is : place_in function k ≡ place = sym (get_or-map-range_with_len (place_in function) 0 n k k place inside start) ∙ at in
+    (sym (ap (λ (p : CodePlace). p.function) is), subst (λ (i : ℕ). i < n) (ap (λ (p : CodePlace). p.index) is) inside)
+
+module _ (program : Program) (well : IsWellFormed program) (frames : List Frame) where
+  places_index : (first : ℕ) (routines : List Routine) → ((k : ℕ) → k < length routines → slice_index_or routines k no_routine ≡ routine_at program (first + k)) → (place : CodePlace) → Contains (places_from first routines) place
+      → place.index < length (routine_at program place.function).code
+  places_index first [] same place (k, below, at) = absurd (omega (arith, below))
+  places_index first (r ∷ routines) same place inside = elim (Contains-append_cases (map (place_in first) (range_with_len 0 (length r.code))) (places_from (suc first) routines) place inside) [
+    | inl here ↦
+        let (function, below) = index_below first (length r.code) place here in
+        let zero_first : first + 0 ≡ first = omega arith in
+        let is : r ≡ routine_at program place.function = same 0 (omega arith) ∙ (ap (routine_at program) zero_first ∙ sym (ap (routine_at program) function)) in
+        subst (λ (s : Routine). place.index < length s.code) is below
+    | inr later ↦
+        places_index (suc first) routines (λ k below. let e : first + suc k ≡ suc first + k = omega arith in same (suc k) (omega (arith, below)) ∙ ap (routine_at program) e) place later
+  ]
+
+  pub own_some : (place : CodePlace) → Contains (places_of program) place → 0 < length (own_of program frames place)
+  own_some place inside =
+      let same : (k : ℕ) → k < length program.functions → slice_index_or program.functions k no_routine ≡ routine_at program (0 + k) =
+      λ k below. let e : k ≡ 0 + k = omega arith in ap (routine_at program) e in
+      let (i, at) = slice_get_below (routine_at program place.function).code place.index (places_index 0 program.functions same place inside) in
+      let here : body_of program frames place.function (slice_get (routine_at program place.function).code place.index) ≡ body_count program frames place.function i = ap (body_of program frames place.function) at in
+      omega (
+        arith,
+        here,
+        count_some program frames place.function i (range_at program well place i at),
+        length-range_with_len (instruction_line program frames place.function place.index - previous_count program frames place.function (routine_at program place.function).code place.index) (previous_count program frames place.function (routine_at program place.function).code place.index + body_of program frames place.function (slice_get (routine_at program place.function).code place.index)),
+      )

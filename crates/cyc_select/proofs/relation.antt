@@ -1,0 +1,8 @@
+-- when a state of the machine stands for one of the plain program
+pub mod Matches
+pub mod Standing
+pub mod Values
+pub mod Held
+pub mod Stores
+pub mod Places
+pub mod Cells

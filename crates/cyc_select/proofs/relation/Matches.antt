@@ -1,0 +1,186 @@
+-- When a state of the labelled machine matches one of the plain machine.
+use Rattle.std.proofs.Common.{◌≡◌, ◌≢◌, ℕ, suc, ◌+◌, ◌*◌, ◌<◌, ◌≤◌, Bool, true, false, List, [], ◌∷◌, length, Some, refl, sym, ap, subst, ◌∙◌, inl}
+use Rattle.std.specs.Prelude.{◌⊎◌, slice_index, if◌then◌else◌}
+use Rattle.std.specs.List.{AllByRecursion}
+use Rattle.std.proofs.lemmas.Bool.{and_from, le-leb}
+use Rattle.cyc_select.specs.declared.constants.TheConstants.{CALLS, FRAME}
+use Rattle.cyc_machine.specs.declared.constants.TheConstants.{RETURN_ADDRESS}
+use Rattle.cyc_words.specs.Word.{IsWord}
+use Rattle.cyc_isa.specs.Effect.{memory_address}
+use Rattle.cyc_machine.specs.State.{globals_length, words_per_call}
+use Rattle.cyc_store.specs.State.{demand}
+use Rattle.cyc_plain.specs.declared.instruction.Instruction.{Instruction}
+use Rattle.cyc_plain.specs.declared.instruction.Instruction.TheVariants as plain
+use Rattle.cyc_plain.specs.Program.{Program, routine_at}
+use Rattle.cyc_plain.specs.State as states
+use Rattle.cyc_plain.specs.State.{Words, AreWords, put, copied, Configuration}
+use Rattle.cyc_plain.specs.Step.{Choice, IsAllowed, instruction_at, performed, executed, gives, step, is_within, Step}
+use Rattle.cyc_plain.specs.WellFormed.{IsWellFormed}
+use Rattle.cyc_plain.proofs.RunLaws.{limited-within, zeros, calls_nothing, zeros_at}
+use Rattle.cyc_frame.specs.Layout.{AreFrames, frame_at}
+use Rattle.cyc_frame.specs.Frame.{Frame}
+use Rattle.cyc_select.specs.Labelled.{Labelled, IsFormed}
+use Rattle.cyc_select.specs.Machine as labelled
+use Rattle.cyc_select.specs.Machine.{State, Running, Ended}
+use Rattle.cyc_frame.specs.Uses.{writes, leads}
+use Rattle.cyc_select.specs.Selection.{slot_offset, value_register, is_kept, instruction_line, count_of}
+use Rattle.cyc_select.proofs.values.Blocks.{ValuesSame, lasting}
+use Rattle.cyc_select.proofs.layout.Lines.{line_next}
+use Rattle.cyc_select.proofs.effects.Views.{Contents, written}
+use Rattle.cyc_select.proofs.effects.Walks.{Now, now_at}
+use Rattle.cyc_select.proofs.relation.Standing.{behind_line, Standing, slot_address, standing_registers, standing_at, standing_slot, standing_unkept}
+use Rattle.cyc_select.proofs.relation.Values.{Caches, caches_past, made_caches}
+
+-- the registers of what a function returns
+abbrev pub result_register : ℕ → ℕ
+result_register k = slice_index (2 ∷ 3 ∷ 5 ∷ []) k
+
+module _ (program : Program) (well : IsWellFormed program) (frames : List Frame) (fit : AreFrames program frames) (code : Labelled) (formed : IsFormed code) (addresses : ℕ → ℕ) (pages calls : ℕ) (few : calls ≤ 4096) where
+  abbrev pub At : ℕ → (out input : List ℕ) → (r : Words) (w : Contents) → labelled.Configuration → Type 0
+  At line out input r w run = Now code formed addresses globals_length (words_per_call * calls) line out input r w run
+
+  -- the instruction's own lines are next
+  pub record Ready (c : Configuration) (t : State) : Type 0 where
+    pub run : labelled.Configuration
+    pub r : Words
+    pub w : Contents
+    pub base : ℕ
+    pub is : t ≡ Running run
+    pub now : At (instruction_line program frames c.active.function c.active.next) c.output c.input r w run
+    pub standing : Standing program frames addresses pages calls c r w base (r RETURN_ADDRESS) (suc (length c.frames)) c.active.slots
+    pub caches : Caches program frames c.active.function c.active.next r c.active.slots
+
+  -- The lines behind a call are next, before the instruction's own, and what the call returned is in registers.
+  pub record Back (c : Configuration) (t : State) : Type 0 where
+    pub run : labelled.Configuration
+    pub r : Words
+    pub w : Contents
+    pub base : ℕ
+    pub index : ℕ
+    pub callee : ℕ
+    pub arguments : ℕ
+    pub count : ℕ
+    pub result : ℕ
+    pub waiting : Words
+    pub values : Words
+    pub first : ℕ
+    pub is : t ≡ Running run
+    pub next : c.active.next ≡ index + 1
+    pub call : instruction_at program (record { function = c.active.function; index = index }) ≡ Some (plain.Call callee arguments count result)
+    pub now : At (behind_line program frames c.active.function index callee arguments count result) c.output c.input r w run
+    pub standing : Standing program frames addresses pages calls c r w base (w.words (base + 4 * (frame_at frames c.active.function).return_address)) (suc (suc (length c.frames))) waiting
+    pub returned : (k : ℕ) → k < (routine_at program callee).results → r (result_register k) ≡ values (first + k)
+    pub slots : c.active.slots ≡ copied values first (routine_at program callee).results waiting result
+
+  -- An exception has come to a handler of this call: it is on the lines that the handler's instruction has for it, and its
+  -- tag and its word are in registers.
+  pub record Landed (c : Configuration) (t : State) : Type 0 where
+    pub run : labelled.Configuration
+    pub r : Words
+    pub w : Contents
+    pub base : ℕ
+    pub first : ℕ
+    pub handler : ℕ
+    pub handlers : List states.Handler
+    pub waiting : Words
+    pub is : t ≡ Running run
+    pub opened : instruction_at program (states.place_of (states.Running c)) ≡ Some (plain.Try first handler)
+    pub caught : c.active.handlers ≡ states.Caught ∷ handlers
+    pub now : At (instruction_line program frames c.active.function c.active.next + 5) c.output c.input r w run
+    pub standing : Standing program frames addresses pages calls (record c { active = record c.active { handlers = handlers } }) r w base (w.words (base + 4 * (frame_at frames c.active.function).return_address)) (suc (length c.frames)) waiting
+    pub slots : c.active.slots ≡ put (put waiting first (r 4)) (suc first) (r 5)
+
+  abbrev pub Matches : states.State → State → Type 0
+  Matches (states.Running c) t = Ready c t ⊎ (Back c t ⊎ Landed c t)
+  Matches (states.Ended ending out input) t = t ≡ Ended ending out input
+  Matches (states.Stuck out input) t = ⊥
+
+  -- a step of the plain machine, to a state that is matched
+  abbrev pub Reached : Configuration → State → Type 0
+  Reached c t = (next : states.State) × Step program pages calls (states.Running c) next × Matches next t
+
+  pub within : (d : Configuration) → demand d.store ≤ pages → suc (length d.frames) ≤ calls → is_within pages calls (states.Running d) ≡ true
+  within d paged deep = and_from _ _ (le-leb (demand d.store) pages paged) (le-leb (suc (length d.frames)) calls deep)
+
+  -- by an instruction that stays within the limits
+  pub reached : (c : Configuration) (choice : Choice) (i : Instruction) (next : states.State) (t : State) → IsAllowed program (states.Running c) choice
+      → instruction_at program (states.place_of (states.Running c)) ≡ Some i → performed program choice c i ≡ next → is_within pages calls next ≡ true → Matches next t → Reached c t
+  reached c choice i next t allowed at does keeps matches =
+      let is : step program choice (states.Running c) ≡ next = ap (executed program choice c) at ∙ does in
+      let keeps_step : is_within pages calls (step program choice (states.Running c)) ≡ true = ap (is_within pages calls) is ∙ keeps in
+      (next, (choice, allowed, sym (limited-within pages calls (states.Running c) (step program choice (states.Running c)) keeps_step ∙ is)), matches)
+
+  module _ (c : Configuration) (i : Instruction) (at : instruction_at program (states.place_of (states.Running c)) ≡ Some i) (free : calls_nothing i ≡ true) (r : Words) (w : Contents) (base : ℕ)
+      (s : Standing program frames addresses pages calls c r w base (r RETURN_ADDRESS) (suc (length c.frames)) c.active.slots) (caches : Caches program frames c.active.function c.active.next r c.active.slots) where
+    -- memory, where the slot lives there
+    put_slot : (b : Bool) (slot word : ℕ) → slot < (routine_at program c.active.function).slots → is_kept (frame_at frames c.active.function) slot ≡ b
+        → Standing program frames addresses pages calls c r (if b then written w (base + slot_offset (frame_at frames c.active.function) slot) word else w) base (r RETURN_ADDRESS) (suc (length c.frames)) (put c.active.slots slot word)
+    put_slot true slot word below kept = standing_slot program well frames fit addresses pages calls few c r w base (r RETURN_ADDRESS) (suc (length c.frames)) c.active.slots s slot word below
+    put_slot false slot word below unkept = standing_unkept program well frames fit addresses pages calls few c r w base (r RETURN_ADDRESS) (suc (length c.frames)) c.active.slots s slot word unkept
+
+    -- An instruction that gives a word to a slot, and perhaps reads.
+    pub reached_gives : (destination word : ℕ) (input : List ℕ) (line : ℕ) (run : labelled.Configuration) (r' : Words) (w' : Contents)
+        → destination < (routine_at program c.active.function).slots
+        → ((slot : ℕ) → slot ≢ destination → writes program i slot ≡ false) → writes program i destination ≡ true → leads i c.active.next (c.active.next + 1) ≡ true
+        → performed program zeros c i ≡ gives (record c { input = input }) destination word
+        → AllByRecursion IsWord input
+        → line ≡ instruction_line program frames c.active.function c.active.next + count_of program frames c.active.function i
+        → r' 0 ≡ r 0 → r' FRAME ≡ r FRAME → r' CALLS ≡ r CALLS → r' RETURN_ADDRESS ≡ r RETURN_ADDRESS → lasting r' ≡ lasting r
+        → ((k : ℕ) → value_register (frame_at frames c.active.function) destination ≡ Some k → r' k ≡ word)
+        → ((n : ℕ) → 8 ≤ n → n < 24 → (value_register (frame_at frames c.active.function) destination ≡ Some n → ⊥) → r' n ≡ r n)
+        → w' ≡ (if is_kept (frame_at frames c.active.function) destination then written w (memory_address (r FRAME) (slot_offset (frame_at frames c.active.function) destination)) word else w)
+        → At line c.output input r' w' run → Reached c (Running run)
+    reached_gives destination word input line run r' w' below unwritten gets led does fine line_is zero_same base_same left_same back_same lasts_same result others puts now =
+        let d : Configuration = record c { active = record c.active { next = c.active.next + 1; slots = put c.active.slots destination word }; input = input } in
+        let address = slot_address program well frames fit addresses pages calls few c r w base (r RETURN_ADDRESS) (suc (length c.frames)) c.active.slots s destination below in
+        let in_place = put_slot (is_kept (frame_at frames c.active.function) destination) destination word below refl in
+        let in_w' : Standing program frames addresses pages calls c r w' base (r RETURN_ADDRESS) (suc (length c.frames)) (put c.active.slots destination word) =
+        subst (λ (x : Contents). Standing program frames addresses pages calls c r x base (r RETURN_ADDRESS) (suc (length c.frames)) (put c.active.slots destination word))
+        (sym (puts ∙ ap (λ (a : ℕ). if is_kept (frame_at frames c.active.function) destination then written w a word else w) address)) in_place in
+        let in_r' = standing_registers program well frames fit addresses pages calls few c r w' base (r RETURN_ADDRESS) (suc (length c.frames)) (put c.active.slots destination word) in_w' r' zero_same base_same left_same lasts_same in
+        let there = standing_at program well frames fit addresses pages calls few c r' w' base (r RETURN_ADDRESS) (suc (length c.frames)) (put c.active.slots destination word) in_r' d refl refl refl refl refl refl fine in
+        let with_back = subst (λ (b : ℕ). Standing program frames addresses pages calls d r' w' base b (suc (length c.frames)) (put c.active.slots destination word)) (sym back_same) there in
+        let line_same : line ≡ instruction_line program frames c.active.function (c.active.next + 1) = line_is ∙ sym (line_next program frames c.active.function c.active.next i at) in
+        reached c zeros i (states.Running d) (Running run) (zeros_at program c i at free) at does (within d s.laid.paged s.deep)
+        (inl (record {
+          run = run;
+          r = r';
+          w = w';
+          base = base;
+          is = refl;
+          now = now_at code formed addresses globals_length (words_per_call * calls) line (instruction_line program frames c.active.function (c.active.next + 1)) c.output input r' w' run line_same now;
+          standing = with_back;
+          caches = made_caches program frames c.active.function (fit.homes c.active.function s.known) c.active.next destination word r r' c.active.slots i at unwritten gets led result others caches;
+        }))
+
+    -- an instruction that goes to a place of the same code, and may print
+    pub reached_at : (d : Configuration) (line : ℕ) (run : labelled.Configuration) (r' : Words) (w' : Contents)
+        → d.active.function ≡ c.active.function → d.active.base ≡ c.active.base → d.active.handlers ≡ c.active.handlers → d.active.slots ≡ c.active.slots → d.frames ≡ c.frames → d.globals ≡ c.globals → d.store ≡ c.store → d.input ≡ c.input
+        → performed program zeros c i ≡ states.Running d
+        → line ≡ instruction_line program frames d.active.function d.active.next
+        → r' 0 ≡ r 0 → r' FRAME ≡ r FRAME → r' CALLS ≡ r CALLS → r' RETURN_ADDRESS ≡ r RETURN_ADDRESS → lasting r' ≡ lasting r → ValuesSame r' r → w' ≡ w
+        → ((slot : ℕ) → writes program i slot ≡ false) → leads i c.active.next d.active.next ≡ true
+        → At line d.output d.input r' w' run → Reached c (Running run)
+    reached_at d line run r' w' function_same place_same handlers_same slots_same frames_same globals_same store_same input_same does line_is zero_same base_same left_same back_same lasts_same values unchanged unwritten led now =
+        let in_r' = standing_registers program well frames fit addresses pages calls few c r w base (r RETURN_ADDRESS) (suc (length c.frames)) c.active.slots s r' zero_same base_same left_same lasts_same in
+        let fine : AllByRecursion IsWord d.input = subst (λ (l : List ℕ). AllByRecursion IsWord l) (sym input_same) s.input in
+        let there = standing_at program well frames fit addresses pages calls few c r' w base (r RETURN_ADDRESS) (suc (length c.frames)) c.active.slots in_r' d function_same place_same handlers_same frames_same globals_same store_same fine in
+        let with_slots = subst (λ (x : Words). Standing program frames addresses pages calls d r' w base (r RETURN_ADDRESS) (suc (length c.frames)) x) (sym slots_same) there in
+        let with_back = subst (λ (b : ℕ). Standing program frames addresses pages calls d r' w base b (suc (length c.frames)) d.active.slots) (sym back_same) with_slots in
+        let with_depth = subst (λ (fs : List states.Frame). Standing program frames addresses pages calls d r' w base (r' RETURN_ADDRESS) (suc (length fs)) d.active.slots) (sym frames_same) with_back in
+        let with_memory = subst (λ (x : Contents). Standing program frames addresses pages calls d r' x base (r' RETURN_ADDRESS) (suc (length d.frames)) d.active.slots) (sym unchanged) with_depth in
+        reached c zeros i (states.Running d) (Running run) (zeros_at program c i at free) at does
+        (within d with_memory.laid.paged with_memory.deep)
+        (inl (record {
+          run = run;
+          r = r';
+          w = w';
+          base = base;
+          is = refl;
+          now = now_at code formed addresses globals_length (words_per_call * calls) line (instruction_line program frames d.active.function d.active.next) d.output d.input r' w' run line_is now;
+          standing = with_memory;
+          caches =
+              subst (λ (n : ℕ). Caches program frames n d.active.next r' d.active.slots) (sym function_same)
+              (caches_past program frames c.active.function (fit.homes c.active.function s.known) c.active.next d.active.next r r' c.active.slots d.active.slots i at led
+              (λ slot k has. unwritten slot) (λ slot k has. ap (λ (x : Words). x slot) slots_same) values caches);
+        }))

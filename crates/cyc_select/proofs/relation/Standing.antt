@@ -1,0 +1,466 @@
+-- How a plain program's calls stand in the memory of the labelled machine: their frames lie one below another from the
+-- end of the stack on, each with its slots and, where it waits, its return address.
+use Rattle.std.proofs.Common.{◌≡◌, ◌≢◌, ℕ, zero, suc, ◌+◌, ◌*◌, ◌%◌, ◌^◌, ◌<◌, ◌≤◌, true, false, List, [], ◌∷◌, length, Some, refl, sym, ap, subst, ◌∙◌, arith, inl, inr}
+use Rattle.std.specs.List.{AllByRecursion}
+use Rattle.cyc_select.specs.declared.constants.TheConstants.{CALLS, FRAME, HANDLERS, REGIONS}
+use Rattle.cyc_words.specs.Word.{IsWord}
+use Rattle.cyc_isa.specs.Effect.{memory_address}
+use Rattle.cyc_machine.specs.State.{data_base, stack_end, globals_length, words_per_call}
+use Rattle.cyc_store.specs.State.{Home, StoreState, lexical_count, saved}
+use Rattle.cyc_plain.specs.declared.instruction.Instruction.TheVariants as plain
+use Rattle.cyc_plain.specs.Program.{Routine, Program, routine_at}
+use Rattle.cyc_plain.specs.State as states
+use Rattle.cyc_plain.specs.State.{Words, put, Configuration}
+use Rattle.cyc_plain.specs.Step.{instruction_at}
+use Rattle.cyc_plain.specs.WellFormed.{IsWellFormed}
+use Rattle.cyc_plain.proofs.SlotLaws.{put-same, put-other}
+use Rattle.std.proofs.lemmas.Bool.{cases_eq}
+use Rattle.cyc_frame.specs.Layout.{IsFrame, AreFrames, slot_word, frame_at}
+use Rattle.cyc_frame.specs.Frame.{Frame}
+use Rattle.cyc_select.specs.Selection.{slot_offset, is_kept, instruction_line, body_count}
+use Rattle.cyc_select.proofs.values.Blocks.{lasting, newest_lasts, count_lasts}
+use Rattle.cyc_select.proofs.relation.Cells.{IsCell}
+use Rattle.cyc_select.proofs.values.Operations.{address_at}
+use Rattle.cyc_select.proofs.relation.Stores.{IsLaid, saved_laid, saved_regions}
+use Rattle.cyc_select.proofs.effects.Views.{Contents, written, saved_in}
+
+-- the slots of a function's call whose frame lies at this address, as far as they live in memory
+abbrev pub Holds : Program → List Frame → (function base : ℕ) → (w : Contents) (slots : Words) → Type 0
+Holds program frames function base w slots =
+    (slot : ℕ) → slot < (routine_at program function).slots → is_kept (frame_at frames function) slot ≡ true
+    → w.words (base + slot_offset (frame_at frames function) slot) ≡ slots slot
+
+-- behind a call
+abbrev pub behind_line : Program → List Frame → (function index callee arguments count result : ℕ) → ℕ
+behind_line program frames function index callee arguments count result =
+    instruction_line program frames function index + body_count program frames function (plain.Call callee arguments count result)
+
+-- the calls that wait, above the call of a function whose frame lies at this address, and which returns to this address
+abbrev pub Chain : Program → List Frame → (addresses : ℕ → ℕ) → (w : Contents) → (base back function : ℕ) → List states.Frame → Type 0
+Chain program frames addresses w base back function [] =
+    (base + 4 * (frame_at frames function).words ≡ stack_end) × (back ≡ 0) × (function ≡ program.main)
+Chain program frames addresses w base back function (f ∷ waiting) =
+    (arguments count index : ℕ) × (f.caller.function < length program.functions)
+    × (instruction_at program (record { function = f.caller.function; index = index }) ≡ Some (plain.Call function arguments count f.result))
+    × (f.caller.next ≡ index + 1)
+    × (back ≡ addresses (behind_line program frames f.caller.function index function arguments count f.result))
+    × Holds program frames f.caller.function (base + 4 * (frame_at frames function).words) w f.caller.slots
+    × Chain program frames addresses w (base + 4 * (frame_at frames function).words)
+    (w.words (base + 4 * (frame_at frames function).words + 4 * (frame_at frames f.caller.function).return_address)) f.caller.function waiting
+
+-- the slots of a function end where its frame does, or before
+pub slots_fit : (r : Routine) (frame : Frame) → IsFrame r frame → frame.first_slot + r.slots ≤ frame.words
+slots_fit r frame is = go r.slots is.inside
+  where
+    go : (slots : ℕ) → ((slot : ℕ) → slot < slots → slot_word frame slot < frame.words) → frame.first_slot + slots ≤ frame.words
+    go zero inside = omega (arith, is.first_inside)
+    go (suc n) inside = omega (arith, inside n (omega arith))
+
+module _ (program : Program) (frames : List Frame) (fit : AreFrames program frames) (addresses : ℕ → ℕ) where
+  abbrev pub size_of : ℕ → ℕ
+  size_of function = 4 * (frame_at frames function).words
+
+  -- memory below does not matter
+  pub chain_kept : (w w' : Contents) (base back function : ℕ) (waiting : List states.Frame) → ((a : ℕ) → base + size_of function ≤ a → w'.words a ≡ w.words a)
+      → Chain program frames addresses w base back function waiting → Chain program frames addresses w' base back function waiting
+  chain_kept w w' base back function [] same chain = chain
+  chain_kept w w' base back function (f ∷ waiting) same (arguments, count, index, known, at, next, is_back, holds, chain) =
+      let above : ℕ = base + size_of function in (
+        arguments,
+        count,
+        index,
+        known,
+        at,
+        next,
+        is_back,
+        λ slot below slot_kept. same (above + slot_offset (frame_at frames f.caller.function) slot) (omega arith) ∙ holds slot below slot_kept,
+        subst (λ (b : ℕ). Chain program frames addresses w' above b f.caller.function waiting) (sym (same (above + 4 * (frame_at frames f.caller.function).return_address) (omega arith)))
+            (chain_kept w w' above (w.words (above + 4 * (frame_at frames f.caller.function).return_address)) f.caller.function waiting (λ a from. same a (omega arith)) chain),
+      )
+
+  -- where frames lie
+  pub record Lies (base function depth : ℕ) : Type 0 where
+    pub below_end : base + size_of function ≤ stack_end
+    pub above_low : stack_end ≤ base + 1024 * depth
+    pub aligned : base % 4 ≡ 0
+
+  pub chain_lies : (w : Contents) (base back function : ℕ) (waiting : List states.Frame) → function < length program.functions → Chain program frames addresses w base back function waiting
+      → Lies base function (suc (length waiting))
+  chain_lies w base back function [] known (last, is_back, is_main) =
+      let frame = fit.each function known in
+      record { below_end = omega arith; above_low = omega (arith, frame.within, frame.small); aligned = omega arith }
+  chain_lies w base back function (f ∷ waiting) known (arguments, count, index, caller_known, at, next, is_back, holds, chain) =
+      let above : ℕ = base + size_of function in
+      let frame = fit.each function known in
+      let lies = chain_lies w above (w.words (above + 4 * (frame_at frames f.caller.function).return_address)) f.caller.function waiting caller_known chain in
+      record { below_end = omega (arith, lies.below_end); above_low = omega (arith, lies.above_low, frame.within, frame.small); aligned = omega (arith, lies.aligned) }
+
+-- ---- handlers
+
+-- The record of a handler, by its words: the handler before it, its frame, the line that an exception comes to, and how many
+-- more calls may be under way there.
+pub record IsRecord (program : Program) (frames : List Frame) (addresses : ℕ → ℕ) (calls newest base function depth index first : ℕ) (contents : Words) : Type 0 where
+  pub at : newest ≡ base + slot_offset (frame_at frames function) first
+  pub handler : ℕ
+  pub opened : instruction_at program (record { function = function; index = index }) ≡ Some (plain.Try first handler)
+  pub frame : contents 1 ≡ base
+  pub line : contents 2 ≡ addresses (instruction_line program frames function index + 5)
+  pub left : contents 3 + depth ≡ calls
+
+-- The newest handler of a call has this address, and each leads to the one before it, the last one to that of the caller.
+abbrev pub AreRecords : Program → List Frame → (addresses : ℕ → ℕ) → (calls base function depth : ℕ) → (rest : ℕ → Type 0) → (newest : ℕ) → List states.Handler → Type 0
+AreRecords program frames addresses calls base function depth rest newest [] = rest newest
+AreRecords program frames addresses calls base function depth rest newest (states.Caught ∷ handlers) = ⊥
+AreRecords program frames addresses calls base function depth rest newest (states.Open index first contents ∷ handlers) =
+    IsRecord program frames addresses calls newest base function depth index first contents
+    × AreRecords program frames addresses calls base function depth rest (contents 0) handlers
+
+abbrev pub IsBeyond : Program → List Frame → (addresses : ℕ → ℕ) → (calls base function : ℕ) → List states.Frame → (newest : ℕ) → Type 0
+IsBeyond program frames addresses calls base function [] newest = newest ≡ 0
+IsBeyond program frames addresses calls base function (f ∷ waiting) newest =
+    AreRecords program frames addresses calls (base + 4 * (frame_at frames function).words) f.caller.function (suc (length waiting))
+    (IsBeyond program frames addresses calls (base + 4 * (frame_at frames function).words) f.caller.function waiting) newest f.caller.handlers
+
+abbrev pub IsNewest : Program → List Frame → (addresses : ℕ → ℕ) → (calls newest base function : ℕ) → List states.Handler → List states.Frame → Type 0
+IsNewest program frames addresses calls newest base function handlers waiting =
+    AreRecords program frames addresses calls base function (suc (length waiting))
+    (IsBeyond program frames addresses calls base function waiting) newest handlers
+
+-- ---- addresses of slots
+
+-- the slots of a call have their words in its frame, and so have those of the calls that wait
+abbrev pub AreBased : List Frame → (base function place : ℕ) → List states.Frame → Type 0
+AreBased frames base function place [] = place ≡ base + 4 * (frame_at frames function).first_slot
+AreBased frames base function place (f ∷ waiting) =
+    (place ≡ base + 4 * (frame_at frames function).first_slot)
+    × AreBased frames (base + 4 * (frame_at frames function).words) f.caller.function f.caller.base waiting
+
+pub based_here : (frames : List Frame) (base function place : ℕ) (waiting : List states.Frame) → AreBased frames base function place waiting → place ≡ base + 4 * (frame_at frames function).first_slot
+based_here frames base function place [] based = based
+based_here frames base function place (f ∷ waiting) (here, based) = here
+
+-- while a handler is open in a call its return address is in its frame
+abbrev pub IsKept : (frame : Frame) → (w : Contents) → (base back : ℕ) → List states.Handler → Type 0
+IsKept frame w base back [] = Unit {0}
+IsKept frame w base back (h ∷ handlers) = w.words (base + 4 * frame.return_address) ≡ back
+
+-- the same in other memory
+pub kept_in : (frame : Frame) (w w' : Contents) (base back : ℕ) (handlers : List states.Handler) → w'.words (base + 4 * frame.return_address) ≡ w.words (base + 4 * frame.return_address)
+    → IsKept frame w base back handlers → IsKept frame w' base back handlers
+kept_in frame w w' base back [] same kept = tt
+kept_in frame w w' base back (h ∷ handlers) same kept = same ∙ kept
+
+pub kept_here : (frame : Frame) (w : Contents) (base back : ℕ) (handlers : List states.Handler) → w.words (base + 4 * frame.return_address) ≡ back → IsKept frame w base back handlers
+kept_here frame w base back [] same = tt
+kept_here frame w base back (h ∷ handlers) same = same
+
+-- a call under way, with these slots
+pub record Standing (program : Program) (frames : List Frame) (addresses : ℕ → ℕ) (pages calls : ℕ) (c : Configuration) (r : Words) (w : Contents) (base back depth : ℕ) (slots : Words) : Type 0 where
+  pub known : c.active.function < length program.functions
+  pub base_is : r FRAME ≡ base
+  pub zero_is : r 0 ≡ 0
+  pub left : r CALLS + depth ≡ calls
+  pub deep : suc (length c.frames) ≤ calls
+  pub holds : Holds program frames c.active.function base w slots
+  pub chain : Chain program frames addresses w base back c.active.function c.frames
+  pub globals : (global : ℕ) → global < length program.globals → w.words (data_base + 4 * global) ≡ c.globals global
+  pub input : AllByRecursion IsWord c.input
+  pub newest : IsNewest program frames addresses calls (r HANDLERS) base c.active.function c.active.handlers c.frames
+  pub kept : IsKept (frame_at frames c.active.function) w base back c.active.handlers
+  pub based : AreBased frames base c.active.function c.active.base c.frames
+  pub store : w.store ≡ c.store
+  pub laid : IsLaid pages c.store
+  pub counted : r REGIONS ≡ lexical_count c.store.regions % 2 ^ 32
+
+module _ (program : Program) (well : IsWellFormed program) (frames : List Frame) (fit : AreFrames program frames) (addresses : ℕ → ℕ) (pages calls : ℕ) (few : calls ≤ 4096) where
+  abbrev data_words : ℕ
+  data_words = globals_length
+
+  abbrev stack_words : ℕ
+  stack_words = words_per_call * calls
+
+  module _ (c : Configuration) (r : Words) (w : Contents) (base back depth : ℕ) (slots : Words) (s : Standing program frames addresses pages calls c r w base back depth slots) where
+    pub lies : Lies program frames fit addresses base c.active.function (suc (length c.frames))
+    lies = chain_lies program frames fit addresses w base back c.active.function c.frames s.known s.chain
+
+    -- a word of the frame
+    pub word_address : (word : ℕ) → word < (frame_at frames c.active.function).words → memory_address (r FRAME) (4 * word) ≡ base + 4 * word
+    word_address word inside =
+        let frame = fit.each c.active.function s.known in
+        ap (λ (x : ℕ). memory_address x (4 * word)) s.base_is
+        ∙ address_at base (4 * word) (omega (arith, inside, frame.within, frame.small)) (omega (arith, inside, lies.below_end))
+
+    pub word_cell : (word : ℕ) → word < (frame_at frames c.active.function).words → IsCell data_words stack_words (base + 4 * word)
+    word_cell word inside =
+        inr ((omega (arith, lies.aligned)), (omega (arith, lies.above_low, s.deep)), (omega (arith, inside, lies.below_end)))
+
+    pub slot_address : (slot : ℕ) → slot < (routine_at program c.active.function).slots → memory_address (r FRAME) (slot_offset (frame_at frames c.active.function) slot) ≡ base + slot_offset (frame_at frames c.active.function) slot
+    slot_address slot below = word_address (slot_word (frame_at frames c.active.function) slot) ((fit.each c.active.function s.known).inside slot below)
+
+    pub slot_cell : (slot : ℕ) → slot < (routine_at program c.active.function).slots → IsCell data_words stack_words (memory_address (r FRAME) (slot_offset (frame_at frames c.active.function) slot))
+    slot_cell slot below =
+        subst (IsCell data_words stack_words) (sym (slot_address slot below)) (word_cell (slot_word (frame_at frames c.active.function) slot) ((fit.each c.active.function s.known).inside slot below))
+
+    pub slot_word_is : (slot : ℕ) → slot < (routine_at program c.active.function).slots → is_kept (frame_at frames c.active.function) slot ≡ true → w.words (memory_address (r FRAME) (slot_offset (frame_at frames c.active.function) slot)) ≡ slots slot
+    slot_word_is slot below slot_kept = ap w.words (slot_address slot below) ∙ s.holds slot below slot_kept
+
+    pub return_address : memory_address (r FRAME) (4 * (frame_at frames c.active.function).return_address) ≡ base + 4 * (frame_at frames c.active.function).return_address
+    return_address = word_address (frame_at frames c.active.function).return_address (fit.each c.active.function s.known).return_inside
+
+    pub return_cell : IsCell data_words stack_words (memory_address (r FRAME) (4 * (frame_at frames c.active.function).return_address))
+    return_cell = subst (IsCell data_words stack_words) (sym return_address) (word_cell (frame_at frames c.active.function).return_address (fit.each c.active.function s.known).return_inside)
+
+    -- the word of a global
+    pub global_cell : (global : ℕ) → global < length program.globals → IsCell data_words stack_words (data_base + 4 * global)
+    global_cell global below = inl ((omega arith), (omega arith), (omega (arith, well.globals)))
+
+    -- ---- changes
+
+    -- other registers
+    pub standing_registers : (r' : Words) → r' 0 ≡ r 0 → r' FRAME ≡ r FRAME → r' CALLS ≡ r CALLS → lasting r' ≡ lasting r → Standing program frames addresses pages calls c r' w base back depth slots
+    standing_registers r' zero_same base_same left_same lasts_same = record {
+      known = s.known;
+      base_is = base_same ∙ s.base_is;
+      zero_is = zero_same ∙ s.zero_is;
+      left = ap (λ (n : ℕ). n + depth) left_same ∙ s.left;
+      deep = s.deep;
+      holds = s.holds;
+      chain = s.chain;
+      globals = s.globals;
+      input = s.input;
+      newest = subst (λ (n : ℕ). IsNewest program frames addresses calls n base c.active.function c.active.handlers c.frames) (sym (newest_lasts r' r lasts_same)) s.newest;
+      kept = s.kept;
+      based = s.based;
+      store = s.store;
+      laid = s.laid;
+      counted = count_lasts r' r lasts_same ∙ s.counted;
+    }
+
+    -- the same call, at another place
+    pub standing_at : (d : Configuration) → d.active.function ≡ c.active.function → d.active.base ≡ c.active.base → d.active.handlers ≡ c.active.handlers → d.frames ≡ c.frames → d.globals ≡ c.globals → d.store ≡ c.store → AllByRecursion IsWord d.input
+        → Standing program frames addresses pages calls d r w base back depth slots
+    standing_at d function_same place_same handlers_same frames_same globals_same store_same input = record {
+      known = subst (λ (f : ℕ). f < length program.functions) (sym function_same) s.known;
+      base_is = s.base_is;
+      zero_is = s.zero_is;
+      left = s.left;
+      deep = subst (λ (fs : List states.Frame). suc (length fs) ≤ calls) (sym frames_same) s.deep;
+      holds = subst (λ (f : ℕ). Holds program frames f base w slots) (sym function_same) s.holds;
+      chain = subst (λ (f : ℕ). Chain program frames addresses w base back f d.frames) (sym function_same)
+          (subst (λ (fs : List states.Frame). Chain program frames addresses w base back c.active.function fs) (sym frames_same) s.chain);
+      globals = λ global below. s.globals global below ∙ ap (λ (g : Words). g global) (sym globals_same);
+      input = input;
+      newest =
+          subst (λ (f : ℕ). IsNewest program frames addresses calls (r HANDLERS) base f d.active.handlers d.frames) (sym function_same)
+          (subst (λ (hs : List states.Handler). IsNewest program frames addresses calls (r HANDLERS) base c.active.function hs d.frames) (sym handlers_same)
+          (subst (λ (fs : List states.Frame). IsNewest program frames addresses calls (r HANDLERS) base c.active.function c.active.handlers fs) (sym frames_same) s.newest));
+      kept =
+          subst (λ (f : ℕ). IsKept (frame_at frames f) w base back d.active.handlers) (sym function_same)
+          (subst (λ (hs : List states.Handler). IsKept (frame_at frames c.active.function) w base back hs) (sym handlers_same) s.kept);
+      based =
+          subst (λ (f : ℕ). AreBased frames base f d.active.base d.frames) (sym function_same)
+          (subst (λ (b : ℕ). AreBased frames base c.active.function b d.frames) (sym place_same)
+          (subst (λ (fs : List states.Frame). AreBased frames base c.active.function c.active.base fs) (sym frames_same) s.based));
+      store = s.store ∙ sym store_same;
+      laid = subst (IsLaid pages) (sym store_same) s.laid;
+      counted = s.counted ∙ ap (λ (x : StoreState). lexical_count x.regions % 2 ^ 32) (sym store_same);
+    }
+
+    -- other handlers, and other registers
+    pub standing_handlers : (handlers : List states.Handler) (r' : Words) → r' 0 ≡ r 0 → r' FRAME ≡ r FRAME → r' CALLS ≡ r CALLS → r' REGIONS ≡ r REGIONS
+        → IsNewest program frames addresses calls (r' HANDLERS) base c.active.function handlers c.frames → IsKept (frame_at frames c.active.function) w base back handlers
+        → Standing program frames addresses pages calls (record c { active = record c.active { handlers = handlers } }) r' w base back depth slots
+    standing_handlers handlers r' zero_same base_same left_same count_same newest kept = record {
+      known = s.known;
+      base_is = base_same ∙ s.base_is;
+      zero_is = zero_same ∙ s.zero_is;
+      left = ap (λ (n : ℕ). n + depth) left_same ∙ s.left;
+      deep = s.deep;
+      holds = s.holds;
+      chain = s.chain;
+      globals = s.globals;
+      input = s.input;
+      newest = newest;
+      kept = kept;
+      based = s.based;
+      store = s.store;
+      laid = s.laid;
+      counted = count_same ∙ s.counted;
+    }
+
+    -- a word of the frame and the data are apart
+    above_data : (word global : ℕ) → word < (frame_at frames c.active.function).words → global < length program.globals → data_base + 4 * global ≢ base + 4 * word
+    above_data word global inside below same =
+        absurd (omega (arith, same, below, well.globals, lies.above_low, s.deep))
+
+    other_slot : (a b : ℕ) → a < (routine_at program c.active.function).slots → b < (routine_at program c.active.function).slots → b ≢ a
+        → base + slot_offset (frame_at frames c.active.function) b ≢ base + slot_offset (frame_at frames c.active.function) a
+    other_slot a b a_below b_below apart same =
+        apart ((fit.each c.active.function s.known).apart b a b_below a_below (omega (arith, same)))
+
+    abbrev slot_at : ℕ → ℕ
+    slot_at slot = base + slot_offset (frame_at frames c.active.function) slot
+
+    abbrev return_at : ℕ
+    return_at = base + 4 * (frame_at frames c.active.function).return_address
+
+    abbrev global_at : ℕ → ℕ
+    global_at global = data_base + 4 * global
+
+    -- a slot written
+    pub standing_slot : (slot word : ℕ) → slot < (routine_at program c.active.function).slots
+        → Standing program frames addresses pages calls c r (written w (base + slot_offset (frame_at frames c.active.function) slot) word) base back depth (put slots slot word)
+    standing_slot slot word below = record {
+      known = s.known;
+      base_is = s.base_is;
+      zero_is = s.zero_is;
+      left = s.left;
+      deep = s.deep;
+      holds = λ other other_below other_kept. elim (cases_eq other slot) [
+        | inl same ↦
+            ap (λ (x : ℕ). put w.words (slot_at slot) word (base + slot_offset (frame_at frames c.active.function) x)) same
+            ∙ (put-same w.words (slot_at slot) word ∙ sym (ap (put slots slot word) same ∙ put-same slots slot word))
+        | inr apart ↦
+            put-other w.words (slot_at slot) (base + slot_offset (frame_at frames c.active.function) other) word (other_slot slot other below other_below apart)
+            ∙ (s.holds other other_below other_kept ∙ sym (put-other slots slot other word apart))
+      ];
+      chain = chain_kept program frames fit addresses w (written w (slot_at slot) word) base back c.active.function c.frames
+          (λ a from. put-other w.words (slot_at slot) a word (λ e. absurd (omega (arith, e, from, (fit.each c.active.function s.known).inside slot below)))) s.chain;
+      globals = λ global global_below.
+          put-other w.words (slot_at slot) (data_base + 4 * global) word (above_data (slot_word (frame_at frames c.active.function) slot) global ((fit.each c.active.function s.known).inside slot below) global_below)
+          ∙ s.globals global global_below;
+      input = s.input;
+      newest = s.newest;
+      kept = kept_in (frame_at frames c.active.function) w (written w (slot_at slot) word) base back c.active.handlers
+          (put-other w.words (slot_at slot) return_at word (λ e. (fit.each c.active.function s.known).beside slot below (omega (arith, e)))) s.kept;
+      based = s.based;
+      store = s.store;
+      laid = s.laid;
+      counted = s.counted;
+    }
+
+    -- a slot that lives in a register alone gets another word
+    pub standing_unkept : (slot word : ℕ) → is_kept (frame_at frames c.active.function) slot ≡ false
+        → Standing program frames addresses pages calls c r w base back depth (put slots slot word)
+    standing_unkept slot word unkept = record {
+      known = s.known;
+      base_is = s.base_is;
+      zero_is = s.zero_is;
+      left = s.left;
+      deep = s.deep;
+      holds = λ other other_below other_kept. elim (cases_eq other slot) [
+        | inl same ↦ absurd (let e : true ≡ false = sym other_kept ∙ (ap (is_kept (frame_at frames c.active.function)) same ∙ unkept) in cc)
+        | inr apart ↦ s.holds other other_below other_kept ∙ sym (put-other slots slot other word apart)
+      ];
+      chain = s.chain;
+      globals = s.globals;
+      input = s.input;
+      newest = s.newest;
+      kept = s.kept;
+      based = s.based;
+      store = s.store;
+      laid = s.laid;
+      counted = s.counted;
+    }
+
+    -- the word for the return address written
+    pub standing_return : (word : ℕ) → word ≡ back → Standing program frames addresses pages calls c r (written w (base + 4 * (frame_at frames c.active.function).return_address) word) base back depth slots
+    standing_return word same = record {
+      known = s.known;
+      base_is = s.base_is;
+      zero_is = s.zero_is;
+      left = s.left;
+      deep = s.deep;
+      holds = λ slot below slot_kept.
+          put-other w.words return_at (base + slot_offset (frame_at frames c.active.function) slot) word
+          (λ e. (fit.each c.active.function s.known).beside slot below (omega (arith, e)))
+          ∙ s.holds slot below slot_kept;
+      chain = chain_kept program frames fit addresses w (written w return_at word) base back c.active.function c.frames
+          (λ a from. put-other w.words return_at a word (λ e. absurd (omega (arith, e, from, (fit.each c.active.function s.known).return_inside)))) s.chain;
+      globals = λ global below.
+          put-other w.words return_at (data_base + 4 * global) word (above_data (frame_at frames c.active.function).return_address global (fit.each c.active.function s.known).return_inside below)
+          ∙ s.globals global below;
+      input = s.input;
+      newest = s.newest;
+      kept = kept_here (frame_at frames c.active.function) (written w return_at word) base back c.active.handlers (put-same w.words return_at word ∙ same);
+      based = s.based;
+      store = s.store;
+      laid = s.laid;
+      counted = s.counted;
+    }
+
+    -- another store, and other registers, of which one tells how many lexical regions that has
+    pub standing_store : (store : StoreState) (r' : Words) → r' 0 ≡ r 0 → r' FRAME ≡ r FRAME → r' CALLS ≡ r CALLS → r' HANDLERS ≡ r HANDLERS
+        → r' REGIONS ≡ lexical_count store.regions % 2 ^ 32 → IsLaid pages store
+        → Standing program frames addresses pages calls (record c { store = store }) r' (record w { store = store }) base back depth slots
+    standing_store store r' zero_same base_same left_same newest_same counted laid = record {
+      known = s.known;
+      base_is = base_same ∙ s.base_is;
+      zero_is = zero_same ∙ s.zero_is;
+      left = ap (λ (n : ℕ). n + depth) left_same ∙ s.left;
+      deep = s.deep;
+      holds = s.holds;
+      chain = chain_kept program frames fit addresses w (record w { store = store }) base back c.active.function c.frames (λ a from. refl) s.chain;
+      globals = s.globals;
+      input = s.input;
+      newest = subst (λ (n : ℕ). IsNewest program frames addresses calls n base c.active.function c.active.handlers c.frames) (sym newest_same) s.newest;
+      kept = kept_in (frame_at frames c.active.function) w (record w { store = store }) base back c.active.handlers refl s.kept;
+      based = s.based;
+      store = refl;
+      laid = laid;
+      counted = counted;
+    }
+
+    -- a word of a live block written
+    pub standing_saved : (address word : ℕ) → IsWord word
+        → Standing program frames addresses pages calls (record c { store = saved c.store address word }) r (saved_in w address word) base back depth slots
+    standing_saved address word is_word = record {
+      known = s.known;
+      base_is = s.base_is;
+      zero_is = s.zero_is;
+      left = s.left;
+      deep = s.deep;
+      holds = s.holds;
+      chain = chain_kept program frames fit addresses w (saved_in w address word) base back c.active.function c.frames (λ a from. refl) s.chain;
+      globals = s.globals;
+      input = s.input;
+      newest = s.newest;
+      kept = kept_in (frame_at frames c.active.function) w (saved_in w address word) base back c.active.handlers refl s.kept;
+      based = s.based;
+      store = ap (λ (x : StoreState). saved x address word) s.store;
+      laid = saved_laid pages c.store address word is_word s.laid;
+      counted = s.counted ∙ ap (λ (rs : List Home). lexical_count rs % 2 ^ 32) (sym (saved_regions c.store address word));
+    }
+
+    -- a global written
+    pub standing_global : (global word : ℕ) → global < length program.globals
+        → Standing program frames addresses pages calls (record c { globals = put c.globals global word }) r (written w (data_base + 4 * global) word) base back depth slots
+    standing_global global word below = record {
+      known = s.known;
+      base_is = s.base_is;
+      zero_is = s.zero_is;
+      left = s.left;
+      deep = s.deep;
+      holds = λ slot slot_below slot_kept.
+          put-other w.words (global_at global) (base + slot_offset (frame_at frames c.active.function) slot) word
+          (λ e. above_data (slot_word (frame_at frames c.active.function) slot) global ((fit.each c.active.function s.known).inside slot slot_below) below (sym e))
+          ∙ s.holds slot slot_below slot_kept;
+      chain = chain_kept program frames fit addresses w (written w (global_at global) word) base back c.active.function c.frames
+          (λ a from. put-other w.words (global_at global) a word (λ e. absurd (omega (arith, e, from, below, well.globals, lies.above_low, s.deep)))) s.chain;
+      globals = λ other other_below. elim (cases_eq other global) [
+        | inl same ↦
+            ap (λ (x : ℕ). put w.words (global_at global) word (data_base + 4 * x)) same
+            ∙ (put-same w.words (global_at global) word ∙ sym (ap (put c.globals global word) same ∙ put-same c.globals global word))
+        | inr apart ↦
+            put-other w.words (global_at global) (data_base + 4 * other) word (λ e. apart (omega (arith, e)))
+            ∙ (s.globals other other_below ∙ sym (put-other c.globals global other word apart))
+      ];
+      input = s.input;
+      newest = s.newest;
+      kept = kept_in (frame_at frames c.active.function) w (written w (global_at global) word) base back c.active.handlers
+          (put-other w.words (global_at global) return_at word (λ e. above_data (frame_at frames c.active.function).return_address global (fit.each c.active.function s.known).return_inside below (sym e))) s.kept;
+      based = s.based;
+      store = s.store;
+      laid = s.laid;
+      counted = s.counted;
+    }

@@ -1,0 +1,3 @@
+-- any instruction, and whole runs
+pub mod Runs
+pub mod Start

@@ -1,0 +1,419 @@
+-- Each step of the plain machine is matched by steps of the labelled machine through the place's own lines.
+use Rattle.std.proofs.Common.{◌≡◌, ◌≢◌, ℕ, zero, suc, ◌+◌, ◌-◌, ◌*◌, ◌^◌, ◌<◌, ◌≤◌, Bool, true, false, not, List, [], ◌∷◌, ◌++◌, length, Option, Some, None, slice_get, refl, sym, ap, subst, ◌∙◌, arith, inl, inr}
+use Rattle.std.specs.Prelude.{if◌then◌else◌}
+use Rattle.std.specs.List.{range_with_len}
+use Rattle.std.proofs.lemmas.Bool.{cases_lt, eq-eqb, ne_eqb}
+use Rattle.cyc_machine.specs.declared.constants.TheConstants.{RETURN_ADDRESS}
+use Rattle.cyc_words.specs.Ending.{Ending}
+use Rattle.std.proofs.lemmas.List.{get_or_past}
+use Rattle.cyc_words.specs.Word.{IsWord, sub_of}
+use Rattle.cyc_isa.specs.declared.instr.Instr.{Instr}
+use Rattle.cyc_isa.specs.declared.instr.MoveFromOp.{MoveFromOp}
+use Rattle.cyc_isa.specs.declared.instr.MoveFromOp.TheVariants.{High, Low}
+use Rattle.cyc_isa.specs.declared.instr.MultiplyDivideOp.TheVariants.{Divide}
+use Rattle.cyc_machine.specs.State.{globals_length, words_per_call}
+use Rattle.cyc_plain.specs.declared.instruction.Instruction.{Instruction}
+use Rattle.cyc_plain.specs.declared.instruction.Instruction.TheVariants as plain
+use Rattle.cyc_plain.specs.declared.instruction.BinaryOperator.{BinaryOperator}
+use Rattle.cyc_plain.specs.declared.instruction.BinaryOperator.TheVariants as binary
+use Rattle.cyc_plain.specs.declared.instruction.Operand.{Operand}
+use Rattle.cyc_plain.specs.Operators.{binary_result, has_no_result}
+use Rattle.cyc_plain.specs.Program.{Routine, Program, CodePlace, no_routine, routine_at}
+use Rattle.cyc_words.specs.Simulation as simulation
+use Rattle.cyc_words.specs.Simulation.{IsOnTheWay, Matching, IsMatchedStep, IsStepped, Steps}
+use Rattle.cyc_plain.specs.State as states
+use Rattle.cyc_plain.specs.State.{Words, Configuration}
+use Rattle.cyc_plain.specs.Step as steps
+use Rattle.cyc_plain.specs.Step.{IsAllowed, call_of, instruction_at, operand_word, performed, executed, gives, finishes, step, is_within, Step, callee_of}
+use Rattle.cyc_plain.specs.WellFormed.{IsOperand, IsWellFormed, IsInRange, IsTryInRange, is_return, HasWords, IsOfWord, HasWord}
+use Rattle.cyc_words.proofs.Matching.{way_before}
+use Rattle.cyc_plain.proofs.Placed.{holds_at, routine_in, below_of_get}
+use Rattle.cyc_plain.proofs.RunLaws.{limited-within, zeros, zeros_allowed, zeros_at, stuck_within}
+use Rattle.cyc_plain.proofs.Steps.{function_known}
+use Rattle.cyc_frame.specs.Layout.{AreFrames, frame_at}
+use Rattle.cyc_frame.specs.Frame.{Frame}
+use Rattle.cyc_select.specs.Labelled.{Labelled, IsFormed, AreAddresses}
+use Rattle.cyc_select.specs.Machine as labelled
+use Rattle.cyc_select.specs.Machine.{State, Running, Ended, IsReturnPoint, machine}
+use Rattle.cyc_select.specs.declared.constants.TheConstants.{HANDLERS}
+use Rattle.cyc_select.specs.declared.code.Line.{Line}
+use Rattle.cyc_select.specs.declared.code.Line.TheVariants as lines
+use Rattle.cyc_select.specs.Selection.{reload_count, recorded_code, caught_code, opened_code, body, behind, body_count, behind_count, ordinary, spills, spills_count, calling_code, function_line, divide_code, divide_count, plan_code, plan_count, is_tested, part_of, count_of, operator_count, instruction_line}
+use Rattle.cyc_select.proofs.emission.Counts.{length_spills}
+use Rattle.cyc_select.proofs.layout.Lines.{line_next}
+use Rattle.cyc_select.specs.Numbers.{is_plain_divisor}
+use Rattle.cyc_select.specs.Plans.{binary_plan}
+use Rattle.cyc_select.proofs.values.Halves.{divisor_is}
+use Rattle.cyc_select.proofs.values.Operations.{negated_quotient, negated_remainder}
+use Rattle.cyc_select.proofs.values.Plans.{multiply_divide_result}
+use Rattle.cyc_select.proofs.relation.Values.{Caches}
+use Rattle.cyc_select.proofs.effects.Views.{Contents}
+use Rattle.cyc_select.proofs.effects.Walks.{Stands, stands_front, stands_back, stands_until, Rises, rising_distinct, rising_inside, comes_map, Quiet, Walk}
+use Rattle.cyc_select.proofs.relation.Standing.{IsNewest, Standing, behind_line}
+use Rattle.cyc_select.proofs.relation.Matches.{At, Ready, Matches, Reached}
+use Rattle.cyc_select.proofs.steps.Simple.{address_goes, move_goes, unary_goes, binary_goes, divide_goes, jump_goes, branch_goes, read_goes, write_goes, load_global_goes, count_lexical_goes, store_global_goes, uncaught_goes}
+use Rattle.cyc_select.proofs.steps.Accesses.{move_words_goes, load_goes, store_goes, load_byte_goes, store_byte_goes}
+use Rattle.cyc_select.proofs.steps.Requests.{ask_goes}
+use Rattle.cyc_select.proofs.steps.Handlers.{catch_goes, leave_goes, throw_goes, try_goes}
+use Rattle.cyc_select.proofs.steps.Calls.{length_ordinary, call_last}
+use Rattle.cyc_select.proofs.steps.Passing.{call_goes}
+use Rattle.cyc_select.proofs.steps.Returns.{return_goes, behind_goes}
+
+-- ---- the lines of each place
+
+-- the lines behind a call belong to the next place
+abbrev pub behind_of : Program → List Frame → (function : ℕ) → Option Instruction → ℕ
+behind_of program frames function (Some i) = behind_count program frames function i
+behind_of program frames function None = 0
+
+abbrev pub previous_count : Program → List Frame → (function : ℕ) → List Instruction → (index : ℕ) → ℕ
+previous_count program frames function code zero = 0
+previous_count program frames function code (suc index) = behind_of program frames function (slice_get code index)
+
+abbrev pub body_of : Program → List Frame → (function : ℕ) → Option Instruction → ℕ
+body_of program frames function (Some i) = body_count program frames function i
+body_of program frames function None = 0
+
+abbrev pub own_of : Program → List Frame → CodePlace → List ℕ
+own_of program frames place =
+    let code = (routine_at program place.function).code in
+    range_with_len
+    (instruction_line program frames place.function place.index - previous_count program frames place.function code place.index)
+    (previous_count program frames place.function code place.index + body_of program frames place.function (slice_get code place.index))
+
+-- the lines before a place are there
+pub previous_fits : (program : Program) (frames : List Frame) (function index : ℕ) → previous_count program frames function (routine_at program function).code index ≤ instruction_line program frames function index
+previous_fits program frames function zero = omega arith
+previous_fits program frames function (suc index) = go (slice_get (routine_at program function).code index) refl
+  where
+    go : (o : Option Instruction) → slice_get (routine_at program function).code index ≡ o → behind_of program frames function o ≤ instruction_line program frames function (suc index)
+    go (Some i) at =
+        let e = line_next program frames function index i at in
+        let one : index + 1 ≡ suc index = omega arith in
+        omega (arith, e, ap (instruction_line program frames function) one)
+    go None at = omega arith
+
+module _ (program : Program) (well : IsWellFormed program) (words : HasWords program) (frames : List Frame) (fit : AreFrames program frames) (code : Labelled) (formed : IsFormed code) (addresses : ℕ → ℕ) (lie : AreAddresses code addresses)
+    (pages calls : ℕ) (few : calls ≤ 4096)
+    (stand : (function index : ℕ) (i : Instruction) → instruction_at program (record { function = function; index = index }) ≡ Some i
+    → Stands code (instruction_line program frames function index) (body program frames function (instruction_line program frames function index) i ++ behind program frames function i))
+    (long : (function line : ℕ) (i : Instruction) → length (body program frames function line i) ≡ body_count program frames function i) where
+  -- the lines behind a call stand where it returns to
+  behind_stands : (function index callee arguments count result : ℕ) → instruction_at program (record { function = function; index = index }) ≡ Some (plain.Call callee arguments count result)
+      → Stands code (behind_line program frames function index callee arguments count result) (behind program frames function (plain.Call callee arguments count result))
+  behind_stands function index callee arguments count result at =
+      let line : ℕ = instruction_line program frames function index in
+      let i : Instruction = plain.Call callee arguments count result in
+      subst (λ (n : ℕ). Stands code (instruction_line program frames function index + n) (behind program frames function (plain.Call callee arguments count result))) (long function line i)
+      (stands_back code line (body program frames function line i) (behind program frames function i) (stand function index i at))
+
+  returns_to : (function index callee arguments count result : ℕ) → instruction_at program (record { function = function; index = index }) ≡ Some (plain.Call callee arguments count result)
+      → IsReturnPoint code (behind_line program frames function index callee arguments count result)
+  returns_to function index callee arguments count result at =
+      let line : ℕ = instruction_line program frames function index in
+      let spilled : ℕ = line + spills_count (frame_at frames function) arguments count in
+      let calling : List Line = calling_code (frame_at frames function) (frame_at frames callee) spilled (function_line program frames callee) arguments count in
+      let before : List Instr = spills (frame_at frames function) arguments count in
+      let long_spills : length (ordinary before) ≡ spills_count (frame_at frames function) arguments count = length_ordinary before ∙ length_spills (frame_at frames function) arguments count in
+      record {
+        inside = below_of_get code.lines _ _ (behind_stands function index callee arguments count result at).0;
+        call = spilled + 6 + 2 * count;
+        label = function_line program frames callee;
+        behind = omega arith;
+        calls = call_last code (frame_at frames function) (frame_at frames callee) spilled (function_line program frames callee) arguments count
+            (subst (λ (n : ℕ). Stands code (line + n) calling) long_spills
+            (stands_back code line (ordinary before) calling
+            (stands_front code line (ordinary before ++ calling) (behind program frames function (plain.Call callee arguments count result)) (stand function index (plain.Call callee arguments count result) at))));
+      }
+
+  in_range_of : (function index : ℕ) (i : Instruction) → instruction_at program (record { function = function; index = index }) ≡ Some i → IsInRange program (routine_at program function) i
+  in_range_of function index i at =
+      holds_at (IsInRange program (routine_at program function)) (routine_at program function).code index i
+      (routine_in program function well (function_known program (record { function = function; index = index }) i at)).instructions at
+
+  word_of_it : (function index : ℕ) (i : Instruction) → instruction_at program (record { function = function; index = index }) ≡ Some i → HasWord i
+  word_of_it function index i at =
+      holds_at HasWord (routine_at program function).code index i
+      (words.functions function no_routine (function_known program (record { function = function; index = index }) i at)) at
+
+  range_of : (function index first handler : ℕ) → instruction_at program (record { function = function; index = index }) ≡ Some (plain.Try first handler) → IsTryInRange (routine_at program function) first handler
+  range_of function index first handler at = in_range_of function index (plain.Try first handler) at
+
+  -- where an exception comes to a handler
+  caught_stands : (function index first handler : ℕ) → instruction_at program (record { function = function; index = index }) ≡ Some (plain.Try first handler)
+      → Stands code (instruction_line program frames function index + 5) (ordinary (caught_code (frame_at frames function) first) ++ lines.Jump (instruction_line program frames function handler) ∷ [])
+  caught_stands function index first handler at =
+      let line : ℕ = instruction_line program frames function index in
+      let jump : Line = lines.Jump (instruction_line program frames function handler) in
+      let caught : List Line = ordinary (caught_code (frame_at frames function) first) in
+      let opened : List Line = ordinary (opened_code (frame_at frames function) first) in
+      let rest : List Line = lines.Call (line + 9 + reload_count (frame_at frames function)) ∷ (caught ++ jump ∷ opened) in
+      let whole = stands_front code line (body program frames function line (plain.Try first handler)) [] (stand function index (plain.Try first handler) at) in
+      subst (λ (n : ℕ). Stands code n (ordinary (caught_code (frame_at frames function) first) ++ lines.Jump (instruction_line program frames function handler) ∷ []))
+      (let e : line + 4 + 1 ≡ line + 5 = omega arith in e)
+      (stands_until code (line + 4 + 1) caught jump opened (stands_back code line (ordinary (recorded_code (frame_at frames function) first)) rest whole).1)
+
+  lands_at : (function index first handler : ℕ) → instruction_at program (record { function = function; index = index }) ≡ Some (plain.Try first handler)
+      → IsReturnPoint code (instruction_line program frames function index + 5)
+  lands_at function index first handler at =
+      let line : ℕ = instruction_line program frames function index in
+      let caught : List Line = ordinary (caught_code (frame_at frames function) first) in
+      let opened : List Line = ordinary (opened_code (frame_at frames function) first) in
+      let rest : List Line = lines.Call (line + 9 + reload_count (frame_at frames function)) ∷ (caught ++ lines.Jump (instruction_line program frames function handler) ∷ opened) in
+      let whole = stands_front code line (body program frames function line (plain.Try first handler)) [] (stand function index (plain.Try first handler) at) in
+      record {
+        inside = below_of_get code.lines _ _ (caught_stands function index first handler at).0;
+        call = line + 4;
+        label = line + 9 + reload_count (frame_at frames function);
+        behind = omega arith;
+        calls = (stands_back code line (ordinary (recorded_code (frame_at frames function) first)) rest whole).0;
+      }
+
+  few_results : (function : ℕ) → (routine_at program function).results ≤ 3
+  few_results function = elim (cases_lt function (length program.functions)) [
+    | inl below ↦ (routine_in program function well below).results
+    | inr past ↦ subst (λ (r : Routine). r.results ≤ 3) (sym (get_or_past program.functions function no_routine past)) (let e : 0 ≤ 3 = omega arith in e)
+  ]
+
+  -- ---- one instruction
+
+  abbrev Never : Configuration → Type 0
+  Never c = (next : states.State) → Step program pages calls (states.Running c) next → states.status_of next ≡ simulation.Failed → ⊥
+
+  stuck_not : (c : Configuration) → Never c → IsAllowed program (states.Running c) zeros → step program zeros (states.Running c) ≡ states.Stuck c.output c.input → ⊥
+  stuck_not c never allowed is =
+      never (states.Stuck c.output c.input)
+      (zeros, allowed, sym (limited-within pages calls (states.Running c) (step program zeros (states.Running c)) (ap (is_within pages calls) is ∙ stuck_within pages calls c.output c.input) ∙ is))
+      refl
+
+  divides : (c : Configuration) → Never c → (operator : BinaryOperator) (destination : ℕ) (left right : Operand) → instruction_at program (states.place_of (states.Running c)) ≡ Some (plain.Binary operator destination left right)
+      → ((b : ℕ) → b ≡ 0 → has_no_result operator b ≡ true) → operand_word c.active.slots right ≢ 0
+  divides c never operator destination left right at none is_zero =
+      stuck_not c never (zeros_at program c (plain.Binary operator destination left right) at refl)
+      (ap (executed program zeros c) at
+      ∙ ap (λ (b : Bool). if b then states.Stuck c.output c.input else gives c destination (binary_result operator (operand_word c.active.slots left) (operand_word c.active.slots right))) (none (operand_word c.active.slots right) is_zero))
+
+  module _ (c : Configuration) (never : Never c) (run : labelled.Configuration) (r : Words) (w : Contents) (base : ℕ)
+      (now : At program well frames fit code formed addresses pages calls few (instruction_line program frames c.active.function c.active.next) c.output c.input r w run)
+      (s : Standing program frames addresses pages calls c r w base (r RETURN_ADDRESS) (suc (length c.frames)) c.active.slots)
+      (caches : Caches program frames c.active.function c.active.next r c.active.slots) where
+    abbrev here : ℕ
+    here = instruction_line program frames c.active.function c.active.next
+
+    abbrev Goes : ℕ → Type 0
+    Goes count = Walk code formed addresses globals_length (words_per_call * calls) 1 here (here + count) c.output (Reached program well frames fit code formed addresses pages calls few c) (Running run)
+
+    abbrev IsAt : Instruction → Type 0
+    IsAt i = instruction_at program (states.place_of (states.Running c)) ≡ Some i
+
+    abbrev slots : ℕ
+    slots = (routine_at program c.active.function).slots
+
+    abbrev IsThere : Operand → Type 0
+    IsThere o = IsOperand (routine_at program c.active.function) o × IsOfWord o
+
+    abbrev StandsHere : Instruction → Type 0
+    StandsHere i = Stands code here (body program frames c.active.function here i)
+
+    -- a division, where the run goes on
+    quotient_goes : (operator : BinaryOperator) (which : MoveFromOp) (destination : ℕ) (left right : Operand) → IsAt (plain.Binary operator destination left right) → destination < slots → IsThere left → IsThere right
+        → ((b : ℕ) → b ≡ 0 → has_no_result operator b ≡ true) → ((b : ℕ) → b ≢ 0 → has_no_result operator b ≡ false)
+        → ((a b : ℕ) → binary_result operator a b ≡ multiply_divide_result Divide which a b) → ((a : ℕ) → IsWord a → multiply_divide_result Divide which (sub_of 0 a) 1 ≡ multiply_divide_result Divide which a (2 ^ 32 - 1))
+        → count_of program frames c.active.function (plain.Binary operator destination left right) ≡ divide_count (frame_at frames c.active.function) destination left right
+        → Stands code here (divide_code (frame_at frames c.active.function) here which destination left right) → Goes (divide_count (frame_at frames c.active.function) destination left right)
+    quotient_goes operator which destination left right at below l t none some result negated counted stands =
+        let nonzero = divides c never operator destination left right at none in
+        divide_goes program well frames fit code formed addresses pages calls few c run r w base now s caches operator which destination left right at below l t
+        (ap (λ (x : Bool). if x then states.Stuck c.output c.input else gives c destination (binary_result operator (operand_word c.active.slots left) (operand_word c.active.slots right))) (some (operand_word c.active.slots right) nonzero)
+        ∙ ap (λ (x : ℕ). gives c destination x) (result (operand_word c.active.slots left) (operand_word c.active.slots right)))
+        nonzero counted negated stands
+
+    tested_goes : (operator : BinaryOperator) (destination : ℕ) (left right : Operand) → IsAt (plain.Binary operator destination left right) → destination < slots → IsThere left → IsThere right → is_tested operator right ≡ true
+        → count_of program frames c.active.function (plain.Binary operator destination left right) ≡ divide_count (frame_at frames c.active.function) destination left right
+        → Stands code here (divide_code (frame_at frames c.active.function) here (part_of operator) destination left right) → Goes (divide_count (frame_at frames c.active.function) destination left right)
+    tested_goes binary.Divide d l t at a b e tested counted stands =
+        quotient_goes binary.Divide Low d l t at a b e (λ n is_zero. eq-eqb n 0 is_zero) (λ n other. ne_eqb n 0 other) (λ x y. refl) negated_quotient counted stands
+    tested_goes binary.Remainder d l t at a b e tested counted stands =
+        quotient_goes binary.Remainder High d l t at a b e (λ n is_zero. eq-eqb n 0 is_zero) (λ n other. ne_eqb n 0 other) (λ x y. refl) negated_remainder counted stands
+    tested_goes operator d l t at a b e tested counted stands = absurd (let e : false ≡ true = tested in cc)
+
+    not_true : (b : Bool) → not b ≡ false → b ≡ true
+    not_true true is = refl
+    not_true false is = absurd (let e : true ≡ false = is in cc)
+
+    -- by a plain divisor there is a result
+    has_result : (operator : BinaryOperator) (right : Operand) → is_tested operator right ≡ false → has_no_result operator (operand_word c.active.slots right) ≡ false
+    has_result binary.Divide right fine = ne_eqb (operand_word c.active.slots right) 0 (divisor_is c.active.slots right (not_true (is_plain_divisor right) fine)).0
+    has_result binary.Remainder right fine = ne_eqb (operand_word c.active.slots right) 0 (divisor_is c.active.slots right (not_true (is_plain_divisor right) fine)).0
+    has_result operator right fine = refl
+
+    operator_goes : (operator : BinaryOperator) (destination : ℕ) (left right : Operand) → IsAt (plain.Binary operator destination left right) → destination < slots → IsThere left → IsThere right
+        → StandsHere (plain.Binary operator destination left right) → Goes (operator_count (frame_at frames c.active.function) operator destination left right)
+    operator_goes operator d l t at a b e stands = go (is_tested operator t) refl stands (omega arith)
+      where
+        go : (tested : Bool) → is_tested operator t ≡ tested
+            → Stands code here (if tested then divide_code (frame_at frames c.active.function) here (part_of operator) d l t else ordinary (plan_code (frame_at frames c.active.function) (binary_plan operator l t) d))
+            → count_of program frames c.active.function (plain.Binary operator d l t) ≡ (if is_tested operator t then divide_count (frame_at frames c.active.function) d l t else plan_count (frame_at frames c.active.function) (binary_plan operator l t) d)
+            → Goes (if tested then divide_count (frame_at frames c.active.function) d l t else plan_count (frame_at frames c.active.function) (binary_plan operator l t) d)
+        go true tested stands counted =
+            tested_goes operator d l t at a b e tested (counted ∙ ap (λ (x : Bool). if x then divide_count (frame_at frames c.active.function) d l t else plan_count (frame_at frames c.active.function) (binary_plan operator l t) d) tested) stands
+        go false tested stands counted =
+            binary_goes program well frames fit code formed addresses pages calls few c run r w base now s caches operator d l t at a b e tested
+            (ap (λ (x : Bool). if x then states.Stuck c.output c.input else gives c d (binary_result operator (operand_word c.active.slots l) (operand_word c.active.slots t))) (has_result operator t tested))
+            (counted ∙ ap (λ (x : Bool). if x then divide_count (frame_at frames c.active.function) d l t else plan_count (frame_at frames c.active.function) (binary_plan operator l t) d) tested) stands
+
+    stops_not : (i : Instruction) → IsAt i → IsAllowed program (states.Running c) zeros → performed program zeros c i ≡ states.Stuck c.output c.input → ⊥
+    stops_not i at allowed stops = stuck_not c never allowed (ap (executed program zeros c) at ∙ stops)
+
+    -- a function that opens handlers does not return so
+    none_open : {value : ℕ} → IsAt (plain.Return value) → c.active.handlers ≡ []
+    none_open {value} at = go c.active.handlers refl s.newest
+      where
+        go : (handlers : List states.Handler) → c.active.handlers ≡ handlers → IsNewest program frames addresses calls (r HANDLERS) base c.active.function handlers c.frames → c.active.handlers ≡ []
+        go [] is records = is
+        go (states.Caught ∷ handlers) is records = absurd records
+        go (states.Open index first contents ∷ handlers) is (one, others) =
+            let none = (range_of c.active.function index first one.handler one.opened).no_return in
+            absurd (let e : true ≡ false = holds_at (λ (i : Instruction). is_return i ≡ false) (routine_at program c.active.function).code c.active.next (plain.Return value) none at in cc)
+
+    finish_goes : (value : ℕ) → IsAt (plain.Finish value) → IsInRange program (routine_at program c.active.function) (plain.Finish value) → StandsHere (plain.Finish value) → (handlers : List states.Handler) → c.active.handlers ≡ handlers
+        → Goes (body_count program frames c.active.function (plain.Finish value))
+    finish_goes value at in_range stands [] none =
+        return_goes program well frames fit code formed addresses pages calls few lie c run r w base now s caches (plain.Finish value) value at refl (λ slot is. is)
+        (ap (finishes c value (routine_at program c.active.function).results) none) none in_range returns_to stands
+    finish_goes value at in_range stands (h ∷ handlers) some =
+        absurd (stops_not (plain.Finish value) at (zeros_at program c (plain.Finish value) at refl) (ap (finishes c value (routine_at program c.active.function).results) some))
+
+    instruction_goes : (i : Instruction) → IsAt i → IsInRange program (routine_at program c.active.function) i → HasWord i → StandsHere i → Goes (body_count program frames c.active.function i)
+    instruction_goes (plain.Move destination source) at (a, b) fits stands = move_goes program well frames fit code formed addresses pages calls few c run r w base now s caches destination source at a (b, fits) stands
+    instruction_goes (plain.Unary operator destination operand) at (a, b) fits stands = unary_goes program well frames fit code formed addresses pages calls few c run r w base now s caches operator destination operand at a (b, fits) stands
+    instruction_goes (plain.Binary operator destination left right) at (a, b, e) (fits, also) stands = operator_goes operator destination left right at a (b, fits) (e, also) stands
+    instruction_goes (plain.Jump target) at below fits stands = jump_goes program well frames fit code formed addresses pages calls few c run r w base now s caches target at stands
+    instruction_goes (plain.Branch comparison left right target) at (a, b, below) (fits, also) stands = branch_goes program well frames fit code formed addresses pages calls few c run r w base now s caches comparison left right target at (a, fits) (b, also) stands
+    instruction_goes (plain.Call callee arguments count result) at in_range fits stands =
+        call_goes program well frames fit code formed addresses pages calls few lie c run r w base now s caches callee arguments count result at in_range (returns_to c.active.function c.active.next callee arguments count result at).inside stands
+    instruction_goes (plain.Return value) at in_range fits stands =
+        return_goes program well frames fit code formed addresses pages calls few lie c run r w base now s caches (plain.Return value) value at refl (λ slot is. is) refl (none_open at) in_range returns_to stands
+    instruction_goes (plain.ReadByte destination) at below fits stands = read_goes program well frames fit code formed addresses pages calls few c run r w base now s caches destination at below stands
+    instruction_goes (plain.WriteByte source) at below fits stands = write_goes program well frames fit code formed addresses pages calls few c run r w base now s caches source at (below, fits) stands
+    instruction_goes (plain.AddressOf destination slot count) at (a, some, named) fits stands =
+        address_goes program well frames fit code formed addresses pages calls few c run r w base now s caches destination slot count at a (omega (arith, some, named)) stands
+    instruction_goes (plain.LoadGlobal destination global) at (a, b) fits stands = load_global_goes program well frames fit code formed addresses pages calls few c run r w base now s caches destination global at a b stands
+    instruction_goes (plain.StoreGlobal global source) at (a, b) fits stands = store_global_goes program well frames fit code formed addresses pages calls few c run r w base now s caches global source at a (b, fits) stands
+    instruction_goes (plain.MoveWords destination source count) at in_range fits stands = move_words_goes program well frames fit code formed addresses pages calls few c run r w base now s caches destination source count at in_range stands
+    instruction_goes (plain.Load destination address offset) at (a, b) (fits, near) stands =
+        load_goes program well frames fit code formed addresses pages calls few c run r w base now s caches destination address offset at a (b, fits) near (stops_not (plain.Load destination address offset) at (zeros_at program c (plain.Load destination address offset) at refl)) stands
+    instruction_goes (plain.LoadByte destination address offset) at (a, b) (fits, near) stands =
+        load_byte_goes program well frames fit code formed addresses pages calls few c run r w base now s caches destination address offset at a (b, fits) near (stops_not (plain.LoadByte destination address offset) at (zeros_at program c (plain.LoadByte destination address offset) at refl)) stands
+    instruction_goes (plain.Store address offset source) at (a, b) (fits, near, also) stands =
+        store_goes program well frames fit code formed addresses pages calls few c run r w base now s caches address offset source at (a, fits) near (b, also) (stops_not (plain.Store address offset source) at (zeros_at program c (plain.Store address offset source) at refl)) stands
+    instruction_goes (plain.StoreByte address offset source) at (a, b) (fits, near, also) stands =
+        store_byte_goes program well frames fit code formed addresses pages calls few c run r w base now s caches address offset source at (a, fits) near (b, also) (stops_not (plain.StoreByte address offset source) at (zeros_at program c (plain.StoreByte address offset source) at refl)) stands
+    instruction_goes (plain.Ask request) at in_range fits stands =
+        ask_goes program well frames fit code formed addresses pages calls few c run r w base now s caches request at in_range fits stands
+        (λ stops allowed. stops_not (plain.Ask request) at allowed stops)
+    instruction_goes (plain.CountLexical destination) at below fits stands = count_lexical_goes program well frames fit code formed addresses pages calls few c run r w base now s caches destination at below stands
+    instruction_goes (plain.Try first handler) at in_range fits stands = try_goes program well frames fit code formed addresses pages calls few lie c range_of lands_at run r w base now s caches first handler at in_range stands
+    instruction_goes (plain.Leave first) at in_range fits stands =
+        leave_goes program well frames fit code formed addresses pages calls few lie c range_of lands_at run r w base now s caches first at in_range (stops_not (plain.Leave first) at (zeros_at program c (plain.Leave first) at refl)) stands
+    instruction_goes (plain.Throw tag value) at (a, b) (fits, also) stands =
+        throw_goes program well frames fit code formed addresses pages calls few lie c range_of lands_at run r w base now s caches tag value at (a, fits) (b, also) (stops_not (plain.Throw tag value) at (zeros_at program c (plain.Throw tag value) at refl)) stands
+    instruction_goes (plain.Finish value) at in_range fits stands = finish_goes value at in_range stands c.active.handlers refl
+    instruction_goes (plain.Uncaught tag value) at below (tag_fits, value_fits) stands = uncaught_goes program well frames fit code formed addresses pages calls few c run r w base now s caches tag value at (below, value_fits) tag_fits stands
+
+  -- ---- a step from a state that matches
+
+  abbrev above : simulation.Machine
+  above = steps.machine program pages calls
+
+  abbrev below_machine : simulation.Machine
+  below_machine = machine code addresses
+
+  pub outputs_same : (s : states.State) (t : State) → Matches program well frames fit code formed addresses pages calls few s t → labelled.output_of t ≡ states.output_of s
+  outputs_same (states.Running c) t (inl ready) = ap labelled.output_of ready.is ∙ ready.now.output
+  outputs_same (states.Running c) t (inr (inl back)) = ap labelled.output_of back.is ∙ back.now.output
+  outputs_same (states.Running c) t (inr (inr landed)) = ap labelled.output_of landed.is ∙ landed.now.output
+  outputs_same (states.Ended ending out input) t is = ap labelled.output_of is
+  outputs_same (states.Stuck out input) t is = absurd is
+
+  pub endings_same : (s : states.State) (t : State) (ending : Ending) → Matches program well frames fit code formed addresses pages calls few s t → states.status_of s ≡ simulation.Ended ending → labelled.status_of t ≡ simulation.Ended ending
+  endings_same (states.Running c) t ending matches ended = absurd (let e : simulation.Running ≡ simulation.Ended ending = ended in cc)
+  endings_same (states.Ended other out input) t ending is ended = ap labelled.status_of is ∙ ended
+  endings_same (states.Stuck out input) t ending is ended = absurd is
+
+  abbrev pub matching : Matching above below_machine
+  matching = record {
+    Matches = Matches program well frames fit code formed addresses pages calls few;
+    weight = λ (s : states.State). 0;
+    own = own_of program frames;
+    outputs = outputs_same;
+    endings = endings_same;
+  }
+
+  -- a walk through own lines is a matched step
+  stepped : (c : Configuration) (t : State) (run : labelled.Configuration) (lo count : ℕ) (i : Instruction) → instruction_at program (states.place_of (states.Running c)) ≡ Some i → count ≡ body_count program frames c.active.function i
+      → instruction_line program frames c.active.function c.active.next - previous_count program frames c.active.function (routine_at program c.active.function).code c.active.next ≤ lo → t ≡ Running run
+      → Walk code formed addresses globals_length (words_per_call * calls) 1 lo (instruction_line program frames c.active.function c.active.next + count) c.output (Reached program well frames fit code formed addresses pages calls few c) (Running run)
+      → IsStepped above below_machine matching (states.Running c) t
+  stepped c t run lo count i at count_is from is walk =
+      let function : ℕ = c.active.function in
+      let index : ℕ = c.active.next in
+      let previous : ℕ = previous_count program frames c.active.function (routine_at program c.active.function).code c.active.next in
+      let here : ℕ = instruction_line program frames c.active.function c.active.next in
+      let fits = previous_fits program frames c.active.function c.active.next in
+      let body_is : body_of program frames c.active.function (slice_get (routine_at program c.active.function).code c.active.next) ≡ count = ap (body_of program frames c.active.function) at ∙ sym count_is in
+      let top : instruction_line program frames c.active.function c.active.next + count
+      ≡ instruction_line program frames c.active.function c.active.next - previous_count program frames c.active.function (routine_at program c.active.function).code c.active.next + (previous_count program frames c.active.function (routine_at program c.active.function).code c.active.next + body_of program frames c.active.function (slice_get (routine_at program c.active.function).code c.active.next)) = omega (arith, fits, body_is) in
+      subst (IsStepped above below_machine matching (states.Running c)) (sym is)
+      (record {
+        places = walk.places;
+        distinct = rising_distinct lo (instruction_line program frames c.active.function c.active.next + count) walk.places walk.rises;
+        inside = rising_inside _ _ lo walk.places from (subst (λ (n : ℕ). Rises lo n walk.places) top walk.rises);
+        comes = comes_map below_machine (Quiet code formed addresses globals_length (words_per_call * calls) c.output) (Reached program well frames fit code formed addresses pages calls few c)
+            (IsOnTheWay above below_machine (states.Running c)) (IsMatchedStep above below_machine matching (states.Running c) walk.places) walk.places (Running run)
+            (λ u quiet. way_before above below_machine matching (states.Running c) u quiet.0 quiet.1)
+            (λ u (next, goes, matches). record { next = next; step = goes; matches = matches; lighter = λ none. absurd (omega (arith, none, walk.enough)) })
+            walk.comes;
+      })
+
+  ready_goes : (c : Configuration) (t : State) → Never c → (ready : Ready program well frames fit code formed addresses pages calls few c t) (i : Instruction) → instruction_at program (states.place_of (states.Running c)) ≡ Some i
+      → Walk code formed addresses globals_length (words_per_call * calls) 1 (instruction_line program frames c.active.function c.active.next) (instruction_line program frames c.active.function c.active.next + body_count program frames c.active.function i) c.output (Reached program well frames fit code formed addresses pages calls few c) (Running ready.run)
+  ready_goes c t never ready i at =
+      instruction_goes c never ready.run ready.r ready.w ready.base ready.now ready.standing ready.caches i at
+      (in_range_of c.active.function c.active.next i at) (word_of_it c.active.function c.active.next i at)
+      (stands_front code (instruction_line program frames c.active.function c.active.next) (body program frames c.active.function (instruction_line program frames c.active.function c.active.next) i) (behind program frames c.active.function i) (stand c.active.function c.active.next i at))
+
+  -- where the lines behind the call before it begin
+  before_it : (function index callee arguments count result next : ℕ) → next ≡ index + 1 → instruction_at program (record { function = function; index = index }) ≡ Some (plain.Call callee arguments count result)
+      → instruction_line program frames function next - previous_count program frames function (routine_at program function).code next ≤ behind_line program frames function index callee arguments count result
+  before_it function index callee arguments count result next is at =
+      let one : next ≡ suc index = omega (arith, is) in
+      let e = line_next program frames function index (plain.Call callee arguments count result) at in
+      let previous : previous_count program frames function (routine_at program function).code next ≡ 2 + (routine_at program callee).results + reload_count (frame_at frames function) = ap (previous_count program frames function (routine_at program function).code) one ∙ ap (behind_of program frames function) at in
+      omega (arith, previous, e, ap (instruction_line program frames function) is)
+
+  known_goes : (c : Configuration) (t : State) → Matches program well frames fit code formed addresses pages calls few (states.Running c) t → Never c → (i : Instruction) → instruction_at program (states.place_of (states.Running c)) ≡ Some i
+      → IsStepped above below_machine matching (states.Running c) t
+  known_goes c t (inl ready) never i at =
+      stepped c t ready.run (instruction_line program frames c.active.function c.active.next) (body_count program frames c.active.function i) i at refl (omega arith) ready.is (ready_goes c t never ready i at)
+  known_goes c t (inr (inr landed)) never i at =
+      let place : instruction_at program (states.place_of (states.Running c)) ≡ Some (plain.Try landed.first landed.handler) = landed.opened in
+      stepped c t landed.run (instruction_line program frames c.active.function c.active.next + 5) (12 + reload_count (frame_at frames c.active.function)) (plain.Try landed.first landed.handler) place refl (omega arith) landed.is
+      (catch_goes program well frames fit code formed addresses pages calls few lie c range_of lands_at t landed (caught_stands c.active.function c.active.next landed.first landed.handler landed.opened))
+  known_goes c t (inr (inl back)) never i at =
+      let in_range = in_range_of c.active.function back.index (plain.Call back.callee back.arguments back.count back.result) back.call in
+      stepped c t back.run (behind_line program frames c.active.function back.index back.callee back.arguments back.count back.result) (body_count program frames c.active.function i) i at refl
+      (before_it c.active.function back.index back.callee back.arguments back.count back.result c.active.next back.next back.call) back.is
+      (behind_goes program well frames fit code formed addresses pages calls few c t back (behind_stands c.active.function back.index back.callee back.arguments back.count back.result back.call) in_range.result_in_range (few_results back.callee)
+      1 (instruction_line program frames c.active.function c.active.next + body_count program frames c.active.function i) (Reached program well frames fit code formed addresses pages calls few c)
+      (λ u ready. subst (Walk code formed addresses globals_length (words_per_call * calls) 1 (instruction_line program frames c.active.function c.active.next) (instruction_line program frames c.active.function c.active.next + body_count program frames c.active.function i) c.output (Reached program well frames fit code formed addresses pages calls few c)) (sym ready.is)
+      (ready_goes c u never ready i at)))
+
+  pub all_steps : Steps above below_machine matching
+  all_steps (states.Running c) t matches running never = go (instruction_at program (states.place_of (states.Running c))) refl
+    where
+      go : (o : Option Instruction) → instruction_at program (states.place_of (states.Running c)) ≡ o → IsStepped above below_machine matching (states.Running c) t
+      go (Some i) at = known_goes c t matches never i at
+      go None at = absurd (stuck_not c never (zeros_allowed program (states.Running c) (ap (call_of c.active.slots) at) (ap callee_of at)) (ap (executed program zeros c) at))
+  all_steps (states.Ended ending out input) t matches running never = absurd (let e : simulation.Ended ending ≡ simulation.Running = running in cc)
+  all_steps (states.Stuck out input) t matches running never = absurd matches

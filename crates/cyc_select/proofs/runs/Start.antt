@@ -1,0 +1,314 @@
+-- From the start the code calls `main`, and so a whole run of it follows a run of the program.
+use Rattle.std.proofs.Common.{◌≡◌, ℕ, zero, suc, ◌+◌, ◌-◌, ◌*◌, ◌%◌, ◌^◌, ◌<◌, ◌≤◌, Bool, true, false, List, [], ◌∷◌, ◌++◌, length, replicate, Some, refl, sym, ap, subst, ◌∙◌, arith, inl, inr, length-append}
+use Rattle.std.specs.Prelude.{All, slice_index, slice_set, slice_index_or, unwrap_or, Option, None, ◌==◌, if◌then◌else◌}
+use Rattle.std.specs.List.{AllByRecursion, range_with_len}
+use Rattle.std.proofs.lemmas.Bool.{cases_lt, cases_eq}
+use Rattle.std.proofs.lemmas.List.{get_or-set_same, get_or-set_other, get_or_append_left, get_or-append_right, get_or-replicate, get_or_past, length-replicate}
+use Rattle.cyc_select.specs.declared.constants.TheConstants.{CALLS, FRAME}
+use Rattle.cyc_machine.specs.declared.constants.TheConstants.{RETURN_ADDRESS}
+use Rattle.cyc_words.specs.Word.{IsWord}
+use Rattle.cyc_isa.specs.declared.instr.Instr.{Instr}
+use Rattle.cyc_store.specs.State as stores
+use Rattle.cyc_store.specs.State.{StoreState, Holder, homes, holder, word_at}
+use Rattle.cyc_store.specs.New.{IsNew}
+use Rattle.cyc_store.proofs.NewStores.{new_words}
+use Rattle.cyc_machine.specs.Bounds.{AreAllowed}
+use Rattle.cyc_machine.specs.State.{Place, InText, InGlobals, InStack, InStore, Nowhere, loaded, place_of, data_base, stack_base, stack_end, word_number, globals_length, words_per_call}
+use Rattle.cyc_plain.specs.declared.instruction.Instruction.{Instruction}
+use Rattle.cyc_plain.specs.Memory.{IsBelow, slots_end}
+use Rattle.cyc_plain.specs.Program.{Program, routine_at}
+use Rattle.cyc_words.specs.Simulation.{Comes, Follows, IsOnTheWay, NeverFails}
+use Rattle.cyc_plain.specs.State.{Words, AreWords, Configuration}
+use Rattle.cyc_plain.specs.Step as steps
+use Rattle.cyc_plain.specs.Step.{instruction_at}
+use Rattle.cyc_plain.specs.WellFormed.{IsWellFormed, HasWords}
+use Rattle.cyc_plain.proofs.WordLaws.{bytes_are_words}
+use Rattle.cyc_words.proofs.Matching.{way_before}
+use Rattle.cyc_words.proofs.Simulation.{simulates}
+use Rattle.cyc_frame.specs.Layout.{AreFrames, frame_at}
+use Rattle.cyc_frame.specs.Frame.{Frame}
+use Rattle.cyc_select.specs.declared.code.Line.TheVariants as lines
+use Rattle.cyc_select.specs.Labelled.{Labelled, IsFormed, AreAddresses}
+use Rattle.cyc_select.specs.Machine as labelled
+use Rattle.cyc_select.specs.Machine.{State, Running, machine, memory_of, word_in, globals_of, start}
+use Rattle.cyc_select.specs.Selection.{slot_offset, body, behind, body_count, add_immediate, minus, push_frame, ordinary, start_lines, function_line, instruction_line}
+use Rattle.cyc_select.proofs.relation.Cells.{cell, place_of-data, place_of-stack}
+use Rattle.cyc_select.proofs.Laws.{lawful}
+use Rattle.cyc_select.proofs.layout.Lines.{line_first}
+use Rattle.cyc_select.proofs.values.Operations.{take_small}
+use Rattle.cyc_select.proofs.effects.Views.{Contents, View}
+use Rattle.cyc_select.proofs.effects.Walks.{Stands, stands_front, stands_back, Rises, comes_map, Quiet, Walk, Now, now_at, walk_end, walk_few, walk_block, walk_jump, after_r}
+use Rattle.cyc_select.proofs.relation.Standing.{Standing, slots_fit}
+use Rattle.cyc_select.proofs.relation.Stores.{new_laid, new_counted}
+use Rattle.cyc_select.proofs.relation.Matches.{Matches}
+use Rattle.cyc_select.proofs.runs.Runs.{own_of, matching, all_steps}
+
+-- ---- rising places that are as many as there are
+
+rising_few : (lo hi : ℕ) (places : List ℕ) → Rises lo hi places → lo + length places ≤ hi
+rising_few lo hi [] rises = omega arith
+rising_few lo hi (p ∷ places) (first, rest) = omega (arith, first, rising_few (suc p) hi places rest)
+
+rising_all : (lo n : ℕ) (places : List ℕ) → Rises lo (lo + n) places → n ≤ length places → places ≡ range_with_len lo n
+rising_all lo zero [] rises enough = refl
+rising_all lo zero (p ∷ places) (first, rest) enough = absurd (omega (arith, first, rising_few (suc p) (lo + 0) places rest))
+rising_all lo (suc n) [] rises enough = absurd (omega (arith, enough))
+rising_all lo (suc n) (p ∷ places) (first, rest) enough =
+    let same : p ≡ lo = omega (arith, first, enough, rising_few (suc p) (lo + suc n) places rest) in
+    let from : suc p ≡ lo + 1 = omega (arith, same) in
+    let to : lo + suc n ≡ lo + 1 + n = omega arith in
+    let moved : Rises (lo + 1) (lo + 1 + n) places = subst (λ (a : ℕ). Rises a (lo + 1 + n) places) from (subst (λ (b : ℕ). Rises (suc p) b places) to rest) in
+    ap (λ (x : ℕ). x ∷ places) same ∙ ap (λ (l : List ℕ). lo ∷ l) (rising_all (lo + 1) n places moved (omega (arith, enough)))
+
+-- ---- words at the start
+
+zeros_are : (n k : ℕ) → slice_index (replicate n 0) k ≡ 0
+zeros_are n k = elim (cases_lt k n) [
+  | inl below ↦ get_or-replicate n k 0 0 below
+  | inr past ↦ get_or_past (replicate n 0) k 0 (omega (arith, past, length-replicate {A = ℕ} n 0))
+]
+
+set_words : (xs : List ℕ) (i v : ℕ) → ((n : ℕ) → IsWord (slice_index xs n)) → IsWord v → i < length xs → (n : ℕ) → IsWord (slice_index (slice_set xs i v) n)
+set_words xs i v all one below n = elim (cases_eq n i) [
+  | inl same ↦ subst IsWord (sym (ap (slice_index (slice_set xs i v)) same ∙ get_or-set_same xs i v 0 below)) one
+  | inr other ↦ subst IsWord (sym (get_or-set_other xs i n v 0 other)) (all n)
+]
+
+zero_or : (b : Bool) (x : ℕ) → IsWord x → IsWord (if b then 0 else x)
+zero_or true x one = omega arith
+zero_or false x one = one
+
+all_words : (xs : List ℕ) → All IsWord xs → (n : ℕ) → IsWord (slice_index xs n)
+all_words xs all n = elim (cases_lt n (length xs)) [
+  | inl below ↦ all n 0 below
+  | inr past ↦ subst IsWord (sym (get_or_past xs n 0 past)) (let e : 0 < 2 ^ 32 = omega arith in e)
+]
+
+-- what is read of a store that holds words is a word
+live_word : (s : StoreState) → stores.AreWords s.memory → (a : ℕ) → IsWord (unwrap_or (word_at s a) 0)
+live_word s words a = found (a % 4 == 0) (holder (homes s) a)
+  where
+    found : (aligned : Bool) (h : Option Holder) → IsWord (unwrap_or (if aligned then stores.word_in h s.memory a else None) 0)
+    found false h = omega arith
+    found true None = omega arith
+    found true (Some h) = words a
+
+globals_hold : (globals : List ℕ) (n : ℕ) → slice_index (globals_of globals) n ≡ slice_index globals n
+unfolding globals_of
+globals_hold globals n = elim (cases_lt n (length globals)) [
+  | inl below ↦ get_or_append_left globals (replicate (globals_length - length globals) 0) 0 n below
+  | inr past ↦
+      get_or-append_right globals (replicate (globals_length - length globals) 0) (length globals) n 0 refl past
+      ∙ (zeros_are (globals_length - length globals) (n - length globals) ∙ sym (get_or_past globals n 0 past))
+]
+
+globals_long : (globals : List ℕ) → length globals ≤ globals_length → length (globals_of globals) ≡ globals_length
+unfolding globals_of
+globals_long globals few =
+    length-append globals (replicate (globals_length - length globals) 0)
+    ∙ (ap (λ (n : ℕ). length globals + n) (length-replicate (globals_length - length globals) 0) ∙ (let e : length globals + (globals_length - length globals) ≡ globals_length = omega (arith, few) in e))
+
+-- where the slots of `main` lie
+abbrev pub main_place : Program → List Frame → ℕ
+main_place program frames = stack_end - 4 * (frame_at frames program.main).words + 4 * (frame_at frames program.main).first_slot
+
+pub main_below : (program : Program) → IsWellFormed program → (frames : List Frame) → AreFrames program frames → IsBelow program program.main (main_place program frames) slots_end
+main_below program well frames fit =
+    let own = fit.each program.main well.main in
+    let fits = slots_fit (routine_at program program.main) (frame_at frames program.main) own in
+    record {
+      aligned = omega (arith, own.within, own.small);
+      low = omega (arith, own.within, own.small);
+      high = omega (arith, own.within, own.small, fits);
+    }
+
+module _ (program : Program) (well : IsWellFormed program) (words : HasWords program) (frames : List Frame) (fit : AreFrames program frames) (code : Labelled) (formed : IsFormed code) (addresses : ℕ → ℕ) (lie : AreAddresses code addresses)
+    (pages calls : ℕ) (allowed : AreAllowed pages calls)
+    (stand : (function index : ℕ) (i : Instruction) → instruction_at program (record { function = function; index = index }) ≡ Some i
+    → Stands code (instruction_line program frames function index) (body program frames function (instruction_line program frames function index) i ++ behind program frames function i))
+    (long : (function line : ℕ) (i : Instruction) → length (body program frames function line i) ≡ body_count program frames function i)
+    (starts : Stands code 0 (start_lines program frames)) (same_globals : code.globals ≡ program.globals)
+    (store : StoreState) (new : IsNew pages store) (input : List ℕ) (bytes : AllByRecursion (λ b. b < 256) input) where
+  abbrev few : calls ≤ 4096
+  few = allowed.few_calls
+
+  abbrev stack_words : ℕ
+  stack_words = words_per_call * calls
+
+  abbrev globals : List ℕ
+  globals = globals_of code.globals
+
+  abbrev stack : List ℕ
+  stack = replicate (words_per_call * calls) 0
+
+  abbrev run : labelled.Configuration
+  run = record {
+    registers = slice_set (slice_set (replicate 32 0) 4 calls) FRAME stack_end;
+    high = 0;
+    low = 0;
+    globals = globals_of code.globals;
+    stack = replicate (words_per_call * calls) 0;
+    store = store;
+    output = [];
+    input = input;
+    line = 0;
+  }
+
+  abbrev r : Words
+  r = word_in run
+
+  abbrev w : Contents
+  w = record { words = cell (memory_of run); store = store }
+
+  few_globals : length code.globals ≤ globals_length
+  few_globals = subst (λ (l : List ℕ). length l ≤ globals_length) (sym same_globals) well.globals
+
+  long_globals : length (globals_of code.globals) ≡ globals_length
+  long_globals = globals_long code.globals few_globals
+
+  long_stack : length (replicate (words_per_call * calls) (zero)) ≡ words_per_call * calls
+  long_stack = length-replicate (words_per_call * calls) 0
+
+  global_is : (n : ℕ) → slice_index (globals_of code.globals) n ≡ slice_index program.globals n
+  global_is n = globals_hold code.globals n ∙ ap (λ (l : List ℕ). slice_index l n) same_globals
+
+  is_word_at : (place : Place) → IsWord (loaded (memory_of run) place)
+  is_word_at (InText n) = no_text n
+    where
+      no_text : (n : ℕ) → IsWord (unwrap_or (slice_index_or (let none : List (Option ℕ) = [] in none) n None) 0)
+      no_text n = omega arith
+  is_word_at (InGlobals n) = subst IsWord (sym (global_is n)) (all_words program.globals words.globals n)
+  is_word_at (InStack n) = subst IsWord (sym (zeros_are (words_per_call * calls) n)) (let e : 0 < 2 ^ 32 = omega arith in e)
+  is_word_at (InStore a) = live_word store (new_words pages store new) a
+  is_word_at Nowhere = omega arith
+
+  words_w : AreWords w.words
+  words_w a = is_word_at (place_of (memory_of run) a)
+
+  listed : (n : ℕ) → IsWord (slice_index (slice_set (slice_set (replicate 32 0) 4 calls) FRAME stack_end) n)
+  listed =
+      set_words (slice_set (replicate 32 0) 4 calls) FRAME stack_end
+      (set_words (replicate 32 0) 4 calls (λ n. subst IsWord (sym (zeros_are 32 n)) (let e : 0 < 2 ^ 32 = omega arith in e)) (omega (arith, few)) (omega arith))
+      (omega arith) (omega arith)
+
+  words_r : AreWords r
+  words_r n = zero_or (n == 0) (slice_index (slice_set (slice_set (replicate 32 0) 4 calls) FRAME stack_end) n) (listed n)
+
+  view : View globals_length (words_per_call * calls) run r w
+  view = record {
+    wide = refl;
+    data_words = long_globals;
+    stack_words = long_stack;
+    few_globals = omega arith;
+    few_stack = omega (arith, few);
+    reg = λ n below. refl;
+    high = refl;
+    low = refl;
+    mem = λ a at. refl;
+    store = refl;
+  }
+
+  now : Now code formed addresses globals_length (words_per_call * calls) 0 [] input r w run
+  now = record { view = view; r_words = words_r; w_words = words_w; at_line = refl; output = refl; input = refl }
+
+  -- the stack holds zeros, and the data range the globals
+  stack_zero : (a : ℕ) → a % 4 ≡ 0 → stack_end - 4 * (words_per_call * calls) ≤ a → a < stack_end → w.words a ≡ 0
+  stack_zero a aligned from below =
+      ap (loaded (memory_of run)) (place_of-stack (globals_of code.globals) (replicate (words_per_call * calls) 0) store a (omega (arith, long_globals)) (omega (arith, long_stack, few)) (aligned, (omega (arith, from, long_stack)), below))
+      ∙ zeros_are (words_per_call * calls) (word_number (stack_base (replicate (words_per_call * calls) 0)) a)
+
+  global_word : (global : ℕ) → global < length program.globals → w.words (data_base + 4 * global) ≡ slice_index program.globals global
+  global_word global below =
+      ap (loaded (memory_of run)) (place_of-data (globals_of code.globals) (replicate (words_per_call * calls) 0) store (data_base + 4 * global) ((omega arith), (omega arith), (omega (arith, below, well.globals, long_globals))))
+      ∙ (global_is (word_number data_base (data_base + 4 * global))
+      ∙ ap (slice_index program.globals) (let e : word_number data_base (data_base + 4 * global) ≡ global = omega arith in e))
+
+  -- ---- the call of `main`
+
+  abbrev frame : Frame
+  frame = frame_at frames program.main
+
+  abbrev first : List Instr
+  first = add_immediate CALLS 4 (minus 1) ∷ push_frame frame ∷ []
+
+  abbrev q : Words
+  q = after_r first r w
+
+  abbrev base : ℕ
+  base = stack_end - 4 * frame.words
+
+  left_is : q CALLS ≡ calls - 1
+  left_is = take_small calls 1 (omega (arith, few)) (omega arith) (omega arith) allowed.enough_calls
+
+  base_is : q FRAME ≡ base
+  base_is =
+      let own = fit.each program.main well.main in
+      take_small stack_end (4 * frame.words) (omega arith) (omega (arith, own.return_inside)) (omega (arith, own.within, own.small)) (omega (arith, own.within, own.small))
+
+  abbrev c : Configuration
+  c = record {
+    active = record { function = program.main; next = 0; base = base + 4 * frame.first_slot; slots = λ (slot : ℕ). 0; handlers = [] };
+    frames = [];
+    globals = λ (global : ℕ). slice_index program.globals global;
+    store = store;
+    output = [];
+    input = input;
+  }
+
+  standing : Standing program frames addresses pages calls c q w base (q RETURN_ADDRESS) 1 c.active.slots
+  standing = record {
+    known = well.main;
+    base_is = base_is;
+    zero_is = refl;
+    left = left_one (q CALLS) left_is;
+    deep = allowed.enough_calls;
+    holds = λ slot below slot_kept.
+        let own = fit.each program.main well.main in
+        stack_zero (base + slot_offset frame slot) (omega (arith, own.within, own.small)) (omega (arith, own.within, own.small, allowed.enough_calls)) (omega (arith, own.inside slot below, own.within, own.small));
+    chain = ((let own = fit.each program.main well.main in omega (arith, own.within, own.small)), refl, refl);
+    newest = refl;
+    kept = tt;
+    based = refl;
+    globals = global_word;
+    input = bytes_are_words input bytes;
+    store = refl;
+    laid = new_laid pages store new (omega (arith, allowed.enough_pages)) allowed.few_pages;
+    counted = sym (new_counted pages store new);
+  }
+    where
+      left_one : (n : ℕ) → n ≡ calls - 1 → n + 1 ≡ calls
+      left_one n is = omega (arith, is, allowed.enough_calls)
+
+  first_walk : Walk code formed addresses globals_length (words_per_call * calls) 3 0 3 [] (Matches program well frames fit code formed addresses pages calls few (steps.start program (main_place program frames) store input)) (Running run)
+  first_walk =
+      walk_few code formed addresses globals_length (words_per_call * calls) 3 (2 + 1) 0 3 [] _ (Running run) (omega arith)
+      (walk_block code formed addresses globals_length (words_per_call * calls) first 1 0 0 3 [] input _ r w run now
+      (stands_front code 0 (ordinary first) (lines.Jump (function_line program frames program.main) ∷ []) starts) (refl, (refl, tt)) (omega arith)
+      (λ d later.
+      walk_jump code formed addresses globals_length (words_per_call * calls) 0 (0 + 2) (0 + 2) 3 [] input _ q w d (function_line program frames program.main) later
+      (stands_back code 0 (ordinary first) (lines.Jump (function_line program frames program.main) ∷ []) starts).0 (omega arith)
+      (λ e jumped.
+      walk_end code formed addresses globals_length (words_per_call * calls) (suc (0 + 2)) 3 [] _ (Running e) (omega arith)
+      (inl (record {
+        run = e;
+        r = q;
+        w = w;
+        base = base;
+        is = refl;
+        now = now_at code formed addresses globals_length (words_per_call * calls) (function_line program frames program.main) (instruction_line program frames program.main 0) [] input q w e (sym (line_first program frames program.main)) jumped;
+        standing = standing;
+        caches = λ slot k has wanted. absurd (let parameters = well.main_parameters in omega (arith, parameters, (fit.homes program.main well.main).entry slot k has wanted));
+      })))))
+
+  pub follows : NeverFails (steps.machine program pages calls) (steps.start program (main_place program frames) store input)
+      → Follows (steps.machine program pages calls) (machine code addresses) (range_with_len 0 3) (own_of program frames) (steps.start program (main_place program frames) store input) (start code store calls input)
+  follows never =
+      let above = steps.machine program pages calls in
+      let below_machine = machine code addresses in
+      let m = matching program well words frames fit code formed addresses lie pages calls few stand long in
+      let places_are : first_walk.places ≡ range_with_len 0 3 = rising_all 0 3 first_walk.places first_walk.rises first_walk.enough in
+      let comes = comes_map below_machine (Quiet code formed addresses globals_length (words_per_call * calls) []) (Matches program well frames fit code formed addresses pages calls few (steps.start program (main_place program frames) store input))
+      (IsOnTheWay above below_machine (steps.start program (main_place program frames) store input)) (Matches program well frames fit code formed addresses pages calls few (steps.start program (main_place program frames) store input)) first_walk.places (Running run)
+      (λ u quiet. way_before above below_machine m (steps.start program (main_place program frames) store input) u quiet.0 quiet.1) (λ u matches. matches) first_walk.comes in
+      simulates above below_machine m (all_steps program well words frames fit code formed addresses lie pages calls few stand long) (lawful code addresses) (range_with_len 0 3) (steps.start program (main_place program frames) store input) never (Running run) refl
+      (subst (λ (ps : List ℕ). Comes below_machine (IsOnTheWay above below_machine (steps.start program (main_place program frames) store input)) (Matches program well frames fit code formed addresses pages calls few (steps.start program (main_place program frames) store input)) ps (Running run)) places_are comes)

@@ -1,0 +1,10 @@
+-- one instruction each
+pub mod Simple
+pub mod Moves
+pub mod Accesses
+pub mod Requests
+pub mod Calls
+pub mod Passing
+pub mod Copies
+pub mod Returns
+pub mod Handlers

@@ -1,0 +1,377 @@
+-- Calls: a new frame below the caller's, or the end of a run that has no room for one.
+use Rattle.std.proofs.Common.{◌≡◌, ◌≢◌, ℕ, zero, suc, ◌+◌, ◌-◌, ◌*◌, ◌%◌, ◌<◌, ◌≤◌, Bool, true, false, not, List, [], ◌∷◌, ◌++◌, length, Some, slice_get, refl, sym, ap, subst, ◌∙◌, arith, inl, inr}
+use Rattle.std.specs.Prelude.{◌==◌, if◌then◌else◌, nat_le}
+use Rattle.std.proofs.lemmas.Bool.{cases_eq, cases_lt, eq-eqb, ne_eqb, and_right, lt-leb}
+use Rattle.cyc_select.specs.declared.constants.TheConstants.{CALLS, FRAME, HANDLERS, REGIONS}
+use Rattle.cyc_machine.specs.declared.constants.TheConstants.{RETURN_ADDRESS}
+use Rattle.cyc_words.specs.Ending.{Full}
+use Rattle.cyc_words.specs.Word.{add_of, sign_extended}
+use Rattle.cyc_isa.specs.declared.instr.Instr.{Instr}
+use Rattle.cyc_isa.specs.declared.instr.BranchOp.TheVariants as branch
+use Rattle.cyc_isa.specs.Decoding.{register_of}
+use Rattle.cyc_machine.specs.State.{data_base, stack_end, globals_length, words_per_call}
+use Rattle.cyc_store.specs.State.{demand}
+use Rattle.cyc_plain.specs.declared.instruction.Instruction.TheVariants as plain
+use Rattle.cyc_plain.specs.Memory.{IsBelow}
+use Rattle.cyc_plain.specs.Program.{Program, no_routine, routine_at}
+use Rattle.cyc_plain.specs.State as states
+use Rattle.cyc_plain.specs.State.{Words, AreWords, put, copied, Configuration}
+use Rattle.cyc_plain.specs.Step.{Choice, instruction_at, performed, executed, advanced, step, is_within, callee_of}
+use Rattle.cyc_plain.specs.WellFormed.{IsWellFormed, IsCallInRange}
+use Rattle.cyc_plain.proofs.RunLaws.{zeros, limited-full, called_at}
+use Rattle.cyc_plain.proofs.SlotLaws.{put-same, put-other, copied-inside, copied-above}
+use Rattle.cyc_frame.specs.Homes.{AreHomes}
+use Rattle.cyc_frame.specs.Layout.{AreFrames, frame_at, slot_word}
+use Rattle.cyc_frame.specs.Frame.{Frame}
+use Rattle.cyc_select.specs.declared.code.Line.{Line}
+use Rattle.cyc_select.specs.declared.code.Condition.TheVariants as conditions
+use Rattle.cyc_select.specs.declared.code.Line.TheVariants as lines
+use Rattle.cyc_select.specs.Labelled.{Labelled, IsFormed, AreAddresses}
+use Rattle.cyc_select.specs.Machine as labelled
+use Rattle.cyc_select.specs.Machine.{State, Running, Ended}
+use Rattle.cyc_select.specs.Selection.{value_register, slot_offset, small, minus, store, add_immediate, push_frame, copies, ordinary, syscall, calling_code, function_line, instruction_line}
+use Rattle.cyc_select.proofs.relation.Cells.{IsCell}
+use Rattle.cyc_select.proofs.layout.Lines.{line_first}
+use Rattle.cyc_select.proofs.values.Operations.{add_small, take_small}
+use Rattle.cyc_select.proofs.relation.Values.{Caches}
+use Rattle.cyc_select.proofs.effects.Views.{Contents, written}
+use Rattle.cyc_select.proofs.effects.Walks.{Stands, stands_front, stands_back, after_r, after_w, Walk, now_at, walk_end, walk_few, walk_block, walk_branch, walk_call, walk_full}
+use Rattle.cyc_select.proofs.steps.Copies.{Copied, copied_all}
+use Rattle.cyc_select.proofs.relation.Standing.{Holds, Chain, IsNewest, Standing, behind_line, lies, chain_kept, word_cell, return_cell, return_address, standing_return, AreBased, based_here, slots_fit}
+use Rattle.cyc_select.proofs.relation.Matches.{At, Reached, reached, within}
+
+pub length_ordinary : (is : List Instr) → length (ordinary is) ≡ length is
+length_ordinary [] = refl
+length_ordinary (i ∷ is) = ap suc (length_ordinary is)
+
+pub length-copies : (caller callee : Frame) (source slot count : ℕ) → length (copies caller callee source slot count) ≡ 2 * count
+length-copies caller callee source slot zero = refl
+length-copies caller callee source slot (suc count) =
+    let rest = length-copies caller callee (suc source) (suc slot) count in
+    let e : suc (suc (length (copies caller callee (suc source) (suc slot) count))) ≡ 2 * suc count = omega (arith, rest) in
+    e
+
+-- the last of the lines of a call
+pub call_last : (code : Labelled) (caller callee : Frame) (here label arguments count : ℕ) → Stands code here (calling_code caller callee here label arguments count)
+    → slice_get code.lines (here + 6 + 2 * count) ≡ Some (lines.Call label)
+call_last code caller callee here label arguments count stands =
+    let passed : List Instr = copies caller callee arguments 0 count in
+    let entry : List Instr = small 2 11 ∷ syscall ∷ store RETURN_ADDRESS (4 * caller.return_address) ∷ add_immediate CALLS CALLS (minus 1) ∷ push_frame callee ∷ [] in
+    let at_passed : Stands code (here + 6) (ordinary passed ++ lines.Call label ∷ []) =
+    stands_back code here (lines.Branch (conditions.Registers branch.NotEqual (register_of CALLS) (register_of 0)) (here + 3) ∷ ordinary entry) (ordinary passed ++ lines.Call label ∷ []) stands in
+    let long : length (ordinary passed) ≡ 2 * count = length_ordinary passed ∙ length-copies caller callee arguments 0 count in
+    subst (λ (n : ℕ). slice_get code.lines (here + 6 + n) ≡ Some (lines.Call label)) long (stands_back code (here + 6) (ordinary passed) (lines.Call label ∷ []) at_passed).0
+
+module _ (program : Program) (well : IsWellFormed program) (frames : List Frame) (fit : AreFrames program frames) (code : Labelled) (formed : IsFormed code) (addresses : ℕ → ℕ) (pages calls : ℕ) (few : calls ≤ 4096)
+    (lie : AreAddresses code addresses) (c : Configuration) (run : labelled.Configuration) (r : Words) (w : Contents) (base : ℕ)
+    (here : ℕ) (now : At program well frames fit code formed addresses pages calls few here c.output c.input r w run)
+    (s : Standing program frames addresses pages calls c r w base (r RETURN_ADDRESS) (suc (length c.frames)) c.active.slots)
+    (callee arguments count result : ℕ) (at_i : instruction_at program (states.place_of (states.Running c)) ≡ Some (plain.Call callee arguments count result))
+    (in_range : IsCallInRange program (routine_at program c.active.function) callee arguments count result)
+    (inside : behind_line program frames c.active.function c.active.next callee arguments count result < length code.lines)
+    (stands : Stands code here (calling_code (frame_at frames c.active.function) (frame_at frames callee) here (function_line program frames callee) arguments count))
+    (here_is : here + (7 + 2 * count) ≡ behind_line program frames c.active.function c.active.next callee arguments count result)
+    (there : (slot : ℕ) → slot < count → w.words (base + slot_offset (frame_at frames c.active.function) (arguments + slot)) ≡ c.active.slots (arguments + slot)) where
+  abbrev mine : Frame
+  mine = frame_at frames c.active.function
+
+  abbrev its : Frame
+  its = frame_at frames callee
+
+  abbrev Goes : (least lo hi : ℕ) → State → Type 0
+  Goes least lo hi t = Walk code formed addresses globals_length (words_per_call * calls) least lo hi c.output (Reached program well frames fit code formed addresses pages calls few c) t
+
+  abbrev AtLine : ℕ → (q : Words) (m : Contents) → labelled.Configuration → Type 0
+  AtLine line q m d = At program well frames fit code formed addresses pages calls few line c.output c.input q m d
+
+  abbrev entry : List Instr
+  entry = store RETURN_ADDRESS (4 * mine.return_address) ∷ add_immediate CALLS CALLS (minus 1) ∷ push_frame its ∷ []
+
+  abbrev passed : List Instr
+  passed = copies mine its arguments 0 count
+
+  abbrev call_line : List Line
+  call_line = lines.Call (function_line program frames callee) ∷ []
+
+  -- where the parts stand
+  at_full : Stands code (here + 1) (ordinary (small 2 11 ∷ syscall ∷ []))
+  at_full =
+      stands_front code (here + 1) (ordinary (small 2 11 ∷ syscall ∷ [])) (ordinary entry ++ (ordinary passed ++ call_line))
+      (stands_back code here (lines.Branch (conditions.Registers branch.NotEqual (register_of CALLS) (register_of 0)) (here + 3) ∷ []) (ordinary (small 2 11 ∷ syscall ∷ entry) ++ (ordinary passed ++ call_line)) stands)
+
+  at_entry : Stands code (here + 3) (ordinary entry ++ (ordinary passed ++ call_line))
+  at_entry = stands_back code here (lines.Branch (conditions.Registers branch.NotEqual (register_of CALLS) (register_of 0)) (here + 3) ∷ ordinary (small 2 11 ∷ syscall ∷ [])) (ordinary entry ++ (ordinary passed ++ call_line)) stands
+
+  at_passed : Stands code (here + 3 + 3) (ordinary passed ++ call_line)
+  at_passed = stands_back code (here + 3) (ordinary entry) (ordinary passed ++ call_line) at_entry
+
+  at_call : slice_get code.lines (here + 3 + 3 + length passed) ≡ Some (lines.Call (function_line program frames callee))
+  at_call =
+      subst (λ (n : ℕ). slice_get code.lines (here + 3 + 3 + n) ≡ Some (lines.Call (function_line program frames callee))) (length_ordinary passed)
+      (stands_back code (here + 3 + 3) (ordinary passed) call_line at_passed).0
+
+  -- the homes of the callee's slots
+  its_right : AreHomes program (routine_at program callee) (frame_at frames callee).homes
+  its_right = fit.homes callee in_range.function_in_range
+
+  -- ---- no room
+
+  -- there is room below for the slots of any function
+  place_is : c.active.base ≡ base + 4 * mine.first_slot
+  place_is = based_here frames base c.active.function c.active.base c.frames s.based
+
+  room_below : IsBelow program callee (c.active.base - 4 * (routine_at program callee).slots) c.active.base
+  room_below =
+      let frame = fit.each callee in_range.function_in_range in
+      let fits = slots_fit (routine_at program callee) its frame in
+      let l = lies program well frames fit addresses pages calls few c r w base (r RETURN_ADDRESS) (suc (length c.frames)) c.active.slots s in
+      record {
+        aligned = omega (arith, place_is, l.aligned, l.above_low, s.deep, fits, frame.within, frame.small);
+        low = omega (arith, place_is, l.above_low, s.deep, fits, frame.within, frame.small);
+        high = omega (arith, place_is, l.above_low, s.deep, fits, frame.within, frame.small);
+      }
+
+  full_step : r CALLS ≡ 0 → Reached program well frames fit code formed addresses pages calls few c (Ended Full c.output c.input)
+  full_step none =
+      let choice : Choice = record zeros { base = c.active.base - 4 * (routine_at program callee).slots } in
+      let deep : nat_le (suc (suc (length c.frames))) calls ≡ false = lt-leb (suc (suc (length c.frames))) calls (omega (arith, s.left, none)) in
+      let over : is_within pages calls (performed program choice c (plain.Call callee arguments count result)) ≡ false = and_right (nat_le (demand c.store) pages) _ deep in
+      let is : step program choice (states.Running c) ≡ performed program choice c (plain.Call callee arguments count result) = ap (executed program choice c) at_i in (
+        states.Ended Full c.output c.input,
+        (choice, called_at program c callee choice (ap callee_of at_i) (λ slot. omega arith) room_below, sym (limited-full pages calls (states.Running c) (step program choice (states.Running c)) (ap (is_within pages calls) is ∙ over))),
+        refl,
+      )
+
+  full_goes : (d : labelled.Configuration) → r CALLS ≡ 0 → AtLine (here + 1) r w d → Goes 0 (suc here) (here + (7 + 2 * count)) (Running d)
+  full_goes d none later =
+      walk_few code formed addresses globals_length (words_per_call * calls) 0 (1 + 1) (suc here) (here + (7 + 2 * count)) c.output _ (Running d) (omega arith)
+      (walk_block code formed addresses globals_length (words_per_call * calls) (small 2 11 ∷ []) 1 (here + 1) (suc here) (here + (7 + 2 * count)) c.output c.input _ r w d later (at_full.0, tt) (refl, tt) (omega arith)
+      (λ e after.
+      walk_full code formed addresses globals_length (words_per_call * calls) (here + 1 + 1) (here + 1 + 1) (here + (7 + 2 * count)) c.output c.input _ (after_r (small 2 11 ∷ []) r w) w e after at_full.1.0 (omega arith) (omega arith)
+      (ap (λ (x : ℕ). add_of x (sign_extended 11)) s.zero_is ∙ add_small 0 11 (omega arith) (omega arith))
+      (full_step none)))
+
+  -- ---- a new frame
+
+  room : 4 * its.words ≤ 1024
+  room = let frame = fit.each callee in_range.function_in_range in omega (arith, frame.within, frame.small)
+
+  some : 0 < its.words
+  some = let frame = fit.each callee in_range.function_in_range in omega (arith, frame.return_inside)
+
+  abbrev low : ℕ
+  low = base - 4 * its.words
+
+  here_lies : (base + 4 * mine.words ≤ stack_end) × (stack_end ≤ base + 1024 * suc (length c.frames)) × (base % 4 ≡ 0)
+  here_lies =
+      let l = lies program well frames fit addresses pages calls few c r w base (r RETURN_ADDRESS) (suc (length c.frames)) c.active.slots s in
+      (l.below_end, l.above_low, l.aligned)
+
+  low_is : low + 4 * its.words ≡ base
+  low_is = omega (arith, room, here_lies.1, s.deep)
+
+  module _ (left_some : 0 < r CALLS) where
+    deeper : suc (suc (length c.frames)) ≤ calls
+    deeper = omega (arith, s.left, left_some)
+
+    abbrev r1 : Words
+    r1 = after_r entry r w
+
+    abbrev w1 : Contents
+    w1 = after_w entry r w
+
+    entered_left : r1 CALLS ≡ r CALLS - 1
+    entered_left = take_small (r CALLS) 1 (omega (arith, s.left)) (omega arith) (omega arith) (omega (arith, left_some))
+
+    entered_base : r1 FRAME ≡ low
+    entered_base =
+        ap (λ (x : ℕ). add_of x (sign_extended (minus (4 * its.words)))) s.base_is
+        ∙ take_small base (4 * its.words) (omega (arith, here_lies.0)) (omega (arith, some)) (omega (arith, room)) (omega (arith, low_is, room, here_lies.1, s.deep))
+
+    saved : w1 ≡ written w (base + 4 * mine.return_address) (r RETURN_ADDRESS)
+    saved = ap (λ (a : ℕ). written w a (r RETURN_ADDRESS)) (return_address program well frames fit addresses pages calls few c r w base (r RETURN_ADDRESS) (suc (length c.frames)) c.active.slots s)
+
+    -- the caller stands as before, with its return address in its frame
+    s1 : Standing program frames addresses pages calls c r w1 base (r RETURN_ADDRESS) (suc (length c.frames)) c.active.slots
+    s1 = subst (λ (x : Contents). Standing program frames addresses pages calls c r x base (r RETURN_ADDRESS) (suc (length c.frames)) c.active.slots) (sym saved)
+        (standing_return program well frames fit addresses pages calls few c r w base (r RETURN_ADDRESS) (suc (length c.frames)) c.active.slots s (r RETURN_ADDRESS) refl)
+
+    -- the arguments are in memory as before
+    argument_there : (slot : ℕ) → slot < count → w1.words (base + slot_offset mine (arguments + slot)) ≡ c.active.slots (arguments + slot)
+    argument_there slot below =
+        ap (λ (m : Contents). m.words (base + slot_offset mine (arguments + slot))) saved
+        ∙ (put-other w.words (base + 4 * mine.return_address) (base + slot_offset mine (arguments + slot)) (r RETURN_ADDRESS)
+        (λ e. (fit.each c.active.function s.known).beside (arguments + slot) (omega (arith, below, in_range.arguments_in_range)) (omega (arith, e)))
+        ∙ there slot below)
+
+    callee_cell : (word : ℕ) → word < its.words → IsCell globals_length (words_per_call * calls) (low + 4 * word)
+    callee_cell word below = inr ((omega (arith, low_is, here_lies.2)), (omega (arith, low_is, here_lies.1, deeper, room)), (omega (arith, low_is, here_lies.0, below)))
+
+    caller_cell : (slot : ℕ) → slot < (routine_at program c.active.function).slots → IsCell globals_length (words_per_call * calls) (base + slot_offset mine slot)
+    caller_cell slot below = word_cell program well frames fit addresses pages calls few c r w base (r RETURN_ADDRESS) (suc (length c.frames)) c.active.slots s (slot_word mine slot) ((fit.each c.active.function s.known).inside slot below)
+
+    copied_now : Copied globals_length (words_per_call * calls) mine its low base arguments 0 count r1 w1
+    copied_now =
+        let frame = fit.each callee in_range.function_in_range in
+        let own = fit.each c.active.function s.known in
+        copied_all globals_length (words_per_call * calls) mine its (routine_at program c.active.function).slots (routine_at program callee).slots low base low_is
+        (omega (arith, frame.within, frame.small)) (omega (arith, own.within, own.small)) (omega (arith, here_lies.0)) own.inside frame.inside frame.apart
+        caller_cell (λ slot below. callee_cell (slot_word its slot) (frame.inside slot below)) its_right.low its_right.high
+        arguments 0 count r1 w1 entered_base in_range.arguments_in_range
+        (let takes = in_range.takes in let parameters = (well.functions callee no_routine in_range.function_in_range).parameters in omega (arith, takes, parameters))
+
+    abbrev r2 : Words
+    r2 = after_r passed r1 w1
+
+    abbrev w2 : Contents
+    w2 = after_w passed r1 w1
+
+    abbrev r3 : Words
+    r3 = put r2 RETURN_ADDRESS (addresses (here + 3 + 3 + length passed + 1))
+
+    -- what is in the new slots before they are written
+    abbrev choice : Choice
+    choice = record { contents = λ (slot : ℕ). w2.words (low + slot_offset its slot); base = low + 4 * its.first_slot; serving = zeros.serving }
+
+    abbrev entered : Configuration
+    entered = record c {
+      active = record { function = callee; next = 0; base = low + 4 * its.first_slot; slots = copied c.active.slots arguments count choice.contents 0; handlers = [] };
+      frames = record { caller = (advanced c).active; result = result } ∷ c.frames;
+    }
+
+    line_is : here + 3 + 3 + length passed + 1 ≡ behind_line program frames c.active.function c.active.next callee arguments count result
+    line_is = omega (arith, length-copies mine its arguments 0 count, here_is)
+
+    above_kept : (a : ℕ) → base ≤ a → w2.words a ≡ w1.words a
+    above_kept a over = copied_now.outside a (inr over)
+
+    own_chain : Chain program frames addresses w2 base (r RETURN_ADDRESS) c.active.function c.frames
+    own_chain = chain_kept program frames fit addresses w1 w2 base (r RETURN_ADDRESS) c.active.function c.frames (λ a over. above_kept a (omega (arith, over))) s1.chain
+
+    saved_is : w2.words (base + 4 * mine.return_address) ≡ r RETURN_ADDRESS
+    saved_is = above_kept (base + 4 * mine.return_address) (omega arith) ∙ (ap (λ (m : Contents). m.words (base + 4 * mine.return_address)) saved ∙ put-same w.words (base + 4 * mine.return_address) (r RETURN_ADDRESS))
+
+    new_holds : Holds program frames callee low w2 (copied c.active.slots arguments count choice.contents 0)
+    new_holds slot below slot_kept = elim (cases_lt slot count) [
+      | inl argument ↦
+          let zero_slot : slot ≡ 0 + slot = omega arith in
+          ap (λ (x : ℕ). w2.words (low + slot_offset its x)) zero_slot
+          ∙ (copied_now.inside slot argument
+          ∙ (argument_there slot argument
+          ∙ sym (ap (copied c.active.slots arguments count choice.contents 0) zero_slot ∙ copied-inside c.active.slots choice.contents arguments count 0 slot argument)))
+      | inr new ↦ sym (copied-above c.active.slots choice.contents arguments count 0 slot (omega (arith, new)))
+    ]
+
+    new_chain : Chain program frames addresses w2 low (r3 RETURN_ADDRESS) callee (record { caller = (advanced c).active; result = result } ∷ c.frames)
+    new_chain = (
+      arguments,
+      count,
+      c.active.next,
+      s.known,
+      at_i,
+      refl,
+      ap addresses line_is,
+      subst (λ (b : ℕ). Holds program frames c.active.function b w2 c.active.slots) (sym low_is)
+          (λ slot below slot_kept. above_kept (base + slot_offset mine slot) (omega arith) ∙ s1.holds slot below slot_kept),
+      subst (λ (b : ℕ). Chain program frames addresses w2 b (w2.words (b + 4 * mine.return_address)) c.active.function c.frames) (sym low_is)
+          (subst (λ (x : ℕ). Chain program frames addresses w2 base x c.active.function c.frames) (sym saved_is) own_chain),
+    )
+
+    newest_same : r3 HANDLERS ≡ r HANDLERS
+    newest_same = copied_now.kept HANDLERS (inr (omega arith))
+
+    entered_newest : IsNewest program frames addresses calls (r3 HANDLERS) low callee [] (record { caller = (advanced c).active; result = result } ∷ c.frames)
+    entered_newest =
+        subst (λ (b : ℕ). IsNewest program frames addresses calls (r3 HANDLERS) b c.active.function c.active.handlers c.frames) (sym low_is)
+        (subst (λ (n : ℕ). IsNewest program frames addresses calls n base c.active.function c.active.handlers c.frames) (sym newest_same) s.newest)
+
+    entered_stands : Standing program frames addresses pages calls entered r3 w2 low (r3 RETURN_ADDRESS) (suc (suc (length c.frames))) (copied c.active.slots arguments count choice.contents 0)
+    entered_stands = record {
+      known = in_range.function_in_range;
+      base_is = copied_now.kept FRAME (inr (omega arith)) ∙ entered_base;
+      zero_is = copied_now.kept 0 (inl (omega arith)) ∙ s.zero_is;
+      left = left_is (r3 CALLS) (copied_now.kept CALLS (inr (omega arith)) ∙ entered_left);
+      deep = deeper;
+      holds = new_holds;
+      chain = new_chain;
+      newest = entered_newest;
+      kept = tt;
+      based = (refl, subst (λ (b : ℕ). AreBased frames b c.active.function c.active.base c.frames) (sym low_is) s.based);
+      globals = λ global below. copied_now.outside (data_base + 4 * global) (inl (omega (arith, below, well.globals, low_is, room, here_lies.1, deeper))) ∙ s1.globals global below;
+      input = s.input;
+      store = copied_now.store ∙ s1.store;
+      laid = s.laid;
+      counted = copied_now.kept REGIONS (inr (omega arith)) ∙ s.counted;
+    }
+      where
+        left_is : (n : ℕ) → n ≡ r CALLS - 1 → n + suc (suc (length c.frames)) ≡ calls
+        left_is n is = omega (arith, is, s.left, left_some)
+
+    -- its parameters are in their registers, where they are wanted
+    entered_caches : Caches program frames callee 0 r3 (copied c.active.slots arguments count choice.contents 0)
+    entered_caches slot k has wanted =
+        let below : slot < count = (let takes = in_range.takes in omega (arith, takes, its_right.entry slot k has wanted)) in
+        let zero_slot : slot ≡ 0 + slot = omega arith in
+        put-other r2 RETURN_ADDRESS k (addresses (here + 3 + 3 + length passed + 1)) (λ e. absurd (omega (arith, e, its_right.high slot k has)))
+        ∙ (copied_now.values slot k below (ap (value_register its) (sym zero_slot) ∙ has)
+        (λ i i_below there.
+        its_right.parameters slot i k has (ap (value_register its) (let e : i ≡ 0 + i = omega arith in e) ∙ there) (let takes = in_range.takes in omega (arith, takes, i_below)) wanted)
+        ∙ (argument_there slot below
+        ∙ sym (ap (copied c.active.slots arguments count choice.contents 0) zero_slot ∙ copied-inside c.active.slots choice.contents arguments count 0 slot below)))
+
+    -- its slots lie below the caller's
+    new_below : IsBelow program callee (low + 4 * its.first_slot) c.active.base
+    new_below =
+        let fits = slots_fit (routine_at program callee) its (fit.each callee in_range.function_in_range) in
+        record {
+          aligned = omega (arith, low_is, here_lies.2);
+          low = omega (arith, low_is, here_lies.1, deeper, room);
+          high = omega (arith, low_is, place_is, fits);
+        }
+
+    enters : (d : labelled.Configuration) → AtLine (function_line program frames callee) r3 w2 d → Reached program well frames fit code formed addresses pages calls few c (Running d)
+    enters d later =
+        reached program well frames fit code formed addresses pages calls few c choice (plain.Call callee arguments count result) (states.Running entered) (Running d)
+        (called_at program c callee choice (ap callee_of at_i) (λ slot. later.w_words (low + slot_offset its slot)) new_below) at_i refl
+        (within program well frames fit code formed addresses pages calls few entered s.laid.paged deeper)
+        (inl (record {
+          run = d;
+          r = r3;
+          w = w2;
+          base = low;
+          is = refl;
+          now = now_at code formed addresses globals_length (words_per_call * calls) (function_line program frames callee) (instruction_line program frames callee 0) c.output c.input r3 w2 d (sym (line_first program frames callee)) later;
+          standing = entered_stands;
+          caches = entered_caches;
+        }))
+
+    room_goes : (d : labelled.Configuration) → AtLine (here + 3) r w d → Goes 0 (suc here) (here + (7 + 2 * count)) (Running d)
+    room_goes d later =
+        walk_few code formed addresses globals_length (words_per_call * calls) 0 (3 + (length passed + 1)) (suc here) (here + (7 + 2 * count)) c.output _ (Running d) (omega arith)
+        (walk_block code formed addresses globals_length (words_per_call * calls) entry (length passed + 1) (here + 3) (suc here) (here + (7 + 2 * count)) c.output c.input _ r w d later
+        (stands_front code (here + 3) (ordinary entry) (ordinary passed ++ call_line) at_entry)
+        (return_cell program well frames fit addresses pages calls few c r w base (r RETURN_ADDRESS) (suc (length c.frames)) c.active.slots s, (refl, (refl, tt))) (omega arith)
+        (λ e after.
+        walk_block code formed addresses globals_length (words_per_call * calls) passed 1 (here + 3 + 3) (here + 3 + 3) (here + (7 + 2 * count)) c.output c.input _ r1 w1 e after
+        (stands_front code (here + 3 + 3) (ordinary passed) call_line at_passed) copied_now.safe (omega arith)
+        (λ f there.
+        walk_call code formed addresses globals_length (words_per_call * calls) 0 (here + 3 + 3 + length passed) (here + 3 + 3 + length passed) (here + (7 + 2 * count)) c.output c.input _ r2 w2 f (function_line program frames callee) there at_call (omega arith)
+        (omega (arith, ap addresses line_is, lie.below (behind_line program frames c.active.function c.active.next callee arguments count result) inside))
+        (λ g called.
+        walk_end code formed addresses globals_length (words_per_call * calls) (suc (here + 3 + 3 + length passed)) (here + (7 + 2 * count)) c.output _ (Running g) (omega (arith, length-copies mine its arguments 0 count))
+        (enters g called)))))
+
+  pub calling_goes : Goes 1 here (here + (7 + 2 * count)) (Running run)
+  calling_goes = elim (cases_eq (r CALLS) 0) [
+    | inl none ↦
+        let stays : (if not (r CALLS == r 0) then here + 3 else here + 1) ≡ here + 1 = ap (λ (b : Bool). if not b then here + 3 else here + 1) (eq-eqb (r CALLS) (r 0) (none ∙ sym s.zero_is)) in
+        walk_branch code formed addresses globals_length (words_per_call * calls) 0 here here (here + (7 + 2 * count)) c.output c.input _ r w run (conditions.Registers branch.NotEqual (register_of CALLS) (register_of 0)) (here + 3) (here + 1) now stands.0 (omega arith) stays
+        (λ d later. full_goes d none later)
+    | inr other ↦
+        let leaps : (if not (r CALLS == r 0) then here + 3 else here + 1) ≡ here + 3 = ap (λ (b : Bool). if not b then here + 3 else here + 1) (ne_eqb (r CALLS) (r 0) (λ e. other (e ∙ s.zero_is))) in
+        walk_branch code formed addresses globals_length (words_per_call * calls) 0 here here (here + (7 + 2 * count)) c.output c.input _ r w run (conditions.Registers branch.NotEqual (register_of CALLS) (register_of 0)) (here + 3) (here + 3) now stands.0 (omega arith) leaps
+        (λ d later. room_goes (positive (r CALLS) other) d later)
+  ]
+    where
+      positive : (n : ℕ) → n ≢ 0 → 0 < n
+      positive n other = omega (arith, other)

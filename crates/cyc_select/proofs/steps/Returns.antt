@@ -1,0 +1,600 @@
+-- Returns, and what stands behind a call.
+use Rattle.std.proofs.Common.{◌≡◌, ◌≢◌, ℕ, zero, suc, ◌+◌, ◌-◌, ◌*◌, ◌%◌, ◌<◌, ◌≤◌, Bool, true, false, not, List, [], ◌∷◌, ◌++◌, length, length-append, Some, slice_get, refl, sym, ap, subst, ◌∙◌, arith, inl, inr}
+use Rattle.std.specs.Prelude.{◌==◌, if◌then◌else◌}
+use Rattle.std.proofs.lemmas.Bool.{cases_eq, cases_lt, cases_Bool, eq-eqb, ne_eqb}
+use Rattle.cyc_select.specs.declared.constants.TheConstants.{CALLS, FRAME, HANDLERS, REGIONS}
+use Rattle.cyc_machine.specs.declared.constants.TheConstants.{RETURN_ADDRESS}
+use Rattle.cyc_words.specs.Ending.{Returned}
+use Rattle.cyc_words.specs.Word.{signed, add_of, sign_extended}
+use Rattle.cyc_isa.specs.Effect.{memory_address}
+use Rattle.cyc_isa.specs.declared.instr.Instr.{Instr}
+use Rattle.cyc_isa.specs.declared.instr.BranchOp.TheVariants as branch
+use Rattle.cyc_isa.specs.Decoding.{register_of}
+use Rattle.cyc_machine.specs.State.{globals_length, words_per_call}
+use Rattle.cyc_plain.specs.declared.instruction.Instruction.{Instruction}
+use Rattle.cyc_plain.specs.declared.instruction.Instruction.TheVariants as plain
+use Rattle.cyc_plain.specs.Program.{Program, no_routine, routine_at}
+use Rattle.cyc_plain.specs.State as states
+use Rattle.cyc_plain.specs.State.{Words, AreWords, put, copied, Configuration}
+use Rattle.cyc_plain.specs.Step.{instruction_at, performed, returns}
+use Rattle.cyc_plain.specs.WellFormed.{IsWellFormed, HasSlots}
+use Rattle.cyc_plain.proofs.RunLaws.{zeros, zeros_at, over_within, calls_nothing}
+use Rattle.cyc_plain.proofs.SlotLaws.{put-same, put-other, copied-inside, copied-above, copied-below}
+use Rattle.cyc_frame.specs.Homes.{Wanted}
+use Rattle.cyc_frame.specs.Uses.{is_among, reads}
+use Rattle.cyc_frame.specs.Layout.{AreFrames, frame_at}
+use Rattle.cyc_frame.specs.Frame.{Frame}
+use Rattle.cyc_select.specs.declared.code.Line.{Line}
+use Rattle.cyc_select.specs.declared.code.Condition.TheVariants as conditions
+use Rattle.cyc_select.specs.declared.code.Line.TheVariants as lines
+use Rattle.cyc_select.specs.Labelled.{Labelled, IsFormed, AreAddresses}
+use Rattle.cyc_select.specs.Machine as labelled
+use Rattle.cyc_select.specs.Machine.{State, Running, Ended, IsReturnPoint}
+use Rattle.cyc_select.specs.Selection.{value_register, reloads, reload_count, slot_offset, load, small, add_immediate, load_slot, load_all, store_all, pop_frame, result_registers, ordinary, syscall, ending_code, ending_count, returning_code, behind, instruction_line}
+use Rattle.cyc_select.proofs.values.Blocks.{ValuesSame, lasting_same, Puts, safe_append}
+use Rattle.cyc_select.proofs.steps.Calls.{length_ordinary}
+use Rattle.cyc_select.proofs.values.Computing.{HeldIn, slot_puts}
+use Rattle.cyc_select.proofs.relation.Held.{slot_held}
+use Rattle.cyc_select.proofs.layout.Lines.{line_next}
+use Rattle.cyc_select.proofs.values.Operations.{add_small}
+use Rattle.cyc_select.proofs.relation.Values.{Caches, among, length_reloads, reloaded}
+use Rattle.cyc_select.proofs.effects.Views.{Contents, IsWritable, written}
+use Rattle.cyc_select.proofs.effects.Walks.{Stands, stands_front, stands_back, after_r, after_w, after_r-append, after_w-append, AreSafe, Walk, now_at, now_is, walk_end, walk_few, walk_from, walk_block, walk_branch, walk_return, walk_returned}
+use Rattle.cyc_select.proofs.emission.Counts.{length_stores, length_registers}
+use Rattle.cyc_select.proofs.relation.Standing.{Chain, IsNewest, kept_here, Standing, behind_line, lies, slot_address, slot_cell, slot_word_is, return_cell, return_address, standing_registers, standing_slot, AreBased}
+use Rattle.cyc_select.proofs.relation.Matches.{At, Ready, Back, Reached, reached, within, result_register}
+
+-- ---- what a function returns, from slots into registers
+
+-- the last instructions of a return load what is returned and take the frame away
+abbrev pub loaded : Frame → (value count : ℕ) → List Instr
+loaded frame value count = load_all frame value (result_registers count) ++ pop_frame frame ∷ []
+
+pub length_loaded : (frame : Frame) (value count : ℕ) → count ≤ 3 → length (loaded frame value count) ≡ count + 1
+length_loaded frame value zero few = refl
+length_loaded frame value (suc zero) few = refl
+length_loaded frame value (suc (suc zero)) few = refl
+length_loaded frame value (suc (suc (suc zero))) few = refl
+length_loaded frame value (suc (suc (suc (suc count)))) few = absurd (omega (arith, few))
+
+record AreLoaded (globals stack : ℕ) (frame : Frame) (value count : ℕ) (r : Words) (w : Contents) (slots : Words) : Type 0 where
+  pub safe : AreSafe globals stack (loaded frame value count) r w
+  pub zero_same : after_r (loaded frame value count) r w 0 ≡ r 0
+  pub base_moved : after_r (loaded frame value count) r w FRAME ≡ add_of (r FRAME) (sign_extended (4 * frame.words))
+  pub left_same : after_r (loaded frame value count) r w CALLS ≡ r CALLS
+  pub back_same : after_r (loaded frame value count) r w RETURN_ADDRESS ≡ r RETURN_ADDRESS
+  pub newest_same : after_r (loaded frame value count) r w HANDLERS ≡ r HANDLERS
+  pub count_same : after_r (loaded frame value count) r w REGIONS ≡ r REGIONS
+  pub unchanged : after_w (loaded frame value count) r w ≡ w
+  pub returned : (k : ℕ) → k < count → after_r (loaded frame value count) r w (result_register k) ≡ slots (value + k)
+
+module _ (globals stack : ℕ) (frame : Frame) (r : Words) (w : Contents) (slots : Words) (value : ℕ) (zero_is : r 0 ≡ 0) where
+  -- a slot's word into one of these registers
+  abbrev Brings : (target slot : ℕ) (q : Words) (m : Contents) → Type 0
+  Brings target slot q m = Puts globals stack (load_slot frame target slot ∷ []) q m (target % 32) (target % 32) (slots slot)
+
+  brings : (target slot : ℕ) → IsWritable (target % 32) → HeldIn globals stack (value_register frame slot) frame (r FRAME) w r slots slot
+      → (q : Words) (m : Contents) → q 0 ≡ r 0 → q FRAME ≡ r FRAME → m ≡ w → ValuesSame q r → Brings target slot q m
+  brings target slot writable held q m zero_same base_same memory values =
+      slot_puts globals stack frame (r FRAME) w r slots q m (zero_same ∙ zero_is) base_same memory values (value_register frame slot) target slot writable held
+
+  -- the other registers, one load later
+  one_later : (target slot : ℕ) (q : Words) (m : Contents) → target < 8 → Brings target slot q m → (n : ℕ) → n < 32 → n ≢ target → after_r (load_slot frame target slot ∷ []) q m n ≡ q n
+  one_later target slot q m small puts n below other = puts.others n below (λ e. other (let f : n ≡ target = omega (arith, e, small) in f))
+
+  values_later : (target slot : ℕ) (q : Words) (m : Contents) → target < 8 → Brings target slot q m → ValuesSame q r → ValuesSame (after_r (load_slot frame target slot ∷ []) q m) r
+  values_later target slot q m small puts values n low high = one_later target slot q m small puts n (omega (arith, high)) (λ e. absurd (omega (arith, e, low, small))) ∙ values n low high
+
+  one_is : (k : ℕ) (q : Words) → k < 1 → q 2 ≡ slots (value + 0) → q (result_register k) ≡ slots (value + k)
+  one_is zero q below a = a
+  one_is (suc k) q below a = absurd (omega arith)
+
+  two_are : (k : ℕ) (q : Words) → k < 2 → q 2 ≡ slots (value + 0) → q 3 ≡ slots (value + 1) → q (result_register k) ≡ slots (value + k)
+  two_are zero q below a b = a
+  two_are (suc zero) q below a b = b
+  two_are (suc (suc k)) q below a b = absurd (omega arith)
+
+  three_are : (k : ℕ) (q : Words) → k < 3 → q 2 ≡ slots (value + 0) → q 3 ≡ slots (value + 1) → q 5 ≡ slots (value + 2) → q (result_register k) ≡ slots (value + k)
+  three_are zero q below a b d = a
+  three_are (suc zero) q below a b d = b
+  three_are (suc (suc zero)) q below a b d = d
+  three_are (suc (suc (suc k))) q below a b d = absurd (omega arith)
+
+  are_loaded : (count : ℕ) → count ≤ 3 → ((slot : ℕ) → value ≤ slot → slot < value + count → HeldIn globals stack (value_register frame slot) frame (r FRAME) w r slots slot)
+      → AreLoaded globals stack frame value count r w slots
+  are_loaded zero few held = record {
+    safe = (refl, tt);
+    zero_same = refl;
+    base_moved = refl;
+    left_same = refl;
+    back_same = refl;
+    newest_same = refl;
+    count_same = refl;
+    unchanged = refl;
+    returned = λ k below. absurd (omega (arith, below));
+  }
+  are_loaded (suc zero) few held =
+      let a = brings 2 value refl (held value (omega arith) (omega arith)) r w refl refl refl (λ n low high. refl) in
+      let kept : (n : ℕ) → n < 32 → n ≢ 2 → after_r (load_slot frame 2 value ∷ []) r w n ≡ r n = one_later 2 value r w (omega arith) a in
+      record {
+        safe = (a.safe.0, (refl, tt));
+        zero_same = kept 0 (omega arith) (λ e. absurd (omega (arith, e)));
+        base_moved = ap (λ (x : ℕ). add_of x (sign_extended (4 * frame.words))) (kept FRAME (omega arith) (λ e. absurd (omega (arith, e))));
+        left_same = kept CALLS (omega arith) (λ e. absurd (omega (arith, e)));
+        back_same = kept RETURN_ADDRESS (omega arith) (λ e. absurd (omega (arith, e)));
+        newest_same = (kept HANDLERS (omega arith) (λ e. absurd (omega (arith, e))));
+        count_same = (kept REGIONS (omega arith) (λ e. absurd (omega (arith, e))));
+        unchanged = a.memory;
+        returned = λ k below. one_is k (after_r (loaded frame value 1) r w) below (a.result ∙ ap slots (let e : value ≡ value + 0 = omega arith in e));
+      }
+  are_loaded (suc (suc zero)) few held =
+      let is : List Instr = load_slot frame 2 value ∷ [] in
+      let a = brings 2 value refl (held value (omega arith) (omega arith)) r w refl refl refl (λ n low high. refl) in
+      let kept_a : (n : ℕ) → n < 32 → n ≢ 2 → after_r (load_slot frame 2 value ∷ []) r w n ≡ r n = one_later 2 value r w (omega arith) a in
+      let q : Words = after_r is r w in
+      let m : Contents = after_w is r w in
+      let b = brings 3 (suc value) refl (held (suc value) (omega arith) (omega arith)) q m (kept_a 0 (omega arith) (λ e. absurd (omega (arith, e)))) (kept_a FRAME (omega arith) (λ e. absurd (omega (arith, e)))) a.memory (values_later 2 value r w (omega arith) a (λ n low high. refl)) in
+      let kept_b : (n : ℕ) → n < 32 → n ≢ 3 → after_r (load_slot frame 3 (suc value) ∷ []) q m n ≡ q n = one_later 3 (suc value) q m (omega arith) b in
+      let kept : (n : ℕ) → n < 32 → n ≢ 2 → n ≢ 3 → after_r (load_slot frame 3 (suc value) ∷ []) q m n ≡ r n = λ n below not_a not_b. kept_b n below not_b ∙ kept_a n below not_a in
+      record {
+        safe = (a.safe.0, (b.safe.0, (refl, tt)));
+        zero_same = kept 0 (omega arith) (λ e. absurd (omega (arith, e))) (λ e. absurd (omega (arith, e)));
+        base_moved = ap (λ (x : ℕ). add_of x (sign_extended (4 * frame.words))) (kept FRAME (omega arith) (λ e. absurd (omega (arith, e))) (λ e. absurd (omega (arith, e))));
+        left_same = kept CALLS (omega arith) (λ e. absurd (omega (arith, e))) (λ e. absurd (omega (arith, e)));
+        back_same = kept RETURN_ADDRESS (omega arith) (λ e. absurd (omega (arith, e))) (λ e. absurd (omega (arith, e)));
+        newest_same = (kept HANDLERS (omega arith) (λ e. absurd (omega (arith, e))) (λ e. absurd (omega (arith, e))));
+        count_same = (kept REGIONS (omega arith) (λ e. absurd (omega (arith, e))) (λ e. absurd (omega (arith, e))));
+        unchanged = b.memory ∙ a.memory;
+        returned = λ k below.
+            two_are k (after_r (loaded frame value 2) r w) below
+            (kept_b 2 (omega arith) (λ e. absurd (omega (arith, e))) ∙ (a.result ∙ ap slots (let e : value ≡ value + 0 = omega arith in e)))
+            (b.result ∙ ap slots (let e : suc value ≡ value + 1 = omega arith in e));
+      }
+  are_loaded (suc (suc (suc zero))) few held =
+      let is : List Instr = load_slot frame 2 value ∷ [] in
+      let a = brings 2 value refl (held value (omega arith) (omega arith)) r w refl refl refl (λ n low high. refl) in
+      let kept_a : (n : ℕ) → n < 32 → n ≢ 2 → after_r (load_slot frame 2 value ∷ []) r w n ≡ r n = one_later 2 value r w (omega arith) a in
+      let q : Words = after_r is r w in
+      let m : Contents = after_w is r w in
+      let values_a = values_later 2 value r w (omega arith) a (λ n low high. refl) in
+      let b = brings 3 (suc value) refl (held (suc value) (omega arith) (omega arith)) q m (kept_a 0 (omega arith) (λ e. absurd (omega (arith, e)))) (kept_a FRAME (omega arith) (λ e. absurd (omega (arith, e)))) a.memory values_a in
+      let kept_b : (n : ℕ) → n < 32 → n ≢ 3 → after_r (load_slot frame 3 (suc value) ∷ []) q m n ≡ q n = one_later 3 (suc value) q m (omega arith) b in
+      let js : List Instr = load_slot frame 3 (suc value) ∷ [] in
+      let p : Words = after_r js q m in
+      let u : Contents = after_w js q m in
+      let both : (n : ℕ) → n < 32 → n ≢ 2 → n ≢ 3 → after_r (load_slot frame 3 (suc value) ∷ []) q m n ≡ r n = λ n below not_a not_b. kept_b n below not_b ∙ kept_a n below not_a in
+      let d = brings 5 (suc (suc value)) refl (held (suc (suc value)) (omega arith) (omega arith)) p u (both 0 (omega arith) (λ e. absurd (omega (arith, e))) (λ e. absurd (omega (arith, e)))) (both FRAME (omega arith) (λ e. absurd (omega (arith, e))) (λ e. absurd (omega (arith, e))))
+      (b.memory ∙ a.memory) (values_later 3 (suc value) q m (omega arith) b values_a) in
+      let kept_d : (n : ℕ) → n < 32 → n ≢ 5 → after_r (load_slot frame 5 (suc (suc value)) ∷ []) p u n ≡ p n = one_later 5 (suc (suc value)) p u (omega arith) d in
+      let kept : (n : ℕ) → 24 < n → n < 32 → after_r (load_slot frame 5 (suc (suc value)) ∷ []) p u n ≡ r n =
+      λ n above below. kept_d n below (λ e. absurd (omega (arith, e, above))) ∙ both n below (λ e. absurd (omega (arith, e, above))) (λ e. absurd (omega (arith, e, above))) in
+      record {
+        safe = (a.safe.0, (b.safe.0, (d.safe.0, (refl, tt))));
+        zero_same = kept_d 0 (omega arith) (λ e. absurd (omega (arith, e))) ∙ both 0 (omega arith) (λ e. absurd (omega (arith, e))) (λ e. absurd (omega (arith, e)));
+        base_moved = ap (λ (x : ℕ). add_of x (sign_extended (4 * frame.words))) (kept FRAME (omega arith) (omega arith));
+        left_same = kept CALLS (omega arith) (omega arith);
+        back_same = kept RETURN_ADDRESS (omega arith) (omega arith);
+        newest_same = (kept HANDLERS (omega arith) (omega arith));
+        count_same = (kept REGIONS (omega arith) (omega arith));
+        unchanged = d.memory ∙ (b.memory ∙ a.memory);
+        returned = λ k below.
+            three_are k (after_r (loaded frame value 3) r w) below
+            (kept_d 2 (omega arith) (λ e. absurd (omega (arith, e))) ∙ (kept_b 2 (omega arith) (λ e. absurd (omega (arith, e))) ∙ (a.result ∙ ap slots (let e : value ≡ value + 0 = omega arith in e))))
+            (kept_d 3 (omega arith) (λ e. absurd (omega (arith, e))) ∙ (b.result ∙ ap slots (let e : suc value ≡ value + 1 = omega arith in e)))
+            (d.result ∙ ap slots (let e : suc (suc value) ≡ value + 2 = omega arith in e));
+      }
+  are_loaded (suc (suc (suc (suc count)))) few held = absurd (omega (arith, few))
+
+module _ (program : Program) (well : IsWellFormed program) (frames : List Frame) (fit : AreFrames program frames) (code : Labelled) (formed : IsFormed code) (addresses : ℕ → ℕ) (pages calls : ℕ) (few : calls ≤ 4096)
+    (lie : AreAddresses code addresses) (c : Configuration) (run : labelled.Configuration) (r : Words) (w : Contents) (base : ℕ)
+    (now : At program well frames fit code formed addresses pages calls few (instruction_line program frames c.active.function c.active.next) c.output c.input r w run)
+    (s : Standing program frames addresses pages calls c r w base (r RETURN_ADDRESS) (suc (length c.frames)) c.active.slots)
+    (caches : Caches program frames c.active.function c.active.next r c.active.slots)
+    (i : Instruction) (value : ℕ) (at_i : instruction_at program (states.place_of (states.Running c)) ≡ Some i) (free : calls_nothing i ≡ true)
+    (needs : (slot : ℕ) → is_among value (routine_at program c.active.function).results slot ≡ true → reads (routine_at program c.active.function).results i slot ≡ true)
+    (does : performed program zeros c i ≡ returns c value (routine_at program c.active.function).results c.frames) (none_open : c.active.handlers ≡ [])
+    (in_range : HasSlots (routine_at program c.active.function) value (routine_at program c.active.function).results)
+    (returns_to : (function index callee arguments count result : ℕ) → instruction_at program (record { function = function; index = index }) ≡ Some (plain.Call callee arguments count result)
+    → IsReturnPoint code (behind_line program frames function index callee arguments count result))
+    (stands : Stands code (instruction_line program frames c.active.function c.active.next) (returning_code (c.active.function == program.main) (frame_at frames c.active.function) (instruction_line program frames c.active.function c.active.next) value (routine_at program c.active.function).results)) where
+  abbrev here : ℕ
+  here = instruction_line program frames c.active.function c.active.next
+
+  abbrev frame : Frame
+  frame = frame_at frames c.active.function
+
+  abbrev results : ℕ
+  results = (routine_at program c.active.function).results
+
+  abbrev ending : ℕ
+  ending = ending_count program c.active.function
+
+  abbrev Goes : (least lo hi : ℕ) → State → Type 0
+  Goes least lo hi t = Walk code formed addresses globals_length (words_per_call * calls) least lo hi c.output (Reached program well frames fit code formed addresses pages calls few c) t
+
+  abbrev AtLine : ℕ → (q : Words) (m : Contents) → labelled.Configuration → Type 0
+  AtLine line q m d = At program well frames fit code formed addresses pages calls few line c.output c.input q m d
+
+  -- what is returned is wanted here
+  returned_held : (slot : ℕ) → value ≤ slot → slot < value + results → HeldIn globals_length (words_per_call * calls) (value_register frame slot) frame (r FRAME) w r c.active.slots slot
+  returned_held slot from below =
+      slot_held program well frames fit code formed addresses pages calls few c run r w base now s caches (value_register frame slot) slot refl (omega (arith, below, in_range))
+      (0, (i, at_i, needs slot (among value results slot from below)))
+
+  -- ---- the end of the run
+
+  abbrev ends : List Instr
+  ends = load_slot frame 4 value ∷ small 2 3 ∷ []
+
+  ends_goes : (hi : ℕ) (d : labelled.Configuration) → here + 4 ≤ hi → c.frames ≡ [] → 0 < results
+      → Stands code (here + 1) (ordinary (load_slot frame 4 value ∷ small 2 3 ∷ syscall ∷ [])) → AtLine (here + 1) r w d → Goes 0 (suc here) hi (Running d)
+  ends_goes hi d far alone some stands_here later =
+      let puts = brings globals_length (words_per_call * calls) frame r w c.active.slots value s.zero_is 4 value refl (returned_held value (omega arith) (omega (arith, some))) r w refl refl refl (λ n low high. refl) in
+      let is_returned : performed program zeros c i ≡ states.Ended (Returned (signed (c.active.slots value))) c.output c.input = does ∙ ap (returns c value results) alone in
+      walk_few code formed addresses globals_length (words_per_call * calls) 0 (2 + 1) (suc here) hi c.output _ (Running d) (omega arith)
+      (walk_block code formed addresses globals_length (words_per_call * calls) ends 1 (here + 1) (suc here) hi c.output c.input _ r w d later
+      (stands_front code (here + 1) (ordinary ends) (ordinary (syscall ∷ [])) stands_here) (puts.safe.0, (refl, tt)) (omega arith)
+      (λ e after.
+      walk_returned code formed addresses globals_length (words_per_call * calls) (here + 1 + 2) (here + 1 + 2) hi c.output c.input _ (after_r ends r w) (after_w ends r w) e after
+      (stands_back code (here + 1) (ordinary ends) (ordinary (syscall ∷ [])) stands_here).0 (omega arith) (omega (arith, far))
+      (ap (λ (x : ℕ). add_of x (sign_extended 3)) (puts.others 0 (omega arith) (λ e. absurd (omega (arith, e))) ∙ s.zero_is) ∙ add_small 0 3 (omega arith) (omega arith))
+      (reached program well frames fit code formed addresses pages calls few c zeros i (states.Ended (Returned (signed (c.active.slots value))) c.output c.input) _ (zeros_at program c i at_i free) at_i is_returned
+      (over_within pages calls (Returned (signed (c.active.slots value))) c.output c.input)
+      (ap (λ (x : ℕ). Ended (Returned (signed x)) c.output c.input) puts.result))))
+
+  -- ---- back to a caller
+
+  back_goes : (line hi : ℕ) (d : labelled.Configuration) (f : states.Frame) (waiting : List states.Frame) → c.frames ≡ f ∷ waiting
+      → Chain program frames addresses w base (r RETURN_ADDRESS) c.active.function (f ∷ waiting)
+      → Stands code line (ordinary (loaded frame value results) ++ lines.Return ∷ []) → line + length (ordinary (loaded frame value results)) + 1 ≤ hi → AtLine line r w d → Goes 1 line hi (Running d)
+  back_goes line hi d f waiting under (arguments, count, index, known, at, next, is_back, holds, chain) stands_here far later =
+      let size : ℕ = length (loaded frame value results) in
+      let same_size = length_ordinary (loaded frame value results) in
+      let own = fit.each c.active.function s.known in
+      let l = lies program well frames fit addresses pages calls few c r w base (r RETURN_ADDRESS) (suc (length c.frames)) c.active.slots s in
+      let routine = well.functions c.active.function no_routine s.known in
+      let load = are_loaded globals_length (words_per_call * calls) frame r w c.active.slots value s.zero_is results routine.results returned_held in
+      let q : Words = after_r (loaded frame value results) r w in
+      let above : ℕ = base + 4 * frame.words in
+      let next_state : Configuration = record c {
+        active = record f.caller { slots = copied c.active.slots value results f.caller.slots f.result };
+        frames = waiting;
+      } in
+      let is_returned : performed program zeros c i ≡ states.Running next_state = does ∙ ap (returns c value results) under in
+      let base_is : after_r (loaded frame value results) r w FRAME ≡ above =
+      load.base_moved ∙ (ap (λ (x : ℕ). add_of x (sign_extended (4 * frame.words))) s.base_is
+      ∙ add_small base (4 * frame.words) (omega (arith, own.within, own.small)) (omega (arith, l.below_end))) in
+      let deep : suc (suc (length waiting)) ≤ calls = subst (λ (fs : List states.Frame). suc (length fs) ≤ calls) under s.deep in
+      let left : r CALLS + suc (suc (length waiting)) ≡ calls = subst (λ (fs : List states.Frame). r CALLS + suc (length fs) ≡ calls) under s.left in
+      let own_newest : IsNewest program frames addresses calls (r HANDLERS) base c.active.function [] (f ∷ waiting) =
+      subst (λ (hs : List states.Handler). IsNewest program frames addresses calls (r HANDLERS) base c.active.function hs (f ∷ waiting)) none_open
+      (subst (λ (fs : List states.Frame). IsNewest program frames addresses calls (r HANDLERS) base c.active.function c.active.handlers fs) under s.newest) in
+      let back_newest : IsNewest program frames addresses calls (after_r (loaded frame value results) r w HANDLERS) above f.caller.function f.caller.handlers waiting =
+      subst (λ (n : ℕ). IsNewest program frames addresses calls n above f.caller.function f.caller.handlers waiting) (sym load.newest_same) own_newest in
+      let there : Standing program frames addresses pages calls next_state (after_r (loaded frame value results) r w) w above (w.words (above + 4 * (frame_at frames f.caller.function).return_address)) (suc (suc (length waiting))) f.caller.slots = record {
+        known = known;
+        base_is = base_is;
+        zero_is = load.zero_same ∙ s.zero_is;
+        left = ap (λ (n : ℕ). n + suc (suc (length waiting))) load.left_same ∙ left;
+        deep = omega (arith, deep);
+        holds = holds;
+        chain = chain;
+        newest = back_newest;
+        kept = kept_here (frame_at frames f.caller.function) w above (w.words (above + 4 * (frame_at frames f.caller.function).return_address)) f.caller.handlers refl;
+        globals = s.globals;
+        input = s.input;
+        based = (subst (λ (fs : List states.Frame). AreBased frames base c.active.function c.active.base fs) under s.based).1;
+        store = s.store;
+        laid = s.laid;
+        counted = load.count_same ∙ s.counted;
+      } in
+      walk_few code formed addresses globals_length (words_per_call * calls) 1 (size + 1) line hi c.output _ (Running d) (omega arith)
+      (walk_block code formed addresses globals_length (words_per_call * calls) (loaded frame value results) 1 line line hi c.output c.input _ r w d later
+      (stands_front code line (ordinary (loaded frame value results)) (lines.Return ∷ []) stands_here) load.safe (omega arith)
+      (λ e after.
+      walk_return code formed addresses globals_length (words_per_call * calls) 0 (line + size) (line + size) hi c.output c.input _ (after_r (loaded frame value results) r w) (after_w (loaded frame value results) r w) e
+      (behind_line program frames f.caller.function index c.active.function arguments count f.result) lie after
+      (subst (λ (n : ℕ). slice_get code.lines (line + n) ≡ Some lines.Return) same_size (stands_back code line (ordinary (loaded frame value results)) (lines.Return ∷ []) stands_here).0)
+      (omega arith) (returns_to f.caller.function index c.active.function arguments count f.result at) (load.back_same ∙ is_back)
+      (λ g returned.
+      walk_end code formed addresses globals_length (words_per_call * calls) (suc (line + size)) hi c.output _ (Running g) (omega (arith, far, same_size))
+      (reached program well frames fit code formed addresses pages calls few c zeros i (states.Running next_state) (Running g) (zeros_at program c i at_i free) at_i is_returned
+      (within program well frames fit code formed addresses pages calls few next_state s.laid.paged (omega (arith, deep)))
+      (inr (inl (record {
+        run = g;
+        r = after_r (loaded frame value results) r w;
+        w = w;
+        base = above;
+        index = index;
+        callee = c.active.function;
+        arguments = arguments;
+        count = count;
+        result = f.result;
+        waiting = f.caller.slots;
+        values = c.active.slots;
+        first = value;
+        is = refl;
+        next = next;
+        call = at;
+        now = subst (λ (m : Contents). AtLine (behind_line program frames f.caller.function index c.active.function arguments count f.result) (after_r (loaded frame value results) r w) m g) load.unchanged returned;
+        standing = there;
+        returned = load.returned;
+        slots = refl;
+      })))))))
+
+  few_results : results ≤ 3
+  few_results = (well.functions c.active.function no_routine s.known).results
+
+  loaded_length : length (ordinary (loaded frame value results)) ≡ results + 1
+  loaded_length = length_ordinary (loaded frame value results) ∙ length_loaded frame value results few_results
+
+  -- both cases of a return, from the lines that load
+  abbrev tail : List Line
+  tail = ordinary (loaded frame value results) ++ lines.Return ∷ []
+
+  plain_goes : (c.active.function == program.main) ≡ false → Stands code here tail → (fs : List states.Frame) → c.frames ≡ fs → Chain program frames addresses w base (r RETURN_ADDRESS) c.active.function fs → Goes 1 here (here + (0 + results + 2)) (Running run)
+  plain_goes other stands_here [] under (last, is_back, is_main) = absurd (let e : false ≡ true = sym other ∙ eq-eqb c.active.function program.main is_main in cc)
+  plain_goes other stands_here (f ∷ waiting) under chain =
+      back_goes here (here + (0 + results + 2)) run f waiting under chain stands_here (omega (arith, loaded_length)) now
+
+  main_goes : (c.active.function == program.main) ≡ true → Stands code here (ending_code true frame here value ++ tail) → (fs : List states.Frame) → c.frames ≡ fs → Chain program frames addresses w base (r RETURN_ADDRESS) c.active.function fs → Goes 1 here (here + (4 + results + 2)) (Running run)
+  main_goes main stands_here [] under (last, is_back, is_main) =
+      let stays : (if not (r RETURN_ADDRESS == r 0) then here + 4 else here + 1) ≡ here + 1 = ap (λ (b : Bool). if not b then here + 4 else here + 1) (eq-eqb (r RETURN_ADDRESS) (r 0) (is_back ∙ sym s.zero_is)) in
+      let one : results ≡ 1 = ap (λ (f : ℕ). (routine_at program f).results) is_main ∙ well.main_results in
+      walk_branch code formed addresses globals_length (words_per_call * calls) 0 here here (here + (4 + results + 2)) c.output c.input _ r w run (conditions.Registers branch.NotEqual (register_of RETURN_ADDRESS) (register_of 0)) (here + 4) (here + 1) now stands_here.0 (omega arith) stays
+      (λ d later.
+      ends_goes (here + (4 + results + 2)) d (omega arith) under (omega (arith, one))
+      (stands_front code (here + 1) (ordinary (load_slot frame 4 value ∷ small 2 3 ∷ syscall ∷ [])) tail
+      (stands_back code here (lines.Branch (conditions.Registers branch.NotEqual (register_of RETURN_ADDRESS) (register_of 0)) (here + 4) ∷ []) (ordinary (load_slot frame 4 value ∷ small 2 3 ∷ syscall ∷ []) ++ tail) stands_here))
+      later)
+  main_goes main stands_here (f ∷ waiting) under (arguments, count, index, known, at, next, is_back, holds, chain) =
+      let line : ℕ = behind_line program frames f.caller.function index c.active.function arguments count f.result in
+      let high = lie.from (behind_line program frames f.caller.function index c.active.function arguments count f.result) (returns_to f.caller.function index c.active.function arguments count f.result at).inside in
+      let other : r RETURN_ADDRESS ≢ r 0 = λ e. absurd (omega (arith, e, s.zero_is, is_back, high)) in
+      let leaps : (if not (r RETURN_ADDRESS == r 0) then here + 4 else here + 1) ≡ here + 4 = ap (λ (b : Bool). if not b then here + 4 else here + 1) (ne_eqb (r RETURN_ADDRESS) (r 0) other) in
+      walk_branch code formed addresses globals_length (words_per_call * calls) 0 here here (here + (4 + results + 2)) c.output c.input _ r w run (conditions.Registers branch.NotEqual (register_of RETURN_ADDRESS) (register_of 0)) (here + 4) (here + 4) now stands_here.0 (omega arith) leaps
+      (λ d later.
+      walk_from code formed addresses globals_length (words_per_call * calls) 0 (suc here) (here + 4) (here + (4 + results + 2)) c.output _ (Running d) (omega arith)
+      (walk_few code formed addresses globals_length (words_per_call * calls) 0 1 (here + 4) (here + (4 + results + 2)) c.output _ (Running d) (omega arith)
+      (back_goes (here + 4) (here + (4 + results + 2)) d f waiting under (arguments, count, index, known, at, next, is_back, holds, chain)
+      (stands_back code here (ending_code true frame here value) tail stands_here) (omega (arith, loaded_length)) later)))
+
+  pub return_goes : Goes 1 here (here + (ending_count program c.active.function + results + 2)) (Running run)
+  return_goes = elim (cases_Bool (c.active.function == program.main)) [
+    | inl main ↦
+        subst (λ (n : ℕ). Goes 1 here (here + (n + results + 2)) (Running run)) (sym (ap (λ (b : Bool). if b then 4 else 0) main))
+        (main_goes main (subst (λ (b : Bool). Stands code here (ending_code b frame here value ++ ordinary (loaded frame value results) ++ lines.Return ∷ [])) main stands) c.frames refl s.chain)
+    | inr other ↦
+        subst (λ (n : ℕ). Goes 1 here (here + (n + results + 2)) (Running run)) (sym (ap (λ (b : Bool). if b then 4 else 0) other))
+        (plain_goes other (subst (λ (b : Bool). Stands code here (ending_code b frame here value ++ ordinary (loaded frame value results) ++ lines.Return ∷ [])) other stands) c.frames refl s.chain)
+  ]
+
+-- ---- behind a call
+
+-- one word more is copied
+slots_next : (from to : Words) (source count destination slot number word : ℕ) → slot ≡ destination + count → word ≡ from (source + count)
+    → put (copied from source count to destination) slot word number ≡ copied from source (suc count) to destination number
+slots_next from to source count destination slot number word is_slot is_word = elim (cases_eq number slot) [
+  | inl same ↦
+      let there : number ≡ destination + count = same ∙ is_slot in
+      ap (put (copied from source count to destination) slot word) same
+      ∙ (put-same (copied from source count to destination) slot word
+      ∙ (is_word ∙ sym (ap (copied from source (suc count) to destination) there ∙ copied-inside from to source (suc count) destination count (omega arith))))
+  | inr other ↦
+      put-other (copied from source count to destination) slot number word other
+      ∙ elim (cases_lt number destination) [
+        | inl below ↦ copied-below from to source count destination number below ∙ sym (copied-below from to source (suc count) destination number below)
+        | inr from_first ↦ elim (cases_lt number (destination + count)) [
+          | inl before ↦
+              let there : number ≡ destination + (number - destination) = omega (arith, from_first) in
+              ap (copied from source count to destination) there
+              ∙ (copied-inside from to source count destination (number - destination) (omega (arith, before, from_first))
+              ∙ sym (ap (copied from source (suc count) to destination) there ∙ copied-inside from to source (suc count) destination (number - destination) (omega (arith, before, from_first))))
+          | inr past ↦
+              copied-above from to source count destination number past
+              ∙ sym (copied-above from to source (suc count) destination number (beyond past other))
+        ]
+      ]
+]
+  where
+    beyond : destination + count ≤ number → number ≢ slot → destination + suc count ≤ number
+    beyond past other = omega (arith, past, other, is_slot)
+
+no_slots : (from to : Words) (source destination number : ℕ) → to number ≡ copied from source 0 to destination number
+no_slots from to source destination number = elim (cases_lt number destination) [
+  | inl below ↦ sym (copied-below from to source 0 destination number below)
+  | inr above ↦ sym (copied-above from to source 0 destination number (omega (arith, above)))
+]
+
+module _ (program : Program) (well : IsWellFormed program) (frames : List Frame) (fit : AreFrames program frames) (addresses : ℕ → ℕ) (pages calls : ℕ) (few : calls ≤ 4096)
+    (c : Configuration) (q : Words) (base back depth result first : ℕ) (values waiting : Words) where
+  abbrev StandsWith : (m : Contents) (slots : Words) → Type 0
+  StandsWith m slots = Standing program frames addresses pages calls c q m base back depth slots
+
+  pub same_slots : (m : Contents) (slots slots' : Words) → ((slot : ℕ) → slots slot ≡ slots' slot) → StandsWith m slots → StandsWith m slots'
+  same_slots m slots slots' same s = record {
+    known = s.known;
+    base_is = s.base_is;
+    zero_is = s.zero_is;
+    left = s.left;
+    deep = s.deep;
+    holds = λ slot below slot_kept. s.holds slot below slot_kept ∙ same slot;
+    chain = s.chain;
+    globals = s.globals;
+    newest = s.newest;
+    kept = s.kept;
+    input = s.input;
+    based = s.based;
+    store = s.store;
+    laid = s.laid;
+    counted = s.counted;
+  }
+
+  -- the registers hold the values from this one on
+  abbrev Given : ℕ → List ℕ → Type 0
+  Given k [] = Unit {0}
+  Given k (source ∷ sources) = (q (source % 32) ≡ values (first + k)) × Given (suc k) sources
+
+  record AreStored (slot k : ℕ) (sources : List ℕ) (m : Contents) : Type 0 where
+    pub safe : AreSafe globals_length (words_per_call * calls) (store_all (frame_at frames c.active.function) slot sources) q m
+    pub same : after_r (store_all (frame_at frames c.active.function) slot sources) q m ≡ q
+    pub standing : StandsWith (after_w (store_all (frame_at frames c.active.function) slot sources) q m) (copied values first (k + length sources) waiting result)
+
+  are_stored : (slot k : ℕ) (sources : List ℕ) (m : Contents) → slot ≡ result + k → result + (k + length sources) ≤ (routine_at program c.active.function).slots → Given k sources
+      → StandsWith m (copied values first k waiting result) → AreStored slot k sources m
+  are_stored slot k [] m is_slot fits given s = record {
+    safe = tt;
+    same = refl;
+    standing = subst (λ (n : ℕ). StandsWith m (copied values first n waiting result)) (let e : k ≡ k + 0 = omega arith in e) s;
+  }
+  are_stored slot k (source ∷ sources) m is_slot fits (one, others) s =
+      let below : slot < (routine_at program c.active.function).slots = omega (arith, is_slot, fits) in
+      let there = slot_address program well frames fit addresses pages calls few c q m base back depth (copied values first k waiting result) s slot below in
+      let m1 : Contents = written m (memory_address (q FRAME) (slot_offset (frame_at frames c.active.function) slot)) (q (source % 32)) in
+      let put_one = standing_slot program well frames fit addresses pages calls few c q m base back depth (copied values first k waiting result) s slot (q (source % 32)) below in
+      let in_m1 : StandsWith m1 (put (copied values first k waiting result) slot (q (source % 32))) =
+      subst (λ (a : ℕ). StandsWith (written m a (q (source % 32))) (put (copied values first k waiting result) slot (q (source % 32)))) (sym there) put_one in
+      let next = same_slots m1 (put (copied values first k waiting result) slot (q (source % 32))) (copied values first (suc k) waiting result)
+      (λ number. slots_next values waiting first k result slot number (q (source % 32)) is_slot one) in_m1 in
+      let rest = are_stored (suc slot) (suc k) sources m1 (omega (arith, is_slot)) (omega (arith, fits)) others next in
+      record {
+        safe = (slot_cell program well frames fit addresses pages calls few c q m base back depth (copied values first k waiting result) s slot below, rest.safe);
+        same = rest.same;
+        standing = subst (λ (n : ℕ). StandsWith (after_w (store_all (frame_at frames c.active.function) (suc slot) sources) q m1) (copied values first n waiting result)) (let e : suc k + length sources ≡ k + suc (length sources) = omega arith in e) rest.standing;
+      }
+
+  given : (count : ℕ) → count ≤ 3 → ((k : ℕ) → k < count → q (result_register k) ≡ values (first + k)) → Given 0 (result_registers count)
+  given zero few_results holds = tt
+  given (suc zero) few_results holds = (holds 0 (omega arith), tt)
+  given (suc (suc zero)) few_results holds = (holds 0 (omega arith), (holds 1 (omega arith), tt))
+  given (suc (suc (suc zero))) few_results holds = (holds 0 (omega arith), (holds 1 (omega arith), (holds 2 (omega arith), tt)))
+  given (suc (suc (suc (suc count)))) few_results holds = absurd (omega (arith, few_results))
+
+  pub stored : (count : ℕ) (m : Contents) → count ≤ 3 → result + count ≤ (routine_at program c.active.function).slots → ((k : ℕ) → k < count → q (result_register k) ≡ values (first + k)) → StandsWith m waiting
+      → (AreSafe globals_length (words_per_call * calls) (store_all (frame_at frames c.active.function) result (result_registers count)) q m)
+      × (after_r (store_all (frame_at frames c.active.function) result (result_registers count)) q m ≡ q)
+      × StandsWith (after_w (store_all (frame_at frames c.active.function) result (result_registers count)) q m) (copied values first count waiting result)
+  stored count m few_results fits holds s =
+      let long = length_registers count few_results in
+      let all = are_stored result 0 (result_registers count) m (omega arith) (omega (arith, long, fits)) (given count few_results holds)
+      (same_slots m waiting (copied values first 0 waiting result) (λ number. no_slots values waiting first result number) s) in
+      (all.safe, all.same, subst (λ (n : ℕ). StandsWith (after_w (store_all (frame_at frames c.active.function) result (result_registers count)) q m) (copied values first n waiting result)) (let e : 0 + length (result_registers count) ≡ count = omega (arith, long) in e) all.standing)
+
+-- what stands behind a call brings the caller to its next instruction
+module _ (program : Program) (well : IsWellFormed program) (frames : List Frame) (fit : AreFrames program frames) (code : Labelled) (formed : IsFormed code) (addresses : ℕ → ℕ) (pages calls : ℕ) (few : calls ≤ 4096)
+    (c : Configuration) (t : State) (b : Back program well frames fit code formed addresses pages calls few c t)
+    (stands : Stands code (behind_line program frames c.active.function b.index b.callee b.arguments b.count b.result) (behind program frames c.active.function (plain.Call b.callee b.arguments b.count b.result)))
+    (room : b.result + (routine_at program b.callee).results ≤ (routine_at program c.active.function).slots) (few_results : (routine_at program b.callee).results ≤ 3) where
+  abbrev own_frame : Frame
+  own_frame = frame_at frames c.active.function
+
+  abbrev first_two : List Instr
+  first_two = load RETURN_ADDRESS (4 * own_frame.return_address) ∷ add_immediate CALLS CALLS 1 ∷ []
+
+  abbrev kept_words : List Instr
+  kept_words = store_all own_frame b.result (result_registers (routine_at program b.callee).results)
+
+  abbrev saved : ℕ
+  saved = b.w.words (b.base + 4 * own_frame.return_address)
+
+  abbrev restored : Words
+  restored = after_r first_two b.r b.w
+
+  back_is : restored RETURN_ADDRESS ≡ saved
+  back_is = ap b.w.words (return_address program well frames fit addresses pages calls few c b.r b.w b.base saved (suc (suc (length c.frames))) b.waiting b.standing)
+
+  left_is : restored CALLS ≡ b.r CALLS + 1
+  left_is = add_small (b.r CALLS) 1 (omega arith) (omega (arith, b.standing.left))
+
+  small_register : (k : ℕ) → result_register k < CALLS
+  small_register zero = omega arith
+  small_register (suc zero) = omega arith
+  small_register (suc (suc zero)) = omega arith
+  small_register (suc (suc (suc k))) = omega arith
+
+  register_kept : (k : ℕ) → restored (result_register k) ≡ b.r (result_register k)
+  register_kept k =
+      put-other (put b.r RETURN_ADDRESS _) CALLS (result_register k) _ (λ e. absurd (omega (arith, e, small_register k)))
+      ∙ put-other b.r RETURN_ADDRESS (result_register k) _ (λ e. absurd (omega (arith, e, small_register k)))
+
+  restored_stands : Standing program frames addresses pages calls c restored b.w b.base saved (suc (length c.frames)) b.waiting
+  restored_stands = record {
+    known = b.standing.known;
+    base_is = b.standing.base_is;
+    zero_is = b.standing.zero_is;
+    left = one_less (restored CALLS) left_is;
+    deep = b.standing.deep;
+    holds = b.standing.holds;
+    chain = b.standing.chain;
+    globals = b.standing.globals;
+    newest = b.standing.newest;
+    kept = b.standing.kept;
+    input = b.standing.input;
+    based = b.standing.based;
+    store = b.standing.store;
+    laid = b.standing.laid;
+    counted = b.standing.counted;
+  }
+    where
+      one_less : (n : ℕ) → n ≡ b.r CALLS + 1 → n + suc (length c.frames) ≡ calls
+      one_less n is = omega (arith, is, b.standing.left)
+
+  abbrev read_again : List Instr
+  read_again = reloads own_frame
+
+  length_kept : length (first_two ++ (kept_words ++ read_again)) ≡ 2 + (routine_at program b.callee).results + reload_count own_frame
+  length_kept =
+      let long = length-append kept_words read_again in
+      let stores = length_stores own_frame b.result (result_registers (routine_at program b.callee).results) in
+      let registers = length_registers (routine_at program b.callee).results few_results in
+      let e : suc (suc (length (kept_words ++ read_again))) ≡ 2 + (routine_at program b.callee).results + reload_count own_frame = omega (arith, long, stores, registers, length_reloads own_frame) in
+      e
+
+  line_is : behind_line program frames c.active.function b.index b.callee b.arguments b.count b.result + length (first_two ++ (kept_words ++ read_again)) ≡ instruction_line program frames c.active.function c.active.next
+  line_is =
+      let e = line_next program frames c.active.function b.index (plain.Call b.callee b.arguments b.count b.result) b.call in
+      ap (λ (n : ℕ). behind_line program frames c.active.function b.index b.callee b.arguments b.count b.result + n) length_kept
+      ∙ ((let f : behind_line program frames c.active.function b.index b.callee b.arguments b.count b.result + (2 + (routine_at program b.callee).results + reload_count own_frame) ≡ instruction_line program frames c.active.function (b.index + 1) = omega (arith, e) in f)
+      ∙ ap (instruction_line program frames c.active.function) (sym b.next))
+
+  pub behind_goes : (n hi : ℕ) (Goal : State → Type 0)
+      → ((u : State) → Ready program well frames fit code formed addresses pages calls few c u → Walk code formed addresses globals_length (words_per_call * calls) n (instruction_line program frames c.active.function c.active.next) hi c.output Goal u)
+      → Walk code formed addresses globals_length (words_per_call * calls) n (behind_line program frames c.active.function b.index b.callee b.arguments b.count b.result) hi c.output Goal (Running b.run)
+  behind_goes n hi Goal rest =
+      let k : ℕ = behind_line program frames c.active.function b.index b.callee b.arguments b.count b.result in
+      let all = stored program well frames fit addresses pages calls few c restored b.base saved (suc (length c.frames)) b.result b.first b.values b.waiting (routine_at program b.callee).results b.w few_results room
+      (λ j below. register_kept j ∙ b.returned j below) restored_stands in
+      let right = fit.homes c.active.function b.standing.known in
+      let stands_again : Standing program frames addresses pages calls c restored (after_w kept_words restored b.w) b.base saved (suc (length c.frames)) c.active.slots =
+      subst (λ (x : Words). Standing program frames addresses pages calls c restored (after_w kept_words restored b.w) b.base saved (suc (length c.frames)) x) (sym b.slots) all.2 in
+      let again = reloaded globals_length (words_per_call * calls) program frames c.active.function right c.active.next restored (after_w kept_words restored b.w) c.active.slots
+      (λ slot below. slot_cell program well frames fit addresses pages calls few c restored (after_w kept_words restored b.w) b.base saved (suc (length c.frames)) c.active.slots stands_again slot below)
+      (λ slot below slot_kept. slot_word_is program well frames fit addresses pages calls few c restored (after_w kept_words restored b.w) b.base saved (suc (length c.frames)) c.active.slots stands_again slot below slot_kept)
+      (λ slot wanted. right.behind b.index b.callee b.arguments b.count b.result slot b.call (subst (Wanted program (routine_at program c.active.function) slot) (b.next ∙ (let e : b.index + 1 ≡ suc b.index = omega arith in e)) wanted)) in
+      let final : Words = after_r read_again restored (after_w kept_words restored b.w) in
+      let registers : after_r (kept_words ++ read_again) restored b.w ≡ after_r read_again restored (after_w kept_words restored b.w) =
+      after_r-append kept_words read_again restored b.w ∙ ap (λ (q : Words). after_r read_again q (after_w kept_words restored b.w)) all.1 in
+      let memory : after_w (kept_words ++ read_again) restored b.w ≡ after_w kept_words restored b.w =
+      after_w-append kept_words read_again restored b.w ∙ (ap (λ (q : Words). after_w read_again q (after_w kept_words restored b.w)) all.1 ∙ again.memory) in
+      let safe_again = subst (λ (q : Words). AreSafe globals_length (words_per_call * calls) read_again q (after_w kept_words restored b.w)) (sym all.1) again.safe in
+      let in_final = standing_registers program well frames fit addresses pages calls few c restored (after_w kept_words restored b.w) b.base saved (suc (length c.frames)) c.active.slots stands_again final
+      (again.others 0 (inl (omega arith))) (again.others FRAME (inr (omega arith))) (again.others CALLS (inr (omega arith)))
+      (lasting_same final restored (again.others HANDLERS (inr (omega arith))) (again.others REGIONS (inr (omega arith)))) in
+      walk_few code formed addresses globals_length (words_per_call * calls) n (length (first_two ++ (kept_words ++ read_again)) + n) k hi c.output Goal (Running b.run) (omega arith)
+      (walk_block code formed addresses globals_length (words_per_call * calls) (first_two ++ (kept_words ++ read_again)) n k k hi c.output c.input Goal b.r b.w b.run b.now stands (
+        (refl, return_cell program well frames fit addresses pages calls few c b.r b.w b.base saved (suc (suc (length c.frames))) b.waiting b.standing),
+        (refl, safe_append globals_length (words_per_call * calls) kept_words read_again restored b.w all.0 safe_again),
+      ) (omega arith)
+      (λ d later.
+      walk_from code formed addresses globals_length (words_per_call * calls) n (k + length (first_two ++ (kept_words ++ read_again))) (instruction_line program frames c.active.function c.active.next) hi c.output Goal (Running d) (omega (arith, line_is))
+      (rest (Running d) (record {
+        run = d;
+        r = final;
+        w = after_w kept_words restored b.w;
+        base = b.base;
+        is = refl;
+        now = now_at code formed addresses globals_length (words_per_call * calls) (k + length (first_two ++ (kept_words ++ read_again))) (instruction_line program frames c.active.function c.active.next) c.output c.input final (after_w kept_words restored b.w) d line_is
+            (now_is code formed addresses globals_length (words_per_call * calls) (k + length (first_two ++ (kept_words ++ read_again))) c.output c.input (after_r (kept_words ++ read_again) restored b.w) (after_w (kept_words ++ read_again) restored b.w) final (after_w kept_words restored b.w) d registers memory later);
+        standing = subst (λ (x : ℕ). Standing program frames addresses pages calls c final (after_w kept_words restored b.w) b.base x (suc (length c.frames)) c.active.slots) (sym (again.others RETURN_ADDRESS (inr (omega arith)) ∙ back_is)) in_final;
+        caches = again.caches;
+      }))))

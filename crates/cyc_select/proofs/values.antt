@@ -1,0 +1,7 @@
+-- what the lines of operands, plans and tests leave in registers
+pub mod Blocks
+pub mod Operations
+pub mod Halves
+pub mod Plans
+pub mod Computing
+pub mod Found

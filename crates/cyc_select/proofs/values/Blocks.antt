@@ -1,0 +1,97 @@
+-- Blocks: safe instructions one behind another that write registers and leave memory as it is.
+use Rattle.std.proofs.Common.{◌≡◌, ◌≢◌, ℕ, ◌<◌, ◌≤◌, List, [], ◌∷◌, ◌++◌, ap, ◌∙◌, arith}
+use Rattle.cyc_isa.specs.declared.instr.Instr.{Instr}
+use Rattle.cyc_machine.specs.declared.constants.TheConstants.{RETURN_ADDRESS}
+use Rattle.cyc_plain.specs.State.{Words}
+use Rattle.cyc_select.specs.declared.constants.TheConstants.{ZERO, FRAME, CALLS, HANDLERS, REGIONS}
+use Rattle.cyc_select.proofs.effects.Views.{Contents, does_r, does_w}
+use Rattle.cyc_select.proofs.effects.Walks.{after_r, after_w, AreSafe, after_r-append, after_w-append}
+
+-- what stays in registers from call to call: the address of the newest handler's record, and how many lexical regions are open
+abbrev pub lasting : Words → ℕ × ℕ
+lasting r = (r HANDLERS, r REGIONS)
+
+pub lasting_same : (q r : Words) → q HANDLERS ≡ r HANDLERS → q REGIONS ≡ r REGIONS → lasting q ≡ lasting r
+lasting_same q r newest counted = λ i. (newest i, counted i)
+
+pub newest_lasts : (q r : Words) → lasting q ≡ lasting r → q HANDLERS ≡ r HANDLERS
+newest_lasts q r same = ap (λ (p : ℕ × ℕ). p.0) same
+
+pub count_lasts : (q r : Words) → lasting q ≡ lasting r → q REGIONS ≡ r REGIONS
+count_lasts q r same = ap (λ (p : ℕ × ℕ). p.1) same
+
+-- the registers that values have are the same, but for this one
+abbrev pub AreSame : (but : ℕ) → (q r : Words) → Type 0
+AreSame but q r = (n : ℕ) → 8 ≤ n → n < 24 → n ≢ but → q n ≡ r n
+
+-- all of them are
+abbrev pub ValuesSame : (q r : Words) → Type 0
+ValuesSame q r = (n : ℕ) → 8 ≤ n → n < 24 → q n ≡ r n
+
+pub all_same : (q r : Words) → AreSame 24 q r → ValuesSame q r
+all_same q r same n low high = same n low high (λ e. absurd (omega (arith, e, high)))
+
+-- a register that no value has, but perhaps that one
+abbrev pub IsAside : (but target : ℕ) → Type 0
+IsAside but target = (n : ℕ) → 8 ≤ n → n < 24 → n ≢ but → n ≢ target
+
+module _ (globals stack : ℕ) where
+  -- Instructions that write one register: where they have been executed, a word is in this register, and any other is as before.
+  pub record Puts (is : List Instr) (r : Words) (w : Contents) (target at word : ℕ) : Type 0 where
+    pub safe : AreSafe globals stack is r w
+    pub memory : after_w is r w ≡ w
+    pub result : after_r is r w at ≡ word
+    pub others : (n : ℕ) → n < 32 → n ≢ target → after_r is r w n ≡ r n
+
+  -- instructions that leave what a call keeps, and the registers of values but for one
+  pub record Keeps (is : List Instr) (r : Words) (w : Contents) (but : ℕ) : Type 0 where
+    pub safe : AreSafe globals stack is r w
+    pub memory : after_w is r w ≡ w
+    pub zero : after_r is r w ZERO ≡ r ZERO
+    pub base : after_r is r w FRAME ≡ r FRAME
+    pub left : after_r is r w CALLS ≡ r CALLS
+    pub back : after_r is r w RETURN_ADDRESS ≡ r RETURN_ADDRESS
+    pub lasts : lasting (after_r is r w) ≡ lasting r
+    pub values : AreSame but (after_r is r w) r
+
+  -- a register that no call keeps
+  pub record IsScratch (n : ℕ) : Type 0 where
+    pub not_zero : ZERO ≢ n
+    pub not_base : FRAME ≢ n
+    pub not_left : CALLS ≢ n
+    pub not_back : RETURN_ADDRESS ≢ n
+    pub not_newest : HANDLERS ≢ n
+    pub not_counted : REGIONS ≢ n
+
+  pub puts_keeps : (is : List Instr) (r : Words) (w : Contents) (target at word but : ℕ) → IsScratch target → IsAside but target → Puts is r w target at word → Keeps is r w but
+  puts_keeps is r w target at word but scratch aside puts = record {
+    safe = puts.safe;
+    memory = puts.memory;
+    zero = puts.others ZERO (omega arith) scratch.not_zero;
+    base = puts.others FRAME (omega arith) scratch.not_base;
+    left = puts.others CALLS (omega arith) scratch.not_left;
+    back = puts.others RETURN_ADDRESS (omega arith) scratch.not_back;
+    lasts = lasting_same (after_r is r w) r (puts.others HANDLERS (omega arith) scratch.not_newest) (puts.others REGIONS (omega arith) scratch.not_counted);
+    values = λ n low high other. puts.others n (omega (arith, high)) (aside n low high other);
+  }
+
+  -- ---- one block behind another
+
+  pub safe_append : (is js : List Instr) (r : Words) (w : Contents) → AreSafe globals stack is r w → AreSafe globals stack js (after_r is r w) (after_w is r w) → AreSafe globals stack (is ++ js) r w
+  safe_append [] js r w first second = second
+  safe_append (i ∷ is) js r w (one, rest) second = (one, safe_append is js (does_r i r w) (does_w i r w) rest second)
+
+  pub after_both : (is js : List Instr) (r : Words) (w : Contents) (n : ℕ) → after_r (is ++ js) r w n ≡ after_r js (after_r is r w) (after_w is r w) n
+  after_both is js r w n = ap (λ (q : Words). q n) (after_r-append is js r w)
+
+  pub keeps_append : (is js : List Instr) (r : Words) (w : Contents) (but : ℕ) → Keeps is r w but → Keeps js (after_r is r w) (after_w is r w) but → Keeps (is ++ js) r w but
+  keeps_append is js r w but first second = record {
+    safe = safe_append is js r w first.safe second.safe;
+    memory = after_w-append is js r w ∙ (second.memory ∙ first.memory);
+    zero = after_both is js r w ZERO ∙ (second.zero ∙ first.zero);
+    base = after_both is js r w FRAME ∙ (second.base ∙ first.base);
+    left = after_both is js r w CALLS ∙ (second.left ∙ first.left);
+    back = after_both is js r w RETURN_ADDRESS ∙ (second.back ∙ first.back);
+    lasts = ap lasting (after_r-append is js r w) ∙ (second.lasts ∙ first.lasts);
+    values = λ n low high other. after_both is js r w n ∙ (second.values n low high other ∙ first.values n low high other);
+  }

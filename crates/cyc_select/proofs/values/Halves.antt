@@ -1,0 +1,135 @@
+-- The numbers that stand in an instruction are the words that they are for.
+use Rattle.std.proofs.Common.{◌≡◌, ◌≢◌, ℕ, ◌+◌, ◌-◌, ◌%◌, ◌^◌, ◌<◌, ◌≤◌, ℤ, pos, ◌+ℤ◌, ◌-ℤ◌, Bool, true, false, not, ◌&&◌, ◌||◌, Some, None, refl, sym, ap, subst, ◌∙◌, inl, inr, arith}
+use Rattle.std.specs.Prelude.{◌==◌, ◌⊎◌, nat_le, nat_lt, if◌then◌else◌}
+use Rattle.std.proofs.lemmas.Bool.{cases_lt, eqb-true, ltb-true, leb-true, eq-eqb}
+use Rattle.std.proofs.lemmas.Int.{ints}
+use Rattle.cyc_words.specs.Word.{IsWord, signed, sign_extended, add_of, sub_of}
+use Rattle.cyc_words.proofs.WordLemmas.{sign_extended_low, sign_extended_high, signed_low, signed_high, IsWord-add_of, IsWord-sub_of}
+use Rattle.cyc_plain.specs.declared.instruction.Operand.{Operand}
+use Rattle.cyc_plain.specs.declared.instruction.Operand.TheVariants as operands
+use Rattle.cyc_plain.specs.State.{Words}
+use Rattle.cyc_plain.specs.Step.{operand_word}
+use Rattle.cyc_plain.proofs.MemoryLaws.{or_either}
+use Rattle.cyc_select.specs.Numbers.{fits_signed, half_of, signed_half, negated_half, next_half, low_half, is_zero_word, is_plain_divisor, shift_amount}
+
+and_both : (a b : Bool) → (a && b) ≡ true → (a ≡ true) × (b ≡ true)
+and_both true b holds = (refl, holds)
+and_both false b holds = absurd (let e : false ≡ true = holds in cc)
+
+pub fits_is : (word : ℕ) → IsWord word → fits_signed word ≡ true → sign_extended (word % 2 ^ 16) ≡ word
+fits_is word is_word fits = elim (or_either (nat_lt word (2 ^ 15)) (nat_le (2 ^ 32 - 2 ^ 15) word) fits) [
+  | inl low ↦
+      let below : word < 2 ^ 15 = ltb-true word (2 ^ 15) low in
+      sign_extended_low (word % 2 ^ 16) (omega (arith, below)) ∙ (let e : word % 2 ^ 16 ≡ word = omega (arith, below) in e)
+  | inr high ↦
+      let above : 2 ^ 32 - 2 ^ 15 ≤ word = leb-true (2 ^ 32 - 2 ^ 15) word high in
+      sign_extended_high (word % 2 ^ 16) (omega (arith, above, is_word)) (omega arith)
+      ∙ (let e : word % 2 ^ 16 + (2 ^ 32 - 2 ^ 16) ≡ word = omega (arith, above, is_word) in e)
+]
+
+-- ---- halves
+
+half_either : (word h : ℕ) (b : Bool) → fits_signed word ≡ b → (if b then Some (word % 2 ^ 16) else None) ≡ Some h → (h ≡ word % 2 ^ 16) × (fits_signed word ≡ true)
+half_either word h true fits is = ((let e : Some (word % 2 ^ 16) ≡ Some h = is in let same : h ≡ word % 2 ^ 16 = cc in same), fits)
+half_either word h false fits is = absurd (let e : None ≡ Some h = is in cc)
+
+half_parts : (word h : ℕ) → half_of word ≡ Some h → (h ≡ word % 2 ^ 16) × (fits_signed word ≡ true)
+half_parts word h is = half_either word h (fits_signed word) refl is
+
+half_is : (word h : ℕ) → IsWord word → half_of word ≡ Some h → sign_extended h ≡ word
+half_is word h is_word is =
+    let parts = half_parts word h is in
+    ap sign_extended parts.0 ∙ fits_is word is_word parts.1
+
+half_fits : (word h : ℕ) → half_of word ≡ Some h → h < 2 ^ 16
+half_fits word h is = omega (arith, (half_parts word h is).0)
+
+low_either : (word h : ℕ) (b : Bool) → nat_lt word (2 ^ 16) ≡ b → (if b then Some word else None) ≡ Some h → (h ≡ word) × (h < 2 ^ 16)
+low_either word h true below is =
+    let same : h ≡ word = (let e : Some word ≡ Some h = is in let it : h ≡ word = cc in it) in
+    (same, omega (arith, same, ltb-true word (2 ^ 16) below))
+low_either word h false below is = absurd (let e : None ≡ Some h = is in cc)
+
+module _ (slots : Words) where
+  pub signed_is : (o : Operand) (h : ℕ) → IsWord (operand_word slots o) → signed_half o ≡ Some h → sign_extended h ≡ operand_word slots o
+  signed_is (operands.Slot number) h fits is = absurd (let e : None ≡ Some h = is in cc)
+  signed_is (operands.Word word) h fits is = half_is word h fits is
+
+  pub negated_is : (o : Operand) (h : ℕ) → negated_half o ≡ Some h → sign_extended h ≡ sub_of 0 (operand_word slots o)
+  negated_is (operands.Slot number) h is = absurd (let e : None ≡ Some h = is in cc)
+  negated_is (operands.Word word) h is = half_is (sub_of 0 word) h (IsWord-sub_of 0 word) is
+
+  pub next_is : (o : Operand) (h : ℕ) → next_half o ≡ Some h → sign_extended h ≡ add_of (operand_word slots o) 1
+  next_is (operands.Slot number) h is = absurd (let e : None ≡ Some h = is in cc)
+  next_is (operands.Word word) h is = half_is (add_of word 1) h (IsWord-add_of word 1) is
+
+  -- the greatest word has no next one
+  pub next_not_greatest : (o : Operand) (h : ℕ) → next_half o ≡ Some h → operand_word slots o ≢ 2 ^ 31 - 1
+  next_not_greatest (operands.Slot number) h is same = absurd (let e : None ≡ Some h = is in cc)
+  next_not_greatest (operands.Word word) h is same =
+      let fits = (half_parts (add_of word 1) h is).1 in
+      let least : add_of word 1 ≡ 2 ^ 31 = omega (arith, same) in
+      absurd (let e : false ≡ true = sym (ap fits_signed least) ∙ fits in cc)
+
+  pub low_is : (o : Operand) (h : ℕ) → low_half o ≡ Some h → h ≡ operand_word slots o
+  low_is (operands.Slot number) h is = absurd (let e : None ≡ Some h = is in cc)
+  low_is (operands.Word word) h is = (low_either word h (nat_lt word (2 ^ 16)) refl is).0
+
+  pub zero_is : (o : Operand) → is_zero_word o ≡ true → operand_word slots o ≡ 0
+  zero_is (operands.Slot number) is = absurd (let e : false ≡ true = is in cc)
+  zero_is (operands.Word word) is = eqb-true word 0 is
+
+  pub amount_is : (o : Operand) (amount : ℕ) → shift_amount o ≡ Some amount → amount ≡ operand_word slots o % 32
+  amount_is (operands.Slot number) amount is = absurd (let e : None ≡ Some amount = is in cc)
+  amount_is (operands.Word word) amount is = let e : Some (word % 32) ≡ Some amount = is in let it : amount ≡ word % 32 = cc in it
+
+  pub divisor_is : (o : Operand) → is_plain_divisor o ≡ true → (operand_word slots o ≢ 0) × (operand_word slots o ≢ 2 ^ 32 - 1)
+  divisor_is (operands.Slot number) is = absurd (let e : false ≡ true = is in cc)
+  divisor_is (operands.Word word) is =
+      let both = and_both (not (word == 0)) (not (word == 2 ^ 32 - 1)) is in
+      ((λ same. not_same word 0 same both.0), (λ same. not_same word (2 ^ 32 - 1) same both.1))
+    where
+      not_same : (a b : ℕ) → a ≡ b → not (a == b) ≡ true → ⊥
+      not_same a b same other = absurd (let e : false ≡ true = sym (ap not (eq-eqb a b same)) ∙ other in cc)
+
+-- ---- they fit
+
+pub signed_fits : (o : Operand) (h : ℕ) → signed_half o ≡ Some h → h < 2 ^ 16
+signed_fits (operands.Slot number) h is = absurd (let e : None ≡ Some h = is in cc)
+signed_fits (operands.Word word) h is = half_fits word h is
+
+pub negated_fits : (o : Operand) (h : ℕ) → negated_half o ≡ Some h → h < 2 ^ 16
+negated_fits (operands.Slot number) h is = absurd (let e : None ≡ Some h = is in cc)
+negated_fits (operands.Word word) h is = half_fits (sub_of 0 word) h is
+
+pub next_fits : (o : Operand) (h : ℕ) → next_half o ≡ Some h → h < 2 ^ 16
+next_fits (operands.Slot number) h is = absurd (let e : None ≡ Some h = is in cc)
+next_fits (operands.Word word) h is = half_fits (add_of word 1) h is
+
+pub low_fits : (o : Operand) (h : ℕ) → low_half o ≡ Some h → h < 2 ^ 16
+low_fits (operands.Slot number) h is = absurd (let e : None ≡ Some h = is in cc)
+low_fits (operands.Word word) h is = (low_either word h (nat_lt word (2 ^ 16)) refl is).1
+
+-- ---- one more, as a signed number
+
+pub next_signed : (b : ℕ) → IsWord b → b ≢ 2 ^ 31 - 1 → signed (add_of b 1) ≡ signed b +ℤ pos 1
+next_signed b is_word other = elim (cases_lt b (2 ^ 31)) [
+  | inl low ↦
+      let small : b + 1 < 2 ^ 31 = omega (arith, low, other) in
+      let next : add_of b 1 ≡ b + 1 = omega (arith, low) in
+      ap signed next ∙ (signed_low (b + 1) small ∙ (one_more b ∙ ap (λ (z : ℤ). z +ℤ pos 1) (sym (signed_low b low))))
+  | inr high ↦ elim (cases_lt b (2 ^ 32 - 1)) [
+    | inl below ↦
+        let next : add_of b 1 ≡ b + 1 = omega (arith, below) in
+        ap signed next ∙ (signed_high (b + 1) (omega (arith, high)) (omega (arith, below)) ∙ (one_more_below b ∙ ap (λ (z : ℤ). z +ℤ pos 1) (sym (signed_high b high is_word))))
+    | inr last ↦
+        let greatest : b ≡ 2 ^ 32 - 1 = omega (arith, last, is_word) in
+        subst (λ (n : ℕ). signed (add_of n 1) ≡ signed n +ℤ pos 1) (sym greatest) refl
+  ]
+]
+  where
+    one_more : (n : ℕ) → pos (n + 1) ≡ pos n +ℤ pos 1
+    one_more n = grind (arith, ints)
+
+    one_more_below : (n : ℕ) → pos (n + 1) -ℤ pos (2 ^ 32) ≡ pos n -ℤ pos (2 ^ 32) +ℤ pos 1
+    one_more_below n = grind (arith, ints)
