@@ -61,7 +61,7 @@ def kind(type):
         return "kinds.Nullable"
     if types.is_pointer(type):
         return {"*": "kinds.Nullable", "@": "kinds.NonNull", "?": "kinds.Fat"}[type[1]]
-    return {"int": "kinds.Int", "handle": "kinds.Handle", "key": "kinds.Key"}[type[0]]
+    return {"int": "kinds.Int", "char": "kinds.Char", "handle": "kinds.Handle", "key": "kinds.Key"}[type[0]]
 
 
 def spelled(type):
@@ -75,7 +75,7 @@ def spelled(type):
         return f"(types.Pointer marks.{mark} {spelled(type[2])} Heap)"
     if type[0] == "struct":
         return "(types.Struct 0 [])"
-    return {"int": "types.Int", "handle": "(types.Handle Heap)", "key": "(types.Key Heap)"}[type[0]]
+    return {"int": "types.Int", "char": "types.Char", "handle": "(types.Handle Heap)", "key": "(types.Key Heap)"}[type[0]]
 
 
 def given(type):
@@ -160,10 +160,10 @@ class Writer:
 
     def statement_if(self, item):
         other = self.statement(item.other) if item.other else "t.Empty"
-        return f"(t.If {self.looked(item.condition)} {self.statement(item.body)} {other})"
+        return f"(t.If {self.tested(item.condition)} {self.statement(item.body)} {other})"
 
     def statement_while(self, item):
-        return f"(t.While here {self.looked(item.condition)} {self.statement(item.body)})"
+        return f"(t.While here {self.tested(item.condition)} {self.statement(item.body)})"
 
     def statement_break(self, item):
         return "t.Break"
@@ -175,7 +175,7 @@ class Writer:
         return f"(t.Return (Some {self.converted(item.value)}))" if item.value else "(t.Return None)"
 
     def statement_throw(self, item):
-        value = f"(Some {self.expression(item.value)})" if item.value else "None"
+        value = f"(Some {self.as_int(item.value)})" if item.value else "None"
         return f"(t.Throw {item.tag} {value})"
 
     def statement_try(self, item):
@@ -204,7 +204,7 @@ class Writer:
         if node.kind == "member":
             struct = self.structs.index(node.base.type[2][1])
             return f"(t.Member {kind(node.base.type)} {self.looked(node.base)} {struct} {node.offset} {spelled(node.type)})"
-        return f"(t.Element {self.looked(node.base)} {self.expression(node.index)} {spelled(node.type)})"
+        return f"(t.Element {self.looked(node.base)} {self.as_int(node.index)} {spelled(node.type)})"
 
     @staticmethod
     def is_peek(node):
@@ -215,6 +215,17 @@ class Writer:
         if self.is_peek(node):
             return f"(t.Peek here {node.slot} {spelled(node.type)})"
         return self.expression(node)
+
+    @staticmethod
+    def widened(node, text):
+        """A char where an int is asked for."""
+        return f"(t.Unary unary.Widen {text})" if node.type == types.CHAR else text
+
+    def as_int(self, node):
+        return self.widened(node, self.expression(node))
+
+    def tested(self, node):
+        return self.widened(node, self.looked(node))
 
     def converted(self, node):
         return f"(t.Convert {kind(node.type)} {kind(node.wanted)} {self.expression(node)})"
@@ -263,7 +274,10 @@ class Writer:
         return f"(t.FreeKey (t.Move here {node.key.slot} (types.Key Heap)))"
 
     def expression_unary(self, node):
-        return f"(t.Unary unary.{UNARY[node.sign]} {self.looked(node.operand)})"
+        return f"(t.Unary unary.{UNARY[node.sign]} {self.tested(node.operand)})"
+
+    def expression_char(self, node):
+        return f"(t.Unary unary.LowByte {self.as_int(node.operand)})"
 
     def expression_assign(self, node):
         if node.target.kind == "variable":
@@ -283,18 +297,18 @@ class Writer:
             left = left.left
         rest = "t.NoOperations"
         for link in chain:
-            rest = f"(t.{self.operation(link)} {self.looked_right(link)} {rest})"
-        first = self.looked(left) if node.sign in ("==", "!=", "&&", "||") else self.expression(left)
+            rest = f"(t.{self.operation(link)} {self.operand(link, link.right)} {rest})"
+        first = self.operand(node, left)
         return f"(t.Binary {first} {rest} {spelled(node.type)})"
 
-    def looked_right(self, node):
-        return self.looked(node.right) if node.sign in ("==", "!=", "&&", "||") else self.expression(node.right)
+    def operand(self, node, side):
+        return self.tested(side) if node.sign in ("==", "!=", "&&", "||") else self.as_int(side)
 
     def operation(self, node):
         left, right = node.left.type, node.right.type
         if node.sign in ("&&", "||"):
             return f"ThenTest logical.{'AndThen' if node.sign == '&&' else 'OrElse'}"
-        if left == types.INT:
+        if types.is_number(left):
             return f"ThenCompute operators.{OPERATORS[node.sign]}"
         peek = f"Peek {node.left.slot}" if self.is_peek(node.left) and node.sign in ("==", "!=") else ""
         return f"ThenPointer{peek} pointers.{self.pointer_operator(node.sign, left, right)}"
@@ -323,7 +337,7 @@ class Writer:
         return f"(t.New {placement} {made} {spelled(node.type)})"
 
     def array(self, initial):
-        length, level = self.expression(initial.length), self.level
+        length, level = self.as_int(initial.length), self.level
         self.levels[initial.counter.variable] = level
         self.level += 1
         element = self.expression(initial.element)

@@ -1,12 +1,16 @@
-"""Makes the texts of random programs, by profile: ints, and beside them thin pointers, heap objects, exceptions, unique pointers, regions and keys.
+"""Makes the texts of random programs, by profile: ints, and beside them thin pointers, heap objects, exceptions, unique pointers, regions
+and keys; and chars, beside ints alone and beside all of them.
 
 A program is made so that it is mostly accepted and ends soon. Whether it is, the reference says (`tests/references/reference.py`). `broken`
 changes one token of a text.
 """
 from language.texts import KEYWORDS, tokens_of
-from language.types import HEAP, INT, UNIQUE, pointer
+from language.types import CHAR, HEAP, INT, UNIQUE, pointer
 
 NAMES = list("abcdefgh") + ["x_1", "total"]
+CHAR_NAMES = list("ABCDEFG")
+# A global that nothing hides.
+CHAR_GLOBAL = "Z"
 EDGES = [0, 0, 1, 1, 2, 3, 5, 7, 10, 31, 32, 33, 64, 100, 127, 128, 255, 256, 1000]
 EDGES += [32767, 32768, 32769, 65535, 65536, 65537, 98304, 131071]
 EDGES += [2**30, 2**31 - 2**16, 2**31 - 2**15, 2**31 - 2, 2**31 - 1, 2**31 - 1]
@@ -27,12 +31,15 @@ def filling(name):
 class Maker:
     """Makes the text of one program."""
 
+    # What numbers are called, by which their types are told.
+    NAMES = NAMES
+
     def __init__(self, random_numbers):
         self.random = random_numbers
         # Each function's name, its number of parameters, and whether it has no result.
         count = self.random.randint(1, 5)
         self.functions = [(f"f{number}", self.number_of_parameters(), self.chance(20)) for number in range(count)]
-        self.globals = [f"g{number}" for number in range(self.random.randint(0, 4))] + self.random.sample(NAMES, 2)
+        self.globals = [f"g{number}" for number in range(self.random.randint(0, 4))] + self.random.sample(self.NAMES, 2)
         self.lines = []
         # For each block that is open: the names that it declares, and whether they may be assigned.
         self.scopes = []
@@ -42,6 +49,17 @@ class Maker:
 
     def prepare(self):
         """What a profile has beside ints."""
+
+    def type_of(self, name):
+        return "int"
+
+    def result(self):
+        """The type of a function's result."""
+        return "int"
+
+    def ints(self):
+        """The variables that are ints and may be assigned."""
+        return self.names(True)
 
     def chance(self, percent):
         return self.random.randrange(100) < percent
@@ -73,7 +91,7 @@ class Maker:
         self.lines = []
         for name in self.globals:
             value = self.pick(["", " = " + self.literal(), " = -" + self.literal()])
-            self.put(f"int {name}{value};")
+            self.put(f"{self.type_of(name)} {name}{value};")
         self.put(f"int fuel = {self.pick([3, 10, 30, 60])};")
         parts.append(self.lines)
         for function in self.functions + [None]:
@@ -86,9 +104,9 @@ class Maker:
 
     def function(self, function):
         name, count, self.is_void = function
-        parameters = self.random.sample(NAMES, count) if count <= len(NAMES) else [f"p{number}" for number in range(count)]
-        listed = ", ".join(f"int {parameter}" for parameter in parameters) or self.pick(["", "void"])
-        self.put(f"{'void' if self.is_void else 'int'} {name}({listed}) {{")
+        parameters = self.random.sample(self.NAMES, count) if count <= len(self.NAMES) else [f"p{number}" for number in range(count)]
+        listed = ", ".join(f"{self.type_of(parameter)} {parameter}" for parameter in parameters) or self.pick(["", "void"])
+        self.put(f"{'void' if self.is_void else self.result()} {name}({listed}) {{")
         self.enter({parameter: True for parameter in parameters})
         self.put(filling(name))
         self.put("if (fuel <= 0) return%s;" % ("" if self.is_void else " " + self.literal()))
@@ -137,19 +155,19 @@ class Maker:
         return [self.branch, self.branch, self.loop, self.loop, self.block, self.two_ways]
 
     def local(self, depth):
-        free = [name for name in NAMES if name not in self.scopes[-1]]
+        free = [name for name in self.NAMES if name not in self.scopes[-1]]
         if free:
             name = self.pick(free)
-            self.put(f"int {name} = {self.expression(3)};")
+            self.put(f"{self.type_of(name)} {name} = {self.expression(3)};")
             self.scopes[-1][name] = True
             self.seen(name, 30)
 
     def two_ways(self, depth):
         """A local that gets its value in both ways of a branch."""
-        free = [name for name in NAMES if name not in self.globals and not any(name in scope for scope in self.scopes)]
+        free = [name for name in self.NAMES if name not in self.globals and not any(name in scope for scope in self.scopes)]
         if free:
             name = self.pick(free)
-            self.put(f"int {name};")
+            self.put(f"{self.type_of(name)} {name};")
             self.put(f"if ({self.expression(2)}) {name} = {self.expression(2)}; else {name} = {self.expression(2)};")
             self.scopes[-1][name] = True
 
@@ -196,7 +214,7 @@ class Maker:
     def loop(self, depth):
         """A loop with a counter that nothing else assigns; an inner block may hide it."""
         self.open("{")
-        name, passes = self.pick(NAMES), self.random.randint(0, 4)
+        name, passes = self.pick(self.NAMES), self.random.randint(0, 4)
         self.scopes[-1][name] = False
         more = " && " + self.operand(2) if self.chance(40) else ""
         first, condition, step = self.pick(
@@ -207,7 +225,7 @@ class Maker:
                 (0, f"({name} = {name} + 1) <= {passes}{more}", ""),
             ]
         )
-        self.put(f"int {name} = {first};")
+        self.put(f"{self.type_of(name)} {name} = {first};")
         self.loops += 1
         self.open(f"while ({condition}) {{")
         if step:
@@ -302,8 +320,8 @@ THIN_ROUTINES = [
 
 def spelled(type, keeps_heap=False):
     """A type as it is written, with the heap's name where it is asked for."""
-    if type == INT:
-        return "int"
+    if type in (INT, CHAR):
+        return type[0]
     if type[0] == "struct":
         return f"struct {type[1]}"
     region = f"`{type[3]}" if keeps_heap or type[3] != HEAP else ""
@@ -706,7 +724,7 @@ class UniqueMaker(ExceptionMaker):
         name, type = self.pick(self.full("*?") or [("gu", OWN_STAR)])
         mates = [other for other, found in self.full(type[1])] + [{"*": "gu", "?": "gv"}[type[1]]]
         ints = [f"*{found}" for found, _ in self.to(INT, "@")] + [f"{found}[0]" for found, _ in self.to(INT, "?")]
-        ints += self.names(True)
+        ints += self.ints()
         if self.chance(50):
             name, mates = self.pick(ints), ints
         self.put(f"{name} :=: {self.pick(mates)};")
@@ -784,7 +802,7 @@ class RegionMaker(UniqueMaker):
 
     def address(self, depth):
         """A pointer to an int variable, whose region is left out."""
-        name, value = self.fresh("q"), self.pick(self.names(True))
+        name, value = self.fresh("q"), self.pick(self.ints())
         self.put(f"int @{name} = &{value};")
         self.known[-1][name] = pointer("@", INT, "?")
         self.put(f"*{name} = *{name} {self.pick('+-^')} {self.literal()};")
@@ -819,7 +837,7 @@ class RegionMaker(UniqueMaker):
         self.scopes[-1][value] = True
         self.put(f"int *`{label} {one} = &{value};")
         self.known[-1][one] = pointer("@", INT, label)
-        for outer in self.names(True)[:1]:
+        for outer in self.ints()[:1]:
             kept = self.fresh("q")
             self.put(f"int *{kept} = keep(&{outer}, {one});")
             self.put(f"show(*{kept});")
@@ -865,7 +883,169 @@ class RegionMaker(UniqueMaker):
         self.close()
 
 
-PROFILES = {"ints": Maker, "pointers": PointerMaker, "heap": HeapMaker, "exceptions": ExceptionMaker, "unique": UniqueMaker, "regions": RegionMaker}
+# --- Chars ---
+
+
+class Chars:
+    """Variables, parameters and results that are chars, beside what another maker has."""
+
+    NAMES = NAMES + CHAR_NAMES
+
+    def prepare(self):
+        super().prepare()
+        self.globals += self.random.sample([name for name in CHAR_NAMES if name not in self.globals], 2) + [CHAR_GLOBAL]
+
+    def type_of(self, name):
+        return "char" if name in CHAR_NAMES or name == CHAR_GLOBAL else "int"
+
+    def result(self):
+        return self.pick(["int", "char"])
+
+    def ints(self):
+        return [name for name in self.names(True) if self.type_of(name) == "int"] or ["fuel"]
+
+    def chars(self):
+        return [name for name in self.names(True) if self.type_of(name) == "char"]
+
+    def expressions(self):
+        return super().expressions() + [self.low_byte] * 3
+
+    def low_byte(self, depth):
+        return f"char({self.expression(depth)})"
+
+
+class CharMaker(Chars, Maker):
+    """Ints and chars in variables alone."""
+
+
+CHAR_STAR, CHAR_AT, CHAR_FAT = (pointer(mark, CHAR, HEAP) for mark in "*@?")
+BYTES = ("struct", "B", ())
+BYTES_AT = pointer("@", BYTES, HEAP)
+BYTE_FIELDS = ["a", "b", "c", "d"]
+BYTE_ROUTINES = [
+    "struct B @bytes(char a, int n, char b, int ?`H f) { return new B{a, n, b, a + b, f, a - b}; }",
+    "char ?word(int n) { return new {for i < (n & 7) + 1 : char(n + i)}; }",
+    "void print(char ?s) { int i = 0; while (i < numelts(s)) { putchar(s[i]); i = i + 1; } putchar('\\n'); }",
+    "char mixed(char ?`r s) { char h = 7; int i = 0; while (i < numelts(s)) { h = h * 31 + s[i]; i = i + 1; } return h; }",
+    "char got(char *p) { if (p) return *p; return -1; }",
+    "int spent(char ?`U u) { int n = numelts(u); if (n > 0) n = n * 256 + u[n - 1]; ufree(u); return n; }",
+    "char ?`U kept(int n) { return rnew(unique_region) {for i < n : char(i * n)}; }",
+]
+
+
+class ByteMaker(Chars, RegionMaker):
+    """Cells that are chars: elements, and fields among ints and fat pointers."""
+
+    TYPES = RegionMaker.TYPES + [CHAR_STAR, CHAR_AT, CHAR_FAT, CHAR_FAT, CHAR_FAT, BYTES_AT, BYTES_AT]
+    LENGTHS = [1, 2, 3, 4, 5, 6, 7, 8, 9]
+    ODD_LENGTHS = [0, 255, 256, 3999, 4000, 4001, "-1"]
+
+    def prepare(self):
+        super().prepare()
+        self.routines += BYTE_ROUTINES
+        self.known[0].update({"gs": CHAR_FAT, "gb": BYTES_AT[:1] + ("*",) + BYTES_AT[2:]})
+
+    def declarations(self):
+        struct = ["struct B { char a; int n; char b; char c; int ?f; char d; };"]
+        return super().declarations() + [struct, ["char ?gs;", "struct B *gb = NULL;"]]
+
+    def begin(self):
+        super().begin()
+        for line in ("gs = word(6);", "gb = bytes('x', 1, 'y', gf);"):
+            if self.chance(85):
+                self.put(line)
+
+    def simple_statements(self):
+        ours = [self.char_store, self.char_store, self.char_swap, self.char_swap, self.char_address, self.printed, self.unique_chars]
+        return super().simple_statements() + ours
+
+    def expressions(self):
+        return super().expressions() + [self.char_cell, self.char_cell, self.char_routine] * 2
+
+    def bracketed(self, depth):
+        """An expression of type int: an operator makes it one."""
+        return f"({self.expression(depth)} | 0)"
+
+    def held(self, target, depth):
+        return self.low_byte(depth) if target == CHAR else super().held(target, depth)
+
+    def made_pointer(self, type, depth):
+        if type[2] == BYTES:
+            values = ", ".join(self.simple(depth) for _ in range(3))
+            return self.pick([f"bytes({values}, gf)", f"new B{{{values}, {self.simple(0)}, {self.pointer(INT_FAT, 0)}, {self.simple(0)}}}"])
+        if type == CHAR_FAT and self.chance(30):
+            return f"word({self.simple(depth)})"
+        return super().made_pointer(type, depth)
+
+    def derived(self, type, depth):
+        fields = [f"&{name}->{self.pick(BYTE_FIELDS)}" for name, _ in self.to(BYTES, "@") if type[2] == CHAR]
+        return self.pick(fields) if fields and self.chance(50) else super().derived(type, depth)
+
+    def array(self, target, depth):
+        """An array of chars has other lengths than one of words."""
+        if target != CHAR:
+            return super().array(target, depth)
+        counter = self.fresh("i")
+        length = self.pick(self.LENGTHS) if self.chance(93) else self.pick(self.ODD_LENGTHS)
+        self.scopes.append({counter: False})
+        element = self.low_byte(depth) if self.chance(60) else f"char({counter} + {self.pick([0, 65, 250])})"
+        self.scopes.pop()
+        return f"new {{for {counter} < {length} : {element}}}"
+
+    def char_cells(self):
+        """Places that are chars."""
+        places = [f"*{name}" for name, _ in self.to(CHAR, "@")]
+        places += [f"{name}[{self.pick([0, 1, 2, 3, self.index(1)])}]" for name, _ in self.to(CHAR, "?")]
+        return places + [f"{name}->{field}" for name, _ in self.to(BYTES, "@") for field in BYTE_FIELDS]
+
+    def char_cell(self, depth):
+        cells = self.char_cells() or self.names(False)
+        fats = [name for name, _ in self.to(CHAR, "?")]
+        if fats and self.chance(40):
+            name = self.pick(fats)
+            return self.pick([f"(numelts({name}) > 3 && {name}[{self.random.randrange(4)}])", f"(numelts({name}) ^ {self.literal()})"])
+        return self.pick(cells)
+
+    def char_routine(self, depth):
+        if self.chance(50):
+            return f"got({self.pointer(CHAR_STAR, depth)})"
+        return f"mixed({self.pointer(CHAR_FAT, depth)})"
+
+    def char_store(self, depth):
+        place = self.pick(self.char_cells() + self.chars())
+        self.put(f"{place} = {self.expression(2)};")
+
+    def char_swap(self, depth):
+        cells = self.char_cells() + self.chars()
+        self.put(f"{self.pick(cells)} :=: {self.pick(cells)};")
+
+    def char_address(self, depth):
+        """A pointer to a variable that is a char; what lies beside it stays."""
+        name, value = self.fresh("q"), self.pick(self.chars())
+        self.put(f"char {self.pick('@*?')} {name} = &{value};")
+        self.put(f"*{name} = *{name} {self.pick('+-^*')} {self.literal()};")
+        self.seen(value, 50)
+
+    def printed(self, depth):
+        self.put(self.pick([f"print({self.pointer(CHAR_FAT, 1)});", f"show(mixed({self.pointer(CHAR_FAT, 1)}));"]))
+
+    def unique_chars(self, depth):
+        """An array that is one of a class of blocks, and is given back."""
+        name, length = self.fresh("w"), self.pick([1, 4, 5, 64, 65, 4000])
+        made = [f"kept({length})", f"rnew(unique_region) {{for {name}i_ < {length} : char({name}i_ ^ {self.random.randrange(300)})}}"]
+        self.open("{")
+        self.put(f"char ?`U {name} = {self.pick(made)};")
+        self.put(f"{name}[{self.random.randrange(length)}] = {self.expression(1)};")
+        self.put(f"show(spent({name}));")
+        self.close()
+
+
+PROFILES = {"ints": Maker, "pointers": PointerMaker, "heap": HeapMaker, "exceptions": ExceptionMaker, "unique": UniqueMaker}
+PROFILES.update({"regions": RegionMaker, "chars": CharMaker, "bytes": ByteMaker})
+# Those that have nothing but ints and chars.
+OF_NUMBERS = ("ints", "chars")
+# Those whose programs are run beside the same in C.
+BESIDE_C = ("chars", "bytes")
 
 
 # --- Broken texts ---

@@ -1,20 +1,22 @@
 #!/usr/bin/env python3
-"""Random programs, checked, compiled and run, beside what tests/references/reference.py says of them.
+"""Random programs, checked, compiled and run, beside what tests/references/reference.py says of them, and gcc of some.
 
     python3 tests/runners/differential.py [--program PATH] [--count N] [--profile NAME] [--seed N] [--check] [--texts FOLDER]
 
-The profiles are ints, pointers, heap, exceptions, unique and regions; each has what those before it have. Each program is made so
-that it is mostly accepted and ends soon. One that is accepted is run on two inputs, with just as many calls and pages as
-it needs and fewer, and with a small budget of steps, which has to give a prefix of the whole output. One of its functions
-is filled up with locals until its frame has 256 words, which changes nothing, and 257, which is refused. Beside it stand
-texts that were refused, and the program with one thing changed: what is checked of each is the code and its place.
+The profiles are ints, pointers, heap, exceptions, unique and regions, each of which has what those before it have, chars,
+which has ints and chars alone, and bytes, which has all. Each program is made so that it is mostly accepted and ends soon.
+One that is accepted is run on two inputs, with just as many calls and pages as it needs and fewer, and with a small budget
+of steps, which has to give a prefix of the whole output. One of chars and bytes becomes C too (tests/references/in_c.py),
+which gcc builds; it is run in the same ways and has to answer the same. One of its functions is filled up with locals until
+its frame has 256 words, which changes nothing, and 257, which is refused. Beside it stand texts that were refused, and the
+program with one thing changed: what is checked of each is the code and its place.
 
 No run may come to what is closed or freed: then the reference itself is wrong, or the language's rules are. The same seed
 gives the same programs. The last line is `N passed, M failed`, of programs: `--count` of ints, and a quarter of that of each
 other profile.
 
---check only asks what `check` says. --texts writes the programs to a folder, and those of ints in C beside it. As
-`--program tests/references/in_c.py` answers like the program itself, the expectations for ints can be held against gcc too.
+--check only asks what `check` says. --texts writes the programs to a folder, and each in C beside it. As `--program
+tests/references/in_c.py` answers like the program itself, the expectations for every profile can be held against gcc.
 """
 import os
 import random
@@ -45,7 +47,7 @@ class Wanted:
         run = self.evaluated(self.inputs[0])
         for calls in sorted({run.deepest, max(run.deepest - 1, 1), numbers.randint(1, run.deepest)}):
             self.add(self.inputs[0], calls=calls)
-        for pages in sorted({max(run.store.most, 3), max(run.store.most - 1, 3)}) if profile != "ints" else []:
+        for pages in sorted({max(run.store.most, 3), max(run.store.most - 1, 3)}) if profile not in makers.OF_NUMBERS else []:
             self.add(self.inputs[0], pages=pages)
         self.steps = numbers.choice([1, 10, 100, 1000, 10_000])
         self.fill(numbers)
@@ -109,7 +111,7 @@ class Tried:
 
     def __init__(self, program, folder):
         self.program = program
-        self.source, self.image = os.path.join(folder, "main.cyc"), os.path.join(folder, "main.elf")
+        self.source, self.image, self.built = (os.path.join(folder, name) for name in ("main.cyc", "main.elf", "main"))
         self.fault, self.text = None, None
 
     def want(self, what, expected, got):
@@ -134,6 +136,12 @@ class Tried:
         got = suite.answer([self.program, "run", self.image, *options], given)
         self.want(f"run {' '.join(options)} on {given}", expected, got)
 
+    def run_in_c(self, program, ways):
+        """The program in C, as gcc builds it, on each of these ways to run it."""
+        in_c.build(program, None, self.built)
+        for given, options, expected in ways:
+            self.want(f"in C, run {' '.join(options)} on {given}", expected, suite.answer([self.built, *options], given))
+
     def run_some(self, given, steps, expected):
         """A run with a budget of steps, which ends as the whole run does or has printed a prefix of what that prints."""
         got = suite.answer([self.program, "run", self.image, "--steps", str(steps)], given)
@@ -153,15 +161,17 @@ def try_program(tried, wanted, only_check):
         tried.run(given, options, expected)
     given, _, expected = wanted.runs[0]
     tried.run_some(given, wanted.steps, expected)
+    if wanted.profile in makers.BESIDE_C:
+        tried.run_in_c(wanted.program, wanted.runs)
     tried.compile(wanted.full)
     tried.run(*wanted.runs[0])
     tried.compile(wanted.too_full, wanted.refusal, 2)
 
 
 def write(wanted, path):
-    """The program, in C too where it is of ints, each run with what it has to give, and the texts beside it with their verdicts."""
+    """The program, in C too, each run with what it has to give, and the texts beside it with their verdicts."""
     texts = [(".cyc", wanted.text)] + [(f".{number}.cyc", text) for number, (text, _) in enumerate(wanted.verdicts)]
-    for ending, text in texts + ([(".c", in_c.text_in_c(wanted.program))] if wanted.profile == "ints" else []):
+    for ending, text in [*texts, (".c", in_c.text_in_c(wanted.program))]:
         with open(path + ending, "w", encoding="latin-1") as file:
             file.write(text)
     with open(path + ".txt", "w", encoding="ascii") as file:

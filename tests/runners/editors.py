@@ -39,7 +39,7 @@ KINDS = {
     "sign": ("cycloneSign", "keyword.operator."),
 }
 WORDS = {
-    "type": "int void struct datatype exn region_t uregion_key_t",
+    "type": "int char void struct datatype exn region_t uregion_key_t",
     "statement": "if else while for return break continue throw try catch case default",
     "memory": "region open let alias NewDynamicRegion new_ukey new rnew numelts ufree free_ukey",
     "constant": "NULL unique_region heap_region",

@@ -73,7 +73,7 @@ fn kept(given: Given<'_>) -> Option<ValueType> {
     match given {
         Given::Void => Some(ValueType::Void),
         Given::Null => Some(ValueType::Null),
-        Given::Int | Given::HeapHandle | Given::Value(_) => match given.of_type() {
+        Given::Int | Given::Char | Given::HeapHandle | Given::Value(_) => match given.of_type() {
             Ok(of_type) => Some(ValueType::Value { of_type }),
             Err(_) => None,
         },

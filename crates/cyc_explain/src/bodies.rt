@@ -290,6 +290,7 @@ fn walk_expression(
         Expr::NumberOfElements { pointer, .. } => {
             walk_expression(teller, scope, pointer, Wanted::Fat);
         }
+        Expr::LowByteOf { value, .. } => walk_expression(teller, scope, value, Wanted::Int),
         Expr::FreeUnique { pointer, .. } => walk_expression(teller, scope, pointer, Wanted::Freed),
         Expr::Chained { base, postfixes } => {
             walk_expression(teller, scope, base, Wanted::Nothing);

@@ -165,6 +165,7 @@ fn advice_between(home: Home, other: Home) -> &'static str {
 fn has_shape(of_type: &Ty, wanted: &Ty) -> bool {
     match (of_type, wanted) {
         (Ty::Int, Ty::Int)
+        | (Ty::Char, Ty::Char)
         | (Ty::Handle { .. }, Ty::Handle { .. })
         | (Ty::Key { .. }, Ty::Key { .. }) => true,
         (
@@ -186,10 +187,10 @@ fn has_shape(of_type: &Ty, wanted: &Ty) -> bool {
     }
 }
 
-/// Whether a value is a pointer to what is no int.
+/// Whether a value is a pointer to what is no int and no char.
 fn leads_further(given: Given<'_>) -> bool {
     match given {
-        Given::Value(Ty::Pointer { target, .. }) => !matches!(**target, Ty::Int),
+        Given::Value(Ty::Pointer { target, .. }) => !matches!(**target, Ty::Int | Ty::Char),
         _ => false,
     }
 }
@@ -198,11 +199,11 @@ fn leads_further(given: Given<'_>) -> bool {
 fn advice(given: Given<'_>, wanted: &Ty) -> &'static str {
     if given.is_void() {
         "a function that returns no value is called by itself"
-    } else if given.is_pointer() && matches!(wanted, Ty::Int) {
+    } else if given.is_pointer() && matches!(wanted, Ty::Int | Ty::Char) {
         "write *p for what p leads to"
     } else if !is_pointer(wanted) {
         ""
-    } else if given.is_int() {
+    } else if given.is_int() || given.is_char() {
         "write NULL for a null pointer"
     } else if leads_further(given) {
         "what a pointer leads to is not converted: put a value of that very type there"

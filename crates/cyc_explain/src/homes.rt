@@ -95,7 +95,7 @@ impl Homes {
 
     fn add_type(&mut self, names: &RegionNames, written: &WrittenType) {
         match &written.base {
-            BaseType::Int => {}
+            BaseType::Int | BaseType::Char => {}
             BaseType::Struct { regions, .. } => {
                 for region in regions {
                     self.add_named(names, *region);

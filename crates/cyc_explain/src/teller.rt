@@ -198,6 +198,7 @@ impl<'t> Teller<'t> {
             Part::Given(Given::Void) => self.put(b"no value"),
             Part::Given(Given::Null) => self.put(b"NULL"),
             Part::Given(Given::Int) => self.put(b"int"),
+            Part::Given(Given::Char) => self.put(b"char"),
             Part::Given(Given::HeapHandle) => self.put(b"region_t<`H>"),
             Part::Given(Given::Value(of_type)) => self.say_type(of_type),
             Part::Written(written) => self.say_written(written),
@@ -269,6 +270,7 @@ impl<'t> Teller<'t> {
     fn say_type(&mut self, of_type: &Ty) {
         match of_type {
             Ty::Int => self.put(b"int"),
+            Ty::Char => self.put(b"char"),
             Ty::Pointer {
                 kind,
                 target,
@@ -295,6 +297,7 @@ impl<'t> Teller<'t> {
     fn say_written(&mut self, written: &WrittenType) {
         match &written.base {
             BaseType::Int => self.put(b"int"),
+            BaseType::Char => self.put(b"char"),
             BaseType::Struct { name, .. } => {
                 self.put(b"struct ");
                 self.put_name(name.name.number);

@@ -43,6 +43,11 @@ pub(crate) enum Wanted {
     Handle,
 }
 
+/// Whether a value is an int, or a char that serves as one.
+fn is_number(given: Given<'_>) -> bool {
+    given.is_int() || given.is_char()
+}
+
 fn is_fat(given: Given<'_>) -> bool {
     matches!(
         given,
@@ -127,10 +132,12 @@ impl Wanted {
         match self {
             Wanted::Nothing => true,
             Wanted::Content => given.is_value(),
-            Wanted::Int | Wanted::Measured => given.is_int(),
-            Wanted::Tested => given.is_tested(),
-            Wanted::Compared => given.is_tested() || matches!(given, Given::Null),
-            Wanted::Moved => given.is_int() || is_fat(given) && !given.is_unique(),
+            Wanted::Int | Wanted::Measured => is_number(given),
+            Wanted::Tested => is_number(given) || given.is_pointer(),
+            Wanted::Compared => {
+                is_number(given) || given.is_pointer() || matches!(given, Given::Null)
+            }
+            Wanted::Moved => is_number(given) || is_fat(given) && !given.is_unique(),
             Wanted::Pointer => given.is_pointer(),
             Wanted::Fat => is_fat(given),
             Wanted::Members => has_members(given),

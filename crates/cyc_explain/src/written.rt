@@ -38,7 +38,7 @@ pub(crate) fn say_count(teller: &mut Teller<'_>, wanted: usize, found: usize, th
 /// What a type is that nothing has.
 fn explain_shape(teller: &mut Teller<'_>, written: &WrittenType) {
     match &written.base {
-        BaseType::Int | BaseType::Handle { .. } => {}
+        BaseType::Int | BaseType::Char | BaseType::Handle { .. } => {}
         BaseType::Key { .. } => {
             if !written.marks.is_empty() {
                 teller.say(
@@ -75,7 +75,7 @@ pub(crate) fn explain_region(teller: &mut Teller<'_>, name: Ident, unknown: &str
 /// The words for a written type that is none.
 pub(crate) fn explain_written(teller: &mut Teller<'_>, written: &WrittenType, unknown: &str) {
     match &written.base {
-        BaseType::Int => {}
+        BaseType::Int | BaseType::Char => {}
         BaseType::Struct { regions, .. } => {
             for region in regions {
                 explain_region(

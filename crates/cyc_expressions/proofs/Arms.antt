@@ -13,7 +13,7 @@ use Rattle.cyc_types.specs.TypedTrees.{type_of}
 use Rattle.cyc_types.specs.TypedTrees as typed
 use Rattle.cyc_types.specs.Rules.{Checked, Rule, Part, and_then, fault_at, gives, run}
 use Rattle.cyc_types.specs.typing.Scopes.{Scope}
-use Rattle.cyc_types.specs.typing.Expressions.{Reached, Placed, Made, Joined, loaded, indexed, selected, created, operand, is_looking_first, rule, rule_looked, rule_postfixed, rule_further, rule_made, rule_placement}
+use Rattle.cyc_types.specs.typing.Expressions.{as_int, Reached, Placed, Made, Joined, loaded, indexed, selected, created, operand, is_looking_first, rule, rule_looked, rule_postfixed, rule_further, rule_made, rule_placement}
 use Rattle.cyc_scope.specs.declared.stop.Stop.{Stop}
 use Rattle.cyc_scope.specs.declared.stop.Stop.TheVariants as stops
 use Rattle.cyc_scope.specs.Code.{Stops}
@@ -35,7 +35,7 @@ module _ {A : Type 0} (next : Place → Reached → Rule A) where
       → run (Part (rule_postfixed g q (gives a) (postfixes_of ps)) (next q)) ≡ run (Part (rule_postfixed g q (rule_looked g e (rule g e)) (postfixes_of ps)) (next q))
   walked g e q [] a never h = absurd (never refl)
   walked g e q (postfix.Index i ∷ us) a never h =
-      sym (ap (λ o. and_then (and_then o (λ b. and_then (run (rule g (view_expression i))) (λ j. run (rule_further g q (indexed g q b (place_of (view_expression i)) j) (postfixes_of us))))) (λ w. run (next q w))) h)
+      sym (ap (λ o. and_then (and_then o (λ b. and_then (run (rule g (view_expression i))) (λ j. run (rule_further g q (indexed g q b (place_of (view_expression i)) (as_int j)) (postfixes_of us))))) (λ w. run (next q w))) h)
   walked g e q (postfix.Field f ∷ us) a never h = sym (ap (λ o. and_then (and_then o (λ b. run (rule_further g q (selected g q b (view_name f)) (postfixes_of us)))) (λ w. run (next q w))) h)
 
   pub behind_gives : (g k : Scope) (e d : Expression) (ps us : List Postfix) (p : Place) (a : typed.Expression) → k ≡ g → d ≡ e → us ≡ ps → p ≡ place_of e → ps ≢ []
@@ -49,7 +49,7 @@ module _ {A : Type 0} (next : Place → Reached → Rule A) where
   failed : (g : Scope) (e : Expression) (q : Place) (ps : List Postfix) (f : _) → ps ≢ [] → run (rule_looked g e (rule g e)) ≡ Err f → run (Part (rule_postfixed g q (rule_looked g e (rule g e)) (postfixes_of ps)) (next q)) ≡ Err f
   failed g e q [] f never h = absurd (never refl)
   failed g e q (postfix.Index i ∷ us) f never h =
-      ap (λ o. and_then (and_then o (λ b. and_then (run (rule g (view_expression i))) (λ j. run (rule_further g q (indexed g q b (place_of (view_expression i)) j) (postfixes_of us))))) (λ w. run (next q w))) h
+      ap (λ o. and_then (and_then o (λ b. and_then (run (rule g (view_expression i))) (λ j. run (rule_further g q (indexed g q b (place_of (view_expression i)) (as_int j)) (postfixes_of us))))) (λ w. run (next q w))) h
   failed g e q (postfix.Field x ∷ us) f never h = ap (λ o. and_then (and_then o (λ b. run (rule_further g q (selected g q b (view_name x)) (postfixes_of us)))) (λ w. run (next q w))) h
 
   pub behind_stops : (s : Stop) (g : Scope) (e d : Expression) (ps : List Postfix) → d ≡ e → ps ≢ [] → Stops s (run (rule_looked g d (rule g d))) → Stops s (behind_base g e ps)

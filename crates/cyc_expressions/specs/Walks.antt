@@ -15,7 +15,7 @@ use Rattle.cyc_types.specs.TypedTrees as typed
 use Rattle.cyc_types.specs.TypedTreeView as view
 use Rattle.cyc_types.specs.Rules.{Checked, and_then, fault_at, Rule, Refused, Part, gives, run}
 use Rattle.cyc_types.specs.typing.Scopes.{Scope}
-use Rattle.cyc_types.specs.typing.Expressions.{rule_looked, is_looking, operand, peeked_local, Joined, joined, Found, Reached, Placed, by_handle, indexed, selected, rule, rule_chain}
+use Rattle.cyc_types.specs.typing.Expressions.{as_int, rule_looked, is_looking, operand, peeked_local, Joined, joined, Found, Reached, Placed, by_handle, indexed, selected, rule, rule_chain}
 use Rattle.cyc_expressions.specs.declared.walk.Chain.{Chain}
 
 -- brackets aside, the expression is this name
@@ -34,12 +34,12 @@ rule_by_handle g p e = Part (rule g e) (λ a. gives (by_handle g p a))
 
 -- one postfix behind an operand that begins at this place
 abbrev pub one_postfix : Scope → Place → typed.Expression → Postfix → Checked Reached
-one_postfix g p a (postfix.Index i) = and_then (run (rule g (view_expression i))) (λ b. Ok (indexed g p a (place_of (view_expression i)) b))
+one_postfix g p a (postfix.Index i) = and_then (run (rule g (view_expression i))) (λ b. Ok (indexed g p a (place_of (view_expression i)) (as_int b)))
 one_postfix g p a (postfix.Field f) = Ok (selected g p a (view_name f))
 
 -- one operation of a chain that begins at this place, behind a left operand of this type, which may be a peek of a local
 abbrev pub one_operation : Scope → Place → Option ℕ → ValueType → BinaryOperator → Expression → Checked Joined
-one_operation g p k left o e = run (Part (operand (is_looking o) (rule g e) (rule_looked g e (rule g e))) (λ a. joined g p k left o (place_of e) a))
+one_operation g p k left o e = run (Part (operand (is_looking o) (rule g e) (rule_looked g e (rule g e))) (λ a. joined g p k left o (place_of e) (as_int a)))
 
 -- the type of the left operand of an operation: of the first one, or what the operations so far give
 abbrev pub left_of : ValueType → Option TyCode → ValueType
@@ -55,4 +55,4 @@ view_chain c = (view.operations_of c.operations.items, view_ty c.of_type)
 
 -- what is behind a first operand, which begins at this place
 abbrev pub rule_rest : Scope → Place → typed.Expression → Operations → Rule typed.Expression
-rule_rest g p a os = Part (rule_chain g p (peeked_local a) (type_of a) os) (λ bs. gives (typed.Binary a bs.0 bs.1))
+rule_rest g p a os = Part (rule_chain g p (peeked_local (as_int a)) (type_of (as_int a)) os) (λ bs. gives (typed.Binary (as_int a) bs.0 bs.1))

@@ -15,7 +15,7 @@ ghost use Rattle.cyc_forms.specs.Forms.{GivesOne, Joins, IsReached, IsPlaced, Is
 ghost use Rattle.cyc_expressions.specs.Walks.{name_in, rule_no_place, rule_by_handle, one_postfix, one_operation, rule_rest, view_chain, left_of, peeked_behind};
 
 use cyc_forms::{
-    Found, Given, Left, Made, Placed, Reached, addressed, array_made, as_place, as_unique,
+    Found, Given, Left, Made, Placed, Reached, addressed, array_made, as_int, as_place, as_unique,
     assigned, binary, by_handle, called, computed, created, fields_made, freed, heap_region,
     indexed, is_looking, join, key_freed, loaded, looked, null_pointer, number, number_of_elements,
     on_heap, peeked_local, place_meant, plain_made, pointed, push_value, read, selected,
@@ -92,6 +92,7 @@ fn whole_type(first: Given<'_>, of_type: Option<Ty>, span: Span) -> Result<Ty, S
     match first {
         Given::Void | Given::Null => Err(refused(Code::TypeMismatch, span)),
         Given::Int => Ok(Ty::Int),
+        Given::Char => Ok(Ty::Char),
         Given::HeapHandle => Ok(Ty::Handle {
             region: Region::Heap,
         }),
@@ -144,6 +145,10 @@ pub fn check_expression(scope: &mut Scope<'_>, expression: &Expr) -> Result<Box<
         Expr::NumberOfElements { pointer, .. } => {
             let value = check_looked(scope, pointer)?;
             number_of_elements(scope.alloc(), span_of(pointer), value)
+        }
+        Expr::LowByteOf { value, .. } => {
+            let whole = check_expression(scope, value)?;
+            computed(scope.alloc(), UnaryOperator::LowByte, span_of(value), whole)
         }
         Expr::FreeUnique { pointer, .. } => {
             let value = check_expression(scope, pointer)?;
@@ -320,6 +325,7 @@ pub fn check_place(scope: &mut Scope<'_>, expression: &Expr, span: Span) -> Resu
         | Expr::UniqueRegion { .. }
         | Expr::Call { .. }
         | Expr::NumberOfElements { .. }
+        | Expr::LowByteOf { .. }
         | Expr::FreeUnique { .. }
         | Expr::FreeKey { .. }
         | Expr::New { .. }
@@ -461,6 +467,7 @@ fn check_chain(
     ensures gives { Gives view_boxed result (run (rule_rest scope.old (place_of_span span) (view_boxed left) (operations_of operations.now))) }
     ensures same { OnOk result (scope.new ≡ scope.old) }
 {
+    let left = as_int(scope.alloc(), left)?;
     let first = Left {
         span,
         peeked: peeked_local(&left),
@@ -560,6 +567,7 @@ fn check_placement(
         | Expr::Variable { .. }
         | Expr::Call { .. }
         | Expr::NumberOfElements { .. }
+        | Expr::LowByteOf { .. }
         | Expr::FreeUnique { .. }
         | Expr::FreeKey { .. }
         | Expr::Chained { .. }

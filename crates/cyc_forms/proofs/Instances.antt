@@ -13,7 +13,7 @@ use Rattle.cyc_types.specs.declared.ty.Ty.{Ty as TyCode}
 use Rattle.cyc_types.specs.declared.typed.Converted.{Converted as ConvertedCode}
 use Rattle.cyc_types.specs.TypeView.{view_ty}
 use Rattle.cyc_types.specs.TypedTrees.{type_of}
-use Rattle.cyc_types.specs.Types.{Ty, Int, Pointer, Handle, Key, Struct}
+use Rattle.cyc_types.specs.Types.{Ty, Int, Char, Pointer, Handle, Key, Struct}
 use Rattle.cyc_types.specs.typing.Expressions.{all_paired, paired, paired_argument, paired_arguments, first_place, first_places, is_unique_for_variable}
 use Rattle.cyc_forms.specs.Forms.{value_in}
 use Rattle.cyc_forms.specs.Instances.{noted_at, noted_place, noted_places}
@@ -73,16 +73,29 @@ any_append test ps qs = list_any-append test ps qs
 
 pub paired_int : (t : Ty) → paired t Int ≡ []
 paired_int Int = refl
+paired_int Char = refl
 paired_int (Pointer k t r) = refl
 paired_int (Handle r) = refl
 paired_int (Key r) = refl
 paired_int (Struct n rs) = refl
 
+pub paired_char : (t : Ty) → paired t Char ≡ []
+paired_char Int = refl
+paired_char Char = refl
+paired_char (Pointer k t r) = refl
+paired_char (Handle r) = refl
+paired_char (Key r) = refl
+paired_char (Struct n rs) = refl
+
 pub no_unique_int : (t : Ty) → list_any is_unique_for_variable (paired t Int) ≡ false
 no_unique_int t = ap (list_any is_unique_for_variable) (paired_int t)
 
+pub no_unique_char : (t : Ty) → list_any is_unique_for_variable (paired t Char) ≡ false
+no_unique_char t = ap (list_any is_unique_for_variable) (paired_char t)
+
 pub no_unique_heap : (t : Ty) → list_any is_unique_for_variable (paired t (Handle Heap)) ≡ false
 no_unique_heap Int = refl
+no_unique_heap Char = refl
 no_unique_heap (Pointer k t r) = refl
 no_unique_heap (Handle Heap) = refl
 no_unique_heap (Handle Unique) = refl

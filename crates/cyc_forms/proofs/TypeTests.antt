@@ -6,7 +6,7 @@ use Rattle.cyc_syntax.specs.declared.tree.PointerKind.{PointerKind}
 use Rattle.cyc_syntax.specs.declared.tree.PointerKind.TheVariants.{Nullable, NonNull, Fat}
 use Rattle.cyc_types.specs.declared.region.Region.{Region}
 use Rattle.cyc_types.specs.Regions.{region_eq}
-use Rattle.cyc_types.specs.Types.{Ty, Int, Pointer, Handle, Key, Struct}
+use Rattle.cyc_types.specs.Types.{Ty, Int, Char, Pointer, Handle, Key, Struct}
 use Rattle.cyc_types.specs.typing.Tests.{mark_eq, regions_eq, ty_eq}
 use Rattle.cyc_types.proofs.RegionLemmas.{region_eq-refl}
 use Rattle.cyc_types.proofs.typing.TestLemmas.{ty_eq-true}
@@ -22,6 +22,7 @@ regions_eq-refl (r ∷ rs) = and_from (region_eq r r) (regions_eq rs rs) (region
 
 ty_eq-refl : (t : Ty) → ty_eq t t ≡ true
 ty_eq-refl Int = refl
+ty_eq-refl Char = refl
 ty_eq-refl (Pointer k t r) = and_from (mark_eq k k) (ty_eq t t && region_eq r r) (mark_eq-refl k) (and_from (ty_eq t t) (region_eq r r) (ty_eq-refl t) (region_eq-refl r))
 ty_eq-refl (Handle r) = region_eq-refl r
 ty_eq-refl (Key r) = region_eq-refl r

@@ -13,13 +13,13 @@ use Rattle.cyc_types.specs.declared.typed.Operation.{Operation}
 use Rattle.cyc_types.specs.declared.typed.Operation.TheVariants as operation
 use Rattle.cyc_types.specs.declared.typed.UnaryOperator.{UnaryOperator}
 use Rattle.cyc_types.specs.declared.typed.UnaryOperator.TheVariants as unary
-use Rattle.cyc_types.specs.Types.{Int, Pointer, Handle, ValueType, Void, Null, Value}
+use Rattle.cyc_types.specs.Types.{Int, Char, Pointer, Handle, ValueType, Void, Null, Value}
 use Rattle.cyc_types.specs.TypeView.{view_ty}
 use Rattle.cyc_types.specs.TypedTrees.{type_of, type_of_place}
 use Rattle.cyc_types.specs.TypedTrees as typed
 use Rattle.cyc_types.specs.TypedTreeView as view
 use Rattle.cyc_types.specs.Rules.{Checked, lesser, settled, unless, Rule, Own}
-use Rattle.cyc_types.specs.typing.Expressions.{Found, Reached, Placed, Made, Joined, content_demanded, int_wanted, test_wanted}
+use Rattle.cyc_types.specs.typing.Expressions.{Found, Reached, Placed, Made, Joined, content_demanded, as_int, int_wanted, test_wanted}
 use Rattle.cyc_scope.specs.declared.stop.Stop.{Stop}
 use Rattle.cyc_scope.specs.Code.{Stops}
 use Rattle.cyc_forms.specs.declared.given.Given.{Given}
@@ -34,6 +34,7 @@ abbrev pub view_given : Given → ValueType
 view_given given.Void = Void
 view_given given.Null = Null
 view_given given.Int = Value Int
+view_given given.Char = Value Char
 view_given given.HeapHandle = Value (Handle Heap)
 view_given (given.Value t) = Value (view_ty t.now)
 
@@ -115,9 +116,8 @@ abbrev pub Joins : (old new : List Operation) → Result TyCode Stop → Checked
 Joins old new (Ok t) checked = (o : Operation) × (new ≡ old ++ o ∷ []) × (checked ≡ Ok (put_operation o, view_ty t))
 Joins old new (Err e) checked = Stops e checked
 
--- ---- operators of one operand, which is at this place
+-- ---- operators of one operand, which is at this place: a char serves as an int
 
 abbrev pub computed : UnaryOperator → Place → typed.Expression → Rule typed.Expression
-computed unary.Negate q a = Own (int_wanted (type_of a) q ∷ []) (typed.Unary unary.Negate a)
-computed unary.Not q a = Own (test_wanted (type_of a) q ∷ []) (typed.Unary unary.Not a)
-computed unary.Complement q a = Own (int_wanted (type_of a) q ∷ []) (typed.Unary unary.Complement a)
+computed unary.Not q a = Own (test_wanted (type_of (as_int a)) q ∷ []) (typed.Unary unary.Not (as_int a))
+computed o q a = Own (int_wanted (type_of (as_int a)) q ∷ []) (typed.Unary o (as_int a))

@@ -17,10 +17,12 @@ use cyc_types::typed::Converted;
 use cyc_types::{Region, Ty, typed};
 use cyc_words::{Code, Span};
 
-fn is_int(wanted: &Ty) -> bool
-    ensures { result ≡ is_convertible types.Int (view_ty wanted.now) }
+/// Whether a type is that of ints or of chars, which are converted to each other.
+fn is_number(wanted: &Ty) -> bool
+    ensures int { result ≡ is_convertible types.Int (view_ty wanted.now) }
+    ensures char { result ≡ is_convertible types.Char (view_ty wanted.now) }
 {
-    matches!(wanted, Ty::Int)
+    matches!(wanted, Ty::Int | Ty::Char)
 }
 
 fn is_heap_handle(wanted: &Ty) -> bool
@@ -39,7 +41,7 @@ fn is_alike(value: Given<'_>, wanted: &Ty) -> bool
     match value {
         Given::Void => false,
         Given::Null => is_pointer(wanted),
-        Given::Int => is_int(wanted),
+        Given::Int | Given::Char => is_number(wanted),
         Given::HeapHandle => is_heap_handle(wanted),
         Given::Value(of_type) => is_convertible(of_type, wanted),
     }
@@ -50,7 +52,7 @@ fn is_null_allowed(value: Given<'_>, wanted: &Ty) -> bool
 {
     match value {
         Given::Null => !is_non_null(wanted),
-        Given::Void | Given::Int | Given::HeapHandle | Given::Value(_) => true,
+        Given::Void | Given::Int | Given::Char | Given::HeapHandle | Given::Value(_) => true,
     }
 }
 
@@ -75,7 +77,7 @@ fn is_outlived(scope: &Scope<'_>, value: Given<'_>, wanted: &Ty) -> bool
 {
     match value {
         Given::Value(of_type) => is_type_outlived(scope, of_type, wanted),
-        Given::Void | Given::Null | Given::Int | Given::HeapHandle => true,
+        Given::Void | Given::Null | Given::Int | Given::Char | Given::HeapHandle => true,
     }
 }
 

@@ -2,17 +2,17 @@
 ghost use Rattle.std.specs.Prelude.{◌≡◌, IfOk};
 ghost use Rattle.cyc_types.specs.Types.{Value};
 ghost use Rattle.cyc_types.specs.TypeView.{view_ty, view_value_type};
-ghost use Rattle.cyc_types.specs.TypedTrees.{type_of_place, type_of};
+ghost use Rattle.cyc_types.specs.TypedTrees.{unary_type, type_of_place, type_of};
 ghost use Rattle.cyc_types.specs.TypedTreeView.{view_expression, view_dereference};
-ghost use Rattle.cyc_types.specs.typing.Tests.{is_pointer, is_unique, is_key, is_fat, is_handle, is_void, is_int, is_value, is_tested, value_of, target_of, region_of, kind_of, kind_of_value};
+ghost use Rattle.cyc_types.specs.typing.Tests.{is_pointer, is_unique, is_key, is_fat, is_handle, is_void, is_int, is_char, is_value, is_tested, value_of, target_of, region_of, kind_of, kind_of_value};
 ghost use Rattle.cyc_types.specs.typing.Expressions.{is_any, has_members, is_movable};
 ghost use Rattle.cyc_forms.specs.Forms.{view_given};
 
 use crate::types::{
-    has_members, is_fat, is_handle, is_int_type, is_key, is_movable, is_pointer, is_unique,
-    kind_of, region_of, target_of,
+    has_members, is_char_type, is_fat, is_handle, is_int_type, is_key, is_movable, is_pointer,
+    is_unique, kind_of, region_of, target_of,
 };
-use cyc_types::typed::{Kind, ValueType};
+use cyc_types::typed::{Kind, UnaryOperator, ValueType};
 use cyc_types::{Region, Ty, typed};
 use std::alloc::AllocError;
 
@@ -24,6 +24,7 @@ pub enum Given<'a> {
     /// The null pointer, of whatever type is wanted.
     Null,
     Int,
+    Char,
     /// The handle of the heap.
     HeapHandle,
     /// A value of the type that its node has.
@@ -48,8 +49,8 @@ impl<'a> Given<'a> {
         match value {
             typed::Expr::Number { .. }
             | typed::Expr::Counter { .. }
-            | typed::Expr::NumberOfElements { .. }
-            | typed::Expr::Unary { .. } => Given::Int,
+            | typed::Expr::NumberOfElements { .. } => Given::Int,
+            typed::Expr::Unary { operator, .. } => Given::computed(*operator),
             typed::Expr::NullPointer => Given::Null,
             typed::Expr::HeapRegion => Given::HeapHandle,
             typed::Expr::FreeUnique { .. } | typed::Expr::FreeKey { .. } => Given::Void,
@@ -64,6 +65,19 @@ impl<'a> Given<'a> {
             typed::Expr::Call { result, .. }
             | typed::Expr::Assign { result, .. }
             | typed::Expr::Store { result, .. } => Given::of(result),
+        }
+    }
+
+    /// What an operator of one operand gives.
+    fn computed(operator: UnaryOperator) -> Given<'a>
+        ensures { view_given result ≡ Value (unary_type operator) }
+    {
+        match operator {
+            UnaryOperator::LowByte => Given::Char,
+            UnaryOperator::Negate
+            | UnaryOperator::Not
+            | UnaryOperator::Complement
+            | UnaryOperator::Widen => Given::Int,
         }
     }
 
@@ -89,7 +103,7 @@ impl<'a> Given<'a> {
     {
         match self {
             Given::Void | Given::Null => false,
-            Given::Int | Given::HeapHandle | Given::Value(_) => true,
+            Given::Int | Given::Char | Given::HeapHandle | Given::Value(_) => true,
         }
     }
 
@@ -99,7 +113,17 @@ impl<'a> Given<'a> {
         match self {
             Given::Int => true,
             Given::Value(of_type) => is_int_type(of_type),
-            Given::Void | Given::Null | Given::HeapHandle => false,
+            Given::Void | Given::Null | Given::Char | Given::HeapHandle => false,
+        }
+    }
+
+    pub fn is_char(self) -> bool
+        ensures { result ≡ is_char (view_given self.entry) }
+    {
+        match self {
+            Given::Char => true,
+            Given::Value(of_type) => is_char_type(of_type),
+            Given::Void | Given::Null | Given::Int | Given::HeapHandle => false,
         }
     }
 
@@ -110,7 +134,7 @@ impl<'a> Given<'a> {
         match self {
             Given::Int => true,
             Given::Value(of_type) => is_int_type(of_type) || is_pointer(of_type),
-            Given::Void | Given::Null | Given::HeapHandle => false,
+            Given::Void | Given::Null | Given::Char | Given::HeapHandle => false,
         }
     }
 
@@ -119,7 +143,7 @@ impl<'a> Given<'a> {
     {
         match self {
             Given::Value(of_type) => is_pointer(of_type),
-            Given::Void | Given::Null | Given::Int | Given::HeapHandle => false,
+            Given::Void | Given::Null | Given::Int | Given::Char | Given::HeapHandle => false,
         }
     }
 
@@ -129,7 +153,7 @@ impl<'a> Given<'a> {
     {
         match self {
             Given::Value(of_type) => has_members(of_type),
-            Given::Void | Given::Null | Given::Int | Given::HeapHandle => false,
+            Given::Void | Given::Null | Given::Int | Given::Char | Given::HeapHandle => false,
         }
     }
 
@@ -138,7 +162,7 @@ impl<'a> Given<'a> {
     {
         match self {
             Given::Value(of_type) => is_fat(of_type),
-            Given::Void | Given::Null | Given::Int | Given::HeapHandle => false,
+            Given::Void | Given::Null | Given::Int | Given::Char | Given::HeapHandle => false,
         }
     }
 
@@ -148,7 +172,7 @@ impl<'a> Given<'a> {
     {
         match self {
             Given::Value(of_type) => is_movable(of_type),
-            Given::Void | Given::Null | Given::Int | Given::HeapHandle => false,
+            Given::Void | Given::Null | Given::Int | Given::Char | Given::HeapHandle => false,
         }
     }
 
@@ -157,7 +181,7 @@ impl<'a> Given<'a> {
     {
         match self {
             Given::Value(of_type) => is_unique(of_type),
-            Given::Void | Given::Null | Given::Int | Given::HeapHandle => false,
+            Given::Void | Given::Null | Given::Int | Given::Char | Given::HeapHandle => false,
         }
     }
 
@@ -166,7 +190,7 @@ impl<'a> Given<'a> {
     {
         match self {
             Given::Value(of_type) => is_key(of_type),
-            Given::Void | Given::Null | Given::Int | Given::HeapHandle => false,
+            Given::Void | Given::Null | Given::Int | Given::Char | Given::HeapHandle => false,
         }
     }
 
@@ -176,7 +200,7 @@ impl<'a> Given<'a> {
         match self {
             Given::HeapHandle => true,
             Given::Value(of_type) => is_handle(of_type),
-            Given::Void | Given::Null | Given::Int => false,
+            Given::Void | Given::Null | Given::Int | Given::Char => false,
         }
     }
 
@@ -186,7 +210,9 @@ impl<'a> Given<'a> {
     {
         match self {
             Given::Value(of_type) => region_of(of_type),
-            Given::Void | Given::Null | Given::Int | Given::HeapHandle => Region::Heap,
+            Given::Void | Given::Null | Given::Int | Given::Char | Given::HeapHandle => {
+                Region::Heap
+            }
         }
     }
 
@@ -199,6 +225,7 @@ impl<'a> Given<'a> {
             Given::HeapHandle => Ok(Ty::Handle {
                 region: Region::Heap,
             }),
+            Given::Char => Ok(Ty::Char),
             Given::Void | Given::Null | Given::Int => Ok(Ty::Int),
         }
     }
@@ -209,7 +236,9 @@ impl<'a> Given<'a> {
     {
         match self {
             Given::Value(of_type) => target_of(of_type),
-            Given::Void | Given::Null | Given::Int | Given::HeapHandle => Ok(Ty::Int),
+            Given::Void | Given::Null | Given::Int | Given::Char | Given::HeapHandle => {
+                Ok(Ty::Int)
+            }
         }
     }
 
@@ -220,6 +249,7 @@ impl<'a> Given<'a> {
         match self {
             Given::Value(of_type) => kind_of(of_type),
             Given::HeapHandle => Kind::Handle,
+            Given::Char => Kind::Char,
             Given::Void | Given::Null | Given::Int => Kind::Int,
         }
     }
@@ -232,6 +262,7 @@ impl<'a> Given<'a> {
             Given::Value(of_type) => kind_of(of_type),
             Given::Null => Kind::Nullable,
             Given::HeapHandle => Kind::Handle,
+            Given::Char => Kind::Char,
             Given::Void | Given::Int => Kind::Int,
         }
     }

@@ -89,12 +89,12 @@ fn note_heap_handle(table: &mut [Option<Region>], parameter: &Ty)
     }
 }
 
-#[tactic(auto, using(crate::proofs::Instances::paired_int))]
+#[tactic(auto, using(crate::proofs::Instances::paired_int, crate::proofs::Instances::paired_char))]
 fn note_given(table: &mut [Option<Region>], parameter: &Ty, given: Given<'_>)
     ensures { table.new ≡ noted_places table.old (paired_argument (view_ty parameter.now) (view_given given.entry)) }
 {
     match given {
-        Given::Void | Given::Null | Given::Int => {}
+        Given::Void | Given::Null | Given::Int | Given::Char => {}
         Given::HeapHandle => note_heap_handle(table, parameter),
         Given::Value(of_type) => note_type(table, parameter, of_type),
     }
@@ -211,12 +211,12 @@ fn has_unique_in(parameter: &Ty, given: &Ty) -> bool
 }
 
 /// Whether the region of unique pointers stands at a place of a region variable.
-#[tactic(auto, using(crate::proofs::Instances::no_unique_int, crate::proofs::Instances::no_unique_heap))]
+#[tactic(auto, using(crate::proofs::Instances::no_unique_int, crate::proofs::Instances::no_unique_char, crate::proofs::Instances::no_unique_heap))]
 pub(crate) fn has_unique(parameter: &Ty, given: Given<'_>) -> bool
     ensures { result ≡ list_any is_unique_for_variable (paired_argument (view_ty parameter.now) (view_given given.entry)) }
 {
     match given {
-        Given::Void | Given::Null | Given::Int | Given::HeapHandle => false,
+        Given::Void | Given::Null | Given::Int | Given::Char | Given::HeapHandle => false,
         Given::Value(of_type) => has_unique_in(parameter, of_type),
     }
 }

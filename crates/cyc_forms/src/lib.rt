@@ -10,7 +10,7 @@ pub use objects::{Made, Placed, array_made, as_unique, by_handle, created, on_he
 pub use operands::{
     int_wanted, is_looking, peeked_local, span_inside, span_of, test_wanted, value_wanted,
 };
-pub use operators::{Left, binary, computed, freed, join, number_of_elements};
+pub use operators::{Left, as_int, binary, computed, freed, join, number_of_elements};
 pub use passing::push_value;
 pub use places::{
     Found, Reached, addressed, as_place, assigned, indexed, loaded, pointed, selected, type_of_side,

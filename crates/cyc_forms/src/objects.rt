@@ -13,6 +13,7 @@ ghost use Rattle.cyc_forms.specs.Forms.{view_given, view_boxed, IsPlaced, IsMade
 
 use crate::given::Given;
 use crate::nodes::boxed;
+use crate::operators::as_int;
 use crate::places::live_wanted;
 use cyc_scope::{Scope, Settled, Stop};
 use cyc_syntax::PointerKind;
@@ -164,7 +165,7 @@ fn array(
 }
 
 /// An array of this length, with an element for each value of the counter of this level. Its `for`, the length and the element stand at
-/// these places.
+/// these places. A char serves for the length.
 #[inline(never)]
 pub fn array_made(
     alloc: Global,
@@ -175,8 +176,9 @@ pub fn array_made(
     element_span: Span,
     element: Box<typed::Expr>,
 ) -> Result<Box<Made>, Stop>
-    ensures { GivesOne IsMade result (Ok (array_made level (place_of_span for_span) (place_of_span span) (view_boxed length) (place_of_span element_span) (view_boxed element))) }
+    ensures { GivesOne IsMade result (Ok (array_made level (place_of_span for_span) (place_of_span span) (rules.as_int (view_boxed length)) (place_of_span element_span) (view_boxed element))) }
 {
+    let length = as_int(alloc, length)?;
     let given = Given::by(&element);
     let mut settled = Settled::new();
     settled.demand(Code::TypeMismatch, span, Given::by(&length).is_int());

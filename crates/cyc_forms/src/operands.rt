@@ -26,6 +26,7 @@ pub fn span_of(expression: &Expr) -> Span
         | Expr::UniqueRegion { span }
         | Expr::Bracketed { span, .. }
         | Expr::NumberOfElements { span, .. }
+        | Expr::LowByteOf { span, .. }
         | Expr::FreeUnique { span, .. }
         | Expr::FreeKey { span, .. }
         | Expr::Prefixed { span, .. }

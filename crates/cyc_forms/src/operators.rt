@@ -1,5 +1,5 @@
 //! Operators: of one operand, and those that join two.
-ghost use Rattle.std.specs.Prelude.{◌≡◌, [], ◌∷◌, ◌++◌, not, ◌||◌, None, Ok, OnOk, IfErr};
+ghost use Rattle.std.specs.Prelude.{◌≡◌, [], ◌∷◌, ◌++◌, not, ◌||◌, None, Ok, OnOk, IfOk, IfErr};
 ghost use Rattle.cyc_syntax.specs.TreeView.{place_of_span};
 ghost use Rattle.cyc_words.specs.declared.fault.Code.TheVariants as codes;
 ghost use Rattle.cyc_types.specs.declared.typed.Operation.{Operation as OperationCode};
@@ -26,7 +26,7 @@ use cyc_syntax::BinaryOperator;
 use cyc_types::typed::{LogicalOperator, Operation, Operator, PointerOperator, UnaryOperator};
 use cyc_types::{Ty, typed};
 use cyc_words::{Code, Span};
-use std::alloc::Global;
+use std::alloc::{AllocError, Global};
 
 /// The left operand of an operator: where its chain begins, the local that it is a peek of, and its type.
 #[derive(Clone, Copy)]
@@ -62,6 +62,23 @@ fn unary(
     boxed(alloc, typed::Expr::Unary { operator, operand })
 }
 
+/// The node where an int is asked for: a char serves, by its value.
+#[inline(never)]
+pub fn as_int(alloc: Global, value: Box<typed::Expr>) -> Result<Box<typed::Expr>, AllocError>
+    ensures { IfOk result (λ b. view_boxed b ≡ rules.as_int (view_boxed value)) }
+{
+    if Given::by(&value).is_char() {
+        return Ok(Box::new(
+            alloc,
+            typed::Expr::Unary {
+                operator: UnaryOperator::Widen,
+                operand: value,
+            },
+        )?);
+    }
+    Ok(value)
+}
+
 /// An operator that computes, with its operand, which stands at this place.
 #[inline(never)]
 pub fn computed(
@@ -72,11 +89,13 @@ pub fn computed(
 ) -> Result<Box<typed::Expr>, Stop>
     ensures { Gives view_boxed result (run (computed operator (place_of_span span) (view_boxed operand))) }
 {
+    let operand = as_int(alloc, operand)?;
     match operator {
-        UnaryOperator::Negate | UnaryOperator::Complement => {
-            int_wanted(Given::by(&operand), span)?;
-        }
         UnaryOperator::Not => test_wanted(Given::by(&operand), span)?,
+        UnaryOperator::Negate
+        | UnaryOperator::Complement
+        | UnaryOperator::Widen
+        | UnaryOperator::LowByte => int_wanted(Given::by(&operand), span)?,
     }
     unary(alloc, operator, operand)
 }
@@ -275,9 +294,8 @@ fn push_type_sum(
 {
     match left {
         Ty::Int => push_compute(operations, operator, operand),
-        Ty::Pointer { .. } | Ty::Handle { .. } | Ty::Key { .. } | Ty::Struct { .. } => {
-            push_pointer(operations, None, fat, operand)
-        }
+        Ty::Char | Ty::Pointer { .. } | Ty::Handle { .. } | Ty::Key { .. } | Ty::Struct { .. } =>
+            push_pointer(operations, None, fat, operand),
     }
 }
 
@@ -296,7 +314,7 @@ fn push_sum(
     match left {
         Given::Int => push_compute(operations, operator, operand),
         Given::Value(of_type) => push_type_sum(operations, of_type, operator, fat, operand),
-        Given::Void | Given::Null | Given::HeapHandle => {
+        Given::Void | Given::Null | Given::Char | Given::HeapHandle => {
             push_pointer(operations, None, fat, operand)
         }
     }
@@ -324,7 +342,7 @@ fn is_comparable_type(of_type: &Ty) -> bool
 {
     match of_type {
         Ty::Int | Ty::Pointer { .. } => true,
-        Ty::Handle { .. } | Ty::Key { .. } | Ty::Struct { .. } => false,
+        Ty::Char | Ty::Handle { .. } | Ty::Key { .. } | Ty::Struct { .. } => false,
     }
 }
 
@@ -332,7 +350,7 @@ fn is_comparable(value: Given<'_>) -> bool
     ensures { result ≡ is_comparable (view_given value.entry) }
 {
     match value {
-        Given::Void | Given::HeapHandle => false,
+        Given::Void | Given::Char | Given::HeapHandle => false,
         Given::Null | Given::Int => true,
         Given::Value(of_type) => is_comparable_type(of_type),
     }
@@ -475,13 +493,17 @@ fn type_comparison(peeked: Option<usize>, negated: bool, left: &Ty, right: Given
                 peeked,
                 operator: null_test(negated, is_thin_mark(*kind)),
             },
-            Given::Int | Given::HeapHandle | Given::Value(_) => Comparison::OfPointers {
-                peeked,
-                operator: thin_test(negated),
-            },
+            Given::Int | Given::Char | Given::HeapHandle | Given::Value(_) => {
+                Comparison::OfPointers {
+                    peeked,
+                    operator: thin_test(negated),
+                }
+            }
             Given::Void => of_ints(negated),
         },
-        Ty::Int | Ty::Handle { .. } | Ty::Key { .. } | Ty::Struct { .. } => of_ints(negated),
+        Ty::Int | Ty::Char | Ty::Handle { .. } | Ty::Key { .. } | Ty::Struct { .. } => {
+            of_ints(negated)
+        }
     }
 }
 
@@ -494,7 +516,7 @@ fn compared(peeked: Option<usize>, negated: bool, left: Given<'_>, right: Given<
             operator: null_tested(negated),
         },
         Given::Value(of_type) => type_comparison(peeked, negated, of_type, right),
-        Given::Void | Given::Int | Given::HeapHandle => of_ints(negated),
+        Given::Void | Given::Int | Given::Char | Given::HeapHandle => of_ints(negated),
     }
 }
 
@@ -544,8 +566,9 @@ pub fn join(
     span: Span,
     operand: Box<typed::Expr>,
 ) -> Result<Ty, Stop>
-    ensures { Joins operations.old.items operations.new.items result (run (joined scope.now (place_of_span left.entry.span) left.entry.peeked (view_given left.entry.given) operator (place_of_span span) (view_boxed operand))) }
+    ensures { Joins operations.old.items operations.new.items result (run (joined scope.now (place_of_span left.entry.span) left.entry.peeked (view_given left.entry.given) operator (place_of_span span) (rules.as_int (view_boxed operand)))) }
 {
+    let operand = as_int(scope.alloc(), operand)?;
     let os = operations;
     match operator {
         BinaryOperator::OrElse => join_tests(os, left, LogicalOperator::OrElse, span, operand),

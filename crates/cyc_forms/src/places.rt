@@ -15,6 +15,7 @@ ghost use Rattle.cyc_forms.specs.Forms.{view_given, view_boxed, found_of, view_f
 use crate::conversion::{convert, converted};
 use crate::given::{Given, type_of_place};
 use crate::nodes::boxed;
+use crate::operators::as_int;
 use crate::types::{arguments_of, is_key, is_moved, is_struct, is_unique, same_region, struct_of};
 use cyc_scope::{Field, Scope, Settled, Stop};
 use cyc_syntax::{Ident, PointerKind};
@@ -174,7 +175,7 @@ pub fn pointed(scope: &Scope<'_>, span: Span, value: Box<typed::Expr>) -> Result
     )?)
 }
 
-/// `e[i]`, where e and i are at these places.
+/// `e[i]`, where e and i are at these places. A char serves for i.
 #[inline(never)]
 pub fn indexed(
     scope: &Scope<'_>,
@@ -183,8 +184,9 @@ pub fn indexed(
     index_span: Span,
     index: Box<typed::Expr>,
 ) -> Result<Box<Reached>, Stop>
-    ensures { GivesOne IsReached result (Ok (indexed scope.now (place_of_span span) (view_boxed value) (place_of_span index_span) (view_boxed index))) }
+    ensures { GivesOne IsReached result (Ok (indexed scope.now (place_of_span span) (view_boxed value) (place_of_span index_span) (rules.as_int (view_boxed index)))) }
 {
+    let index = as_int(scope.alloc(), index)?;
     let given = Given::by(&value);
     let mut settled = Settled::new();
     settled.demand(Code::TypeMismatch, span, given.is_fat());

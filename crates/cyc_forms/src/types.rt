@@ -3,7 +3,7 @@ ghost use Rattle.std.specs.Prelude.{◌≡◌, IfOk};
 ghost use Rattle.cyc_types.specs.Regions.{region_eq};
 ghost use Rattle.cyc_types.specs.Types.{Value};
 ghost use Rattle.cyc_types.specs.TypeView.{view_ty};
-ghost use Rattle.cyc_types.specs.typing.Tests.{ty_eq, is_thin_mark, is_pointer, is_non_null, is_unique, is_key, is_struct, is_moved, is_int, is_fat, is_handle, target_of, region_of, struct_of, arguments_of, kind_of_mark, kind_of};
+ghost use Rattle.cyc_types.specs.typing.Tests.{ty_eq, is_thin_mark, is_pointer, is_non_null, is_unique, is_key, is_struct, is_moved, is_int, is_char, is_fat, is_handle, target_of, region_of, struct_of, arguments_of, kind_of_mark, kind_of};
 ghost use Rattle.cyc_types.specs.typing.Expressions.{is_convertible, has_members, is_movable};
 
 use cyc_syntax::PointerKind;
@@ -42,6 +42,12 @@ pub(crate) fn is_int_type(of_type: &Ty) -> bool
     ensures { result ≡ is_int (Value (view_ty of_type.now)) }
 {
     matches!(of_type, Ty::Int)
+}
+
+pub(crate) fn is_char_type(of_type: &Ty) -> bool
+    ensures { result ≡ is_char (Value (view_ty of_type.now)) }
+{
+    matches!(of_type, Ty::Char)
 }
 
 pub fn is_pointer(of_type: &Ty) -> bool
@@ -128,7 +134,7 @@ pub(crate) fn is_convertible(of_type: &Ty, wanted: &Ty) -> bool
     ensures { result ≡ is_convertible (view_ty of_type.now) (view_ty wanted.now) }
 {
     match (of_type, wanted) {
-        (Ty::Int, Ty::Int) => true,
+        (Ty::Int | Ty::Char, Ty::Int | Ty::Char) => true,
         (
             Ty::Pointer { target, .. },
             Ty::Pointer {
@@ -158,7 +164,7 @@ pub fn region_of(of_type: &Ty) -> Region
 {
     match of_type {
         Ty::Pointer { region, .. } | Ty::Handle { region } | Ty::Key { region } => *region,
-        Ty::Int | Ty::Struct { .. } => Region::Heap,
+        Ty::Int | Ty::Char | Ty::Struct { .. } => Region::Heap,
     }
 }
 
@@ -208,6 +214,7 @@ pub fn kind_of(of_type: &Ty) -> Kind
 {
     match of_type {
         Ty::Int | Ty::Struct { .. } => Kind::Int,
+        Ty::Char => Kind::Char,
         Ty::Pointer { kind, .. } => kind_of_mark(*kind),
         Ty::Handle { .. } => Kind::Handle,
         Ty::Key { .. } => Kind::Key,

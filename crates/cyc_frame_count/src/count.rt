@@ -11,7 +11,7 @@ ghost use Rattle.cyc_frame_count.specs.Needs.{most_frame_count, operands_need, o
 use cyc_types::Ty;
 use cyc_types::typed::{
     Body, Clause, Converted, Dereference, Expr, Function, Initial, Item, Kind, Operation,
-    Placement, Side, Stmt, ValueType,
+    Placement, Side, Stmt, UnaryOperator, ValueType,
 };
 
 /// A place counts as many words: what is assigned, what has its address taken, and both sides of a swap.
@@ -33,7 +33,7 @@ pub fn words_of_kind(kind: Kind) -> usize
 {
     match kind {
         Kind::Fat => 3,
-        Kind::Int | Kind::Nullable | Kind::NonNull | Kind::Handle | Kind::Key => 1,
+        Kind::Int | Kind::Char | Kind::Nullable | Kind::NonNull | Kind::Handle | Kind::Key => 1,
     }
 }
 
@@ -146,7 +146,13 @@ fn expression_need(value: &Expr) -> usize
             result,
             ..
         } => operands_need(arguments, 0, result_words(result)),
-        Expr::Unary { operand, .. } => (operand_words(operand) + 1).max(expression_need(operand)),
+        Expr::Unary { operator, operand } => match operator {
+            UnaryOperator::Widen => expression_need(operand),
+            UnaryOperator::Negate
+            | UnaryOperator::Not
+            | UnaryOperator::Complement
+            | UnaryOperator::LowByte => (operand_words(operand) + 1).max(expression_need(operand)),
+        },
         Expr::Binary {
             first,
             rest,

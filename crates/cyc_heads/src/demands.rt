@@ -101,7 +101,7 @@ fn demand_base(
     ensures { settled.new.known ≡ settle settled.old.known (base_demanded structs.now names.now own (place_of_span span) (view_base base.now)) }
 {
     match base {
-        BaseType::Int => {}
+        BaseType::Int | BaseType::Char => {}
         BaseType::Struct { name, regions } => {
             demand_struct(settled, structs, names, own, span, *name, regions);
         }
@@ -144,7 +144,7 @@ fn is_shape(base: &BaseType, marks: &[Pointer]) -> bool
     ensures { result ≡ is_shape (view_base base.now) (map view_pointer marks.now) }
 {
     match base {
-        BaseType::Int | BaseType::Handle { .. } => true,
+        BaseType::Int | BaseType::Char | BaseType::Handle { .. } => true,
         BaseType::Struct { .. } => match marks.first() {
             Some(mark) => mark.kind != PointerKind::Fat,
             None => false,
@@ -197,12 +197,12 @@ pub fn demand_field(
     );
 }
 
-/// Whether it is an int or a pointer.
+/// Whether it is an int, a char or a pointer.
 fn is_global_shape(base: &BaseType, marks: &[Pointer]) -> bool
     ensures { result ≡ is_global_shape (view_base base.now) (map view_pointer marks.now) }
 {
     match base {
-        BaseType::Int => true,
+        BaseType::Int | BaseType::Char => true,
         _ => !marks.is_empty(),
     }
 }

@@ -1,14 +1,13 @@
 //! The heads of globals, and their values at the start.
 ghost use Rattle.std.specs.Prelude.{◌≡◌, ◌∷◌, None, map, option_map, IfOk, OnOk};
 ghost use Rattle.cyc_syntax.specs.TreeView.{place_of_span, view_name, view_type, view_value, view_declaration};
-ghost use Rattle.cyc_types.specs.Types.{Value};
 ghost use Rattle.cyc_types.specs.TypeView.{view_ty};
 ghost use Rattle.cyc_types.specs.TypedTreeView.{view_constant, view_global};
 ghost use Rattle.cyc_types.specs.Rules.{settled as settle, run};
-ghost use Rattle.cyc_types.specs.typing.Tests.{is_pointer, is_non_null, is_int};
+ghost use Rattle.cyc_types.specs.typing.Tests.{is_number, is_pointer, is_non_null};
 ghost use Rattle.cyc_types.specs.typing.Formation.{global_demanded};
 ghost use Rattle.cyc_types.specs.typing.Heads.{value_demanded, head_demanded, rule_global};
-ghost use Rattle.cyc_types.specs.typing.Programs.{constant_of, globals_of};
+ghost use Rattle.cyc_types.specs.typing.Programs.{word_of, constant_of, globals_of};
 ghost use Rattle.cyc_scope.specs.Code.{Gives, Ends};
 
 use crate::demands::demand_global;
@@ -19,11 +18,12 @@ use cyc_types::{Known, NameSet, Region, Ty, typed};
 use cyc_words::{Code, Span};
 use std::alloc::{AllocError, Global};
 
-fn is_int(of_type: &Ty) -> bool
-    ensures { result ≡ is_int (Value (view_ty of_type.now)) }
+/// Whether a value of this type is written as a number.
+fn is_number(of_type: &Ty) -> bool
+    ensures { result ≡ is_number (view_ty of_type.now) }
 {
     match of_type {
-        Ty::Int => true,
+        Ty::Int | Ty::Char => true,
         _ => false,
     }
 }
@@ -59,7 +59,7 @@ fn demand_value(settled: &mut Settled, of_type: &Ty, span: Span, value: Option<G
             GlobalValue::Number { span, .. }
             | GlobalValue::Negative { span, .. }
             | GlobalValue::Character { span, .. },
-        ) => settled.demand(Code::TypeMismatch, span, is_int(of_type)),
+        ) => settled.demand(Code::TypeMismatch, span, is_number(of_type)),
         Some(GlobalValue::Null { span }) => {
             settled.demand(Code::TypeMismatch, span, is_pointer(of_type));
             settled.demand(Code::NullForNonNull, span, !is_non_null(of_type));
@@ -112,6 +112,16 @@ pub(crate) fn check_global(
     settled.end()
 }
 
+/// The word of a global of this type whose value is written as this one: a char keeps its low byte.
+fn word_of(of_type: &Ty, written: u32) -> u32
+    ensures { result ≡ word_of (view_ty of_type.now) written }
+{
+    match of_type {
+        Ty::Char => written % 256,
+        _ => written,
+    }
+}
+
 /// The value of a global of this type at the start, which is 0 or null where none is written.
 fn constant_of(of_type: &Ty, value: Option<GlobalValue>) -> typed::Constant
     ensures { view_constant result ≡ constant_of (view_ty of_type.now) (option_map view_value value) }
@@ -124,12 +134,14 @@ fn constant_of(of_type: &Ty, value: Option<GlobalValue>) -> typed::Constant
                 typed::Constant::Word { value: 0 }
             }
         }
-        Some(GlobalValue::Number { value, .. }) => typed::Constant::Word { value },
+        Some(GlobalValue::Number { value, .. }) => typed::Constant::Word {
+            value: word_of(of_type, value),
+        },
         Some(GlobalValue::Negative { value, .. }) => typed::Constant::Word {
-            value: cyc_words::sub(0, value),
+            value: word_of(of_type, cyc_words::sub(0, value)),
         },
         Some(GlobalValue::Character { value, .. }) => typed::Constant::Word {
-            value: u32::from(value),
+            value: word_of(of_type, u32::from(value)),
         },
         Some(GlobalValue::Null { .. }) => typed::Constant::Null,
     }

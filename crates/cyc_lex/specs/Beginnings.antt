@@ -9,7 +9,7 @@ likely_keyword b m n =
     if nat_lt n 2 then None
     else (if b == 97 then Some words.Alias
     else (if b == 98 then Some words.Break
-    else (if b == 99 then (if n == 4 then Some words.Case else (if n == 5 then Some words.Catch else Some words.Continue))
+    else (if b == 99 then (if n == 4 then (if m == 97 then Some words.Char else Some words.Case) else (if n == 5 then Some words.Catch else Some words.Continue))
     else (if b == 100 then (if n == 7 then Some words.Default else Some words.Datatype)
     else (if b == 101 then (if n == 3 then Some words.Exn else Some words.Else)
     else (if b == 102 then (if n == 3 then Some words.For else Some words.FreeKey)

@@ -12,6 +12,7 @@ fn keyword_text(keyword: Keyword) -> &'static [u8]
 {
     match keyword {
         Keyword::Int => b"int",
+        Keyword::Char => b"char",
         Keyword::Void => b"void",
         Keyword::Struct => b"struct",
         Keyword::Datatype => b"datatype",
@@ -55,9 +56,10 @@ fn likely_keyword(first: u8, middle: u8, len: usize) -> Option<Keyword>
         _ if len < 2 => None,
         b'a' => Some(Keyword::Alias),
         b'b' => Some(Keyword::Break),
-        b'c' => match len {
-            4 => Some(Keyword::Case),
-            5 => Some(Keyword::Catch),
+        b'c' => match (len, middle) {
+            (4, b'a') => Some(Keyword::Char),
+            (4, _) => Some(Keyword::Case),
+            (5, _) => Some(Keyword::Catch),
             _ => Some(Keyword::Continue),
         },
         b'd' => match len {

@@ -36,13 +36,13 @@ use Rattle.cyc_lower.specs.Slots.{starts_from, global_types}
 
 -- ---- trees
 
-abbrev nowhere : Place
+abbrev pub nowhere : Place
 nowhere = record { line = 1; column = 1 }
 
-abbrev int : Expression → Converted
+abbrev pub int : Expression → Converted
 int a = Convert kinds.Int kinds.Int a
 
-abbrev local : ℕ → Expression
+abbrev pub local : ℕ → Expression
 local n = Copy (Local nowhere n) Int
 
 abbrev global : ℕ → Expression
@@ -51,7 +51,7 @@ global n = Copy (Global n) Int
 abbrev sets : ℕ → Expression → Expression
 sets n a = Assign (Local nowhere n) (int a) (Value Int)
 
-abbrev two : Expression → Operations → Expression
+abbrev pub two : Expression → Operations → Expression
 two a os = Binary a os Int
 
 abbrev passed : List Expression → Arguments
@@ -62,15 +62,15 @@ abbrev call : Callee → List Expression → Expression
 call f arguments = Call f (passed arguments) (Value Int)
 
 -- statements one after the other
-abbrev all : List Statement → Items
+abbrev pub all : List Statement → Items
 all [] = NoItems
 all (s ∷ ss) = MoreItems (Execute s) (all ss)
 
-abbrev returns : Expression → Statement
+abbrev pub returns : Expression → Statement
 returns a = Return (Some (int a))
 
 -- a function of so many ints, with so many more
-abbrev function : List Ty → List Ty → Items → Function
+abbrev pub function : List Ty → List Ty → Items → Function
 function parameters locals body = record {
   name = 0;
   place = nowhere;
@@ -102,7 +102,7 @@ program body others = record {
 abbrev after : ℕ → Program → List ℕ → State
 after steps p input = run (lower_program p) 3 9 zeros steps (start (lower_program p) 0x7ffff000 (stores.start 3 (λ (address : ℕ). 0)) input)
 
-abbrev ends : ℕ → Program → List ℕ → Status
+abbrev pub ends : ℕ → Program → List ℕ → Status
 ends steps p input = status_of (after steps p input)
 
 abbrev gives : ℕ → Expression → Status
@@ -366,7 +366,7 @@ wide_code : function_code [] [] None (function [] (Pointer Fat Int Heap ∷ Int 
 wide_code = refl
 
 -- a fat global has three words, which come and go one by one, and the global behind it begins behind them
-abbrev fat_global : GlobalVariable
+abbrev pub fat_global : GlobalVariable
 fat_global = record { name = 0; of_type = Pointer Fat Int Heap; value = Null }
 
 abbrev int_global : GlobalVariable

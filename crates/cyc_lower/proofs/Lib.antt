@@ -13,3 +13,4 @@ pub mod call_steps
 pub mod sizes
 -- worked examples
 pub mod Examples
+pub mod CharExamples

@@ -1,5 +1,6 @@
 -- the code that emits, and that counts
 pub mod Emitting
+pub mod CellCode
 pub mod Branching
 pub mod Conditions
 pub mod Handlers

@@ -2,5 +2,6 @@
 pub mod Handles
 pub mod Asking
 pub mod Allocations
+pub mod ArrayWords
 pub mod Arrays
 pub mod UniqueBlocks

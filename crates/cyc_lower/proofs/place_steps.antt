@@ -1,5 +1,6 @@
 -- the steps that find places, and that read and write them
 pub mod PlaceWords
+pub mod KindWords
 pub mod StoredWords
 pub mod Sources
 pub mod CellLoads

@@ -122,7 +122,7 @@ module _ (starts : Starts) where
   -- one item of a block
   abbrev pub item_code : Item → (p : ℕ) → Exits → (t : ℕ) → List Instruction
   item_code (item.Execute s) p exits t = statement_code starts (view_statement s) p exits t
-  item_code (item.Local n ty v) p exits t = declaration_code starts n (option_map view_converted v) p t
+  item_code (item.Local n ty v) p exits t = declaration_code starts n (view_ty ty) (option_map view_converted v) p t
   item_code (item.Region r n) p exits t = opened_code starts n t
   item_code (item.Open r n w k) p exits t = named_code starts 1 n (Slot (slot_of starts k))
   item_code (item.Alias r n ty w s) p exits t = named_code starts (words_of (view_ty ty)) n (Slot (slot_of starts s))

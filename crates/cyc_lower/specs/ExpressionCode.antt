@@ -1,6 +1,7 @@
 -- The code of expressions.
 use Rattle.std.specs.Prelude.{ℕ, suc, ◌+◌, if◌then◌else◌, List, [], ◌∷◌, ◌++◌, length, ◌-◌, Option, None, Some, slice_get}
 use Rattle.cyc_types.specs.declared.typed.Callee.TheVariants as callees
+use Rattle.cyc_types.specs.declared.typed.UnaryOperator.TheVariants as unary
 use Rattle.cyc_types.specs.Types.{words_of}
 use Rattle.cyc_types.specs.TypedTrees.{Array, Counter, Load, New, OnHeap, Initial, Plain, Fields, Dereference, Target, Lvalue, Local, Global, Expression, Number, NullPointer, Copy, Call, Unary, Binary, Assign, Converted, Convert, Arguments, NoArguments, MoreArguments, Operations, NoOperations, ThenCompute, ThenTest, ThenPointer, ThenPointerPeek, Word, Function, Move, Peek, AddressOfCell, Store, Member, Element, AsUnique, FreeUnique, NumberOfElements, type_of_place, HeapRegion, AddressOf, FreeKey, ByHandle}
 use Rattle.cyc_plain.specs.declared.instruction.Operand.{Operand}
@@ -8,9 +9,9 @@ use Rattle.cyc_plain.specs.declared.instruction.Operand.TheVariants as operands
 use Rattle.cyc_plain.specs.declared.instruction.Instruction.{Instruction}
 use Rattle.cyc_plain.specs.declared.instruction.Instruction.TheVariants as instructions
 use Rattle.cyc_store.specs.declared.range.TheConstants.{HEAP, UNIQUE}
-use Rattle.cyc_meaning.specs.Values.{is_thin}
+use Rattle.cyc_meaning.specs.Values.{is_thin, kind_of}
 use Rattle.cyc_lower.specs.Slots.{Starts, slot_of, with_counter, counter_of, field_of, global_of}
-use Rattle.cyc_lower.specs.ValueCode.{unary_operator, behind_left, operand_or, code_unless, slot_or, code_unless_slot, left_with, next_slot, move_of, reached_operand, followed_operand, span_in, conversion_code, span_of, null_of, count_code, low_byte, compute_code, pointer_code, test_code, copy_code, addressed_by, word_by_word, load_word, global_code, loaded_code, words_behind, address_of_code, are_as_wide, converts_there, passed_words, all_passed, kinds_passed, converted_by, moved_by, followed_by, element_by, tested_by}
+use Rattle.cyc_lower.specs.ValueCode.{unary_instruction, behind_left, operand_or, code_unless, slot_or, code_unless_slot, left_with, next_slot, move_of, reached_operand, followed_operand, span_in, conversion_code, span_of, null_of, count_code, low_byte, compute_code, pointer_code, test_code, copy_code, addressed_by, word_by_word, load_word, global_code, loaded_code, kind_behind, address_of_code, keeps_words, converts_there, passed_words, all_passed, kind_passed, kinds_passed, converted_by, moved_by, followed_by, element_by, tested_by}
 use Rattle.cyc_lower.specs.ObjectCode.{stored_by, object_code, array_code, free_code}
 use Rattle.cyc_lower.specs.ControlCode.{closing_code, counter_operand}
 
@@ -18,7 +19,8 @@ use Rattle.cyc_lower.specs.ControlCode.{closing_code, counter_operand}
 module _ (starts : Starts) where
   -- ---- where values stand
 
-  -- what an expression is without code: a number, null, the heap's handle, a local, or a counter
+  -- what an expression is without code: a number, null, the heap's handle, a local, or a counter; a char that serves as an int is what it
+  -- was
   abbrev pub operand_of : Expression → Option Operand
   operand_of (Number n) = Some (operands.Word n)
   operand_of NullPointer = Some (operands.Word 0)
@@ -27,6 +29,7 @@ module _ (starts : Starts) where
   operand_of (Move p n t) = Some (operands.Slot (slot_of starts n))
   operand_of (Peek p n t) = Some (operands.Slot (slot_of starts n))
   operand_of (Counter l) = counter_operand (slice_get starts.counters l)
+  operand_of (Unary unary.Widen a) = operand_of a
   operand_of a = None
 
   abbrev pub left_of : Expression → Operations → Option Operand
@@ -36,6 +39,7 @@ module _ (starts : Starts) where
   -- The slot for the value of an expression that is an operand: an assigned local has its value already.
   abbrev pub value_slot : Expression → (t : ℕ) → ℕ
   value_slot (Assign (Local w n) c ty) t = slot_of starts n
+  value_slot (Unary unary.Widen a) t = value_slot a t
   value_slot a t = t
 
   -- the slot for the value of a left operand
@@ -54,10 +58,10 @@ module _ (starts : Starts) where
 
   -- A value is converted where it is, but where it changes its words: then it is brought to slot t.
   abbrev pub source_of : Converted → Option Operand
-  source_of (Convert from to a) = if are_as_wide from to then operand_of a else null_of a
+  source_of (Convert from to a) = if keeps_words from to then operand_of a else null_of a
 
   abbrev pub source_slot : Converted → (t : ℕ) → ℕ
-  source_slot (Convert from to a) t = if are_as_wide from to then value_slot a t else t
+  source_slot (Convert from to a) t = if keeps_words from to then value_slot a t else t
 
   abbrev pub converted_operand : Converted → (t : ℕ) → Operand
   converted_operand c t = operand_or (source_of c) (source_slot c t)
@@ -112,9 +116,10 @@ abbrev mutual
   expression_code starts (NumberOfElements a) p d t =
       code_unless (operand_of starts a) (expression_code starts a p (value_slot starts a t) t)
       ++ count_code (value_operand starts a t) (p + length (code_unless (operand_of starts a) (expression_code starts a p (value_slot starts a t) t))) d
+  expression_code starts (Unary unary.Widen a) p d t = expression_code starts a p d t
   expression_code starts (Unary o a) p d t =
       code_unless (operand_of starts a) (expression_code starts a p (value_slot starts a t) t)
-      ++ instructions.Unary (unary_operator o) d (value_operand starts a t)
+      ++ unary_instruction o d (value_operand starts a t)
       ∷ []
   expression_code starts (Binary a os ty) p d t =
       code_unless (left_of starts a os) (expression_code starts a p (left_slot starts a os d t) t)
@@ -124,12 +129,12 @@ abbrev mutual
       initial_code starts c p (slot_of starts n) t ++ copy_code (passed_words c) (operands.Slot (slot_of starts n)) d
   expression_code starts (Assign (Global n) c ty) p d t =
       (converted_operand_code starts c p t ++ global_code (passed_words c) (global_of starts n) (converted_operand starts c t)) ++ copy_code (passed_words c) (converted_operand starts c t) d
-  expression_code starts (Load x) p d t = place_code starts x p t ++ loaded_code (words_of (type_of_place x)) (place_operand starts x t) (place_offset starts x) d t
-  expression_code starts (AddressOf l ty) p d t = address_of_code starts l (words_behind ty) d
+  expression_code starts (Load x) p d t = place_code starts x p t ++ loaded_code (kind_of (type_of_place x)) (place_operand starts x t) (place_offset starts x) d t
+  expression_code starts (AddressOf l ty) p d t = address_of_code starts l (kind_behind ty) d
   expression_code starts (AddressOfCell x ty) p d t = addressed_by (place_code starts x p t) (place_operand starts x t) (place_offset starts x) d
   expression_code starts (Store x c ty) p d t =
       stored_by (addressed_by (place_code starts x p t) (place_operand starts x t) (place_offset starts x) t)
-      (converted_operand_code starts c (p + length (addressed_by (place_code starts x p t) (place_operand starts x t) (place_offset starts x) t)) (t + 1)) (passed_words c) t (converted_operand starts c (t + 1))
+      (converted_operand_code starts c (p + length (addressed_by (place_code starts x p t) (place_operand starts x t) (place_offset starts x) t)) (t + 1)) (kind_passed c) t (converted_operand starts c (t + 1))
       ++ copy_code (passed_words c) (converted_operand starts c (t + 1)) d
   expression_code starts (FreeUnique a) p d t =
       code_unless (operand_of starts a) (expression_code starts a p (value_slot starts a t) t)

@@ -7,6 +7,7 @@ use Rattle.std.specs.Prelude.{ℕ, suc, ◌+◌, Bool, false, List, [], ◌∷�
 use Rattle.std.specs.List.{list_any}
 use Rattle.cyc_words.specs.declared.span.Span.{Span}
 use Rattle.cyc_syntax.specs.Symbols.{Place}
+use Rattle.cyc_types.specs.declared.typed.Kind.{Kind}
 use Rattle.cyc_types.specs.declared.typed.Callee.TheVariants as callees
 use Rattle.cyc_types.specs.Types.{Ty, Handle, words_of}
 use Rattle.cyc_types.specs.typing.Expressions.{type_of_side}
@@ -17,11 +18,12 @@ use Rattle.cyc_plain.specs.declared.instruction.Instruction.{Instruction}
 use Rattle.cyc_plain.specs.declared.instruction.Instruction.TheVariants as instructions
 use Rattle.cyc_plain.specs.Program.{Routine, Program as PlainProgram}
 use Rattle.cyc_plain.specs.declared.limits.TheConstants.{RECORD_WORDS}
+use Rattle.cyc_meaning.specs.Values.{kind_of, words_of_kind}
 use Rattle.cyc_meaning.specs.FrameCount.{frame_count, items_need, words_of_all, kept_by_items}
 use Rattle.cyc_lower.specs.Slots.{Types, Starts, starts_from, slot_of, global_of, global_types}
 use Rattle.cyc_lower.specs.declared.operands.Condition.{Condition}
 use Rattle.cyc_lower.specs.declared.statements.Exits.{Exits}
-use Rattle.cyc_lower.specs.ValueCode.{slot_types, first_temporary, operand_or, code_unless, slot_or, code_unless_slot, left_with, blocks, move_of, conversion_code, span_of, addressed_by, word_by_word, global_code, passed_words}
+use Rattle.cyc_lower.specs.ValueCode.{slot_types, first_temporary, operand_or, code_unless, slot_or, code_unless_slot, left_with, blocks, move_of, conversion_code, span_of, addressed_by, word_by_word, global_code, passed_words, kind_passed, blank_code}
 use Rattle.cyc_lower.specs.ObjectCode.{stores_code, stored_by, load_at, right_slot}
 use Rattle.cyc_lower.specs.ControlCode.{compared_of, failing_jump, if_code, break_target, continue_target, while_code, named_code, opened_code, closed_code, dynamic_code, leave_code, behind_record, kept_code, tag_operand, handled_code, clause_code, goes_on, outside_loops, inside_loop, inside_try, inside_region}
 use Rattle.cyc_lower.specs.ExpressionCode.{operand_of, value_slot, slot_with, value_operand, source_of, converted_operand, printed_operand, place_operand, place_offset, load_code, expression_code, place_code, converted_operand_code, printed_code, initial_code}
@@ -43,7 +45,7 @@ module _ (starts : Starts) where
   -- a value is stored in a cell
   abbrev pub store_code : Dereference → Converted → (p t : ℕ) → List Instruction
   store_code x c p t =
-      stored_by (store_address_code x p t) (converted_operand_code starts c (p + length (store_address_code x p t)) (t + 1)) (passed_words c) t (converted_operand starts c (t + 1))
+      stored_by (store_address_code x p t) (converted_operand_code starts c (p + length (store_address_code x p t)) (t + 1)) (kind_passed c) t (converted_operand starts c (t + 1))
 
   -- the code of an expression whose value nobody wants
   abbrev pub discarded_code : Expression → (p t : ℕ) → List Instruction
@@ -95,31 +97,32 @@ module _ (starts : Starts) where
   side_code (VariableSide l ty) p t = []
   side_code (CellSide x) p t = store_address_code x p t
 
-  -- the words that a side holds come to slot d and those behind it
-  abbrev pub read_side : Side → (words address d : ℕ) → List Instruction
-  read_side (VariableSide l ty) words s d = load_code starts words l d
-  read_side (CellSide x) words s d = word_by_word (load_at s) words 0 d
+  -- the words of a kind that a side holds come to slot d and those behind it
+  abbrev pub read_side : Side → Kind → (address d : ℕ) → List Instruction
+  read_side (VariableSide l ty) kind s d = load_code starts (words_of_kind kind) l d
+  read_side (CellSide x) kind s d = word_by_word (load_at kind s) (words_of_kind kind) 0 d
 
   -- the words in slot v and those behind it come to a side
-  abbrev pub write_side : Side → (words address v : ℕ) → List Instruction
-  write_side (VariableSide (Local w n) ty) words s v = move_of words (slot_of starts n) (operands.Slot v) ∷ []
-  write_side (VariableSide (Global n) ty) words s v = global_code words (global_of starts n) (operands.Slot v)
-  write_side (CellSide x) words s v = stores_code words s 0 v
+  abbrev pub write_side : Side → Kind → (address v : ℕ) → List Instruction
+  write_side (VariableSide (Local w n) ty) kind s v = move_of (words_of_kind kind) (slot_of starts n) (operands.Slot v) ∷ []
+  write_side (VariableSide (Global n) ty) kind s v = global_code (words_of_kind kind) (global_of starts n) (operands.Slot v)
+  write_side (CellSide x) kind s v = stores_code kind (words_of_kind kind) s 0 v
 
-  -- both sides, of so many words, are read, the left one first, and then written
-  abbrev pub exchange_code : (words : ℕ) → (left right : Side) → (t : ℕ) → List Instruction
-  exchange_code words a b t =
-      read_side a words t (t + 2)
-      ++ (read_side b words (right_slot a t) (t + 2 + words) ++ (write_side a words t (t + 2 + words) ++ write_side b words (right_slot a t) (t + 2)))
+  -- both sides, of a kind, are read, the left one first, and then written
+  abbrev pub exchange_code : Kind → (left right : Side) → (t : ℕ) → List Instruction
+  exchange_code kind a b t =
+      read_side a kind t (t + 2)
+      ++ (read_side b kind (right_slot a t) (t + 2 + words_of_kind kind)
+      ++ (write_side a kind t (t + 2 + words_of_kind kind) ++ write_side b kind (right_slot a t) (t + 2)))
 
   abbrev pub swap_code : (left right : Side) → (p t : ℕ) → List Instruction
   swap_code a b p t =
-      side_code a p t ++ (side_code b (p + length (side_code a p t)) (right_slot a t) ++ exchange_code (words_of (type_of_side a)) a b t)
+      side_code a p t ++ (side_code b (p + length (side_code a p t)) (right_slot a t) ++ exchange_code (kind_of (type_of_side a)) a b t)
 
-  -- a local with an initial value gets it
-  abbrev pub declaration_code : (number : ℕ) → Option Converted → (p t : ℕ) → List Instruction
-  declaration_code n None p t = []
-  declaration_code n (Some c) p t = initial_code starts c p (slot_of starts n) t
+  -- a local of a type with an initial value gets it
+  abbrev pub declaration_code : (number : ℕ) → Ty → Option Converted → (p t : ℕ) → List Instruction
+  declaration_code n ty None p t = blank_code (kind_of ty) (slot_of starts n)
+  declaration_code n ty (Some c) p t = initial_code starts c p (slot_of starts n) t
 
   -- what an exception tells, which is 0 where it has no int
   abbrev pub thrown_operand : Option Expression → (t : ℕ) → Operand
@@ -162,7 +165,7 @@ module _ (starts : Starts) where
     items_code (MoreItems (Execute s) js) p exits t =
         statement_code s p exits t ++ items_code js (p + length (statement_code s p exits t)) exits t
     items_code (MoreItems (Declare n ty v) js) p exits t =
-        declaration_code n v p t ++ items_code js (p + length (declaration_code n v p t)) exits t
+        declaration_code n ty v p t ++ items_code js (p + length (declaration_code n ty v p t)) exits t
     -- behind a region the temporaries begin behind its mark, and at the end of the block it is closed
     items_code (MoreItems (DeclareRegion r n) js) p exits t =
         opened_code starts n t ++ (items_code js (p + length (opened_code starts n t)) (inside_region exits t) (t + 1) ++ closed_code t)

@@ -58,6 +58,7 @@ with_counter starts slot = record { locals = starts.locals; structs = starts.str
 -- where a cell of a kind begins, behind so many bytes: a word, since it is wrapped
 abbrev pub begins_word : Kind → (at : ℕ) → ℕ
 begins_word kinds.Int at = add_of at 3 / 4 * 4
+begins_word kinds.Char at = at
 begins_word kinds.Nullable at = add_of at 3 / 4 * 4
 begins_word kinds.NonNull at = add_of at 3 / 4 * 4
 begins_word kinds.Fat at = add_of at 3 / 4 * 4

@@ -1,5 +1,5 @@
 -- The code that brings words to slots: of operands, places, operators and conversions.
-use Rattle.std.specs.Prelude.{ℕ, zero, suc, ◌+◌, ◌==◌, Bool, false, if◌then◌else◌, List, [], ◌∷◌, ◌++◌, length, ◌-◌, Option, None, Some, ◌%◌, ◌^◌, true, option_map, unwrap_or}
+use Rattle.std.specs.Prelude.{ℕ, zero, suc, ◌+◌, ◌==◌, Bool, false, not, ◌&&◌, if◌then◌else◌, List, [], ◌∷◌, ◌++◌, length, ◌-◌, Option, None, Some, ◌%◌, ◌^◌, true, option_map, unwrap_or}
 use Rattle.cyc_words.specs.Word.{add_of, mul_of}
 use Rattle.cyc_types.specs.declared.typed.Kind.{Kind}
 use Rattle.cyc_types.specs.declared.typed.Kind.TheVariants as kinds
@@ -40,10 +40,17 @@ slot_types h = h.parameters ++ h.locals
 abbrev pub first_temporary : Function → ℕ
 first_temporary h = words_of_all (slot_types h)
 
-abbrev pub unary_operator : UnaryOperator → PlainUnary
-unary_operator unary.Negate = plain_unary.Negate
-unary_operator unary.Not = plain_unary.Not
-unary_operator unary.Complement = plain_unary.Complement
+-- the low 8 bits of a word
+abbrev pub low_byte : Operand → (d : ℕ) → Instruction
+low_byte o d = instructions.Binary plain_binary.And d o (operands.Word 255)
+
+-- what an operator of one operand becomes; a char that serves as an int is its word
+abbrev pub unary_instruction : UnaryOperator → (d : ℕ) → Operand → Instruction
+unary_instruction unary.Negate d o = instructions.Unary plain_unary.Negate d o
+unary_instruction unary.Not d o = instructions.Unary plain_unary.Not d o
+unary_instruction unary.Complement d o = instructions.Unary plain_unary.Complement d o
+unary_instruction unary.Widen d o = instructions.Move d o
+unary_instruction unary.LowByte d o = low_byte o d
 
 abbrev pub binary_operator : Operator → PlainBinary
 binary_operator operators.Or = plain_binary.Or
@@ -178,6 +185,8 @@ abbrev pub scale_of : (bytes d m : ℕ) → Instruction
 scale_of bytes d m =
     if bytes == 4
     then instructions.Binary plain_binary.ShiftLeft d (operands.Slot m) (operands.Word 2)
+    else if bytes == 1
+    then instructions.Move d (operands.Slot m)
     else instructions.Binary plain_binary.Multiply d (operands.Slot m) (operands.Word 12)
 
 -- The cell at an index has its address in slot t then: that of the first is in slot n, the index is in slot m, and each cell has so many
@@ -233,15 +242,34 @@ thinned_code starts kinds.Nullable span (operands.Slot n) p =
     jump_if_zero (operands.Slot n) (p + past_bounded span) ∷ bounded_code starts span n (n + 2) n
 thinned_code starts to span o p = []
 
--- A value is converted where it is, with as many words as before or not. The cells that it leads to, if it is a pointer to cells, have so
--- many bytes each.
-abbrev pub conversion_by : Starts → (as_wide : Bool) → (to : Kind) → (span : Option ℕ) → Operand → (p : ℕ) → List Instruction
+-- an int becomes a char, which is its low byte
+abbrev pub masked_code : Operand → List Instruction
+masked_code (operands.Slot n) = low_byte (operands.Slot n) n ∷ []
+masked_code (operands.Word n) = []
+
+-- a value has as many words after a conversion as before it
+abbrev pub are_as_wide : (from to : Kind) → Bool
+are_as_wide from to = words_of_kind from == words_of_kind to
+
+-- an int loses all but its low byte
+abbrev pub masks : (from to : Kind) → Bool
+masks kinds.Int kinds.Char = true
+masks from to = false
+
+-- a value has the same words after a conversion as before it
+abbrev pub keeps_words : (from to : Kind) → Bool
+keeps_words from to = are_as_wide from to && not (masks from to)
+
+-- A value is converted where it is, and its words stay or not. The cells that it leads to, if it is a pointer to cells, have so many bytes
+-- each.
+abbrev pub conversion_by : Starts → (same : Bool) → (to : Kind) → (span : Option ℕ) → Operand → (p : ℕ) → List Instruction
 conversion_by starts true to span o p = tested_code starts to o
 conversion_by starts false kinds.Fat span o p = widened_code o
+conversion_by starts false kinds.Char span o p = masked_code o
 conversion_by starts false to span o p = thinned_code starts to span o p
 
 abbrev pub conversion_code : Starts → (from to : Kind) → (span : Option ℕ) → Operand → (p : ℕ) → List Instruction
-conversion_code starts from to span o p = conversion_by starts (words_of_kind from == words_of_kind to) to span o p
+conversion_code starts from to span o p = conversion_by starts (keeps_words from to) to span o p
 
 abbrev pub span_of : Expression → Option ℕ
 span_of a = option_map bytes_of_kind (target_by a)
@@ -305,10 +333,6 @@ truth_code t d =
     ∷ instructions.Unary plain_unary.Not d (operands.Slot t)
     ∷ []
 
--- the low 8 bits of what was printed
-abbrev pub low_byte : Operand → (d : ℕ) → Instruction
-low_byte o d = instructions.Binary plain_binary.And d o (operands.Word 255)
-
 -- an operator with its right operand
 abbrev pub compute_code : Starts → Operator → (l r : Operand) → (operand : List Instruction) → (d : ℕ) → List Instruction
 compute_code starts o l r operand d = operand ++ operator_code starts o l r d
@@ -349,42 +373,63 @@ abbrev pub global_code : (words first : ℕ) → Operand → List Instruction
 global_code words first (operands.Slot n) = word_by_word store_word words first n
 global_code words first (operands.Word n) = instructions.StoreGlobal first (operands.Word n) ∷ []
 
--- A cell of so many words comes to a slot and those behind it, whose address stands in an operand but for so many bytes. Where there are
--- more words the address comes to slot t, and not to a local, which may be the cell itself. The first word is loaded last, since it may
--- come to slot t.
-abbrev pub loaded_code : (words : ℕ) → Operand → (bytes d t : ℕ) → List Instruction
-loaded_code words o bytes d t =
-    if words == 1
-    then instructions.Load d o bytes ∷ []
+-- a word of a cell comes to a slot, or the byte of a char
+abbrev pub load_of : Kind → (d : ℕ) → (address : Operand) → (offset : ℕ) → Instruction
+load_of kinds.Char d address offset = instructions.LoadByte d address offset
+load_of kind d address offset = instructions.Load d address offset
+
+-- and the other way
+abbrev pub store_of : Kind → (address : Operand) → (offset : ℕ) → Operand → Instruction
+store_of kinds.Char address offset o = instructions.StoreByte address offset o
+store_of kind address offset o = instructions.Store address offset o
+
+-- A cell of a kind comes to a slot and those behind it, whose address stands in an operand but for so many bytes. Where it has more words
+-- than one the address comes to slot t, and not to a local, which may be the cell itself. The first word is loaded last, since it may come
+-- to slot t.
+abbrev pub loaded_code : Kind → Operand → (bytes d t : ℕ) → List Instruction
+loaded_code kind o bytes d t =
+    if words_of_kind kind == 1
+    then load_of kind d o bytes ∷ []
     else address_code o bytes t
     ++ instructions.Load (d + 2) (operands.Slot t) 8
     ∷ instructions.Load (d + 1) (operands.Slot t) 4
     ∷ instructions.Load d (operands.Slot t) 0
     ∷ []
 
--- the words of a variable that a value of this type leads to
-abbrev pub words_behind : Ty → ℕ
-words_behind t = unwrap_or (option_map words_of_kind (target_of_value (Value t))) 1
+-- the kind of a variable that a value of this type leads to
+abbrev pub kind_behind : Ty → Kind
+kind_behind t = unwrap_or (target_of_value (Value t)) kinds.Int
 
--- the address of the global whose first word has this number
-abbrev pub address_of_global : (first : ℕ) → ℕ
-address_of_global first = add_of GLOBALS_BASE (mul_of (first % 2 ^ 32) 4)
+-- So many bytes of a variable's words stand before it: a char is the last byte of its word.
+abbrev pub variable_bytes : Kind → ℕ
+variable_bytes kinds.Char = 3
+variable_bytes kind = 0
 
--- The address of a variable of so many words. That of a global is a number.
-abbrev pub address_of_code : Starts → Lvalue → (words d : ℕ) → List Instruction
-address_of_code starts (Local w n) words d = instructions.AddressOf d (slot_of starts n) words ∷ []
-address_of_code starts (Global n) words d = instructions.Move d (operands.Word (address_of_global (global_of starts n))) ∷ []
+-- the address of the global of a kind whose first word has this number
+abbrev pub address_of_global : Kind → (first : ℕ) → ℕ
+address_of_global kind first = add_of (add_of GLOBALS_BASE (mul_of (first % 2 ^ 32) 4)) (variable_bytes kind)
+
+-- an address of a variable's first word becomes that of the variable
+abbrev pub last_byte_code : Kind → (d : ℕ) → List Instruction
+last_byte_code kinds.Char d = instructions.Binary plain_binary.Add d (operands.Slot d) (operands.Word 3) ∷ []
+last_byte_code kind d = []
+
+-- The address of a variable of a kind. That of a global is a number.
+abbrev pub address_of_code : Starts → Lvalue → Kind → (d : ℕ) → List Instruction
+address_of_code starts (Local w n) kind d = instructions.AddressOf d (slot_of starts n) (words_of_kind kind) ∷ last_byte_code kind d
+address_of_code starts (Global n) kind d = instructions.Move d (operands.Word (address_of_global kind (global_of starts n))) ∷ []
+
+-- a local that is declared without a value holds none, but the word of a char is below 256 all the same
+abbrev pub blank_code : Kind → (slot : ℕ) → List Instruction
+blank_code kinds.Char slot = instructions.Move slot (operands.Word 0) ∷ []
+blank_code kind slot = []
 
 -- ---- conversions
 
--- a value has as many words after a conversion as before it
-abbrev pub are_as_wide : (from to : Kind) → Bool
-are_as_wide from to = words_of_kind from == words_of_kind to
-
--- It may come to the slot where it is to be before it is converted: it has as many words, and is not tested there.
+-- It may come to the slot where it is to be before it is converted: it has the same words, and is not tested there.
 abbrev pub converts_there : (from to : Kind) → Bool
 converts_there from kinds.NonNull = false
-converts_there from to = are_as_wide from to
+converts_there from to = keeps_words from to
 
 -- the words that an argument is passed with
 abbrev pub passed_words : Converted → ℕ

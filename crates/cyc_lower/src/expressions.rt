@@ -10,26 +10,25 @@ ghost use Rattle.cyc_plain.specs.declared.instruction.Instruction.TheVariants as
 ghost use Rattle.cyc_lower.specs.ValueCode.{operand_or, check_code, conversion_code, divisor_code, operator_code, truth_code, copy_code, all_passed, first_two, index_code, pointer_instructions, address_code, addressed_by, reached_operand, code_unless_slot, span_of};
 ghost use Rattle.cyc_lower.specs.ObjectCode.{elements_code, last_element, saved_code};
 ghost use Rattle.cyc_lower.specs.ExpressionCode.{operand_of, left_of, left_slot, value_operand, converted_operand, printed_operand, expression_code, arguments_code, converted_operand_code, printed_code, initial_code, operations_code, made_code, place_operand, place_offset, place_code, pointer_of, pointer_slot};
-ghost use Rattle.cyc_lower.specs.Lowering.{assignment_code, assigned_operand, discarded_code, condition_of, condition_code};
+ghost use Rattle.cyc_lower.specs.Lowering.{assignment_code, assigned_operand, discarded_code};
 ghost use Rattle.cyc_lower.specs.Slots.{with_counter};
-ghost use Rattle.cyc_lower.specs.Emission.{Appends, Gives, HasRoom, HasRoomFor, most_locals, value_code, source_code, slot_code, print_code, converted_slot, converted_slot_code, left_code, operation_code, IsChain, zero_condition, view_starts, pointer_operation_code};
+ghost use Rattle.cyc_lower.specs.Emission.{Appends, Gives, HasRoom, HasRoomFor, most_locals, value_code, source_code, slot_code, print_code, converted_slot, converted_slot_code, left_code, operation_code, view_starts, pointer_operation_code};
 
 use crate::checks::{DIVISION_BY_ZERO, NULL_EXCEPTION};
 use crate::emitter::Emitter;
 use crate::globals::global_of;
 use crate::locals::{counter_of, field_of, slot_of, with_counter};
-use crate::objects::last_element;
+use crate::objects::{kinds_passed, last_element};
 use crate::operands::{
-    Condition, are_as_wide, converts_there, index_of, is_in, null_of, operand_of, pointer_of,
-    slot_behind, span_in, span_of, takes_operand, value_slot, words_behind,
+    converts_there, index_of, is_in, keeps_words, kind_at, kind_behind, null_of, operand_of,
+    pointer_of, slot_behind, span_in, span_of, takes_operand, value_slot,
 };
 use crate::operators::{
-    binary_operator, failing_comparison, left_kind, move_of, pointer_operator, test_jump,
-    unary_operator,
+    binary_operator, left_kind, move_of, pointer_operator, test_jump, unary_instruction,
 };
 use crate::starts::Starts;
-use cyc_frame_count::{words_at, words_of, words_of_kind};
-use cyc_plain::{BinaryOperator, Comparison, Instruction, Operand, UnaryOperator};
+use cyc_frame_count::{words_of, words_of_kind};
+use cyc_plain::{BinaryOperator, Instruction, Operand, UnaryOperator};
 use cyc_store::{HEAP, UNIQUE};
 use cyc_types::typed;
 use cyc_types::typed::{
@@ -49,8 +48,8 @@ fn place_offset(starts: &Starts, place: &Dereference) -> u32
 }
 
 impl Emitter {
-    /// A conversion of a value where it is: where it may not be null, it is tested, a thin pointer gets the other words of a fat one, and
-    /// a fat pointer leads to its cell.
+    /// A conversion of a value where it is: where it may not be null, it is tested, a thin pointer gets the other words of a fat one, a fat
+    /// pointer leads to its cell, and an int that becomes a char keeps its low byte.
     fn convert(
         &mut self,
         starts: &Starts,
@@ -59,7 +58,7 @@ impl Emitter {
     ) -> Result<(), AllocError>
         ensures { Appends result self.old self.new (conversion_code (view_starts starts.now) conversion.now.from conversion.now.to (span_of (view_expression conversion.now.value)) value (length self.old.code.items)) }
     {
-        if are_as_wide(conversion.from, conversion.to) {
+        if keeps_words(conversion.from, conversion.to) {
             if matches!(conversion.to, Kind::NonNull) {
                 return self.check(starts, NULL_EXCEPTION, value);
             }
@@ -67,6 +66,9 @@ impl Emitter {
         }
         if matches!(conversion.to, Kind::Fat) {
             return self.widen(value);
+        }
+        if matches!(conversion.to, Kind::Char) {
+            return self.mask(value);
         }
         let span = span_of(&conversion.value);
         self.thin(starts, conversion.to, span, value)
@@ -196,13 +198,13 @@ impl Emitter {
                 let pointer = self.lower_operand(starts, pointer, free)?;
                 self.count_elements(pointer, slot)
             }
+            Expr::Unary {
+                operator: typed::UnaryOperator::Widen,
+                operand,
+            } => self.lower_expression(starts, operand, slot, free),
             Expr::Unary { operator, operand } => {
                 let operand = self.lower_operand(starts, operand, free)?;
-                self.emit(Instruction::Unary {
-                    operator: unary_operator(*operator),
-                    destination: slot,
-                    operand,
-                })
+                self.emit(unary_instruction(*operator, slot, operand))
             }
             Expr::Binary { first, rest, .. } => {
                 let left = self.lower_left(starts, first, rest, slot, free)?;
@@ -215,7 +217,7 @@ impl Emitter {
             Expr::Load { source } => {
                 let address = self.locate(starts, source, free)?;
                 self.load_cell(
-                    words_at(source),
+                    kind_at(source),
                     address,
                     place_offset(starts, source),
                     slot,
@@ -223,7 +225,7 @@ impl Emitter {
                 )
             }
             Expr::AddressOf { place, of_type } => {
-                self.address_variable(starts, *place, words_behind(of_type), slot)
+                self.address_variable(starts, *place, kind_behind(of_type), slot)
             }
             Expr::AddressOfCell { place, .. } => self.take_address(starts, place, slot, free),
             Expr::Store { target, value, .. } => {
@@ -370,7 +372,7 @@ impl Emitter {
         free: usize,
     ) -> Result<Operand, AllocError>
         requires { free < most_locals + length self.old.code.items }
-        ensures { Gives (converted_operand (view_starts starts.now) (view_converted value.now) (free + 1)) result self.old self.new (converted_operand_code (view_starts starts.now) (view_converted value.now) (length self.old.code.items) (free + 1) ++ saved_code (words_of_kind value.now.to) free (converted_operand (view_starts starts.now) (view_converted value.now) (free + 1))) }
+        ensures { Gives (converted_operand (view_starts starts.now) (view_converted value.now) (free + 1)) result self.old self.new (converted_operand_code (view_starts starts.now) (view_converted value.now) (length self.old.code.items) (free + 1) ++ saved_code value.now.to free (converted_operand (view_starts starts.now) (view_converted value.now) (free + 1))) }
     {
         let source = self.lower_converted(starts, value, free + 1)?;
         self.save(value.to, free, source)?;
@@ -398,7 +400,8 @@ impl Emitter {
             }
             Initial::Fields { values } => {
                 let words = self.lower_arguments(starts, values, free)?;
-                self.make_object(handle, words, slot, free)
+                let kinds = kinds_passed(starts.alloc, values)?;
+                self.make_object(handle, &kinds, words, slot, free)
             }
             Initial::Array {
                 length,
@@ -554,7 +557,7 @@ impl Emitter {
         requires { free ≤ most_locals + length self.old.code.items }
         ensures { Gives (converted_operand (view_starts starts.now) (view_converted value.now) free) result self.old self.new (source_code (view_starts starts.now) (view_converted value.now) (length self.old.code.items) free) }
     {
-        if are_as_wide(value.from, value.to) {
+        if keeps_words(value.from, value.to) {
             return self.lower_operand(starts, &value.value, free);
         }
         if let Some(null) = null_of(&value.value) {
@@ -627,7 +630,7 @@ impl Emitter {
 
     /// The left operand of a chain, which may be without code where the right one is.
     #[cycle(expression)]
-    fn lower_left(
+    pub(crate) fn lower_left(
         &mut self,
         starts: &Starts,
         first: &Expr,
@@ -830,81 +833,10 @@ impl Emitter {
                 self.store(starts, value, free)?;
                 Ok(())
             }
-            _ => {
-                self.lower_operand(starts, value, free)?;
-                Ok(())
-            }
-        }
-    }
-
-    /// A condition that is a value compared with 0.
-    fn compare_with_zero(
-        &mut self,
-        starts: &Starts,
-        failing: Comparison,
-        value: &Expr,
-        free: usize,
-    ) -> Result<Condition, AllocError>
-        requires { free ≤ most_locals + length self.old.code.items }
-        ensures { Gives (zero_condition (view_starts starts.now) failing (view_expression value.now) free) result self.old self.new (value_code (view_starts starts.now) (view_expression value.now) (length self.old.code.items) free) }
-    {
-        let left = self.lower_operand(starts, value, free)?;
-        Ok(Condition {
-            failing,
-            left,
-            right: Operand::Word { word: 0 },
-        })
-    }
-
-    /// A condition that is a chain: one operator that compares is left to the jump.
-    fn compare_chain(
-        &mut self,
-        starts: &Starts,
-        value: &Expr,
-        first: &Expr,
-        rest: &[Operation],
-        free: usize,
-    ) -> Result<Condition, AllocError>
-        requires low { free ≤ most_locals + length self.old.code.items }
-        requires chain { IsChain (view_expression value.now) (view_expression first.now) (operations_of rest.now) }
-        ensures { Gives (condition_of (view_starts starts.now) (view_expression value.now) free) result self.old self.new (condition_code (view_starts starts.now) (view_expression value.now) (length self.old.code.items) free) }
-    {
-        if rest.len() != 1 {
-            return self.compare_with_zero(starts, Comparison::Equal, value, free);
-        }
-        if let Some(Operation::Compute { operator, operand }) = rest.first() {
-            if let Some(failing) = failing_comparison(*operator) {
-                let left = self.lower_left(starts, first, rest, free, free)?;
-                let right = self.lower_operand(starts, operand, free + 1)?;
-                return Ok(Condition {
-                    failing,
-                    left,
-                    right,
-                });
-            }
-        }
-        self.compare_with_zero(starts, Comparison::Equal, value, free)
-    }
-
-    /// A condition: two operands that are compared.
-    pub(crate) fn lower_condition(
-        &mut self,
-        starts: &Starts,
-        value: &Expr,
-        free: usize,
-    ) -> Result<Condition, AllocError>
-        requires { free ≤ most_locals + length self.old.code.items }
-        ensures { Gives (condition_of (view_starts starts.now) (view_expression value.now) free) result self.old self.new (condition_code (view_starts starts.now) (view_expression value.now) (length self.old.code.items) free) }
-    {
-        match value {
-            Expr::Binary { first, rest, .. } => self.compare_chain(
-                starts, value, first, rest, free,
-            ),
-            Expr::Unary {
-                operator: typed::UnaryOperator::Not,
-                operand,
-            } => self.compare_with_zero(starts, Comparison::NotEqual, operand, free),
-            _ => self.compare_with_zero(starts, Comparison::Equal, value, free),
+            _ => match operand_of(starts, value) {
+                Some(_) => Ok(()),
+                None => self.lower_expression(starts, value, free, free),
+            },
         }
     }
 
@@ -918,7 +850,7 @@ impl Emitter {
         requires { free ≤ most_locals + length self.old.code.items }
         ensures { Gives (converted_slot (view_starts starts.now) (view_converted value.now) free) result self.old self.new (slot_code (view_starts starts.now) (view_converted value.now) (length self.old.code.items) free) }
     {
-        if are_as_wide(value.from, value.to) {
+        if keeps_words(value.from, value.to) {
             if let Some(Operand::Slot { number }) = operand_of(starts, &value.value) {
                 return Ok(number);
             }

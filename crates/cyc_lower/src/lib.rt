@@ -5,6 +5,7 @@ pub use limits::MOST_FUNCTIONS;
 pub use program::lower;
 
 mod checks;
+mod conditions;
 mod emitter;
 mod expressions;
 mod functions;

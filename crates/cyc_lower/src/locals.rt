@@ -48,11 +48,12 @@ pub(crate) fn with_counter(starts: &Starts, slot: usize) -> Result<Vec<usize>, A
     Ok(counters)
 }
 
-/// Where a cell of a kind begins, behind so many bytes: at the next multiple of 4.
-fn begins_word(kind: Kind, at: u32) -> u32
+/// Where a cell of a kind begins, behind so many bytes: a char at once, any other at the next multiple of 4.
+pub(crate) fn begins_word(kind: Kind, at: u32) -> u32
     ensures { result ≡ begins_word kind at }
 {
     match kind {
+        Kind::Char => at,
         Kind::Int | Kind::Nullable | Kind::NonNull | Kind::Fat | Kind::Handle | Kind::Key =>
             at.wrapping_add(3) / 4 * 4,
     }

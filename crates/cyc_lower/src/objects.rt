@@ -1,19 +1,22 @@
 //! The code that makes objects and frees them, once their values stand in slots. No object has more words than a block of the store.
-ghost use Rattle.std.specs.Prelude.{◌≡◌, [], ◌∷◌, ◌+◌, ◌^◌, ◌<◌, ◌≤◌, length};
-ghost use Rattle.cyc_meaning.specs.Values.{words_of_kind};
-ghost use Rattle.cyc_lower.specs.ObjectCode.{asked_code, begun_code, free_code, last_element, measured_code, most_elements, object_code, words_code, restarted_code, stores_code, written_code};
+ghost use Rattle.std.specs.Prelude.{◌≡◌, [], ◌∷◌, ◌+◌, ◌^◌, ◌<◌, ◌≤◌, length, IfOk};
+ghost use Rattle.cyc_types.specs.TypedTreeView.{arguments_of};
+ghost use Rattle.cyc_meaning.specs.Values.{words_of_kind, bytes_from};
+ghost use Rattle.cyc_lower.specs.ValueCode.{kinds_passed};
+ghost use Rattle.cyc_lower.specs.ObjectCode.{asked_code, begun_code, cells_code, free_code, last_element, measured_code, most_elements, object_code, restarted_code, sized_code, slots_of_kinds, stores_code, written_code};
 ghost use Rattle.cyc_lower.specs.Emission.{Appends, most_locals, view_starts};
 
 use crate::checks::ARRAY_SIZE;
 use crate::emitter::Emitter;
+use crate::locals::begins_word;
 use crate::operands::{Condition, bytes_of_kind, slot_behind};
-use crate::operators::{jump_if_zero, scale_of};
+use crate::operators::{jump_if_zero, scale_of, store_of};
 use crate::starts::Starts;
 use cyc_frame_count::words_of_kind;
 use cyc_plain::{BinaryOperator, Comparison, Instruction, Operand, Request, UnaryOperator};
 use cyc_store::MOST_BLOCK_WORDS;
-use cyc_types::typed::Kind;
-use std::alloc::AllocError;
+use cyc_types::typed::{Converted, Kind};
+use std::alloc::{AllocError, Global};
 
 /// An index is behind the last element of an array, by its length.
 pub(crate) fn last_element(words: usize, index: usize) -> Condition
@@ -29,13 +32,39 @@ pub(crate) fn last_element(words: usize, index: usize) -> Condition
 /// How many elements an array may have, of so many bytes each: those of a block.
 fn most_elements(bytes: usize) -> u32
     ensures most { result ≡ most_elements bytes }
-    ensures few { result ≤ 1000 }
+    ensures few { result ≤ 4000 }
 {
     if bytes == 4 {
-        MOST_BLOCK_WORDS
+        return MOST_BLOCK_WORDS;
+    }
+    if bytes == 1 {
+        4 * MOST_BLOCK_WORDS
     } else {
         MOST_BLOCK_WORDS / 3
     }
+}
+
+/// The kinds that fields are passed with.
+pub(crate) fn kinds_passed(alloc: Global, values: &[Converted]) -> Result<Vec<Kind>, AllocError>
+    ensures { IfOk result (λ kinds. kinds.items ≡ kinds_passed (arguments_of values.now)) }
+{
+    let mut kinds = Vec::new(alloc);
+    for value in values {
+        kinds.push(value.to)?;
+    }
+    Ok(kinds)
+}
+
+/// The bytes of an object with cells of these kinds, up to the end of the last.
+fn bytes_of_kinds(kinds: &[Kind]) -> u32
+    requires { bytes_from 0 kinds.now ≤ 4000 }
+    ensures { result ≡ bytes_from 0 kinds.now }
+{
+    let mut bytes: u32 = 0;
+    for kind in kinds {
+        bytes = begins_word(*kind, bytes) + bytes_of_kind(*kind) as u32;
+    }
+    bytes
 }
 
 impl Emitter {
@@ -50,25 +79,27 @@ impl Emitter {
         requires { free ≤ most_locals + length self.old.code.items }
         ensures { Appends result self.old self.new (object_code handle (kind ∷ []) slot free) }
     {
-        self.make_object(handle, words_of_kind(kind), slot, free)
+        self.make_object(handle, &[kind], words_of_kind(kind), slot, free)
     }
 
-    /// A block is asked for in the region of a handle, and gets so many words, which stand in the slots from `free` on. Its address
-    /// comes to a slot. No object has more words than a block.
+    /// A block is asked for in the region of a handle, with a cell for each of these kinds, and gets the values, which stand in so many
+    /// slots from `free` on. Its address comes to a slot. No object has more words than a block.
     pub(crate) fn make_object(
         &mut self,
         handle: Operand,
+        kinds: &[Kind],
         words: usize,
         slot: usize,
         free: usize,
     ) -> Result<(), AllocError>
-        requires { free ≤ most_locals + length self.old.code.items }
-        ensures { Appends result self.old self.new (words_code handle words slot free) }
+        requires slots { words ≡ slots_of_kinds kinds.now }
+        requires low { free ≤ most_locals + length self.old.code.items }
+        ensures { Appends result self.old self.new (object_code handle kinds.now slot free) }
     {
         if words > MOST_BLOCK_WORDS as usize {
             return Err(AllocError);
         }
-        let size = words as u32;
+        let size = (bytes_of_kinds(kinds) + 3) / 4;
         let address = free + words;
         self.emit(Instruction::Ask {
             request: Request::Allocate {
@@ -77,32 +108,57 @@ impl Emitter {
                 words: Operand::Word { word: size.max(1) },
             },
         })?;
-        self.store_words(size, address, free)?;
+        self.store_cells(kinds, address, free)?;
         self.emit(Instruction::Move {
             destination: slot,
             source: Operand::Slot { number: address },
         })
     }
 
-    /// So many words, which stand in the slots from one on, come to memory behind an address.
-    pub(crate) fn store_words(
+    /// Values of these kinds, which stand in the slots from one on, come to the cells of the object at an address.
+    fn store_cells(
         &mut self,
-        words: u32,
+        kinds: &[Kind],
         address: usize,
         first: usize,
     ) -> Result<(), AllocError>
-        requires few { words ≤ 1000 }
-        requires low { first + words < 2 ^ 64 }
-        ensures { Appends result self.old self.new (stores_code words address 0 first) }
+        requires few { bytes_from 0 kinds.now ≤ 4000 }
+        requires low { first + slots_of_kinds kinds.now < 2 ^ 64 }
+        ensures { Appends result self.old self.new (cells_code kinds.now address 0 first) }
     {
+        let mut bytes: u32 = 0;
+        let mut slot = first;
+        for kind in kinds {
+            let begin = begins_word(*kind, bytes);
+            self.store_cell(*kind, address, begin, slot)?;
+            bytes = begin + bytes_of_kind(*kind) as u32;
+            slot += words_of_kind(*kind);
+        }
+        Ok(())
+    }
+
+    /// The words of a value of a kind, which stand in the slots from one on, come to memory so many bytes behind an address.
+    pub(crate) fn store_cell(
+        &mut self,
+        kind: Kind,
+        address: usize,
+        offset: u32,
+        first: usize,
+    ) -> Result<(), AllocError>
+        requires few { offset ≤ 4000 }
+        requires low { first + words_of_kind kind < 2 ^ 64 }
+        ensures { Appends result self.old self.new (stores_code kind (words_of_kind kind) address offset first) }
+    {
+        let words = words_of_kind(kind);
         for index in 0..words {
-            self.emit(Instruction::Store {
-                address: Operand::Slot { number: address },
-                offset: 4 * index,
-                source: Operand::Slot {
-                    number: first + index as usize,
+            self.emit(store_of(
+                kind,
+                Operand::Slot { number: address },
+                offset + 4 * index as u32,
+                Operand::Slot {
+                    number: first + index,
                 },
-            })?;
+            ))?;
         }
         Ok(())
     }
@@ -141,6 +197,38 @@ impl Emitter {
         })
     }
 
+    /// The number of words comes to the slot `free` that as many elements of a kind have as it counts. Of chars each word has four.
+    fn size_array(&mut self, kind: Kind, free: usize) -> Result<(), AllocError>
+        ensures { Appends result self.old self.new (sized_code kind free) }
+    {
+        let count = Operand::Slot { number: free };
+        match kind {
+            Kind::Char => {
+                self.emit(Instruction::Binary {
+                    operator: BinaryOperator::Add,
+                    destination: free,
+                    left: count,
+                    right: Operand::Word { word: 3 },
+                })?;
+                self.emit(Instruction::Binary {
+                    operator: BinaryOperator::ShiftRight,
+                    destination: free,
+                    left: count,
+                    right: Operand::Word { word: 2 },
+                })
+            }
+            Kind::Int | Kind::Nullable | Kind::NonNull | Kind::Fat | Kind::Handle | Kind::Key =>
+                self.emit(Instruction::Binary {
+                    operator: BinaryOperator::Multiply,
+                    destination: free,
+                    left: count,
+                    right: Operand::Word {
+                        word: words_of_kind(kind) as u32,
+                    },
+                }),
+        }
+    }
+
     /// A block is asked for of the words of as many elements as the slot `free` tells, or of one where that is 0. Its address
     /// comes there.
     fn ask_for_array(
@@ -154,14 +242,7 @@ impl Emitter {
     {
         let count = Operand::Slot { number: free };
         let words = Operand::Slot { number: size };
-        self.emit(Instruction::Binary {
-            operator: BinaryOperator::Multiply,
-            destination: free,
-            left: count,
-            right: Operand::Word {
-                word: words_of_kind(kind) as u32,
-            },
-        })?;
+        self.size_array(kind, free)?;
         self.emit(Instruction::Unary {
             operator: UnaryOperator::Not,
             destination: size,
@@ -210,7 +291,6 @@ impl Emitter {
     ) -> Result<(), AllocError>
         ensures { Appends result self.old self.new (written_code kind head index element (element + words_of_kind kind) free) }
     {
-        let words = words_of_kind(kind);
         let address = slot_behind(element, kind)?;
         let number = Operand::Slot { number: index };
         let cell = Operand::Slot { number: address };
@@ -221,7 +301,7 @@ impl Emitter {
             left: Operand::Slot { number: free },
             right: cell,
         })?;
-        self.store_words(words as u32, address, element)?;
+        self.store_cell(kind, address, 0, element)?;
         self.emit(Instruction::Binary {
             operator: BinaryOperator::Add,
             destination: index,

@@ -6,7 +6,7 @@ ghost use Rattle.cyc_types.specs.TypedTrees.{type_of_place};
 ghost use Rattle.cyc_types.specs.TypeView.{view_ty, view_value_type};
 ghost use Rattle.cyc_meaning.specs.Parts.{target_of, target_of_value};
 ghost use Rattle.cyc_meaning.specs.Values.{is_thin, kind_of, words_of_kind, bytes_of_kind};
-ghost use Rattle.cyc_lower.specs.ValueCode.{null_of, words_behind, reached_operand, span_in, span_of, is_in, index_of, are_as_wide, converts_there};
+ghost use Rattle.cyc_lower.specs.ValueCode.{null_of, kind_behind, reached_operand, span_in, span_of, is_in, index_of, masks, keeps_words, converts_there, variable_bytes};
 ghost use Rattle.cyc_lower.specs.ExpressionCode.{operand_of, pointer_of, value_slot};
 ghost use Rattle.cyc_lower.specs.Emission.{most_locals, takes_operand, view_starts};
 
@@ -17,7 +17,7 @@ use cyc_plain::{Comparison, Operand};
 use cyc_store::HEAP;
 use cyc_syntax::PointerKind;
 use cyc_types::Ty;
-use cyc_types::typed::{Dereference, Expr, Kind, Lvalue, Operation, ValueType};
+use cyc_types::typed::{Dereference, Expr, Kind, Lvalue, Operation, UnaryOperator, ValueType};
 use std::alloc::AllocError;
 
 /// A frame has fewer slots than this and a few.
@@ -31,7 +31,8 @@ pub(crate) struct Condition {
     pub(crate) right: Operand,
 }
 
-/// What an expression is without code: a number, null, the heap's handle, a local, or a counter.
+/// What an expression is without code: a number, null, the heap's handle, a local, or a counter; a char that serves as an int is what
+/// it was.
 pub(crate) fn operand_of(starts: &Starts, value: &Expr) -> Option<Operand>
     ensures { result ≡ operand_of (view_starts starts.now) (view_expression value.now) }
 {
@@ -52,6 +53,10 @@ pub(crate) fn operand_of(starts: &Starts, value: &Expr) -> Option<Operand>
             Some(slot) => Some(Operand::Slot { number: *slot }),
             None => None,
         },
+        Expr::Unary {
+            operator: UnaryOperator::Widen,
+            operand,
+        } => operand_of(starts, operand),
         _ => None,
     }
 }
@@ -75,6 +80,10 @@ pub(crate) fn value_slot(starts: &Starts, value: &Expr, free: usize) -> usize
             Lvalue::Local { number, .. } => slot_of(starts, number),
             Lvalue::Global { .. } => free,
         },
+        Expr::Unary {
+            operator: UnaryOperator::Widen,
+            operand,
+        } => value_slot(starts, operand, free),
         _ => free,
     }
 }
@@ -109,11 +118,21 @@ pub(crate) fn takes_operand(starts: &Starts, operations: &[Operation]) -> bool
     }
 }
 
-/// Whether a value has as many words after a conversion as before it.
-pub(crate) fn are_as_wide(from: Kind, to: Kind) -> bool
-    ensures { result ≡ are_as_wide from to }
+/// Whether an int loses all but its low byte by a conversion.
+fn masks(from: Kind, to: Kind) -> bool
+    ensures { result ≡ masks from to }
 {
-    words_of_kind(from) == words_of_kind(to)
+    match (from, to) {
+        (Kind::Int, Kind::Char) => true,
+        _ => false,
+    }
+}
+
+/// Whether a value has the same words after a conversion as before it.
+pub(crate) fn keeps_words(from: Kind, to: Kind) -> bool
+    ensures { result ≡ keeps_words from to }
+{
+    words_of_kind(from) == words_of_kind(to) && !masks(from, to)
 }
 
 /// Whether a value may come to the slot where it is to be before it is converted.
@@ -122,7 +141,8 @@ pub(crate) fn converts_there(from: Kind, to: Kind) -> bool
 {
     match to {
         Kind::NonNull => false,
-        Kind::Int | Kind::Nullable | Kind::Fat | Kind::Handle | Kind::Key => are_as_wide(from, to),
+        Kind::Int | Kind::Char | Kind::Nullable | Kind::Fat | Kind::Handle | Kind::Key =>
+            keeps_words(from, to),
     }
 }
 
@@ -132,7 +152,7 @@ pub(crate) fn is_thin(kind: Kind) -> bool
 {
     match kind {
         Kind::Nullable | Kind::NonNull => true,
-        Kind::Int | Kind::Fat | Kind::Handle | Kind::Key => false,
+        Kind::Int | Kind::Char | Kind::Fat | Kind::Handle | Kind::Key => false,
     }
 }
 
@@ -142,6 +162,7 @@ pub(crate) fn kind_of(of_type: &Ty) -> Kind
 {
     match of_type {
         Ty::Int | Ty::Struct { .. } => Kind::Int,
+        Ty::Char => Kind::Char,
         Ty::Pointer { kind, .. } => match kind {
             PointerKind::Nullable => Kind::Nullable,
             PointerKind::NonNull => Kind::NonNull,
@@ -159,6 +180,7 @@ pub(crate) fn bytes_of_kind(kind: Kind) -> usize
 {
     match kind {
         Kind::Int | Kind::Nullable | Kind::NonNull | Kind::Handle | Kind::Key => 4,
+        Kind::Char => 1,
         Kind::Fat => 12,
     }
 }
@@ -169,6 +191,7 @@ pub(crate) fn span_in(of_type: &Ty) -> Option<usize>
 {
     match of_type {
         Ty::Int | Ty::Handle { .. } | Ty::Key { .. } => Some(4),
+        Ty::Char => Some(1),
         Ty::Pointer { kind, .. } => match kind {
             PointerKind::Fat => Some(12),
             PointerKind::Nullable | PointerKind::NonNull => Some(4),
@@ -183,30 +206,55 @@ fn span_behind(of_type: &Ty) -> Option<usize>
 {
     match of_type {
         Ty::Pointer { target, .. } => span_in(target),
-        Ty::Int | Ty::Handle { .. } | Ty::Key { .. } | Ty::Struct { .. } => None,
+        Ty::Int | Ty::Char | Ty::Handle { .. } | Ty::Key { .. } | Ty::Struct { .. } => None,
     }
 }
 
-/// How many words a variable of a type has: one, where it is a struct.
-fn words_in(of_type: &Ty) -> usize
-    ensures { result ≡ unwrap_or (option_map words_of_kind (target_of (view_ty of_type.now))) 1 }
+/// The kind of a variable of a type: an int, where it is a struct.
+fn kind_in(of_type: &Ty) -> Kind
+    ensures { result ≡ unwrap_or (target_of (view_ty of_type.now)) Kind.Int }
 {
     match of_type {
+        Ty::Int | Ty::Struct { .. } => Kind::Int,
+        Ty::Char => Kind::Char,
         Ty::Pointer { kind, .. } => match kind {
-            PointerKind::Fat => 3,
-            PointerKind::Nullable | PointerKind::NonNull => 1,
+            PointerKind::Nullable => Kind::Nullable,
+            PointerKind::NonNull => Kind::NonNull,
+            PointerKind::Fat => Kind::Fat,
         },
-        Ty::Int | Ty::Handle { .. } | Ty::Key { .. } | Ty::Struct { .. } => 1,
+        Ty::Handle { .. } => Kind::Handle,
+        Ty::Key { .. } => Kind::Key,
     }
 }
 
-/// How many words a variable has that a value of this type leads to.
-pub(crate) fn words_behind(of_type: &Ty) -> usize
-    ensures { result ≡ words_behind (view_ty of_type.now) }
+/// The kind of a variable that a value of this type leads to.
+pub(crate) fn kind_behind(of_type: &Ty) -> Kind
+    ensures { result ≡ kind_behind (view_ty of_type.now) }
 {
     match of_type {
-        Ty::Pointer { target, .. } => words_in(target),
-        Ty::Int | Ty::Handle { .. } | Ty::Key { .. } | Ty::Struct { .. } => 1,
+        Ty::Pointer { target, .. } => kind_in(target),
+        Ty::Int | Ty::Char | Ty::Handle { .. } | Ty::Key { .. } | Ty::Struct { .. } => Kind::Int,
+    }
+}
+
+/// The kind of what is at a place that a pointer leads to.
+pub(crate) fn kind_at(place: &Dereference) -> Kind
+    ensures { result ≡ kind_of (type_of_place (view_dereference place.now)) }
+{
+    match place {
+        Dereference::Target { of_type, .. }
+        | Dereference::Member { of_type, .. }
+        | Dereference::Element { of_type, .. } => kind_of(of_type),
+    }
+}
+
+/// How many bytes of a variable's words stand before it: a char is the last byte of its word.
+pub(crate) fn variable_bytes(kind: Kind) -> u32
+    ensures { result ≡ variable_bytes kind }
+{
+    match kind {
+        Kind::Char => 3,
+        Kind::Int | Kind::Nullable | Kind::NonNull | Kind::Fat | Kind::Handle | Kind::Key => 0,
     }
 }
 

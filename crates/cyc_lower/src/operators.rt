@@ -1,6 +1,6 @@
 //! What operators become.
 ghost use Rattle.std.specs.Prelude.{◌≡◌, ◌≤◌};
-ghost use Rattle.cyc_lower.specs.ValueCode.{unary_operator, binary_operator, left_kind, pointer_operator, failing_comparison, move_of, jump_if_zero, jump_if_nonzero, test_jump, scale_of};
+ghost use Rattle.cyc_lower.specs.ValueCode.{low_byte, unary_instruction, binary_operator, left_kind, pointer_operator, failing_comparison, move_of, jump_if_zero, jump_if_nonzero, test_jump, scale_of, load_of, store_of};
 ghost use Rattle.cyc_lower.specs.ControlCode.{failing_jump, tag_operand, other_jump, goes_on};
 ghost use Rattle.cyc_lower.specs.Emission.{most_locals};
 
@@ -9,13 +9,42 @@ use cyc_plain::{BinaryOperator, Comparison, Instruction, Operand, UnaryOperator}
 use cyc_types::typed;
 use cyc_types::typed::Kind;
 
-pub(crate) fn unary_operator(operator: typed::UnaryOperator) -> UnaryOperator
-    ensures { result ≡ unary_operator operator }
+/// The low 8 bits of a word come to a slot.
+pub(crate) fn low_byte(operand: Operand, destination: usize) -> Instruction
+    ensures { result ≡ low_byte operand destination }
 {
-    match operator {
+    Instruction::Binary {
+        operator: BinaryOperator::And,
+        destination,
+        left: operand,
+        right: Operand::Word { word: 255 },
+    }
+}
+
+/// What an operator of one operand becomes. A char that serves as an int is its word.
+pub(crate) fn unary_instruction(
+    operator: typed::UnaryOperator,
+    destination: usize,
+    operand: Operand,
+) -> Instruction
+    ensures { result ≡ unary_instruction operator destination operand }
+{
+    let operator = match operator {
         typed::UnaryOperator::Negate => UnaryOperator::Negate,
         typed::UnaryOperator::Not => UnaryOperator::Not,
         typed::UnaryOperator::Complement => UnaryOperator::Complement,
+        typed::UnaryOperator::Widen => {
+            return Instruction::Move {
+                destination,
+                source: operand,
+            };
+        }
+        typed::UnaryOperator::LowByte => return low_byte(operand, destination),
+    };
+    Instruction::Unary {
+        operator,
+        destination,
+        operand,
     }
 }
 
@@ -119,7 +148,7 @@ pub(crate) fn move_of(words: usize, destination: usize, source: Operand) -> Inst
     }
 }
 
-/// A number of bytes by an index that counts cells of so many bytes, which are 4 or 12.
+/// A number of bytes by an index that counts cells of so many bytes, which are 4, 1 or 12.
 pub(crate) fn scale_of(bytes: usize, destination: usize, index: usize) -> Instruction
     ensures { result ≡ scale_of bytes destination index }
 {
@@ -132,11 +161,55 @@ pub(crate) fn scale_of(bytes: usize, destination: usize, index: usize) -> Instru
             right: Operand::Word { word: 2 },
         };
     }
+    if bytes == 1 {
+        return Instruction::Move {
+            destination,
+            source: left,
+        };
+    }
     Instruction::Binary {
         operator: BinaryOperator::Multiply,
         destination,
         left,
         right: Operand::Word { word: 12 },
+    }
+}
+
+/// A word of a cell of a kind comes to a slot, or the byte of a char.
+pub(crate) fn load_of(kind: Kind, destination: usize, address: Operand, offset: u32) -> Instruction
+    ensures { result ≡ load_of kind destination address offset }
+{
+    match kind {
+        Kind::Char => Instruction::LoadByte {
+            destination,
+            address,
+            offset,
+        },
+        Kind::Int | Kind::Nullable | Kind::NonNull | Kind::Fat | Kind::Handle | Kind::Key =>
+            Instruction::Load {
+                destination,
+                address,
+                offset,
+            },
+    }
+}
+
+/// And the other way.
+pub(crate) fn store_of(kind: Kind, address: Operand, offset: u32, source: Operand) -> Instruction
+    ensures { result ≡ store_of kind address offset source }
+{
+    match kind {
+        Kind::Char => Instruction::StoreByte {
+            address,
+            offset,
+            source,
+        },
+        Kind::Int | Kind::Nullable | Kind::NonNull | Kind::Fat | Kind::Handle | Kind::Key =>
+            Instruction::Store {
+                address,
+                offset,
+                source,
+            },
     }
 }
 

@@ -2,8 +2,8 @@
 //! its length and its index in slots one behind the other.
 ghost use Rattle.std.specs.Prelude.{◌≡◌, ◌+◌, ◌≤◌, ◌∷◌, length};
 ghost use Rattle.cyc_types.specs.TypedTreeView.{view_lvalue};
-ghost use Rattle.cyc_meaning.specs.Values.{is_thin, words_of_kind};
-ghost use Rattle.cyc_lower.specs.ValueCode.{address_of_code, address_of_global, bounded_code, count_code, past_bounded, thinned_code, followed_code, followed_operand, loaded_code, reached_code, reached_operand, stepped_code, widened_code};
+ghost use Rattle.cyc_meaning.specs.Values.{is_thin};
+ghost use Rattle.cyc_lower.specs.ValueCode.{address_of_code, address_of_global, last_byte_code, masked_code, bounded_code, count_code, past_bounded, thinned_code, followed_code, followed_operand, loaded_code, reached_code, reached_operand, stepped_code, widened_code};
 ghost use Rattle.cyc_lower.specs.ObjectCode.{saved_code};
 ghost use Rattle.cyc_types.specs.declared.typed.Kind.TheVariants as kinds;
 ghost use Rattle.cyc_plain.specs.declared.instruction.BinaryOperator.TheVariants as plain_binary;
@@ -15,8 +15,8 @@ use crate::checks::{ARRAY_BOUNDS, NULL_EXCEPTION};
 use crate::emitter::Emitter;
 use crate::globals::global_of;
 use crate::locals::slot_of;
-use crate::operands::{is_thin, reached_operand, slot_behind};
-use crate::operators::{jump_if_zero, scale_of};
+use crate::operands::{is_thin, reached_operand, slot_behind, variable_bytes};
+use crate::operators::{jump_if_zero, load_of, low_byte, scale_of, store_of};
 use crate::starts::Starts;
 use cyc_frame_count::words_of_kind;
 use cyc_plain::{BinaryOperator, Comparison, GLOBALS_BASE, Instruction, Operand};
@@ -34,37 +34,69 @@ fn past_bounded(span: Option<usize>) -> usize
     }
 }
 
-/// The address of the global whose first word has this number.
-fn address_of_global(first: usize) -> u32
-    ensures { result ≡ address_of_global first }
+/// The address of the global of a kind whose first word has this number.
+fn address_of_global(kind: Kind, first: usize) -> u32
+    ensures { result ≡ address_of_global kind first }
 {
     let number = (first % 0x1_0000_0000) as u32;
-    GLOBALS_BASE.wrapping_add(number.wrapping_mul(4))
+    GLOBALS_BASE
+        .wrapping_add(number.wrapping_mul(4))
+        .wrapping_add(variable_bytes(kind))
 }
 
 impl Emitter {
-    /// The address of a variable of so many words comes to a slot.
+    /// An address of a variable's first word, in a slot, becomes that of the variable: a char is the last byte of its word.
+    fn reach_last_byte(&mut self, kind: Kind, slot: usize) -> Result<(), AllocError>
+        ensures { Appends result self.old self.new (last_byte_code kind slot) }
+    {
+        match kind {
+            Kind::Char => self.emit(Instruction::Binary {
+                operator: BinaryOperator::Add,
+                destination: slot,
+                left: Operand::Slot { number: slot },
+                right: Operand::Word { word: 3 },
+            }),
+            Kind::Int | Kind::Nullable | Kind::NonNull | Kind::Fat | Kind::Handle | Kind::Key => Ok(
+                (),
+            ),
+        }
+    }
+
+    /// The address of a variable of a kind comes to a slot.
     pub(crate) fn address_variable(
         &mut self,
         starts: &Starts,
         place: Lvalue,
-        words: usize,
+        kind: Kind,
         slot: usize,
     ) -> Result<(), AllocError>
-        ensures { Appends result self.old self.new (address_of_code (view_starts starts.now) (view_lvalue place) words slot) }
+        ensures { Appends result self.old self.new (address_of_code (view_starts starts.now) (view_lvalue place) kind slot) }
     {
         match place {
-            Lvalue::Local { number, .. } => self.emit(Instruction::AddressOf {
-                destination: slot,
-                slot: slot_of(starts, number),
-                count: words,
-            }),
+            Lvalue::Local { number, .. } => {
+                self.emit(Instruction::AddressOf {
+                    destination: slot,
+                    slot: slot_of(starts, number),
+                    count: words_of_kind(kind),
+                })?;
+                self.reach_last_byte(kind, slot)
+            }
             Lvalue::Global { number } => self.emit(Instruction::Move {
                 destination: slot,
                 source: Operand::Word {
-                    word: address_of_global(global_of(starts, number)),
+                    word: address_of_global(kind, global_of(starts, number)),
                 },
             }),
+        }
+    }
+
+    /// An int becomes a char, which is its low byte.
+    pub(crate) fn mask(&mut self, value: Operand) -> Result<(), AllocError>
+        ensures { Appends result self.old self.new (masked_code value) }
+    {
+        match value {
+            Operand::Slot { number } => self.emit(low_byte(value, number)),
+            Operand::Word { .. } => Ok(()),
         }
     }
 
@@ -204,7 +236,7 @@ impl Emitter {
                     return self.reach(starts, span, number, index, number);
                 }
                 Kind::Nullable => return self.thin_nullable(starts, span, number),
-                Kind::Int | Kind::Fat | Kind::Handle | Kind::Key => {}
+                Kind::Int | Kind::Char | Kind::Fat | Kind::Handle | Kind::Key => {}
             }
         }
         Ok(())
@@ -235,25 +267,21 @@ impl Emitter {
         Ok(pointer)
     }
 
-    /// A cell of so many words comes to a slot and those behind it, whose address stands in an operand but for so many bytes. Where
-    /// there are more words the address comes to the first free slot, and not to a local, which may be the cell itself. The first word
-    /// is loaded last, since it may come there.
+    /// A cell of a kind comes to a slot and those behind it, whose address stands in an operand but for so many bytes. Where it has more
+    /// words than one the address comes to the first free slot, and not to a local, which may be the cell itself. The first word is
+    /// loaded last, since it may come there.
     pub(crate) fn load_cell(
         &mut self,
-        words: usize,
+        kind: Kind,
         address: Operand,
         offset: u32,
         slot: usize,
         free: usize,
     ) -> Result<(), AllocError>
-        ensures { Appends result self.old self.new (loaded_code words address offset slot free) }
+        ensures { Appends result self.old self.new (loaded_code kind address offset slot free) }
     {
-        if words == 1 {
-            return self.emit(Instruction::Load {
-                destination: slot,
-                address,
-                offset,
-            });
+        if words_of_kind(kind) == 1 {
+            return self.emit(load_of(kind, slot, address, offset));
         }
         let behind = slot_behind(slot, Kind::Fat)?;
         let first = Operand::Slot { number: free };
@@ -282,18 +310,16 @@ impl Emitter {
         address: usize,
         value: Operand,
     ) -> Result<(), AllocError>
-        ensures { Appends result self.old self.new (saved_code (words_of_kind kind) address value) }
+        ensures { Appends result self.old self.new (saved_code kind address value) }
     {
         match value {
             Operand::Slot { number } => {
                 slot_behind(number, kind)?;
-                self.store_words(words_of_kind(kind) as u32, address, number)
+                self.store_cell(kind, address, 0, number)
             }
-            Operand::Word { .. } => self.emit(Instruction::Store {
-                address: Operand::Slot { number: address },
-                offset: 0,
-                source: value,
-            }),
+            Operand::Word { .. } => {
+                self.emit(store_of(kind, Operand::Slot { number: address }, 0, value))
+            }
         }
     }
 

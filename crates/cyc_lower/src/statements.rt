@@ -1,20 +1,24 @@
 //! The code of statements. Each method adds its code behind what there is.
 ghost use Rattle.std.specs.Prelude.{◌≡◌, ◌+◌, ◌≤◌, ◌<◌, [], ◌∷◌, ◌++◌, length, set, option_map, IfOk, OnOk};
+ghost use Rattle.cyc_types.specs.TypeView.{view_ty};
 ghost use Rattle.cyc_types.specs.TypedTrees.{NoClauses};
 ghost use Rattle.cyc_types.specs.TypedTreeView.{view_converted, view_expression, view_statement, items_of, clauses_of, default_of};
 ghost use Rattle.cyc_meaning.specs.FrameCount.{kept_by, kept_by_items, kept_by_clauses};
 ghost use Rattle.cyc_lower.specs.ControlCode.{nothing_opened, outermost, with_handler, with_mark, inside_try, inside_region, leave_code, other_jump, goes_on, break_target, continue_target, inside_loop};
+ghost use Rattle.cyc_lower.specs.ValueCode.{blank_code};
 ghost use Rattle.cyc_lower.specs.Lowering.{clauses_code, caught_code, return_code, declaration_code, statement_code, items_code};
 ghost use Rattle.cyc_frame_count.specs.Needs.{kept_by_item};
 ghost use Rattle.cyc_lower.specs.Emission.{Appends, most_locals, throw_code, case_code, BeginClauses, item_code, exits_behind, free_behind, loop_code, view_starts};
 
 use crate::emitter::Emitter;
 use crate::locals::slot_of;
+use crate::operands::kind_of;
 use crate::operators::{failing_jump, goes_on, other_jump, tag_operand};
 use crate::starts::Starts;
 use cyc_frame_count::words_of;
 use cyc_plain::{Instruction, Operand};
-use cyc_types::typed::{Body, Clause, Converted, Expr, Item, Stmt};
+use cyc_types::Ty;
+use cyc_types::typed::{Body, Clause, Converted, Expr, Item, Kind, Stmt};
 use std::alloc::AllocError;
 
 /// What was opened round a statement since a loop began, or its function: the first slot of the outermost handler's record, and that
@@ -160,19 +164,35 @@ impl Emitter {
         self.emit(Instruction::Finish { value: from })
     }
 
+    /// A local that is declared without a value. It holds none, but the word of a char is below 256 all the same.
+    fn leave_blank(&mut self, kind: Kind, slot: usize) -> Result<(), AllocError>
+        ensures { Appends result self.old self.new (blank_code kind slot) }
+    {
+        match kind {
+            Kind::Char => self.emit(Instruction::Move {
+                destination: slot,
+                source: Operand::Word { word: 0 },
+            }),
+            Kind::Int | Kind::Nullable | Kind::NonNull | Kind::Fat | Kind::Handle | Kind::Key => Ok(
+                (),
+            ),
+        }
+    }
+
     /// The declaration of a local, which gets its initial value if it has one.
     fn lower_declaration(
         &mut self,
         starts: &Starts,
         number: usize,
+        of_type: &Ty,
         value: &Option<Converted>,
         free: usize,
     ) -> Result<(), AllocError>
         requires { free ≤ most_locals + length self.old.code.items }
-        ensures { Appends result self.old self.new (declaration_code (view_starts starts.now) number (option_map view_converted value.now) (length self.old.code.items) free) }
+        ensures { Appends result self.old self.new (declaration_code (view_starts starts.now) number (view_ty of_type.now) (option_map view_converted value.now) (length self.old.code.items) free) }
     {
         let Some(value) = value else {
-            return Ok(());
+            return self.leave_blank(kind_of(of_type), slot_of(starts, number));
         };
         self.lower_initial(starts, value, slot_of(starts, number), free)
     }
@@ -422,9 +442,11 @@ impl Emitter {
     {
         match item {
             Item::Execute { statement } => self.lower_statement(starts, statement, exits, free),
-            Item::Local { number, value, .. } => self.lower_declaration(
-                starts, *number, value, free,
-            ),
+            Item::Local {
+                number,
+                of_type,
+                value,
+            } => self.lower_declaration(starts, *number, of_type, value, free),
             Item::Region { number, .. } => self.open_lexical(starts, *number, free),
             // The word of a key is the handle of its region.
             Item::Open { number, key, .. } => {

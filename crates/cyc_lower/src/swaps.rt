@@ -1,8 +1,8 @@
 //! The code of swaps. Each side is a variable or a cell, and a cell has its address in a slot.
 ghost use Rattle.std.specs.Prelude.{◌≡◌, ◌+◌, ◌^◌, ◌<◌, ◌≤◌, length};
-ghost use Rattle.cyc_types.specs.Types.{words_of};
 ghost use Rattle.cyc_types.specs.typing.Expressions.{type_of_side};
 ghost use Rattle.cyc_types.specs.TypedTreeView.{view_side};
+ghost use Rattle.cyc_meaning.specs.Values.{kind_of, words_of_kind};
 ghost use Rattle.cyc_lower.specs.ValueCode.{word_by_word};
 ghost use Rattle.cyc_lower.specs.ObjectCode.{right_slot, load_at};
 ghost use Rattle.cyc_lower.specs.Lowering.{side_code, read_side, write_side, exchange_code, swap_code};
@@ -11,54 +11,55 @@ ghost use Rattle.cyc_lower.specs.Emission.{Appends, most_locals, view_starts};
 use crate::emitter::Emitter;
 use crate::globals::global_of;
 use crate::locals::slot_of;
-use crate::operators::move_of;
+use crate::operands::{kind_at, kind_of};
+use crate::operators::{load_of, move_of};
 use crate::starts::Starts;
-use cyc_frame_count::{words_at, words_of};
-use cyc_plain::{Instruction, Operand};
-use cyc_store::MOST_BLOCK_WORDS;
-use cyc_types::typed::{Lvalue, Side};
+use cyc_frame_count::words_of_kind;
+use cyc_plain::Operand;
+use cyc_types::typed::{Kind, Lvalue, Side};
 use std::alloc::AllocError;
 
-/// The words of what a side holds.
-fn words_of_side(side: &Side) -> usize
-    ensures { result ≡ words_of (type_of_side (view_side side.now)) }
+/// The kind of what a side holds.
+fn kind_of_side(side: &Side) -> Kind
+    ensures { result ≡ kind_of (type_of_side (view_side side.now)) }
 {
     match side {
-        Side::Variable { of_type, .. } => words_of(of_type),
-        Side::Cell { place } => words_at(place),
+        Side::Variable { of_type, .. } => kind_of(of_type),
+        Side::Cell { place } => kind_at(place),
     }
 }
 
 impl Emitter {
-    /// So many words of a cell come to slots, by its address in a slot.
-    fn load_words(&mut self, words: usize, address: usize, slot: usize) -> Result<(), AllocError>
-        requires few { words ≤ 1000 }
-        requires low { slot + words < 2 ^ 64 }
-        ensures { Appends result self.old self.new (word_by_word (load_at address) words 0 slot) }
+    /// The words of a cell of a kind come to slots, by its address in a slot.
+    fn load_words(&mut self, kind: Kind, address: usize, slot: usize) -> Result<(), AllocError>
+        requires { slot + words_of_kind kind < 2 ^ 64 }
+        ensures { Appends result self.old self.new (word_by_word (load_at kind address) (words_of_kind kind) 0 slot) }
     {
+        let words = words_of_kind(kind);
         for index in 0..words {
-            self.emit(Instruction::Load {
-                destination: slot + index,
-                address: Operand::Slot { number: address },
-                offset: 4 * index as u32,
-            })?;
+            self.emit(load_of(
+                kind,
+                slot + index,
+                Operand::Slot { number: address },
+                4 * index as u32,
+            ))?;
         }
         Ok(())
     }
 
-    /// The words that a side holds come to slots from one on.
+    /// The words of a kind that a side holds come to slots from one on.
     fn read_side(
         &mut self,
         starts: &Starts,
         side: &Side,
-        words: usize,
+        kind: Kind,
         address: usize,
         slot: usize,
     ) -> Result<(), AllocError>
-        requires few { words ≤ 1000 }
-        requires low { slot + words < 2 ^ 64 }
-        ensures { Appends result self.old self.new (read_side (view_starts starts.now) (view_side side.now) words address slot) }
+        requires { slot + words_of_kind kind < 2 ^ 64 }
+        ensures { Appends result self.old self.new (read_side (view_starts starts.now) (view_side side.now) kind address slot) }
     {
+        let words = words_of_kind(kind);
         match side {
             Side::Variable { place, .. } => match *place {
                 Lvalue::Local { number, .. } => {
@@ -71,7 +72,7 @@ impl Emitter {
                     self.load_global(words, global_of(starts, number), slot)
                 }
             },
-            Side::Cell { .. } => self.load_words(words, address, slot),
+            Side::Cell { .. } => self.load_words(kind, address, slot),
         }
     }
 
@@ -80,15 +81,15 @@ impl Emitter {
         &mut self,
         starts: &Starts,
         side: &Side,
-        words: usize,
+        kind: Kind,
         address: usize,
         slot: usize,
     ) -> Result<(), AllocError>
-        requires few { words ≤ 1000 }
-        requires low { slot + words < 2 ^ 64 }
-        ensures { Appends result self.old self.new (write_side (view_starts starts.now) (view_side side.now) words address slot) }
+        requires { slot + words_of_kind kind < 2 ^ 64 }
+        ensures { Appends result self.old self.new (write_side (view_starts starts.now) (view_side side.now) kind address slot) }
     {
         let source = Operand::Slot { number: slot };
+        let words = words_of_kind(kind);
         match side {
             Side::Variable { place, .. } => match *place {
                 Lvalue::Local { number, .. } => {
@@ -98,7 +99,7 @@ impl Emitter {
                     self.store_global(words, global_of(starts, number), source)
                 }
             },
-            Side::Cell { .. } => self.store_words(words as u32, address, slot),
+            Side::Cell { .. } => self.store_cell(kind, address, 0, slot),
         }
     }
 
@@ -124,7 +125,7 @@ impl Emitter {
         }
     }
 
-    /// Both sides are read, the left one first, and then written. No side has more words than a block.
+    /// Both sides are read, the left one first, and then written.
     fn exchange(
         &mut self,
         starts: &Starts,
@@ -133,17 +134,15 @@ impl Emitter {
         free: usize,
     ) -> Result<(), AllocError>
         requires { free ≤ most_locals + length self.old.code.items }
-        ensures { Appends result self.old self.new (exchange_code (view_starts starts.now) (words_of (type_of_side (view_side left.now))) (view_side left.now) (view_side right.now) free) }
+        ensures { Appends result self.old self.new (exchange_code (view_starts starts.now) (kind_of (type_of_side (view_side left.now))) (view_side left.now) (view_side right.now) free) }
     {
-        let words = words_of_side(left);
-        if words > MOST_BLOCK_WORDS as usize {
-            return Err(AllocError);
-        }
+        let kind = kind_of_side(left);
+        let words = words_of_kind(kind);
         let behind = self.right_slot(left, free);
-        self.read_side(starts, left, words, free, free + 2)?;
-        self.read_side(starts, right, words, behind, free + 2 + words)?;
-        self.write_side(starts, left, words, free, free + 2 + words)?;
-        self.write_side(starts, right, words, behind, free + 2)
+        self.read_side(starts, left, kind, free, free + 2)?;
+        self.read_side(starts, right, kind, behind, free + 2 + words)?;
+        self.write_side(starts, left, kind, free, free + 2 + words)?;
+        self.write_side(starts, right, kind, behind, free + 2)
     }
 
     /// A swap: the places of both sides are found before either is written.

@@ -2,8 +2,9 @@
 use Rattle.std.proofs.Common.{◌≡◌, ℕ, zero, suc, List, [], ◌∷◌, None, refl}
 use Rattle.cyc_types.specs.declared.region.Region.TheVariants.{Heap}
 use Rattle.cyc_types.specs.declared.typed.PointerOperator.TheVariants as pointers
-use Rattle.cyc_types.specs.Types.{Ty, Int, Handle, Key}
-use Rattle.cyc_types.specs.TypedTrees.{Expression, Number, NullPointer, Counter, Load, AddressOf, AddressOfCell, NumberOfElements, FreeKey, New, OnHeap, AsUnique, ByHandle, Array, CellSide, Swap, Evaluate, Throw, NoClauses, DeclareRegion, OpenRegion, Function}
+use Rattle.cyc_types.specs.declared.typed.UnaryOperator.TheVariants as unary
+use Rattle.cyc_types.specs.Types.{Ty, Int, Char, Handle, Key}
+use Rattle.cyc_types.specs.TypedTrees.{Expression, Number, NullPointer, Counter, Load, AddressOf, AddressOfCell, NumberOfElements, FreeKey, Unary, New, OnHeap, AsUnique, ByHandle, Array, CellSide, Swap, Evaluate, Throw, NoClauses, DeclareRegion, OpenRegion, Function}
 use Rattle.cyc_types.specs.TypedTrees as typed
 use Rattle.cyc_meaning.specs.FrameCount.{expression_need, statement_need, frame_count}
 use Rattle.cyc_meaning.proofs.ExampleTrees.{here, local, assign, procedure, at, fat, own, convert, variable, move, target, element, put, set, new, array, apply, side, try_to, case}
@@ -68,6 +69,13 @@ of_array = refl
 
 of_array_by_handle : expression_need (array (ByHandle (variable 1 (Handle Heap))) fat (local 0) (Counter 0)) ≡ 9
 of_array_by_handle = refl
+
+-- char(1): 1 + 1; and a char that serves as an int needs what it needs itself
+of_low_byte : expression_need (Unary unary.LowByte (Number 1)) ≡ 2
+of_low_byte = refl
+
+of_char_as_int : expression_need (Unary unary.Widen (variable 0 Char)) ≡ 1
+of_char_as_int = refl
 
 -- free_ukey(k): the key, and no value
 of_free_key : expression_need (FreeKey (move 0 (Key Heap))) ≡ 1

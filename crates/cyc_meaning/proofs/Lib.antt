@@ -17,6 +17,7 @@ pub mod RegionExamples
 pub mod DeadExamples
 pub mod FrameExamples
 pub mod ValueExamples
+pub mod CharExamples
 -- variables of blocks
 pub mod VariableLemmas
 pub mod VariableChanges

@@ -6,6 +6,7 @@ use Rattle.cyc_types.specs.declared.typed.UnaryOperator.TheVariants as unary
 use Rattle.cyc_meaning.specs.Values.{Int, Null, Thin, Fat, Handle, Key, begins, behind, words_for, block_size}
 use Rattle.cyc_meaning.specs.Operators.{Gives, Raises, Misfits, is_zero, binary_result, unary_result}
 use Rattle.cyc_meaning.specs.Conversion.{conversion}
+use Rattle.cyc_meaning.specs.Allocation.{blanks}
 use Rattle.cyc_words.specs.Demand.{region_pages, class_of, blocks_in_page, pages_for, class_pages, demand_of}
 use Rattle.cyc_meaning.specs.State.{Heap, Globals, Stack, Lexical, Dynamic, counted}
 
@@ -13,6 +14,15 @@ use Rattle.cyc_meaning.specs.State.{Heap, Globals, Stack, Lexical, Dynamic, coun
 
 int_to_int : conversion kinds.Int (Int 4294967295) ≡ Gives (Int 4294967295)
 int_to_int = refl
+
+int_to_char : conversion kinds.Char (Int 300) ≡ Gives (Int 44)
+int_to_char = refl
+
+char_to_int : conversion kinds.Int (Int 44) ≡ Gives (Int 44)
+char_to_int = refl
+
+pointer_to_char : conversion kinds.Char Null ≡ Misfits
+pointer_to_char = refl
 
 int_to_pointer : conversion kinds.Nullable (Int 0) ≡ Misfits
 int_to_pointer = refl
@@ -66,6 +76,9 @@ pointer_past_its_end_is_not = refl
 
 not_of_null : unary_result unary.Not Null ≡ Gives (Int 1)
 not_of_null = refl
+
+low_byte_of_a_negative : unary_result unary.LowByte (Int 4294967294) ≡ Gives (Int 254)
+low_byte_of_a_negative = refl
 
 key_is_no_condition : unary_result unary.Not (Key 2) ≡ Misfits
 key_is_no_condition = refl
@@ -125,12 +138,25 @@ block_of_no_cells = refl
 block_of_two_cells : block_size (record { kind = kinds.Fat; content = None } ∷ record { kind = kinds.Int; content = None } ∷ []) ≡ 4
 block_of_two_cells = refl
 
+block_of_five_chars : block_size (blanks 5 kinds.Char) ≡ 2
+block_of_five_chars = refl
+
 -- a cell of words begins at a multiple of 4, and a cell behind it at once
 rounded_up : begins kinds.Int 5 ≡ 8
 rounded_up = refl
 
 one_behind_another : begins kinds.Int (behind kinds.Fat 4) ≡ 16
 one_behind_another = refl
+
+-- and a char at once, wherever it is
+char_behind_a_word : begins kinds.Char (behind kinds.Int 1) ≡ 8
+char_behind_a_word = refl
+
+char_behind_a_char : begins kinds.Char 9 ≡ 9
+char_behind_a_char = refl
+
+word_behind_chars : begins kinds.Int (behind kinds.Char 8) ≡ 12
+word_behind_chars = refl
 
 a_word_begun : words_for 5 ≡ 2
 a_word_begun = refl

@@ -1,6 +1,6 @@
 -- Conversion: the value that a value becomes in a cell of a kind, or the exception that it raises. The rules are the Cyclone
 -- User's Manual's (1.0); that a conversion is a check and never a promise is this project's own choice.
-use Rattle.std.specs.Prelude.{ℕ, ◌+◌, nat_lt, if◌then◌else◌}
+use Rattle.std.specs.Prelude.{ℕ, ◌+◌, ◌%◌, nat_lt, if◌then◌else◌}
 use Rattle.cyc_types.specs.declared.typed.Kind.{Kind}
 use Rattle.cyc_types.specs.declared.typed.Kind.TheVariants as kinds
 use Rattle.cyc_meaning.specs.Values.{Value, Int, Null, Thin, Fat, Handle, Key}
@@ -12,6 +12,7 @@ thinned object start count index = if nat_lt index count then Gives (Thin object
 
 abbrev pub conversion : (to : Kind) → Value → Result
 conversion kinds.Int (Int word) = Gives (Int word)
+conversion kinds.Char (Int word) = Gives (Int (word % 256))
 conversion kinds.Nullable Null = Gives Null
 conversion kinds.Nullable (Thin object offset) = Gives (Thin object offset)
 conversion kinds.Nullable (Fat object start count index) = thinned object start count index

@@ -1,6 +1,8 @@
 -- How many words the frame of a function may have, counted on the source alone, so that a text is refused or not however
 -- its code is made. The count and its numbers are this project's own choice.
 use Rattle.std.specs.Prelude.{ℕ, ◌+◌, max, List, [], ◌∷◌, Option, None, Some}
+use Rattle.cyc_types.specs.declared.typed.UnaryOperator.{UnaryOperator}
+use Rattle.cyc_types.specs.declared.typed.UnaryOperator.TheVariants as unary
 use Rattle.cyc_types.specs.Types.{Ty, words_of, ValueType, Void, Null, Value}
 use Rattle.cyc_types.specs.TypedTrees.{Expression, Number, NullPointer, HeapRegion, Counter, Copy, Move, Peek, Load, AddressOf, AddressOfCell, NumberOfElements, FreeUnique, FreeKey, Call, Unary, Binary, Assign, Store, New, Dereference, Target, Member, Element, Placement, OnHeap, AsUnique, ByHandle, Initial, Plain, Fields, Array, Converted, Convert, Arguments, NoArguments, MoreArguments, Operations, NoOperations, ThenCompute, ThenTest, ThenPointer, ThenPointerPeek, type_of_place, type_of, Side, VariableSide, CellSide, Statement, Block, Empty, Evaluate, Swap, If, While, Return, Break, Continue, Throw, Try, Items, NoItems, MoreItems, Execute, Declare, DeclareRegion, Clauses, NoClauses, Default, Case, Function}
 use Rattle.cyc_meaning.specs.Values.{words_of_kind}
@@ -39,6 +41,15 @@ handle_words OnHeap = 0
 handle_words AsUnique = 1
 handle_words (ByHandle a) = operand_words (type_of a)
 
+-- Of an operator whose operand has so many words and this need. A text does not write that a char serves as an int, so this has no words of
+-- its own.
+abbrev pub unary_need : UnaryOperator → (words need : ℕ) → ℕ
+unary_need unary.Negate words need = max (words + 1) need
+unary_need unary.Not words need = max (words + 1) need
+unary_need unary.Complement words need = max (words + 1) need
+unary_need unary.Widen words need = need
+unary_need unary.LowByte words need = max (words + 1) need
+
 -- The need of an expression is the greatest of: the words of all its operands and its own; and for each operand the words
 -- of those before it and its need. In a chain all that stands before an operator is its left operand, and has the type of
 -- the chain where it is not the first operand alone.
@@ -58,7 +69,7 @@ abbrev mutual
   expression_need (FreeUnique a) = max (operand_words (type_of a)) (expression_need a)
   expression_need (FreeKey a) = max (operand_words (type_of a)) (expression_need a)
   expression_need (Call f cs t) = max (argument_words cs + result_words t) (arguments_need cs 0)
-  expression_need (Unary o a) = max (operand_words (type_of a) + 1) (expression_need a)
+  expression_need (Unary o a) = unary_need o (operand_words (type_of a)) (expression_need a)
   expression_need (Binary a os t) = max (expression_need a) (operations_need os t (operand_words (type_of a)))
   expression_need (Assign l c t) = max (place_words + converted_words c + result_words t) (place_words + converted_need c)
   expression_need (Store d c t) =

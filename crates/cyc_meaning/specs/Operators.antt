@@ -1,8 +1,10 @@
 -- What the operators compute of values: those of C on a machine of 32 bits (ISO C's operators, which Cyclone keeps). That
 -- sums wrap, that shifts count modulo 32, and that division by 0 raises an exception is this project's own choice.
-use Rattle.std.specs.Prelude.{ℕ, ◌==◌, Bool, true, false, not, if◌then◌else◌, int_le, bit_and, bit_or, bit_xor, Option, Some, None}
+use Rattle.std.specs.Prelude.{ℕ, ◌%◌, ◌==◌, Bool, true, false, not, if◌then◌else◌, int_le, bit_and, bit_or, bit_xor, Option, Some, None}
 use Rattle.std.specs.Int.{w32, bit_not}
 use Rattle.cyc_words.specs.Word.{signed, add_of, sub_of, mul_of, shl_of, sar_of, slt_of, div_of, rem_of}
+use Rattle.cyc_types.specs.declared.typed.Kind.{Kind}
+use Rattle.cyc_types.specs.declared.typed.Kind.TheVariants as kinds
 use Rattle.cyc_types.specs.declared.typed.Operator.{Operator}
 use Rattle.cyc_types.specs.declared.typed.Operator.TheVariants as operators
 use Rattle.cyc_types.specs.declared.typed.UnaryOperator.{UnaryOperator}
@@ -86,7 +88,17 @@ abbrev pub unary_result : UnaryOperator → Value → Result
 unary_result unary.Negate (Int a) = Gives (Int (sub_of 0 a))
 unary_result unary.Complement (Int a) = Gives (Int (bit_not w32 a))
 unary_result unary.Not value = truth_result (is_zero value)
+unary_result unary.Widen (Int a) = Gives (Int a)
+unary_result unary.LowByte (Int a) = Gives (Int (a % 256))
 unary_result operator value = Misfits
+
+-- the kind of what it gives
+abbrev pub unary_kind : UnaryOperator → Kind
+unary_kind unary.Negate = kinds.Int
+unary_kind unary.Not = kinds.Int
+unary_kind unary.Complement = kinds.Int
+unary_kind unary.Widen = kinds.Int
+unary_kind unary.LowByte = kinds.Char
 
 -- the value of the right operand of `&&` and `||`: 0 or 1
 abbrev pub truth_of : Option Bool → Result

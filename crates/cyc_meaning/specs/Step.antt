@@ -16,7 +16,7 @@ use Rattle.cyc_types.specs.Types.{Ty}
 use Rattle.cyc_types.specs.TypedTrees.{Lvalue, Local, Global, Expression, Number, NullPointer, HeapRegion, Counter, Copy, Move, Peek, Load, AddressOf, AddressOfCell, NumberOfElements, FreeUnique, FreeKey, Call, Unary, Binary, Assign, New, type_of_place, peeked, Converted, Convert, Arguments, NoArguments, MoreArguments, Operations, NoOperations, ThenCompute, ThenTest, ThenPointer, ThenPointerPeek, Statement, Block, Empty, Evaluate, Swap, If, While, Break, Continue, Throw, Try, Items, NoItems, MoreItems, Execute, Declare, DeclareRegion, OpenRegion, DeclareAlias, DeclareKey, Function, Program}
 use Rattle.cyc_types.specs.TypedTrees as typed
 use Rattle.cyc_meaning.specs.Values.{Value, Int, Null, Thin, Handle, Operand, kind_of, is_kind}
-use Rattle.cyc_meaning.specs.Operators.{is_zero, truth, binary_result, unary_result, truth_of, decides}
+use Rattle.cyc_meaning.specs.Operators.{is_zero, truth, binary_result, unary_result, unary_kind, truth_of, decides}
 use Rattle.cyc_meaning.specs.Pointers.{followed, element_count, pointer_result, result_kind, takes_kind}
 use Rattle.cyc_meaning.specs.Conversion.{conversion}
 use Rattle.cyc_meaning.specs.State.{World, Access, Found, Closed, Missing, heap_number, region_at, opened, Environment, no_locals, Awaiting, ConvertTo, Operate, Chain, Apply, ApplyPointer, Decide, Store, StoreCell, Pass, Follow, FollowMember, Index, Advance, CountElements, FreeObject, CloseByKey, PlaceBy, BesideHandle, MakePlain, MakeFields, MakeArray, FillElement, Initialise, Choose, Test, Return, ThrowWith, OpenBy, AliasOf, LoadFrom, TakeAddress, StoreTo, Entry, Needs, NeedsPlace, Discard, Rest, Join, Loop, CloseRegion, CloseLexical, EndLoan, Handler, Caller, Main, Focus, Evaluating, Locating, Given, GivenPlace, Executing, Proceeding, Calling, Entering, Binding, Naming, Writing, Beginning, Repeating, Swapping, Breaking, Continuing, Returning, Throwing, Catching, State, Running, Ended, Dead, Wrong}
@@ -185,7 +185,7 @@ initialises number kind items value stack e w =
 -- what waits for a value gets it
 abbrev pub supplied : Awaiting → Operand → List Entry → Environment → World → State
 supplied (ConvertTo from to target) value stack e w = converts from to target value stack e w
-supplied (Operate operator) value stack e w = computed kinds.Int (unary_result operator value.value) stack e w
+supplied (Operate operator) value stack e w = computed (unary_kind operator) (unary_result operator value.value) stack e w
 supplied (Chain rest) value stack e w = chained rest value stack e w
 supplied (Apply operator left) value stack e w = computed kinds.Int (binary_result operator left.value value.value) stack e w
 supplied (ApplyPointer peek operator left) value stack e w = applies_pointer operator left.value value.value stack e w

@@ -10,7 +10,7 @@ use Rattle.cyc_types.specs.Types.{Ty}
 use Rattle.cyc_types.specs.Types as types
 
 pub data Value : Type 0 where
-  -- a word of 32 bits, which means a signed number in two's complement
+  -- A word of 32 bits, which means a signed number in two's complement. That of a char is below 256.
   Int : (word : ℕ) → Value
   -- the null pointer, of any mark
   Null : Value
@@ -38,6 +38,7 @@ kind_of_mark marks.Fat = kinds.Fat
 -- The kind of the cells of a type. No cell has a struct for its type: a struct is a block of cells.
 abbrev pub kind_of : Ty → Kind
 kind_of types.Int = kinds.Int
+kind_of types.Char = kinds.Char
 kind_of (types.Pointer mark target region) = kind_of_mark mark
 kind_of (types.Handle region) = kinds.Handle
 kind_of (types.Key region) = kinds.Key
@@ -51,6 +52,7 @@ number_of_kind kinds.NonNull = 2
 number_of_kind kinds.Fat = 3
 number_of_kind kinds.Handle = 4
 number_of_kind kinds.Key = 5
+number_of_kind kinds.Char = 6
 
 abbrev pub is_kind : Kind → Kind → Bool
 is_kind a b = number_of_kind a == number_of_kind b
@@ -69,6 +71,7 @@ is_thin kind = false
 -- the words of an operand: a fat pointer has three, any other value one
 abbrev pub words_of_kind : Kind → ℕ
 words_of_kind kinds.Int = 1
+words_of_kind kinds.Char = 1
 words_of_kind kinds.Nullable = 1
 words_of_kind kinds.NonNull = 1
 words_of_kind kinds.Fat = 3
@@ -89,18 +92,20 @@ kinds_of cells = map (λ (c : Cell). c.kind) cells
 abbrev pub blank : Kind → Cell
 blank kind = record { kind = kind; content = None }
 
--- the bytes of a cell
+-- the bytes of a cell: a char has one
 abbrev pub bytes_of_kind : Kind → ℕ
 bytes_of_kind kinds.Int = 4
+bytes_of_kind kinds.Char = 1
 bytes_of_kind kinds.Nullable = 4
 bytes_of_kind kinds.NonNull = 4
 bytes_of_kind kinds.Fat = 12
 bytes_of_kind kinds.Handle = 4
 bytes_of_kind kinds.Key = 4
 
--- where a cell of this kind begins, behind so many bytes of an object: at the next multiple of 4
+-- where a cell of this kind begins, behind so many bytes of an object: a char there, and any other at the next multiple of 4
 abbrev pub begins : Kind → (at : ℕ) → ℕ
 begins kinds.Int at = 4 * ((at + 3) / 4)
+begins kinds.Char at = at
 begins kinds.Nullable at = 4 * ((at + 3) / 4)
 begins kinds.NonNull at = 4 * ((at + 3) / 4)
 begins kinds.Fat at = 4 * ((at + 3) / 4)

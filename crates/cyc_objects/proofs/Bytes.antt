@@ -1,10 +1,14 @@
 -- Bytes of memory and of the words there.
-use Rattle.std.proofs.Common.{◌≡◌, ℕ, ◌+◌, ◌*◌, ◌/◌, ◌%◌, ◌<◌, sym, ap, ◌∙◌, inl, inr, arith}
+use Rattle.std.proofs.Common.{◌≡◌, ℕ, ◌+◌, ◌*◌, ◌/◌, ◌%◌, ◌<◌, refl, sym, ap, subst, ◌∙◌, inl, inr, arith}
 use Rattle.std.specs.Prelude.{◌≢◌}
-use Rattle.cyc_words.specs.WordBytes.{byte_in, word_of}
-use Rattle.cyc_words.proofs.WordBytesLemmas.{word-same}
+use Rattle.std.proofs.lemmas.Bool.{cases_eq}
+use Rattle.cyc_words.specs.WordBytes.{byte_in, with_byte, word_of}
+use Rattle.cyc_words.proofs.Numbers.{when_equal}
+use Rattle.cyc_words.proofs.WordBytesLemmas.{byte-small, byte-same, byte-other, with_byte-word, word-same}
 use Rattle.cyc_types.specs.declared.typed.Kind.{Kind}
-use Rattle.cyc_store.specs.State.{Memory, AreWords}
+use Rattle.cyc_types.specs.declared.typed.Kind.TheVariants as kinds
+use Rattle.cyc_store.specs.State.{Memory, put, AreWords}
+use Rattle.cyc_store.proofs.LookupLemmas.{when_other}
 use Rattle.cyc_meaning.specs.Values.{bytes_of_kind}
 use Rattle.cyc_objects.specs.Words.{byte_at, IsBeside}
 
@@ -29,3 +33,43 @@ pub bytes-beside : (m n : Memory) (kind : Kind) (p words : ℕ) → bytes_of_kin
     → ((y : ℕ) → ((j : ℕ) → j < words → y ≢ p + 4 * j) → n y ≡ m y) → (x : ℕ) → IsBeside kind p x → byte_at n x ≡ byte_at m x
 bytes-beside m n kind p words wide even others x (inl low) = byte-of_same m n x (others (word_of x) (λ j below e. omega (arith, even, low, e)))
 bytes-beside m n kind p words wide even others x (inr high) = byte-of_same m n x (others (word_of x) (λ j below e. omega (arith, even, wide, high, below, e)))
+
+-- ---- a byte is put
+
+-- memory with another byte at an address: the word that has it, with that byte
+abbrev pub put_byte : Memory → (address byte : ℕ) → Memory
+put_byte m x b = put m (word_of x) (with_byte (m (word_of x)) (x % 4) b)
+
+pub put_byte-words : (m : Memory) (x b : ℕ) → AreWords m → b < 256 → AreWords (put_byte m x b)
+put_byte-words m x b words small y = elim (cases_eq y (word_of x)) [
+  | inl same ↦
+      subst (λ w. w < 4294967296)
+      (sym (when_equal y (word_of x) (with_byte (m (word_of x)) (x % 4) b) (m y) same))
+      (with_byte-word (m (word_of x)) (x % 4) b (words (word_of x)) small)
+  | inr other ↦ subst (λ w. w < 4294967296) (sym (when_other y (word_of x) (with_byte (m (word_of x)) (x % 4) b) (m y) other)) (words y)
+]
+
+-- it is there
+pub put_byte-same : (m : Memory) (x b : ℕ) → b < 256 → byte_at (put_byte m x b) x ≡ b
+put_byte-same m x b small =
+    ap (λ w. byte_in w (x % 4)) (when_equal (word_of x) (word_of x) (with_byte (m (word_of x)) (x % 4) b) (m (word_of x)) refl)
+    ∙ byte-same (m (word_of x)) (x % 4) b small
+
+-- and all others are as they were
+pub put_byte-other : (m : Memory) (x b y : ℕ) → b < 256 → y ≢ x → byte_at (put_byte m x b) y ≡ byte_at m y
+put_byte-other m x b y small other = elim (cases_eq (word_of y) (word_of x)) [
+  | inl same ↦
+      let away : y % 4 ≢ x % 4 = λ place. other (let e : y ≡ x = omega (arith, same, place) in e) in
+      ap (λ w. byte_in w (y % 4)) (when_equal (word_of y) (word_of x) (with_byte (m (word_of x)) (x % 4) b) (m (word_of y)) same)
+      ∙ (byte-other (m (word_of x)) (x % 4) (y % 4) b (omega arith) (omega arith) away small
+      ∙ ap (λ z. byte_in (m z) (y % 4)) (sym same))
+  | inr away ↦ byte-of_same m (put_byte m x b) y (when_other (word_of y) (word_of x) (with_byte (m (word_of x)) (x % 4) b) (m (word_of y)) away)
+]
+
+pub byte-beside : (m : Memory) (p b : ℕ) → b < 256 → (x : ℕ) → IsBeside kinds.Char p x → byte_at (put_byte m p b) x ≡ byte_at m x
+byte-beside m p b small x (inl low) = put_byte-other m p b x small (λ e. omega (arith, low, e))
+byte-beside m p b small x (inr high) = put_byte-other m p b x small (λ e. omega (arith, high, e))
+
+-- every byte is below 256
+pub byte_at-small : (m : Memory) (x : ℕ) → byte_at m x < 256
+byte_at-small m x = byte-small (m (word_of x)) (x % 4)

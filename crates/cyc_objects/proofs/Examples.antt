@@ -8,11 +8,11 @@ use Rattle.cyc_store.specs.Services.{OpenLexical, CloseTo, Allocate, Free, Choic
 use Rattle.cyc_store.specs.declared.range.TheConstants.{HEAP, STORE_BASE, UNIQUE}
 use Rattle.cyc_store.proofs.LookupLemmas.{not_both}
 use Rattle.cyc_store.proofs.ServiceLemmas.{start-sound}
-use Rattle.cyc_meaning.specs.Values.{Null, Thin, Handle, Cell, blank}
+use Rattle.cyc_meaning.specs.Values.{Int, Null, Thin, Handle, Cell, blank}
 use Rattle.cyc_meaning.specs.State.{Heap, Stack, Lexical, InRegion, Unique, World, Found, Closed, cell_at, new_region, opened_as, closed, variable, made, first_classes, counted}
 use Rattle.cyc_meaning.specs.Objects.{made_unique, freed}
 use Rattle.cyc_objects.specs.Tables.{Placed, Tables, with_row, with_handle}
-use Rattle.cyc_objects.specs.Words.{bytes_of_kinds, before, byte_at, Points, Is}
+use Rattle.cyc_objects.specs.Words.{bytes_of_kinds, before, byte_at, Points, Is, Holds}
 use Rattle.cyc_objects.specs.Related.{lies_in, Related, taken, no_regions}
 use Rattle.cyc_objects.proofs.Pointers.{same-row}
 use Rattle.cyc_objects.proofs.Making.{allocated-unique}
@@ -185,6 +185,16 @@ behind_fat = refl
 bytes_of_three : bytes_of_kinds (kinds.Int ∷ kinds.Fat ∷ kinds.Int ∷ []) ≡ 20
 bytes_of_three = refl
 
+-- chars beside an int and a fat pointer: each stands at the next byte, and words at the next multiple of 4
+last_char : before 3 (kinds.Char ∷ kinds.Int ∷ kinds.Char ∷ kinds.Char ∷ []) ≡ 9
+last_char = refl
+
+char_behind_fat : before 2 (kinds.Char ∷ kinds.Fat ∷ kinds.Char ∷ []) ≡ 16
+char_behind_fat = refl
+
+bytes_of_chars : bytes_of_kinds (kinds.Char ∷ kinds.Char ∷ kinds.Char ∷ []) ≡ 3
+bytes_of_chars = refl
+
 -- the byte at the lowest address of a word is its highest one
 lowest-byte : byte_at (λ (x : ℕ). if x == 8 then 305419896 else 0) 8 ≡ 18
 lowest-byte = refl
@@ -192,7 +202,18 @@ lowest-byte = refl
 next-byte : byte_at (λ (x : ℕ). if x == 8 then 305419896 else 0) 9 ≡ 52
 next-byte = refl
 
+-- and chars in this word are its bytes
+first-char : Holds both kinds.Char (Int 18) (λ (x : ℕ). if x == 8 then 305419896 else 0) 8
+first-char = refl
+
+next-char : Holds both kinds.Char (Int 52) (λ (x : ℕ). if x == 8 then 305419896 else 0) 9
+next-char = refl
+
 -- ---- what the relation refuses
+
+-- a char's word is that of a byte
+no-char : Is both kinds.Char (Int 256) (λ k. 256) 0 → ⊥
+no-char (same, small) = omega (arith, small)
 
 -- an int is no pointer, and a null pointer is of no kind that has none
 no-pointer : Is both kinds.Int (Thin 0 0) (λ k. STORE_BASE) 0 → ⊥
@@ -243,6 +264,23 @@ variable-pointer = record {
   inside = let one : 0 < 1 = omega arith in one;
   at = refl;
 }
+
+-- that of a char is the last byte of its slot's word
+abbrev char_there : World
+char_there = made in_block (variable 1 kinds.Char None)
+
+abbrev with_char : Tables
+with_char = with_row block_tables (Placed (slot_address + 3) (kinds.Char ∷ []))
+
+behind_store_too : 805306368 ≤ 2147479539
+behind_store_too = omega arith
+
+char-related : Related with_char char_there new
+char-related =
+    declared (opened-variables new-related Stack refl) 1 (new_region Stack) kinds.Char None (Placed (slot_address + 3) (kinds.Char ∷ [])) refl refl refl (inr behind_store_too)
+
+char-byte : byte_at (λ (x : ℕ). if x == slot_address then 65 else 0) (slot_address + 3) ≡ 65
+char-byte = refl
 
 -- it is none of the store's objects
 variable-lies_nowhere : lies_in with_variable.handles declared_there.regions (InRegion 1) ≡ None

@@ -3,6 +3,7 @@ pub mod Places
 pub mod Bytes
 pub mod Values
 pub mod Pointers
+pub mod Chars
 pub mod RegionLemmas
 pub mod Serving
 pub mod Cells

@@ -1,11 +1,12 @@
 -- Where the cells of an object begin: in order, apart, and within its bytes.
-use Rattle.std.proofs.Common.{◌≡◌, ℕ, zero, suc, ◌+◌, ◌*◌, ◌%◌, ◌<◌, ◌≤◌, List, [], ◌∷◌, ◌++◌, length, Some, None, refl, sym, ap, subst, ◌∙◌, inl, inr, arith, add-zero}
+use Rattle.std.proofs.Common.{◌≡◌, ℕ, zero, suc, ◌+◌, ◌*◌, ◌/◌, ◌%◌, ◌<◌, ◌≤◌, max, List, [], ◌∷◌, ◌++◌, length, Some, None, refl, sym, ap, subst, ◌∙◌, inl, inr, arith, add-zero}
 use Rattle.std.specs.Prelude.{slice_get}
 use Rattle.std.proofs.lemmas.Bool.{cases_lt}
 use Rattle.cyc_types.specs.declared.typed.Kind.{Kind}
 use Rattle.cyc_types.specs.declared.typed.Kind.TheVariants as kinds
 use Rattle.cyc_store.proofs.LookupLemmas.{same_some}
-use Rattle.cyc_meaning.specs.Values.{Cell, kinds_of, bytes_of_kind, begins, behind, bytes_from, block_size}
+use Rattle.cyc_meaning.specs.Values.{Cell, kinds_of, bytes_of_kind, begins, behind, bytes_from, words_for, block_size}
+use Rattle.cyc_meaning.specs.Allocation.{blanks}
 use Rattle.cyc_objects.specs.Words.{bytes_of_kinds, before_from, before}
 use Rattle.cyc_objects.proofs.NumberLemmas.{slice_get-there}
 
@@ -13,6 +14,7 @@ use Rattle.cyc_objects.proofs.NumberLemmas.{slice_get-there}
 
 pub bytes-some : (kind : Kind) → 0 < bytes_of_kind kind
 bytes-some kinds.Int = omega arith
+bytes-some kinds.Char = omega arith
 bytes-some kinds.Nullable = omega arith
 bytes-some kinds.NonNull = omega arith
 bytes-some kinds.Fat = omega arith
@@ -21,6 +23,7 @@ bytes-some kinds.Key = omega arith
 
 pub begins-least : (kind : Kind) (at : ℕ) → at ≤ begins kind at
 begins-least kinds.Int at = omega arith
+begins-least kinds.Char at = omega arith
 begins-least kinds.Nullable at = omega arith
 begins-least kinds.NonNull at = omega arith
 begins-least kinds.Fat at = omega arith
@@ -30,6 +33,7 @@ begins-least kinds.Key at = omega arith
 -- the first cell of an object begins where the object does
 pub begins-first : (kind : Kind) → begins kind 0 ≡ 0
 begins-first kinds.Int = refl
+begins-first kinds.Char = refl
 begins-first kinds.Nullable = refl
 begins-first kinds.NonNull = refl
 begins-first kinds.Fat = refl
@@ -39,6 +43,7 @@ begins-first kinds.Key = refl
 -- where a cell of a kind begins another could
 pub begins-twice : (kind : Kind) (at : ℕ) → begins kind (begins kind at) ≡ begins kind at
 begins-twice kinds.Int at = omega arith
+begins-twice kinds.Char at = refl
 begins-twice kinds.Nullable at = omega arith
 begins-twice kinds.NonNull at = omega arith
 begins-twice kinds.Fat at = omega arith
@@ -48,6 +53,7 @@ begins-twice kinds.Key at = omega arith
 -- behind a cell of a kind the next one of it begins at once
 pub begins-behind : (kind : Kind) (at : ℕ) → begins kind (behind kind at) ≡ behind kind at
 begins-behind kinds.Int at = omega arith
+begins-behind kinds.Char at = refl
 begins-behind kinds.Nullable at = omega arith
 begins-behind kinds.NonNull at = omega arith
 begins-behind kinds.Fat at = omega arith
@@ -58,9 +64,10 @@ begins-step : (kind : Kind) (at : ℕ) → begins kind at ≡ at → begins kind
 begins-step kind at even =
     ap (λ z. begins kind (z + bytes_of_kind kind)) (sym even) ∙ (begins-behind kind at ∙ ap (λ z. z + bytes_of_kind kind) even)
 
--- whether a cell of a kind may stand at an address
+-- whether a cell of a kind may stand at an address: a char may anywhere
 abbrev pub IsAligned : Kind → (address : ℕ) → Type 0
 IsAligned kinds.Int address = address % 4 ≡ 0
+IsAligned kinds.Char address = Unit {0}
 IsAligned kinds.Nullable address = address % 4 ≡ 0
 IsAligned kinds.NonNull address = address % 4 ≡ 0
 IsAligned kinds.Fat address = address % 4 ≡ 0
@@ -69,6 +76,7 @@ IsAligned kinds.Key address = address % 4 ≡ 0
 
 pub begins-aligned : (kind : Kind) (a at : ℕ) → a % 4 ≡ 0 → IsAligned kind (a + begins kind at)
 begins-aligned kinds.Int a at even = omega (arith, even)
+begins-aligned kinds.Char a at even = tt
 begins-aligned kinds.Nullable a at even = omega (arith, even)
 begins-aligned kinds.NonNull a at even = omega (arith, even)
 begins-aligned kinds.Fat a at even = omega (arith, even)
@@ -181,3 +189,32 @@ bytes-joined at (a ∷ done) rest = bytes-joined (behind a at) done rest
 -- what is asked for has room for all cells
 pub size-enough : (cells : List Cell) → bytes_of_kinds (kinds_of cells) ≤ 4 * block_size cells
 size-enough cells = omega arith
+
+-- ---- arrays
+
+-- the cells of an array lie one behind the other
+pub blanks-bytes : (at count : ℕ) (kind : Kind) → begins kind at ≡ at → bytes_from at (kinds_of (blanks count kind)) ≡ at + count * bytes_of_kind kind
+blanks-bytes at zero kind even = omega arith
+blanks-bytes at (suc count) kind even =
+    let rest : bytes_from (behind kind at) (kinds_of (blanks count kind)) ≡ behind kind at + count * bytes_of_kind kind =
+    blanks-bytes (behind kind at) count kind (begins-behind kind at) in
+    rest ∙ next (begins kind at) at (bytes_of_kind kind) count even
+  where
+    next : (here at bytes count : ℕ) → here ≡ at → here + bytes + count * bytes ≡ at + suc count * bytes
+    next here at bytes count even = omega (arith, even)
+
+pub blanks-size : (count : ℕ) (kind : Kind) → block_size (blanks count kind) ≡ max 1 (words_for (count * bytes_of_kind kind))
+blanks-size count kind = ap (λ n. max 1 (words_for n)) (blanks-bytes 0 count kind (begins-first kind) ∙ none (count * bytes_of_kind kind))
+  where
+    none : (n : ℕ) → 0 + n ≡ n
+    none n = omega arith
+
+-- 4,000 chars fit a block of 1,000 words, and the words of so many are a sum and a shift
+pub chars-few : (count : ℕ) → words_for (count * bytes_of_kind kinds.Char) ≤ 1000 → count ≤ 4000
+chars-few count few = omega (arith, few)
+
+pub few-chars : (count : ℕ) → count ≤ 4000 → words_for (count * bytes_of_kind kinds.Char) ≤ 1000
+few-chars count few = omega (arith, few)
+
+pub chars-words : (count : ℕ) → count ≤ 4000 → (count + 3) % 4294967296 / 4 ≡ words_for (count * bytes_of_kind kinds.Char)
+chars-words count few = omega (arith, few)

@@ -161,7 +161,7 @@ module _ {t : Tables} where
 
 -- ---- what the checks say
 
-same_value : {u v : Value} → Gives u ≡ Gives v → u ≡ v
+pub same_value : {u v : Value} → Gives u ≡ Gives v → u ≡ v
 same_value {u} {v} e = cc
 
 test_zero : (negated : Bool) (w : ℕ) → w ≡ 0 → Gives (Int (truth (not negated))) ≡ Gives (Int (truth (if w == 0 then not negated else negated)))

@@ -1,9 +1,9 @@
 -- Values and their words, cells and their bytes: what stays said of them when tables grow, and of equal words and bytes.
-use Rattle.std.proofs.Common.{◌≡◌, ℕ, ◌+◌, ◌*◌, ◌%◌, ◌<◌, ◌≤◌, List, [], ◌∷◌, Option, None, Some, sym, ap, subst, ◌∙◌, arith, add-zero}
+use Rattle.std.proofs.Common.{◌≡◌, ℕ, ◌+◌, ◌*◌, ◌%◌, ◌<◌, ◌≤◌, Bool, true, false, List, [], ◌∷◌, Option, None, Some, sym, ap, subst, ◌∙◌, arith, add-zero}
 use Rattle.cyc_types.specs.declared.typed.Kind.{Kind}
 use Rattle.cyc_types.specs.declared.typed.Kind.TheVariants as kinds
 use Rattle.cyc_store.specs.State.{Memory, AreWords}
-use Rattle.cyc_meaning.specs.Values.{Value, Int, Null, Thin, Fat, Handle, Key, words_of_kind, bytes_of_kind, begins, behind, bytes_from, Cell, kinds_of}
+use Rattle.cyc_meaning.specs.Values.{Value, Int, Null, Thin, Fat, Handle, Key, is_kind, words_of_kind, bytes_of_kind, begins, behind, bytes_from, Cell, kinds_of}
 use Rattle.cyc_meaning.proofs.ListLemmas.{slice_get-append}
 use Rattle.cyc_objects.specs.Tables.{Row, Placed, Tables, with_row, with_handle, Grows}
 use Rattle.cyc_objects.specs.Related.{IsVariableAt}
@@ -56,6 +56,7 @@ module _ {t u : Tables} (grows : Grows t u) where
 
   pub Is-grows : (kind : Kind) (v : Value) (m : ℕ → ℕ) (p : ℕ) → Is t kind v m p → Is u kind v m p
   Is-grows kinds.Int (Int word) m p is = is
+  Is-grows kinds.Char (Int word) m p is = is
   Is-grows kinds.Nullable Null m p is = is
   Is-grows kinds.Nullable (Thin o k) m p is = Points-grows is
   Is-grows kinds.NonNull (Thin o k) m p is = Points-grows is
@@ -67,6 +68,8 @@ module _ {t u : Tables} (grows : Grows t u) where
 
   pub Holds-grows : (kind : Kind) (v : Value) (m : Memory) (a : ℕ) → Holds t kind v m a → Holds u kind v m a
   Holds-grows kinds.Int v m a is = Is-grows kinds.Int v (words_from m a) 0 is
+  Holds-grows kinds.Char (Int byte) m a is = is
+  Holds-grows kinds.Char v m a is = absurd is
   Holds-grows kinds.Nullable v m a is = Is-grows kinds.Nullable v (words_from m a) 0 is
   Holds-grows kinds.NonNull v m a is = Is-grows kinds.NonNull v (words_from m a) 0 is
   Holds-grows kinds.Fat v m a is = Is-grows kinds.Fat v (words_from m a) 0 is
@@ -95,6 +98,7 @@ module _ (t : Tables) where
   pub Is-same : (kind : Kind) (v : Value) (m n : ℕ → ℕ) (p q : ℕ) → ((j : ℕ) → j < words_of_kind kind → n (q + j) ≡ m (p + j))
       → Is t kind v m p → Is t kind v n q
   Is-same kinds.Int (Int word) m n p q same is = first-same 1 m n p q (omega arith) same ∙ is
+  Is-same kinds.Char (Int word) m n p q same is = (first-same 1 m n p q (omega arith) same ∙ is.0, is.1)
   Is-same kinds.Nullable Null m n p q same is = first-same 1 m n p q (omega arith) same ∙ is
   Is-same kinds.Nullable (Thin o k) m n p q same is = Points-same (first-same 1 m n p q (omega arith) same) is
   Is-same kinds.NonNull (Thin o k) m n p q same is = Points-same (first-same 1 m n p q (omega arith) same) is
@@ -118,27 +122,31 @@ words-same words m n a old new even same j below =
     (λ i short. same (a + 4 * (0 + j) + i) (omega arith) (omega (arith, below, short)))
 
 module _ (t : Tables) where
-  -- a cell's words are the value that it holds, and a value's words a cell that holds it
-  pub Holds-words : (kind : Kind) (v : Value) (m : Memory) (a : ℕ) → Holds t kind v m a → Is t kind v (words_from m a) 0
-  Holds-words kinds.Int v m a is = is
-  Holds-words kinds.Nullable v m a is = is
-  Holds-words kinds.NonNull v m a is = is
-  Holds-words kinds.Fat v m a is = is
-  Holds-words kinds.Handle v m a is = is
-  Holds-words kinds.Key v m a is = is
+  -- the words of a cell that is no char are the value that it holds, and a value's words a cell that holds it
+  pub Holds-words : (kind : Kind) (v : Value) (m : Memory) (a : ℕ) → is_kind kind kinds.Char ≡ false → Holds t kind v m a → Is t kind v (words_from m a) 0
+  Holds-words kinds.Int v m a wide is = is
+  Holds-words kinds.Char v m a wide is = absurd (let e : true ≡ false = wide in cc)
+  Holds-words kinds.Nullable v m a wide is = is
+  Holds-words kinds.NonNull v m a wide is = is
+  Holds-words kinds.Fat v m a wide is = is
+  Holds-words kinds.Handle v m a wide is = is
+  Holds-words kinds.Key v m a wide is = is
 
-  pub Holds-of_words : (kind : Kind) (v : Value) (m : Memory) (a : ℕ) → Is t kind v (words_from m a) 0 → Holds t kind v m a
-  Holds-of_words kinds.Int v m a is = is
-  Holds-of_words kinds.Nullable v m a is = is
-  Holds-of_words kinds.NonNull v m a is = is
-  Holds-of_words kinds.Fat v m a is = is
-  Holds-of_words kinds.Handle v m a is = is
-  Holds-of_words kinds.Key v m a is = is
+  pub Holds-of_words : (kind : Kind) (v : Value) (m : Memory) (a : ℕ) → is_kind kind kinds.Char ≡ false → Is t kind v (words_from m a) 0 → Holds t kind v m a
+  Holds-of_words kinds.Int v m a wide is = is
+  Holds-of_words kinds.Char v m a wide is = absurd (let e : true ≡ false = wide in cc)
+  Holds-of_words kinds.Nullable v m a wide is = is
+  Holds-of_words kinds.NonNull v m a wide is = is
+  Holds-of_words kinds.Fat v m a wide is = is
+  Holds-of_words kinds.Handle v m a wide is = is
+  Holds-of_words kinds.Key v m a wide is = is
 
   pub Holds-same : (kind : Kind) (v : Value) (m n : Memory) (a : ℕ) → AreWords m → AreWords n → IsAligned kind a
       → ((x : ℕ) → a ≤ x → x < a + bytes_of_kind kind → byte_at n x ≡ byte_at m x) → Holds t kind v m a → Holds t kind v n a
   Holds-same kinds.Int v m n a old new even same is =
       Is-same t kinds.Int v (words_from m a) (words_from n a) 0 0 (words-same 1 m n a old new even same) is
+  Holds-same kinds.Char (Int byte) m n a old new even same is = same a (omega arith) (omega arith) ∙ is
+  Holds-same kinds.Char v m n a old new even same is = absurd is
   Holds-same kinds.Nullable v m n a old new even same is =
       Is-same t kinds.Nullable v (words_from m a) (words_from n a) 0 0 (words-same 1 m n a old new even same) is
   Holds-same kinds.NonNull v m n a old new even same is =
@@ -177,6 +185,7 @@ module _ (t : Tables) where
 -- every value has a word
 pub kind-some : (kind : Kind) → 0 < words_of_kind kind
 kind-some kinds.Int = omega arith
+kind-some kinds.Char = omega arith
 kind-some kinds.Nullable = omega arith
 kind-some kinds.NonNull = omega arith
 kind-some kinds.Fat = omega arith

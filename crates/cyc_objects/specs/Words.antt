@@ -67,9 +67,10 @@ pub record IsPartOf (t : Tables) (object start count word : ℕ) : Type 0 where
 -- ---- values
 
 -- The words from a place on are a value of a kind: one word, or three of a fat pointer, which are the address of its part, the length
--- and the index. Of a fat null pointer the first word is 0, and the others are anything.
+-- and the index. Of a fat null pointer the first word is 0, and the others are anything. A char's word is below 256.
 abbrev pub Is : Tables → Kind → Value → (words : ℕ → ℕ) → (place : ℕ) → Type 0
 Is t kinds.Int (Int word) words place = words place ≡ word
+Is t kinds.Char (Int word) words place = (words place ≡ word) × (word < 256)
 Is t kinds.Nullable Null words place = words place ≡ 0
 Is t kinds.Nullable (Thin object offset) words place = Points t object offset (words place)
 Is t kinds.NonNull (Thin object offset) words place = Points t object offset (words place)
@@ -82,9 +83,11 @@ Is t kind value words place = ⊥
 
 -- ---- cells
 
--- the cell of a kind at an address holds a value: its words are there
+-- the cell of a kind at an address holds a value: its words are there, and of a char its byte
 abbrev pub Holds : Tables → Kind → Value → Memory → (address : ℕ) → Type 0
 Holds t kinds.Int value memory address = Is t kinds.Int value (words_from memory address) 0
+Holds t kinds.Char (Int byte) memory address = byte_at memory address ≡ byte
+Holds t kinds.Char value memory address = ⊥
 Holds t kinds.Nullable value memory address = Is t kinds.Nullable value (words_from memory address) 0
 Holds t kinds.NonNull value memory address = Is t kinds.NonNull value (words_from memory address) 0
 Holds t kinds.Fat value memory address = Is t kinds.Fat value (words_from memory address) 0

@@ -1,13 +1,13 @@
 //! Laws of the definitions in `specs/`. Each function does nothing: its contract is the law, and so it is proved with
 //! the crate. The lemmas behind them stand in `proofs/` for other proofs to cite.
 
-ghost use Rattle.std.specs.Prelude.{◌≡◌, ◌≢◌, ◌⊎◌, ℕ, suc, ◌+◌, ◌*◌, ◌<◌, ◌≤◌, ◌==◌, not, nat_lt, if◌then◌else◌, Bool, true, false, List, ◌∷◌, length, Option, Some, None, slice_get};
+ghost use Rattle.std.specs.Prelude.{◌≡◌, ◌≢◌, ◌⊎◌, ℕ, suc, ◌+◌, ◌*◌, ◌%◌, ◌<◌, ◌≤◌, ◌==◌, not, nat_lt, if◌then◌else◌, Bool, true, false, List, ◌∷◌, length, Option, Some, None, slice_get};
 ghost use Rattle.cyc_types.specs.declared.typed.Kind.{Kind};
 ghost use Rattle.cyc_types.specs.declared.typed.Kind.TheVariants as kinds;
 ghost use Rattle.cyc_types.specs.TypedTrees.{Program};
-ghost use Rattle.cyc_words.specs.WordBytes.{word_of};
+ghost use Rattle.cyc_words.specs.WordBytes.{with_byte, word_of};
 ghost use Rattle.cyc_words.specs.Demand.{page_words};
-ghost use Rattle.cyc_store.specs.State.{Memory, AreWords, StoreState, start, word_at};
+ghost use Rattle.cyc_store.specs.State.{Memory, put, AreWords, StoreState, start, word_at};
 ghost use Rattle.cyc_store.specs.Services.{OpenLexical, CloseTo, OpenDynamic, CloseDynamic, Allocate, Free, Choice, served, full_at, is_size, refusal, IsAllowed};
 ghost use Rattle.cyc_store.specs.Soundness.{IsSound};
 ghost use Rattle.cyc_store.specs.declared.range.TheConstants.{MOST_PAGES, UNIQUE};
@@ -47,6 +47,26 @@ pub fn pointers_convert()
         → others other ≡ words place → others (other + 1) ≡ 1 → others (other + 2) ≡ 0 → Is t kinds.Fat u others other }
     ensures thinned { (t : Tables) (object start count word index : ℕ) (part : IsPartOf t object start count word) → index < count
         → Points t object (start + index) (word + index * bytes_of_kind part.kind) }
+{}
+
+/// Conversions of chars: an int becomes one by its low byte; a char stays as it is, and is an int by its word.
+pub fn chars_convert()
+    ensures low { (t : Tables) (v u : Value) (words others : ℕ → ℕ) (place other : ℕ) → Is t kinds.Int v words place → conversion kinds.Char v ≡ Gives u
+        → others other ≡ words place % 256 → Is t kinds.Char u others other }
+    ensures kept { (t : Tables) (v u : Value) (words others : ℕ → ℕ) (place other : ℕ) → Is t kinds.Char v words place → conversion kinds.Char v ≡ Gives u
+        → others other ≡ words place → Is t kinds.Char u others other }
+    ensures int { (t : Tables) (v u : Value) (words others : ℕ → ℕ) (place other : ℕ) → Is t kinds.Char v words place → conversion kinds.Int v ≡ Gives u
+        → others other ≡ words place → Is t kinds.Int u others other }
+{}
+
+/// A char that a cell holds is a byte: the byte that is loaded is its word, and its word, stored as a byte, is what the cell holds. One that is
+/// the last byte of a variable's word, which is below 256, is that word, and so is one that is stored there.
+pub fn chars_are_bytes()
+    ensures loaded { (t : Tables) (v : Value) (m : Memory) (address : ℕ) → Holds t kinds.Char v m address → Is t kinds.Char v (λ j. byte_at m address) 0 }
+    ensures stored { (t : Tables) (v : Value) (words : ℕ → ℕ) (place : ℕ) (m : Memory) (address : ℕ) → Is t kinds.Char v words place
+        → Holds t kinds.Char v (put m (word_of address) (with_byte (m (word_of address)) (address % 4) (words place))) address }
+    ensures last_loaded { (m : Memory) (address : ℕ) → address % 4 ≡ 0 → m address < 256 → byte_at m (address + 3) ≡ m address }
+    ensures last_stored { (old byte : ℕ) → old < 256 → with_byte old 3 byte ≡ byte }
 {}
 
 /// Arithmetic of a fat pointer changes its third word alone, and a pointer is null where its first word is 0.

@@ -2,7 +2,7 @@
 -- breaks.
 use Rattle.std.proofs.Common.{◌≡◌, ℕ, zero, suc, ◌≤◌, List, [], ◌∷◌, ◌++◌, length, Some, None, Ok, refl, sym, ap, subst, ◌∙◌, arith, length-append}
 use Rattle.cyc_syntax.specs.Symbols.{Symbol}
-use Rattle.cyc_syntax.specs.Trees.{Declaration, StructType, Exceptions, Global, Function, WrittenType, BaseType, Int, Struct, Handle, Key}
+use Rattle.cyc_syntax.specs.Trees.{Declaration, StructType, Exceptions, Global, Function, WrittenType, BaseType, Int, Char, Struct, Handle, Key}
 use Rattle.cyc_syntax.specs.Yields.{Leaf, Yield}
 use Rattle.cyc_syntax.specs.Yields as yields
 use Rattle.cyc_syntax.specs.Grammar.{IsSpelled, HasTree, IsDeclaration, AreDeclarations}
@@ -29,6 +29,7 @@ type_first d t = first_append (yields.marks d t.marks) (of_base t.base)
   where
     of_base : (b : BaseType) → HasFirst (yields.base_type d t.place b)
     of_base Int = record { first = _; others = _; are = refl }
+    of_base Char = record { first = _; others = _; are = refl }
     of_base (Struct s rs) = record { first = _; others = _; are = refl }
     of_base (Handle r) = record { first = _; others = _; are = refl }
     of_base (Key r) = record { first = _; others = _; are = refl }

@@ -8,7 +8,7 @@ use Rattle.cyc_syntax.specs.declared.tree.PointerKind.{PointerKind}
 use Rattle.cyc_syntax.specs.declared.tree.PointerKind.TheVariants as pointers
 use Rattle.cyc_syntax.specs.Symbols.{Place, Terminal, Identifier, RegionName, Word, Mark, Symbol}
 use Rattle.cyc_syntax.specs.Symbols as terminals
-use Rattle.cyc_syntax.specs.Trees.{Named, Pointer, BaseType, Int, Struct, Handle, Key, WrittenType, Body, Braces, Member, Constructor, GlobalValue, Positive, Negative, Byte, NullPointer, Constraint, ParameterList, Void, Listed, Parameters, Declaration, StructType, Exceptions, Global, Function}
+use Rattle.cyc_syntax.specs.Trees.{Named, Pointer, BaseType, Int, Char, Struct, Handle, Key, WrittenType, Body, Braces, Member, Constructor, GlobalValue, Positive, Negative, Byte, NullPointer, Constraint, ParameterList, Void, Listed, Parameters, Declaration, StructType, Exceptions, Global, Function}
 use Rattle.cyc_syntax.specs.Yields.{Leaf, Yield}
 use Rattle.cyc_syntax.specs.Yields as yields
 use Rattle.cyc_syntax.specs.Grammar.{max_nesting, IsBody, IsDeclaration}
@@ -236,6 +236,7 @@ module _ (room d : ℕ) (fits : Fits (suc (suc (suc room))) d) where
     based_reads : (p : Place) (b : BaseType) (ms : List Pointer) → Reads (typed R (record { place = p; base = b; marks = ms })) y (leaf_at d (Identifier x.name) x.place ∷ ys) Always
         → Reads (declaration R) y ((yields.base_type d p b ++ yields.marks d ms) ++ leaf_at d (Identifier x.name) x.place ∷ ys) Always
     based_reads p Int ms h = by_choice (leaf_at d (Word words.Int) p) _ (simple_reads (record { place = p; base = Int; marks = ms }) h)
+    based_reads p Char ms h = by_choice (leaf_at d (Word words.Char) p) _ (simple_reads (record { place = p; base = Char; marks = ms }) h)
     based_reads p (Handle r) ms h = by_choice (leaf_at d (Word words.RegionType) p) _ (simple_reads (record { place = p; base = Handle r; marks = ms }) h)
     based_reads p (Key r) ms h = by_choice (leaf_at d (Word words.KeyType) p) _ (simple_reads (record { place = p; base = Key r; marks = ms }) h)
     based_reads p (Struct s rs) ms h = by_choice (leaf_at d (Word words.Struct) p) _ (advance_reads_at d (Word words.Struct) p _ (omega arith) (identifier_reads (suc R) d s _ fits

@@ -5,7 +5,7 @@ use Rattle.cyc_syntax.specs.declared.tokens.Keyword.TheVariants as words
 use Rattle.cyc_syntax.specs.declared.tokens.Sign.TheVariants as signs
 use Rattle.cyc_syntax.specs.Symbols.{Terminal, Identifier, Word, Mark, Symbol}
 use Rattle.cyc_syntax.specs.Symbols as terminals
-use Rattle.cyc_syntax.specs.Trees.{Named, Expression, Number, Character, Null, HeapRegion, UniqueRegion, Variable, Call, Bracketed, NumberOfElements, FreeUnique, FreeKey, Chained, Prefixed, New, RegionNew, Binary, Assign, Expressions, NoExpressions, MoreExpressions, Postfixes, NoPostfixes, ThenIndex, ThenField}
+use Rattle.cyc_syntax.specs.Trees.{Named, Expression, Number, Character, Null, HeapRegion, UniqueRegion, Variable, Call, Bracketed, NumberOfElements, LowByteOf, FreeUnique, FreeKey, Chained, Prefixed, New, RegionNew, Binary, Assign, Expressions, NoExpressions, MoreExpressions, Postfixes, NoPostfixes, ThenIndex, ThenField}
 use Rattle.cyc_syntax.specs.Yields.{Yield}
 use Rattle.cyc_syntax.specs.Yields as yields
 use Rattle.cyc_syntax.specs.Grammar.{max_nesting, max_items, is_primary}
@@ -102,6 +102,7 @@ abbrev pub Parts : ℕ → ℕ → Expression → Type 0
 Parts room d (Call f es) = AreRead room (suc d) (list_of es)
 Parts room d (Bracketed p e) = ReadsDeeper room (suc d) e
 Parts room d (NumberOfElements p e) = ReadsDeeper room (suc d) e
+Parts room d (LowByteOf p e) = ReadsDeeper room (suc d) e
 Parts room d (FreeUnique p e) = ReadsDeeper room (suc d) e
 Parts room d _ = Unit {0}
 
@@ -143,6 +144,8 @@ module _ (room d : ℕ) (fits : Fits (suc room) d) where
       (then_reads _ parts (sign_reads room (suc d) signs.RightParen _ (deeper room d fits) (λ q. pure_reads (Bracketed p e) NoParen)) (λ mid rest front ends. stops_leaf 11 (leaf_of (suc d) (Mark signs.RightParen)) [] mid rest refl (omega arith) front)))
   primary_reads (NumberOfElements p e) is parts = choose_reads (primary_by room (nested room)) (leaf_at d (Word words.NumberOfElements) p) _ (advance_reads_at d (Word words.NumberOfElements) p _ (shallow room d fits)
       (last_reads (λ (v : Expression). pure (NumberOfElements p v)) (λ ts. refl) (group_reads e NoParen parts)))
+  primary_reads (LowByteOf p e) is parts = choose_reads (primary_by room (nested room)) (leaf_at d (Word words.Char) p) _ (advance_reads_at d (Word words.Char) p _ (shallow room d fits)
+      (last_reads (λ (v : Expression). pure (LowByteOf p v)) (λ ts. refl) (group_reads e NoParen parts)))
   primary_reads (FreeUnique p e) is parts = choose_reads (primary_by room (nested room)) (leaf_at d (Word words.FreeUnique) p) _ (advance_reads_at d (Word words.FreeUnique) p _ (shallow room d fits)
       (last_reads (λ (v : Expression). pure (FreeUnique p v)) (λ ts. refl) (group_reads e NoParen parts)))
   primary_reads (FreeKey p k) is parts = choose_reads (primary_by room (nested room)) (leaf_at d (Word words.FreeKey) p) _ (advance_reads_at d (Word words.FreeKey) p _ (shallow room d fits)

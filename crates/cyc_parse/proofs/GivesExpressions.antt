@@ -10,7 +10,7 @@ use Rattle.cyc_syntax.specs.declared.tree.BinaryOperator.{BinaryOperator}
 use Rattle.cyc_syntax.specs.declared.tree.BinaryOperator.TheVariants as operators
 use Rattle.cyc_syntax.specs.Symbols.{Terminal, Identifier, Word, Mark, Symbol}
 use Rattle.cyc_syntax.specs.Symbols as terminals
-use Rattle.cyc_syntax.specs.Trees.{Named, Expression, NumberOfElements, FreeUnique, Prefixed, New, RegionNew, Assign, Plain, MoreExpressions, Postfixes, NoPostfixes, ThenIndex, ThenField, Operations, NoOperations, ThenOperation}
+use Rattle.cyc_syntax.specs.Trees.{Named, Expression, NumberOfElements, LowByteOf, FreeUnique, Prefixed, New, RegionNew, Assign, Plain, MoreExpressions, Postfixes, NoPostfixes, ThenIndex, ThenField, Operations, NoOperations, ThenOperation}
 use Rattle.cyc_syntax.specs.Yields.{Yield, operator_sign}
 use Rattle.cyc_syntax.specs.Yields as yields
 use Rattle.cyc_syntax.specs.Grammar.{level, is_primary, IsExpression, IsInitial, AreExpressions, ArePostfixes, AreOperations, IsSomeExpression, max_nesting, max_items}
@@ -151,6 +151,7 @@ module _ (room d : ℕ) (inner : Nested) (fits : Fits (suc room) d) (h : NestedG
   primary_by_gives (Some (Word words.HeapRegion)) ts e = advance_then d (Word words.HeapRegion) e shallow (λ p mid. pure_gives (refl, (refl, tt)))
   primary_by_gives (Some (Word words.UniqueRegion)) ts e = advance_then d (Word words.UniqueRegion) e shallow (λ p mid. pure_gives (refl, (refl, tt)))
   primary_by_gives (Some (Word words.NumberOfElements)) ts e = advance_then d (Word words.NumberOfElements) e shallow (λ p mid. last_then (NumberOfElements p) (group_gives mid) (λ x rest is. (refl, (refl, is))))
+  primary_by_gives (Some (Word words.Char)) ts e = advance_then d (Word words.Char) e shallow (λ p mid. last_then (LowByteOf p) (group_gives mid) (λ x rest is. (refl, (refl, is))))
   primary_by_gives (Some (Word words.FreeUnique)) ts e = advance_then d (Word words.FreeUnique) e shallow (λ p mid. last_then (FreeUnique p) (group_gives mid) (λ x rest is. (refl, (refl, is))))
   primary_by_gives (Some (Word words.FreeKey)) ts e = advance_then d (Word words.FreeKey) e shallow (λ p mid. sign_then (suc room) d signs.LeftParen fits (λ _ mid. identifier_then room (suc d) deeper (λ k mid. sign_then room (suc d) signs.RightParen deeper (λ _ mid. pure_gives (refl, (refl, tt))))))
   primary_by_gives (Some (Mark signs.LeftParen)) ts e = advance_then d (Mark signs.LeftParen) e shallow (λ p mid. spelled_then (h.expression mid) (λ x mid is. sign_then room (suc d) signs.RightParen deeper (λ _ mid. pure_gives (refl, (refl, is)))))

@@ -4,13 +4,13 @@ use Rattle.cyc_words.proofs.Booleans.{and_right}
 use Rattle.cyc_syntax.specs.declared.tokens.Keyword.TheVariants as words
 use Rattle.cyc_syntax.specs.declared.tokens.Sign.TheVariants as signs
 use Rattle.cyc_syntax.specs.Symbols.{Place, Terminal, Identifier, Word, Mark, Symbol}
-use Rattle.cyc_syntax.specs.Trees.{Named, Expression, Number, Character, Null, HeapRegion, UniqueRegion, Variable, Call, Bracketed, NumberOfElements, FreeUnique, FreeKey, Chained, Prefixed, New, RegionNew, Binary, Assign, Statement, Block, Labelled, Empty, IfElse, While, NoItems, MoreItems, Execute, DynamicRegion, Default, Case}
+use Rattle.cyc_syntax.specs.Trees.{Named, Expression, Number, Character, Null, HeapRegion, UniqueRegion, Variable, Call, Bracketed, NumberOfElements, LowByteOf, FreeUnique, FreeKey, Chained, Prefixed, New, RegionNew, Binary, Assign, Statement, Block, Labelled, Empty, IfElse, While, NoItems, MoreItems, Execute, DynamicRegion, Default, Case}
 use Rattle.cyc_syntax.specs.Yields.{Leaf, Yield}
 use Rattle.cyc_syntax.specs.Yields as yields
 use Rattle.cyc_syntax.specs.Grammar.{IsExpression, IsExpressionOrNone, wants_else, IsBody, AreItems, IsItem, AreClauses, IsSomeClause, max_nesting}
-use Rattle.cyc_parse.specs.Parsing.{TooDeep, next, bind, pure, inside, sees, starts, sign, word, identifier}
+use Rattle.cyc_parse.specs.Parsing.{TooDeep, next, bind, pure, inside, sees, starts, opens_low_byte, sign, word, identifier}
 use Rattle.cyc_parse.specs.Expressions.{nested}
-use Rattle.cyc_parse.specs.Statements.{begins_statement, begins_item, begins_clause, is_case, is_default, is_else, is_unary, ends_in_new, end_of_swap, Nested, body, expression, expression_from, swap, behind, statement_from_name, else_part, return_value, thrown, caught, clauses_in, clauses, if_statement, while_statement, throw_statement, try_statement, statement_by, statement, local_value, local, opened_key, region, alias, new_key, dynamic_region, let_by, item_by, item, items_in, items, nested_statements}
+use Rattle.cyc_parse.specs.Statements.{begins_statement, begins_item, begins_clause, is_case, is_default, is_else, is_unary, ends_in_new, end_of_swap, Nested, body, expression, expression_from, swap, behind, statement_from_name, else_part, return_value, thrown, caught, clauses_in, clauses, if_statement, while_statement, throw_statement, try_statement, statement_by, statement, local_value, local, opened_key, region, alias, new_key, dynamic_region, let_by, executed, item_by, item, items_in, items, nested_statements}
 use Rattle.cyc_parse.proofs.Rules.{Fits, leaf_of, leaf_at}
 use Rattle.cyc_parse.proofs.Gives.{Gives, Follows, Spells, Any, part_then, spelled_then, last_then, pure_gives, possibly, unexpected_gives, then_unexpected, begun_gives, item_refusal_gives, gives_as, gives_same, some_place, sign_then, sign_then_at, word_then, identifier_then, advance_then, advance_bare_then, choose_gives, test_gives, sees_gives, starts_gives, bare_gives, stuck_sign, stuck_word}
 use Rattle.cyc_parse.proofs.Openings.{named_at, IsStatementBefore, statement_opened, items_opened}
@@ -30,6 +30,7 @@ unary_of (Variable x) is u = tt
 unary_of (Call f es) is u = is
 unary_of (Bracketed p e) is u = is
 unary_of (NumberOfElements p e) is u = is
+unary_of (LowByteOf p e) is u = is
 unary_of (FreeUnique p e) is u = is
 unary_of (FreeKey p x) is u = tt
 unary_of (Chained e ps) is u = is
@@ -222,14 +223,18 @@ module _ (room d : ℕ) (inner : Nested) (fits : Fits (suc room) d) (h : Stateme
   let_by_gives (Some (Word words.NewDynamicRegion)) ts = dynamic_region_gives ts
   let_by_gives _ ts = unexpected_gives (possibly (DynamicRegion (named_at some_place) (named_at some_place)) _ (refl, tt))
 
+  executed_gives : (ts : List Symbol) → Gives (executed room inner) (Spells (yields.item d) (λ i _. IsItem i)) ts
+  executed_gives ts = last_then Execute (statement_gives ts) (λ s rest (is, _). (refl, is))
+
   item_by_gives : (o : Option Terminal) (ts : List Symbol) → next ts ≡ o → Gives (item_by room inner o) (Spells (yields.item d) (λ i _. IsItem i)) ts
   item_by_gives (Some (Word words.Int)) ts e = local_gives ts
+  item_by_gives (Some (Word words.Char)) ts e = test_gives opens_low_byte (λ _. executed_gives ts) (λ _. local_gives ts)
   item_by_gives (Some (Word words.Struct)) ts e = local_gives ts
   item_by_gives (Some (Word words.RegionType)) ts e = local_gives ts
   item_by_gives (Some (Word words.KeyType)) ts e = local_gives ts
   item_by_gives (Some (Word words.Region)) ts e = region_gives ts
   item_by_gives (Some (Word words.Let)) ts e = advance_bare_then d (Word words.Let) e shallow (λ _ mid. choose_gives (λ o _. let_by_gives o mid))
-  item_by_gives _ ts e = last_then Execute (statement_gives ts) (λ s rest (is, _). (refl, is))
+  item_by_gives _ ts e = executed_gives ts
 
   item_gives : (ts : List Symbol) → Gives (item room inner) (Spells (yields.item d) (λ i _. IsItem i)) ts
   unfolding item

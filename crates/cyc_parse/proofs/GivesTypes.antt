@@ -6,7 +6,7 @@ use Rattle.cyc_syntax.specs.declared.tokens.Sign.TheVariants as signs
 use Rattle.cyc_syntax.specs.declared.tree.PointerKind.{PointerKind}
 use Rattle.cyc_syntax.specs.declared.tree.PointerKind.TheVariants as pointers
 use Rattle.cyc_syntax.specs.Symbols.{Place, Terminal, RegionName, Word, Mark, Symbol}
-use Rattle.cyc_syntax.specs.Trees.{Named, BaseType, Int, Struct, Handle, Key}
+use Rattle.cyc_syntax.specs.Trees.{Named, BaseType, Int, Char, Struct, Handle, Key}
 use Rattle.cyc_syntax.specs.Yields.{Yield, item_number, mark_sign}
 use Rattle.cyc_syntax.specs.Yields as yields
 use Rattle.cyc_syntax.specs.Grammar.{IsNonempty, max_nesting, max_items}
@@ -80,6 +80,7 @@ module _ (room d : ℕ) (fits : Fits room d) where
 
     base_gives : (o : Option Terminal) (ts : List Symbol) → next ts ≡ o → Gives (base_by room o) (Spells (yields.written_type d) Any) ts
     base_gives (Some (Word words.Int)) ts e = advance_then d (Word words.Int) e shallow (λ p mid. with_pointers_give p Int mid)
+    base_gives (Some (Word words.Char)) ts e = advance_then d (Word words.Char) e shallow (λ p mid. with_pointers_give p Char mid)
     base_gives (Some (Word words.Struct)) ts e = advance_then d (Word words.Struct) e shallow (λ p mid. identifier_then room d fits (λ s mid. spelled_then (optional_regions_give mid) (λ rs mid _. with_pointers_give p (Struct s rs) mid)))
     base_gives (Some (Word words.RegionType)) ts e = advance_then d (Word words.RegionType) e shallow (λ p mid. spelled_then (region_of_gives mid) (λ r mid _. with_pointers_give p (Handle r) mid))
     base_gives (Some (Word words.KeyType)) ts e = advance_then d (Word words.KeyType) e shallow (λ p mid. spelled_then (region_of_gives mid) (λ r mid _. with_pointers_give p (Key r) mid))

@@ -5,7 +5,7 @@ use Rattle.cyc_syntax.specs.declared.tokens.Keyword.TheVariants as words
 use Rattle.cyc_syntax.specs.declared.tokens.Sign.TheVariants as signs
 use Rattle.cyc_syntax.specs.Symbols.{Place, Terminal, Identifier, RegionName, Word, Mark, Symbol}
 use Rattle.cyc_syntax.specs.Symbols as terminals
-use Rattle.cyc_syntax.specs.Trees.{Named, Expression, Number, Character, Null, HeapRegion, UniqueRegion, Variable, Call, Bracketed, NumberOfElements, FreeUnique, FreeKey, Chained, Prefixed, New, RegionNew, Binary, Assign, Initial, Plain, Fields, Array, Expressions, NoExpressions, MoreExpressions, Postfixes, NoPostfixes, ThenIndex, ThenField, Operations, NoOperations, ThenOperation}
+use Rattle.cyc_syntax.specs.Trees.{Named, Expression, Number, Character, Null, HeapRegion, UniqueRegion, Variable, Call, Bracketed, NumberOfElements, LowByteOf, FreeUnique, FreeKey, Chained, Prefixed, New, RegionNew, Binary, Assign, Initial, Plain, Fields, Array, Expressions, NoExpressions, MoreExpressions, Postfixes, NoPostfixes, ThenIndex, ThenField, Operations, NoOperations, ThenOperation}
 use Rattle.cyc_syntax.specs.Yields.{Yield}
 use Rattle.cyc_syntax.specs.Yields as yields
 use Rattle.cyc_syntax.specs.Grammar.{IsExpression, AreExpressions, ArePostfixes, AreOperations, IsInitial, IsSomePostfix, IsSomeOperation, IsSomeExpression}
@@ -261,6 +261,7 @@ mutual
   all_read (Call f es) = from_unary (Call f es) (λ k is. is) (λ room d fits is. alone_reads room d fits (Call f es) refl (read_deeper es (list_read es) is room (suc d) (deeper room d fits))) (λ room d fits is. read_deeper es (list_read es) is room (suc d) (deeper room d fits))
   all_read (Bracketed p e) = from_unary (Bracketed p e) (λ k is. is) (λ room d fits is. alone_reads room d fits (Bracketed p e) refl ((all_read e).expression room (suc d) (deeper room d fits) is)) (λ room d fits is. (all_read e).expression room (suc d) (deeper room d fits) is)
   all_read (NumberOfElements p e) = from_unary (NumberOfElements p e) (λ k is. is) (λ room d fits is. alone_reads room d fits (NumberOfElements p e) refl ((all_read e).expression room (suc d) (deeper room d fits) is)) (λ room d fits is. (all_read e).expression room (suc d) (deeper room d fits) is)
+  all_read (LowByteOf p e) = from_unary (LowByteOf p e) (λ k is. is) (λ room d fits is. alone_reads room d fits (LowByteOf p e) refl ((all_read e).expression room (suc d) (deeper room d fits) is)) (λ room d fits is. (all_read e).expression room (suc d) (deeper room d fits) is)
   all_read (FreeUnique p e) = from_unary (FreeUnique p e) (λ k is. is) (λ room d fits is. alone_reads room d fits (FreeUnique p e) refl ((all_read e).expression room (suc d) (deeper room d fits) is)) (λ room d fits is. (all_read e).expression room (suc d) (deeper room d fits) is)
   all_read (FreeKey p x) = from_unary (FreeKey p x) (λ k is. is) (λ room d fits is. alone_reads room d fits (FreeKey p x) refl tt) (λ room d fits is. tt)
   all_read (Chained e ps) = from_unary (Chained e ps) (λ k is. is) (λ room d fits (primary, tight, some, are).

@@ -1,20 +1,23 @@
 -- Items, blocks and clauses are read as they are written, and with them all statements.
-use Rattle.std.proofs.Common.{◌≡◌, ℕ, zero, suc, ◌≤◌, true, false, List, [], ◌∷◌, ◌++◌, length, Option, Some, None, refl, sym, ap, subst, ◌∙◌, arith, append-nil, zero-le, length-append}
+use Rattle.std.proofs.Common.{◌≡◌, ℕ, zero, suc, ◌≤◌, Bool, true, false, cond, List, [], ◌∷◌, ◌++◌, length, Option, Some, None, refl, sym, ap, subst, ◌∙◌, arith, append-nil, zero-le, length-append}
 use Rattle.cyc_syntax.specs.declared.tokens.Keyword.TheVariants as words
 use Rattle.cyc_syntax.specs.declared.tokens.Sign.TheVariants as signs
+use Rattle.cyc_syntax.specs.declared.tree.PointerKind.{PointerKind}
+use Rattle.cyc_syntax.specs.declared.tree.PointerKind.TheVariants as pointers
 use Rattle.cyc_syntax.specs.Symbols.{Place, Terminal, Identifier, RegionName, Word, Mark, Symbol}
-use Rattle.cyc_syntax.specs.Trees.{Named, WrittenType, Expression, Statement, Block, Labelled, Empty, Evaluate, Swap, If, IfElse, While, Return, Break, Continue, Throw, Try, Braces, Items, NoItems, MoreItems, Item, Execute, Local, Region, Alias, DynamicRegion, Clauses, NoClauses, Default, Case}
-use Rattle.cyc_syntax.specs.Yields.{Leaf, Yield}
+use Rattle.cyc_syntax.specs.Trees.{Named, Pointer, BaseType, Int, Char, Struct, Handle, Key, WrittenType, Expression, Statement, Block, Labelled, Empty, Evaluate, Swap, If, IfElse, While, Return, Break, Continue, Throw, Try, Braces, Items, NoItems, MoreItems, Item, Execute, Local, Region, Alias, DynamicRegion, Clauses, NoClauses, Default, Case}
+use Rattle.cyc_syntax.specs.Yields.{Leaf, Yield, mark_sign}
 use Rattle.cyc_syntax.specs.Yields as yields
 use Rattle.cyc_syntax.specs.Grammar.{IsExpressionOrNone, wants_else, IsStatement, AreItems, IsItem, AreClauses, IsSomeClause}
-use Rattle.cyc_parse.specs.Parsing.{Parser, ◌>>=◌, ◌>>◌, pure, next, inside, sees, sees_terminal, starts, sign, word, identifier, bind, choose}
+use Rattle.cyc_parse.specs.Parsing.{Parser, ◌>>=◌, ◌>>◌, pure, next, inside, sees, sees_terminal, starts, opens_low_byte, sign, word, identifier, bind, choose}
 use Rattle.cyc_parse.specs.Types.{begins_type, region_of}
-use Rattle.cyc_parse.specs.Statements.{begins_statement, begins_item, begins_clause, is_case, is_default, is_else, nested_statements, statement, item, item_by, local, local_value, opened_key, new_key, let_by, items_in, items, caught, clauses_in, clauses, body}
+use Rattle.cyc_parse.specs.Statements.{begins_statement, begins_item, begins_clause, is_case, is_default, is_else, nested_statements, statement, executed, item, item_by, local, local_value, opened_key, new_key, let_by, items_in, items, caught, clauses_in, clauses, body}
 use Rattle.cyc_parse.proofs.Rules.{Front, Reads, starting_reads, deep_refusal, Fits, Always, starts-next, starts_append, leaf_of, leaf_at, front-next, front-length, then_reads, last_reads, pure_reads, reads_as, reads_before, word_reads, sign_reads, identifier_reads, choose_reads, advance_reads, sees_reads, unseen_reads, word_deep_reads, sign_deep_reads, starts_reads, unstarted_reads, deep_reads}
 use Rattle.cyc_parse.proofs.Stops.{Stops, stops_leaf}
 use Rattle.cyc_parse.proofs.TypeReads.{type_starts, type_reads, region_of_reads_any}
 use Rattle.cyc_parse.proofs.ExpressionReads.{deeper, shallow, NoParen}
-use Rattle.cyc_parse.proofs.StatementStarts.{statement_starts, item_starts}
+use Rattle.cyc_parse.proofs.Starts.{OpensParen}
+use Rattle.cyc_parse.proofs.StatementStarts.{statement_starts, statement_char_opens, item_starts}
 use Rattle.cyc_parse.proofs.StatementReads.{EndsStatement, EndsBlock, EndsClauses, expression_at, ReadsStatement, ReadsItems, body_reads, block_reads, labelled_reads, empty_reads, evaluate_reads, swap_reads, if_reads, if_else_reads, while_reads, return_reads, break_reads, continue_reads, throw_reads, try_reads}
 
 -- what may follow an item
@@ -63,6 +66,32 @@ region_inside_reads : {C : Type 0} (room d : ℕ) → Fits room d → (r : Named
     → Reads (bind (region_of room) f) y (leaf_of d (Mark signs.Less) ∷ leaf_at d (RegionName r.name) r.place ∷ leaf_of d (Mark signs.Greater) ∷ ys) Ends
 region_inside_reads room d fits r f h = then_reads f (region_of_reads_any room d fits r Always) h (λ mid rest front ends. tt)
 
+-- ---- `char` in front of an item, and the symbol behind it
+
+mark_no_paren : (k : PointerKind) → sees_terminal signs.LeftParen (Some (Mark (mark_sign k))) ≡ false
+mark_no_paren pointers.Nullable = refl
+mark_no_paren pointers.NonNull = refl
+mark_no_paren pointers.Fat = refl
+
+-- behind a type a name comes
+marks_no_paren : (d i : ℕ) (ms : List Pointer) (x : Named) (ys : Yield) (mid rest : List Symbol) → Front (yields.each (yields.mark d) i ms ++ leaf_at d (Identifier x.name) x.place ∷ ys) mid rest → sees signs.LeftParen mid ≡ false
+marks_no_paren d i [] x ys mid rest front = ap (sees_terminal signs.LeftParen) (front-next (leaf_at d (Identifier x.name) x.place) ys mid rest front)
+marks_no_paren d i (m ∷ ms) x ys mid rest (t, more, e, is_leaf, front) = ap (sees signs.LeftParen) e ∙ ap (λ (u : Terminal). sees_terminal signs.LeftParen (Some u)) is_leaf.terminal ∙ mark_no_paren m.kind
+
+type_opens_none : (d : ℕ) (p : Place) (b : BaseType) (ms : List Pointer) (x : Named) (ys : Yield) (ts rest : List Symbol)
+    → Front ((yields.base_type d p b ++ yields.marks d ms) ++ leaf_at d (Identifier x.name) x.place ∷ ys) ts rest → opens_low_byte ts ≡ false
+type_opens_none d p Int ms x ys ts rest (t, more, e, is_leaf, front) = ap opens_low_byte e ∙ rw (is_leaf.terminal) refl
+type_opens_none d p Char ms x ys ts rest (t, more, e, is_leaf, front) = ap opens_low_byte e ∙ rw (is_leaf.terminal) (marks_no_paren d 1 ms x ys more rest front)
+type_opens_none d p (Struct s rs) ms x ys ts rest (t, more, e, is_leaf, front) = ap opens_low_byte e ∙ rw (is_leaf.terminal) refl
+type_opens_none d p (Handle r) ms x ys ts rest (t, more, e, is_leaf, front) = ap opens_low_byte e ∙ rw (is_leaf.terminal) refl
+type_opens_none d p (Key r) ms x ys ts rest (t, more, e, is_leaf, front) = ap opens_low_byte e ∙ rw (is_leaf.terminal) refl
+
+-- in front of a statement it has its bracket
+opens_here : (leaf : Leaf) (ys : Yield) (ts rest : List Symbol) → Front (leaf ∷ ys) ts rest → leaf.terminal ≡ Word words.Char → OpensParen ys → opens_low_byte ts ≡ true
+opens_here leaf [] ts rest front is opens = absurd opens
+opens_here leaf (other ∷ ys) ts rest (t, more, e, is_leaf, (u, mores, f, is_other, front)) is opens =
+    ap opens_low_byte (e ∙ ap (λ (w : List Symbol). t ∷ w) f) ∙ rw (is_leaf.terminal ∙ is) (rw (is_other.terminal ∙ opens) refl)
+
 module _ (room d : ℕ) (fits : Fits (suc room) d) where
   by_choice : {x : Item} {Ends : List Symbol → Type 0} (leaf : Leaf) (ys : Yield) → Reads (item_by room (nested_statements room) (Some leaf.terminal)) x (leaf ∷ ys) Ends → Reads (item room (nested_statements room)) x (leaf ∷ ys) Ends
   unfolding item
@@ -79,19 +108,20 @@ module _ (room d : ℕ) (fits : Fits (suc room) d) where
       (λ mid rest front ends. record { assign = no_assign_leaf d mid rest front; stops = stops_leaf 11 (leaf_of d (Mark signs.Semicolon)) [] mid rest refl (omega arith) front })))
       (λ mid rest front ends. record { name = x.name; comes = front-next (leaf_at d (Identifier x.name) x.place) (yields.optional (yields.given d) v ++ leaf_of d (Mark signs.Semicolon) ∷ []) mid rest front })
 
-  by_type : (t : Terminal) → begins_type t ≡ true → item_by room (nested_statements room) (Some t) ≡ local room (nested_statements room)
-  by_type (Word words.Int) h = refl
-  by_type (Word words.Struct) h = refl
-  by_type (Word words.RegionType) h = refl
-  by_type (Word words.KeyType) h = refl
-  by_type (Word _) h = absurd (cc)
-  by_type _ h = absurd (cc)
+  by_type : (t : Terminal) → begins_type t ≡ true → (ts : List Symbol) → opens_low_byte ts ≡ false → item_by room (nested_statements room) (Some t) ts ≡ local room (nested_statements room) ts
+  by_type (Word words.Int) h ts none = refl
+  by_type (Word words.Char) h ts none = ap (λ (b : Bool). cond b (executed room (nested_statements room)) (local room (nested_statements room)) ts) none
+  by_type (Word words.Struct) h ts none = refl
+  by_type (Word words.RegionType) h ts none = refl
+  by_type (Word words.KeyType) h ts none = refl
+  by_type (Word _) h ts none = absurd (cc)
+  by_type _ h ts none = absurd (cc)
 
   pub local_item_reads : (t : WrittenType) (x : Named) (v : Option Expression) (Ends : List Symbol → Type 0) → IsExpressionOrNone v → Reads (item room (nested_statements room)) (Local t x v) (yields.item d (Local t x v)) Ends
   unfolding item choose
   local_item_reads t x v Ends is = reads_as (local room (nested_statements room)) (λ ts rest front ends.
       ap (λ (o : Option Terminal). item_by room (nested_statements room) o ts) (starts-next (type_starts d t) _ ts rest front)
-      ∙ ap (λ (q : Parser Item). q ts) (by_type ((type_starts d t).first.terminal) ((type_starts d t).begin))) (local_reads t x v Ends is)
+      ∙ by_type ((type_starts d t).first.terminal) ((type_starts d t).begin) ts (type_opens_none d t.place t.base t.marks x _ ts rest front)) (local_reads t x v Ends is)
 
   opened_reads : (k : Option Named) → Reads (opened_key room (nested_statements room)) k (yields.optional (yields.opened d) k) NoAssign
   opened_reads None = unseen_reads signs.Assign _ _ (λ ts rest front ends. ap (sees signs.Assign) front ∙ ends.assign) (pure_reads None NoAssign)
@@ -122,21 +152,23 @@ module _ (room d : ℕ) (fits : Fits (suc room) d) where
 
   -- ---- an item that is a statement
 
-  by_statement : (t : Terminal) → begins_statement t ≡ true → item_by room (nested_statements room) (Some t) ≡ bind (statement room (nested_statements room)) (λ s. pure (Execute s))
-  by_statement (Word words.Int) h = absurd (cc)
-  by_statement (Word words.Struct) h = absurd (cc)
-  by_statement (Word words.RegionType) h = absurd (cc)
-  by_statement (Word words.KeyType) h = absurd (cc)
-  by_statement (Word words.Region) h = absurd (cc)
-  by_statement (Word words.Let) h = absurd (cc)
-  by_statement (Word _) h = refl
-  by_statement _ h = refl
+  by_statement : (t : Terminal) → begins_statement t ≡ true → (ts : List Symbol) → (t ≡ Word words.Char → opens_low_byte ts ≡ true) → item_by room (nested_statements room) (Some t) ts ≡ executed room (nested_statements room) ts
+  by_statement (Word words.Int) h ts opens = absurd (cc)
+  by_statement (Word words.Char) h ts opens = ap (λ (b : Bool). cond b (executed room (nested_statements room)) (local room (nested_statements room)) ts) (opens refl)
+  by_statement (Word words.Struct) h ts opens = absurd (cc)
+  by_statement (Word words.RegionType) h ts opens = absurd (cc)
+  by_statement (Word words.KeyType) h ts opens = absurd (cc)
+  by_statement (Word words.Region) h ts opens = absurd (cc)
+  by_statement (Word words.Let) h ts opens = absurd (cc)
+  by_statement (Word _) h ts opens = refl
+  by_statement _ h ts opens = refl
 
   pub execute_reads : (s : Statement) → Reads (statement room (nested_statements room)) s (yields.statement d s) (EndsStatement (wants_else s)) → Reads (item room (nested_statements room)) (Execute s) (yields.item d (Execute s)) (EndsStatement (wants_else s))
   unfolding item choose
-  execute_reads s h = reads_as (bind (statement room (nested_statements room)) (λ v. pure (Execute v)))
+  execute_reads s h = reads_as (executed room (nested_statements room))
       (λ ts rest front ends. ap (λ (o : Option Terminal). item_by room (nested_statements room) o ts) (starts-next (statement_starts d s) [] ts rest (subst (λ (zs : Yield). Front zs ts rest) (sym (append-nil (yields.statement d s))) front))
-      ∙ ap (λ (q : Parser Item). q ts) (by_statement ((statement_starts d s).first.terminal) ((statement_starts d s).begin)))
+      ∙ by_statement ((statement_starts d s).first.terminal) ((statement_starts d s).begin) ts
+      (λ is. opens_here (statement_starts d s).first (statement_starts d s).others ts rest (subst (λ (zs : Yield). Front zs ts rest) (statement_starts d s).are front) is (statement_char_opens d s is)))
       (last_reads (λ (v : Statement). pure (Execute v)) (λ ts. refl) h)
 
 -- ---- items in a row

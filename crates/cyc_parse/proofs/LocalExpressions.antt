@@ -6,7 +6,7 @@ use Rattle.cyc_syntax.specs.declared.tree.BinaryOperator.{BinaryOperator}
 use Rattle.cyc_syntax.specs.declared.tree.BinaryOperator.TheVariants as operators
 use Rattle.cyc_syntax.specs.Symbols.{Place, Terminal, Identifier, Word, Mark, Symbol}
 use Rattle.cyc_syntax.specs.Symbols as terminals
-use Rattle.cyc_syntax.specs.Trees.{Named, Expression, Initial, Plain, Variable, Operations, NoOperations, ThenOperation}
+use Rattle.cyc_syntax.specs.Trees.{Named, Expression, Initial, Plain, Variable, Operations, NoOperations, ThenOperation, LowByteOf}
 use Rattle.cyc_syntax.specs.Grammar.{max_items}
 use Rattle.cyc_parse.specs.Parsing.{Parser, Outcome, Refusal, Unexpected, TooDeep, TooLong, and_then, bind, pure, refuse, next, is_sign, opens_regions, regions, region_list, sign, take, advance, on_some, if_sees, if_is}
 use Rattle.cyc_parse.specs.Expressions.{begins_expression, begins_initial, operator_at, binary_of, operations, climb, Nested, group, arguments, from_name, primary_by, primary, postfixes, with_postfixes, unary_by, unary, assignment, binary, expression, more_values, values, fields, initial_from_name, array, initial_by, initial, nested}
@@ -210,6 +210,7 @@ module _ (room : ℕ) (inner : Nested) (h : NestedRuns inner) where
   primary_by_runs (Some (Word words.HeapRegion)) = then_runs advance_runs (λ p. pure_runs _)
   primary_by_runs (Some (Word words.UniqueRegion)) = then_runs advance_runs (λ p. pure_runs _)
   primary_by_runs (Some (Word words.NumberOfElements)) = then_runs advance_runs (λ p. then_runs group_runs (λ e. pure_runs _))
+  primary_by_runs (Some (Word words.Char)) = then_runs advance_runs (λ p. then_runs group_runs (λ e. pure_runs _))
   primary_by_runs (Some (Word words.FreeUnique)) = then_runs advance_runs (λ p. then_runs group_runs (λ e. pure_runs _))
   primary_by_runs (Some (Word words.FreeKey)) = then_runs advance_runs (λ p. then_runs (sign_runs _ signs.LeftParen) (λ _. then_runs (identifier_runs room) (λ k. then_runs (sign_runs _ signs.RightParen) (λ _. pure_runs _))))
   primary_by_runs (Some (Mark signs.LeftParen)) = then_runs advance_runs (λ p. then_runs h.expression (λ e. then_runs (sign_runs _ signs.RightParen) (λ _. pure_runs _)))
@@ -375,6 +376,10 @@ module _ (room : ℕ) (inner : Nested) (h : NestedRuns inner) where
   -- an expression that begins with this name
   pub named_run : (x : Named) → Local false (bind (with_postfixes room inner (from_name room inner x)) (climb (unary room inner) 10))
   named_run x = then_runs (with_postfixes_run (from_name_run x)) (λ e. climb_all_runs (unary room inner) (opened_as (λ e _. tt) unary_runs) e)
+
+  -- an expression that begins with the low byte of a value, behind its word
+  pub low_byte_run : (p : Place) → Local true (bind (with_postfixes room inner (bind (group room inner) (λ e. pure (LowByteOf p e)))) (climb (unary room inner) 10))
+  low_byte_run p = then_runs (with_postfixes_run (then_runs group_runs (λ e. pure_runs _))) (λ e. climb_all_runs (unary room inner) (opened_as (λ e _. tt) unary_runs) e)
 
 pub nested_runs : (room : ℕ) → NestedRuns (nested room)
 unfolding nested

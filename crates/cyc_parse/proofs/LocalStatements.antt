@@ -1,15 +1,17 @@
 -- The parsers of statements and of items look no further.
-use Rattle.std.proofs.Common.{◌≡◌, ℕ, zero, suc, ◌≤◌, true, false, List, [], ◌∷◌, length, ◌&&◌, Option, Some, Err, refl, arith}
+use Rattle.std.proofs.Common.{◌≡◌, ℕ, zero, suc, ◌≤◌, Bool, true, false, cond, List, [], ◌∷◌, length, ◌&&◌, Option, Some, Err, refl, sym, ap, subst, arith}
 use Rattle.cyc_syntax.specs.declared.tokens.Keyword.TheVariants as words
 use Rattle.cyc_syntax.specs.declared.tokens.Sign.TheVariants as signs
 use Rattle.cyc_syntax.specs.Symbols.{Place, Terminal, Identifier, Word, Mark, Symbol}
-use Rattle.cyc_syntax.specs.Trees.{Named, Expression, Statement, Swap}
-use Rattle.cyc_parse.specs.Parsing.{Unexpected, TooDeep, bind, pure, sees_terminal, if_sees, if_starts}
-use Rattle.cyc_parse.specs.Expressions.{nested}
-use Rattle.cyc_parse.specs.Statements.{begins_statement, begins_item, begins_clause, is_case, is_default, is_else, is_unary, ends_in_new, end_of_swap, Nested, body, expression, expression_from, swap, behind, statement_from_name, else_part, return_value, thrown, caught, clauses_in, clauses, if_statement, while_statement, throw_statement, try_statement, statement_by, statement, local_value, local, opened_key, region, alias, new_key, dynamic_region, let_by, item_by, item, items_in, items, nested_statements}
-use Rattle.cyc_parse.proofs.Locality.{whole, IsLess, refuses_on, Local, Never, open_then_runs, then_runs, pure_runs, unexpected_runs, sign_runs, word_runs, identifier_runs, advance_runs, choose_runs, test_runs, sees_runs, starts_runs, starts_limit_runs, item_refusal_runs, same_behind, same_behind_read, same_first, starts_same, turns_run}
-use Rattle.cyc_parse.proofs.LocalTypes.{written_type_runs, region_of_runs}
-use Rattle.cyc_parse.proofs.LocalExpressions.{IsOpen, nested_runs, named_run, assignment_runs}
+use Rattle.cyc_syntax.specs.Trees.{Named, Char, Expression, LowByteOf, Statement, Swap, Item, Execute}
+use Rattle.cyc_syntax.specs.Trees as trees
+use Rattle.cyc_parse.specs.Parsing.{Parser, Unexpected, TooDeep, bind, pure, choose, advance, sees, sees_terminal, if_sees, if_starts, sign, identifier}
+use Rattle.cyc_parse.specs.Types.{with_pointers, written_type}
+use Rattle.cyc_parse.specs.Expressions.{nested, group, primary, with_postfixes, unary, climb, assignment}
+use Rattle.cyc_parse.specs.Statements.{begins_statement, begins_item, begins_clause, is_case, is_default, is_else, is_unary, ends_in_new, end_of_swap, Nested, body, expression, expression_from, swap, behind, statement_from_name, else_part, return_value, thrown, caught, clauses_in, clauses, if_statement, while_statement, throw_statement, try_statement, statement_by, statement, local_value, local, opened_key, region, alias, new_key, dynamic_region, let_by, executed, char_item, item_by, item, items_in, items, nested_statements}
+use Rattle.cyc_parse.proofs.Locality.{whole, IsLess, refuses_on, Local, Never, open_then_runs, then_runs, pure_runs, unexpected_runs, sign_runs, word_runs, identifier_runs, advance_runs, runs_as, choose_runs, test_runs, sees_runs, starts_runs, starts_limit_runs, item_refusal_runs, same_behind, same_behind_read, same_first, starts_same, turns_run}
+use Rattle.cyc_parse.proofs.LocalTypes.{with_pointers_run, written_type_runs, region_of_runs}
+use Rattle.cyc_parse.proofs.LocalExpressions.{IsOpen, nested_runs, named_run, low_byte_run, assignment_runs}
 
 end_of_swap_runs : (room : ℕ) (e : Expression) → Local false (end_of_swap room e)
 end_of_swap_runs room e = sees_runs signs.Semicolon (sign_runs _ signs.Semicolon) (test_runs (λ t. sees_terminal signs.Less t && ends_in_new e) (then_runs advance_runs (λ _. unexpected_runs)) unexpected_runs)
@@ -141,18 +143,63 @@ module _ (room : ℕ) (inner : Nested) (h : StatementsRun inner) where
   let_by_runs (Some (Word words.NewDynamicRegion)) = dynamic_region_runs
   let_by_runs _ = unexpected_runs
 
-  item_by_runs : (t : Option Terminal) → Local true (item_by room inner t)
-  item_by_runs (Some (Word words.Int)) = local_runs
-  item_by_runs (Some (Word words.Struct)) = local_runs
-  item_by_runs (Some (Word words.RegionType)) = local_runs
-  item_by_runs (Some (Word words.KeyType)) = local_runs
-  item_by_runs (Some (Word words.Region)) = region_runs
-  item_by_runs (Some (Word words.Let)) = then_runs advance_runs (λ _. choose_runs let_by_runs)
-  item_by_runs _ = then_runs statement_runs (λ s. pure_runs _)
+  -- Whether an item that begins with `char` is a declaration, the symbol behind it decides. It is read either way: so the
+  -- item may be said to look at one symbol at a time.
+
+  abbrev low_byte_from : Place → Parser Statement
+  low_byte_from p = bind (bind (bind (with_postfixes room (nested room) (bind (group room (nested room)) (λ e. pure (LowByteOf p e)))) (climb (unary room (nested room)) 10)) (assignment room (nested room))) (behind room inner)
+
+  abbrev char_local : Place → Parser Item
+  char_local p = bind (with_pointers (suc room) p Char) (λ t. bind (identifier (suc room)) (λ x. bind (local_value room inner) (λ v. bind (sign (suc room) signs.Semicolon) (λ _. pure (trees.Local t x v)))))
+
+  abbrev behind_char : Place → Parser Item
+  behind_char p = if_sees signs.LeftParen (bind (low_byte_from p) (λ s. pure (Execute s))) (char_local p)
+
+  behind_char_runs : (p : Place) → Local false (behind_char p)
+  behind_char_runs p = sees_runs signs.LeftParen
+      (then_runs (then_runs (then_runs (low_byte_run room (nested room) (nested_runs room) p) (λ e. assignment_runs room (nested room) (nested_runs room) e)) (λ e. behind_runs e)) (λ s. pure_runs _))
+      (then_runs (with_pointers_run _ _ _) (λ t. then_runs (identifier_runs _) (λ x. then_runs local_value_runs (λ v. then_runs (sign_runs _ signs.Semicolon) (λ _. pure_runs _)))))
+
+  abbrev char_at : Place → Symbol
+  char_at p = record { terminal = Word words.Char; place = p }
+
+  char_item_reads : (p : Place) (ts : List Symbol) → char_item room inner (char_at p ∷ ts) ≡ behind_char p ts
+  unfolding bind choose if_sees nested unary primary statement written_type
+  char_item_reads p ts = by_next (sees signs.LeftParen ts)
+    where
+      by_next : (b : Bool) → cond b (executed room inner) (local room inner) (char_at p ∷ ts) ≡ cond b (bind (low_byte_from p) (λ s. pure (Execute s))) (char_local p) ts
+      by_next true = refl
+      by_next false = refl
+
+  abbrev read_by : Option Terminal → Parser Item
+  read_by (Some (Word words.Char)) = bind advance behind_char
+  read_by t = item_by room inner t
+
+  read_by_runs : (t : Option Terminal) → Local true (read_by t)
+  read_by_runs (Some (Word words.Int)) = local_runs
+  read_by_runs (Some (Word words.Char)) = then_runs advance_runs (λ p. behind_char_runs p)
+  read_by_runs (Some (Word words.Struct)) = local_runs
+  read_by_runs (Some (Word words.RegionType)) = local_runs
+  read_by_runs (Some (Word words.KeyType)) = local_runs
+  read_by_runs (Some (Word words.Region)) = region_runs
+  read_by_runs (Some (Word words.Let)) = then_runs advance_runs (λ _. choose_runs let_by_runs)
+  read_by_runs _ = then_runs statement_runs (λ s. pure_runs _)
+
+  item_as_read : (u : Terminal) (t : Symbol) (ts : List Symbol) → t.terminal ≡ u → item_by room inner (Some u) (t ∷ ts) ≡ read_by (Some u) (t ∷ ts)
+  unfolding bind
+  item_as_read (Word words.Char) t ts is =
+      let char : t ≡ char_at t.place = ap (λ (u : Terminal). record { terminal = u; place = t.place }) is in
+      subst (λ (s : Symbol). char_item room inner (s ∷ ts) ≡ behind_char t.place ts) (sym char) (char_item_reads t.place ts)
+  item_as_read (Word _) t ts is = refl
+  item_as_read _ t ts is = refl
 
   item_runs : Local true (item room inner)
-  unfolding item
-  item_runs = choose_runs item_by_runs
+  unfolding item choose
+  item_runs = runs_as same (choose_runs read_by_runs)
+    where
+      same : (ts : List Symbol) → item room inner ts ≡ choose read_by ts
+      same [] = refl
+      same (t ∷ ts) = item_as_read t.terminal t ts refl
 
   items_in_run : (turns : ℕ) → Local false (items_in room inner turns)
   unfolding items_in

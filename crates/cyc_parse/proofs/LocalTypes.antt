@@ -43,6 +43,7 @@ module _ (room : ℕ) where
 
   base_runs : (t : Option Terminal) → Local true (base_by room t)
   base_runs (Some (Word words.Int)) = then_runs advance_runs (λ p. with_pointers_run _ _)
+  base_runs (Some (Word words.Char)) = then_runs advance_runs (λ p. with_pointers_run _ _)
   base_runs (Some (Word words.Struct)) = then_runs advance_runs (λ p. then_runs (identifier_runs room) (λ s. then_runs optional_regions_run (λ rs. with_pointers_run _ _)))
   base_runs (Some (Word words.RegionType)) = then_runs advance_runs (λ p. then_runs region_of_runs (λ r. with_pointers_run _ _))
   base_runs (Some (Word words.KeyType)) = then_runs advance_runs (λ p. then_runs region_of_runs (λ r. with_pointers_run _ _))

@@ -1,6 +1,6 @@
 -- What a parser looks at: it refuses a symbol, or leaves it, and looks at none behind that one. There is one place
 -- where it looks at one symbol more: `<` behind `new` and a name opens region arguments where a region comes, and else
--- goes on with an expression.
+-- goes on with an expression. (Behind `char` at the front of an item it looks at one more, too, but reads it.)
 use Rattle.std.proofs.Common.{◌≡◌, ℕ, zero, suc, ◌+◌, ◌≤◌, ◌<◌, Bool, true, false, cond, List, [], ◌∷◌, ◌++◌, length, Option, Some, None, is_some, Ok, Err, refl, sym, ap, subst, ◌∙◌, arith, append_assoc, length-append}
 use Rattle.std.proofs.Math.Path.{fun_ext}
 use Rattle.cyc_syntax.specs.declared.tokens.Keyword.{Keyword}

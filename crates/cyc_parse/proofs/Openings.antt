@@ -7,7 +7,7 @@ use Rattle.cyc_syntax.specs.declared.tokens.Sign.TheVariants as signs
 use Rattle.cyc_syntax.specs.declared.tree.PrefixOperator.TheVariants as prefixes
 use Rattle.cyc_syntax.specs.Symbols.{Place, Terminal, Identifier, RegionName, Word, Mark, Symbol}
 use Rattle.cyc_syntax.specs.Symbols as terminals
-use Rattle.cyc_syntax.specs.Trees.{Named, Int, Struct, Handle, Key, Expression, Number, Character, Null, HeapRegion, UniqueRegion, Variable, Bracketed, NumberOfElements, FreeUnique, FreeKey, Call, Chained, Prefixed, New, RegionNew, Binary, Assign, Plain, Array, Statement, Block, Empty, Evaluate, If, While, Return, Break, Continue, Throw, Try, Braces, NoItems, MoreItems, Execute, Local, Region, Alias, Default}
+use Rattle.cyc_syntax.specs.Trees.{Named, Int, Char, Struct, Handle, Key, Expression, Number, Character, Null, HeapRegion, UniqueRegion, Variable, Bracketed, NumberOfElements, LowByteOf, FreeUnique, FreeKey, Call, Chained, Prefixed, New, RegionNew, Binary, Assign, Plain, Array, Statement, Block, Empty, Evaluate, If, While, Return, Break, Continue, Throw, Try, Braces, NoItems, MoreItems, Execute, Local, Region, Alias, Default}
 use Rattle.cyc_syntax.specs.Yields.{Yield}
 use Rattle.cyc_syntax.specs.Yields as yields
 use Rattle.cyc_syntax.specs.Grammar.{IsExpression, IsInitial, wants_else, IsStatement, AreItems, IsItem}
@@ -41,6 +41,7 @@ constraint_opened d u p h = opened_then (region_opened d u p h) (λ r _. possibl
 
 pub type_opened : (d : ℕ) (u : Terminal) (p : Place) → begins_type u ≡ true → Opened (Spells (yields.written_type d) Any) u p
 type_opened d (Word words.Int) p h = opened_at d (Word words.Int) p (record { place = p; base = Int; marks = [] }) _ (refl, tt)
+type_opened d (Word words.Char) p h = opened_at d (Word words.Char) p (record { place = p; base = Char; marks = [] }) _ (refl, tt)
 type_opened d (Word words.Struct) p h = opened_at d (Word words.Struct) p (record { place = p; base = Struct (named_at p) []; marks = [] }) _ (refl, tt)
 type_opened d (Word words.RegionType) p h = opened_at d (Word words.RegionType) p (record { place = p; base = Handle (named_at p); marks = [] }) _ (refl, tt)
 type_opened d (Word words.KeyType) p h = opened_at d (Word words.KeyType) p (record { place = p; base = Key (named_at p); marks = [] }) _ (refl, tt)
@@ -72,6 +73,7 @@ expression_opened d (Word words.Null) p h = opened_at d (Word words.Null) p (Nul
 expression_opened d (Word words.HeapRegion) p h = opened_at d (Word words.HeapRegion) p (HeapRegion p) _ (refl, tt)
 expression_opened d (Word words.UniqueRegion) p h = opened_at d (Word words.UniqueRegion) p (UniqueRegion p) _ (refl, tt)
 expression_opened d (Word words.NumberOfElements) p h = opened_at d (Word words.NumberOfElements) p (NumberOfElements p (zero_at p)) _ (refl, tt)
+expression_opened d (Word words.Char) p h = opened_at d (Word words.Char) p (LowByteOf p (zero_at p)) _ (refl, tt)
 expression_opened d (Word words.FreeUnique) p h = opened_at d (Word words.FreeUnique) p (FreeUnique p (zero_at p)) _ (refl, tt)
 expression_opened d (Word words.FreeKey) p h = opened_at d (Word words.FreeKey) p (FreeKey p (named_at p)) _ (refl, tt)
 expression_opened d (Word words.New) p h = opened_at d (Word words.New) p (New p (Plain (zero_at p))) _ (refl, tt)
@@ -134,6 +136,7 @@ looser j k le (Variable x) is = tt
 looser j k le (Call f es) is = is
 looser j k le (Bracketed p e) is = is
 looser j k le (NumberOfElements p e) is = is
+looser j k le (LowByteOf p e) is = is
 looser j k le (FreeUnique p e) is = is
 looser j k le (FreeKey p x) is = tt
 looser j k le (Chained e ps) is = is
@@ -158,6 +161,7 @@ statement_word_opened d words.Null p h = evaluated (expression_opened d (Word wo
 statement_word_opened d words.HeapRegion p h = evaluated (expression_opened d (Word words.HeapRegion) p refl)
 statement_word_opened d words.UniqueRegion p h = evaluated (expression_opened d (Word words.UniqueRegion) p refl)
 statement_word_opened d words.NumberOfElements p h = evaluated (expression_opened d (Word words.NumberOfElements) p refl)
+statement_word_opened d words.Char p h = evaluated (expression_opened d (Word words.Char) p refl)
 statement_word_opened d words.FreeUnique p h = evaluated (expression_opened d (Word words.FreeUnique) p refl)
 statement_word_opened d words.FreeKey p h = evaluated (expression_opened d (Word words.FreeKey) p refl)
 statement_word_opened d words.New p h = evaluated (expression_opened d (Word words.New) p refl)
@@ -196,6 +200,7 @@ executed o = record { value = Execute o.value; leaf = o.leaf; behind = o.behind;
 
 item_word_opened : (d : ℕ) (k : Keyword) (p : Place) → item_word k ≡ true → OpenedItem d (Word k) p
 item_word_opened d words.Int p h = declared (type_opened d (Word words.Int) p refl)
+item_word_opened d words.Char p h = declared (type_opened d (Word words.Char) p refl)
 item_word_opened d words.Struct p h = declared (type_opened d (Word words.Struct) p refl)
 item_word_opened d words.RegionType p h = declared (type_opened d (Word words.RegionType) p refl)
 item_word_opened d words.KeyType p h = declared (type_opened d (Word words.KeyType) p refl)

@@ -8,7 +8,7 @@ use Rattle.cyc_syntax.specs.declared.tree.BinaryOperator.TheVariants as operator
 use Rattle.cyc_syntax.specs.declared.tokens.Keyword.TheVariants as words
 use Rattle.cyc_syntax.specs.Symbols as terminals
 use Rattle.cyc_syntax.specs.Symbols.{Terminal, Identifier, RegionName, Word, Mark}
-use Rattle.cyc_syntax.specs.Trees.{Expression, Number, Character, Null, HeapRegion, UniqueRegion, Variable, Call, Bracketed, NumberOfElements, FreeUnique, FreeKey, Chained, Prefixed, New, RegionNew, Binary, Assign, Initial, Plain, Fields, Array, Postfixes, NoPostfixes, ThenIndex, ThenField, Operations, NoOperations, ThenOperation}
+use Rattle.cyc_syntax.specs.Trees.{Expression, Number, Character, Null, HeapRegion, UniqueRegion, Variable, Call, Bracketed, NumberOfElements, LowByteOf, FreeUnique, FreeKey, Chained, Prefixed, New, RegionNew, Binary, Assign, Initial, Plain, Fields, Array, Postfixes, NoPostfixes, ThenIndex, ThenField, Operations, NoOperations, ThenOperation}
 use Rattle.cyc_syntax.specs.Yields.{Leaf, Yield, expression, initial, postfixes, operations, prefix_sign, operator_sign}
 use Rattle.cyc_syntax.specs.Grammar.{is_primary, level, IsExpression, AreOperations}
 use Rattle.cyc_parse.specs.Parsing.{sees_terminal}
@@ -33,6 +33,7 @@ expression_starts d (Variable x) = record { first = _; others = _; are = refl; b
 expression_starts d (Call f es) = record { first = _; others = _; are = refl; begin = refl; nesting = refl; item = zero-le }
 expression_starts d (Bracketed p e) = record { first = _; others = _; are = refl; begin = refl; nesting = refl; item = zero-le }
 expression_starts d (NumberOfElements p e) = record { first = _; others = _; are = refl; begin = refl; nesting = refl; item = zero-le }
+expression_starts d (LowByteOf p e) = record { first = _; others = _; are = refl; begin = refl; nesting = refl; item = zero-le }
 expression_starts d (FreeUnique p e) = record { first = _; others = _; are = refl; begin = refl; nesting = refl; item = zero-le }
 expression_starts d (FreeKey p k) = record { first = _; others = _; are = refl; begin = refl; nesting = refl; item = zero-le }
 expression_starts d (Chained e ps) = starts_append (postfixes d 1 ps) (expression_starts d e)
@@ -127,6 +128,7 @@ second k d (Variable y) x is named = alone
 second k d (Call f es) x is named = goes_on _ _ (omega arith) refl
 second k d (Bracketed p e) x is named = absurd (cc)
 second k d (NumberOfElements p e) x is named = absurd (cc)
+second k d (LowByteOf p e) x is named = absurd (cc)
 second k d (FreeUnique p e) x is named = absurd (cc)
 second k d (FreeKey p y) x is named = absurd (cc)
 second k d (Chained e ps) x (primary, unary, some, are) named = second_append (postfixes d 1 ps) (second_less (omega arith) (second 0 d e x unary named)) (postfixes_second d ps k)
@@ -135,6 +137,37 @@ second k d (New p i) x is named = absurd (cc)
 second k d (RegionNew p h i) x is named = absurd (cc)
 second k d (Binary e os) x (below, less, limit, first, some, are) named = second_append (operations d 1 os) (second_less (omega arith) (second below d e x first named)) (operations_second d os below k less are)
 second k d (Assign a b) x (most, left, right) named = second_append _ (second_less (omega arith) (second 10 d a x left named)) (goes_on _ _ (omega arith) refl)
+
+-- ---- what stands behind `char` at the front of an expression: a bracket
+
+abbrev pub OpensParen : Yield → Type 0
+OpensParen [] = ⊥
+OpensParen (leaf ∷ ys) = leaf.terminal ≡ Mark signs.LeftParen
+
+pub opens_append : (xs ys : Yield) → OpensParen xs → OpensParen (xs ++ ys)
+opens_append [] ys h = absurd h
+opens_append (leaf ∷ xs) ys h = h
+
+pub char_opens : (d : ℕ) (e : Expression) → (expression_starts d e).first.terminal ≡ Word words.Char → OpensParen (expression_starts d e).others
+unfolding expression_starts starts_append
+char_opens d (Number p n) h = absurd (cc)
+char_opens d (Character p c) h = absurd (cc)
+char_opens d (Null p) h = absurd (cc)
+char_opens d (HeapRegion p) h = absurd (cc)
+char_opens d (UniqueRegion p) h = absurd (cc)
+char_opens d (Variable x) h = absurd (cc)
+char_opens d (Call f es) h = absurd (cc)
+char_opens d (Bracketed p e) h = absurd (cc)
+char_opens d (NumberOfElements p e) h = absurd (cc)
+char_opens d (LowByteOf p e) h = refl
+char_opens d (FreeUnique p e) h = absurd (cc)
+char_opens d (FreeKey p k) h = absurd (cc)
+char_opens d (Chained e ps) h = opens_append _ _ (char_opens d e h)
+char_opens d (Prefixed p o e) h = absurd (cc)
+char_opens d (New p i) h = absurd (cc)
+char_opens d (RegionNew p h i) named = absurd (cc)
+char_opens d (Binary e os) h = opens_append _ _ (char_opens d e h)
+char_opens d (Assign a b) h = opens_append _ _ (char_opens d a h)
 
 -- ---- how operands begin
 
@@ -147,6 +180,7 @@ begins_primary (Word words.Null) = true
 begins_primary (Word words.HeapRegion) = true
 begins_primary (Word words.UniqueRegion) = true
 begins_primary (Word words.NumberOfElements) = true
+begins_primary (Word words.Char) = true
 begins_primary (Word words.FreeUnique) = true
 begins_primary (Word words.FreeKey) = true
 begins_primary (Word _) = false
@@ -163,6 +197,7 @@ primary_starts d (Variable x) is = record { first = _; others = _; are = refl; b
 primary_starts d (Call f es) is = record { first = _; others = _; are = refl; begin = refl; nesting = refl; item = zero-le }
 primary_starts d (Bracketed p e) is = record { first = _; others = _; are = refl; begin = refl; nesting = refl; item = zero-le }
 primary_starts d (NumberOfElements p e) is = record { first = _; others = _; are = refl; begin = refl; nesting = refl; item = zero-le }
+primary_starts d (LowByteOf p e) is = record { first = _; others = _; are = refl; begin = refl; nesting = refl; item = zero-le }
 primary_starts d (FreeUnique p e) is = record { first = _; others = _; are = refl; begin = refl; nesting = refl; item = zero-le }
 primary_starts d (FreeKey p k) is = record { first = _; others = _; are = refl; begin = refl; nesting = refl; item = zero-le }
 primary_starts d (Chained e ps) is = absurd (cc)

@@ -13,10 +13,10 @@ use Rattle.cyc_parse.specs.Types.{begins_type, is_type_word}
 use Rattle.cyc_parse.specs.Expressions.{begins_expression, begins_by_word, begins_by_sign}
 use Rattle.cyc_parse.specs.Statements.{begins_statement, begins_item, statement_word, statement_sign, item_word}
 use Rattle.cyc_parse.proofs.Rules.{Starts, starts_append, leaf_at}
-use Rattle.cyc_parse.proofs.Starts.{expression_starts}
+use Rattle.cyc_parse.proofs.Starts.{expression_starts, OpensParen, opens_append, char_opens}
 use Rattle.cyc_parse.proofs.TypeReads.{type_starts}
 
-pub starts_as : {first second : Terminal → Bool} {d : ℕ} {xs : Yield} → ((t : Terminal) → first t ≡ true → second t ≡ true) → Starts first d xs → Starts second d xs
+unfoldable pub starts_as : {first second : Terminal → Bool} {d : ℕ} {xs : Yield} → ((t : Terminal) → first t ≡ true → second t ≡ true) → Starts first d xs → Starts second d xs
 starts_as weaker s = record { first = s.first; others = s.others; are = s.are; begin = weaker s.first.terminal s.begin; nesting = s.nesting; item = s.item }
 
 word_in_statement : (k : Keyword) → begins_by_word k ≡ true → statement_word k ≡ true
@@ -44,6 +44,7 @@ in_statement (Mark s) h = sign_in_statement s h
 
 statement_in_item : (k : Keyword) → statement_word k ≡ true → item_word k ≡ true
 statement_in_item words.Int h = refl
+statement_in_item words.Char h = refl
 statement_in_item words.Struct h = refl
 statement_in_item words.RegionType h = refl
 statement_in_item words.KeyType h = refl
@@ -61,6 +62,7 @@ in_item (Mark s) h = h
 
 type_in_item : (k : Keyword) → is_type_word k ≡ true → item_word k ≡ true
 type_in_item words.Int h = refl
+type_in_item words.Char h = refl
 type_in_item words.Struct h = refl
 type_in_item words.RegionType h = refl
 type_in_item words.KeyType h = refl
@@ -70,7 +72,7 @@ pub local_in_item : (t : Terminal) → begins_type t ≡ true → begins_item t 
 local_in_item (Word k) h = type_in_item k h
 local_in_item _ h = absurd (cc)
 
-pub statement_starts : (d : ℕ) (s : Statement) → Starts begins_statement d (yields.statement d s)
+unfoldable pub statement_starts : (d : ℕ) (s : Statement) → Starts begins_statement d (yields.statement d s)
 statement_starts d (Block (Braces p is q)) = record { first = leaf_at d (Mark signs.LeftBrace) p; others = _; are = refl; begin = refl; nesting = refl; item = zero-le }
 statement_starts d (Labelled l b) = record { first = _; others = _; are = refl; begin = refl; nesting = refl; item = zero-le }
 statement_starts d (Empty p) = record { first = _; others = _; are = refl; begin = refl; nesting = refl; item = zero-le }
@@ -84,6 +86,23 @@ statement_starts d (Break p) = record { first = _; others = _; are = refl; begin
 statement_starts d (Continue p) = record { first = _; others = _; are = refl; begin = refl; nesting = refl; item = zero-le }
 statement_starts d (Throw p x v) = record { first = _; others = _; are = refl; begin = refl; nesting = refl; item = zero-le }
 statement_starts d (Try p s cs) = record { first = _; others = _; are = refl; begin = refl; nesting = refl; item = zero-le }
+
+-- behind `char` at the front of a statement a bracket stands
+pub statement_char_opens : (d : ℕ) (s : Statement) → (statement_starts d s).first.terminal ≡ Word words.Char → OpensParen (statement_starts d s).others
+unfolding statement_starts starts_as starts_append
+statement_char_opens d (Block (Braces p is q)) h = absurd (cc)
+statement_char_opens d (Labelled l b) h = absurd (cc)
+statement_char_opens d (Empty p) h = absurd (cc)
+statement_char_opens d (Evaluate e) h = opens_append _ _ (char_opens d e h)
+statement_char_opens d (Swap a b) h = opens_append _ _ (char_opens d a h)
+statement_char_opens d (If p c s) h = absurd (cc)
+statement_char_opens d (IfElse p c s t) h = absurd (cc)
+statement_char_opens d (While p c s) h = absurd (cc)
+statement_char_opens d (Return p v) h = absurd (cc)
+statement_char_opens d (Break p) h = absurd (cc)
+statement_char_opens d (Continue p) h = absurd (cc)
+statement_char_opens d (Throw p x v) h = absurd (cc)
+statement_char_opens d (Try p s cs) h = absurd (cc)
 
 pub item_starts : (d : ℕ) (i : Item) → Starts begins_item d (yields.item d i)
 item_starts d (Execute s) = starts_as in_item (statement_starts d s)

@@ -5,7 +5,7 @@ use Rattle.cyc_syntax.specs.declared.tokens.Sign.TheVariants as signs
 use Rattle.cyc_syntax.specs.declared.tree.PointerKind.{PointerKind}
 use Rattle.cyc_syntax.specs.declared.tree.PointerKind.TheVariants as pointers
 use Rattle.cyc_syntax.specs.Symbols.{Place, Terminal, Identifier, RegionName, Word, Mark, Symbol}
-use Rattle.cyc_syntax.specs.Trees.{Named, Pointer, BaseType, Int, Struct, Handle, Key, WrittenType}
+use Rattle.cyc_syntax.specs.Trees.{Named, Pointer, BaseType, Int, Char, Struct, Handle, Key, WrittenType}
 use Rattle.cyc_syntax.specs.Yields.{mark_sign}
 use Rattle.cyc_syntax.specs.Yields as yields
 use Rattle.cyc_syntax.specs.Grammar.{max_nesting, max_items}
@@ -76,6 +76,7 @@ module _ (room d : ℕ) (fits : Fits room d) (shallow : d ≤ max_nesting) where
   base_reads : (p : Place) (b : BaseType) (ms : List Pointer) → Reads (written_type room) (record { place = p; base = b; marks = ms }) (yields.base_type d p b ++ yields.marks d ms) EndsType
   unfolding written_type
   base_reads p Int ms = choose_reads (base_by room) (leaf_at d (Word words.Int) p) _ (advance_reads_at d (Word words.Int) p _ shallow (with_pointers_reads p Int ms))
+  base_reads p Char ms = choose_reads (base_by room) (leaf_at d (Word words.Char) p) _ (advance_reads_at d (Word words.Char) p _ shallow (with_pointers_reads p Char ms))
   base_reads p (Struct s rs) ms = choose_reads (base_by room) (leaf_at d (Word words.Struct) p) _ (advance_reads_at d (Word words.Struct) p _ shallow (identifier_reads room d s _ fits
       (then_reads _ (optional_regions_reads rs) (with_pointers_reads p (Struct s rs) ms) (not_less ms))))
   base_reads p (Handle r) ms = choose_reads (base_by room) (leaf_at d (Word words.RegionType) p) _ (advance_reads_at d (Word words.RegionType) p _ shallow
@@ -91,6 +92,7 @@ type_starts d t = of_base t.base
   where
     of_base : (b : BaseType) → Starts begins_type d (yields.base_type d t.place b ++ yields.marks d t.marks)
     of_base Int = record { first = leaf_at d (Word words.Int) t.place; others = _; are = refl; begin = refl; nesting = refl; item = zero-le }
+    of_base Char = record { first = leaf_at d (Word words.Char) t.place; others = _; are = refl; begin = refl; nesting = refl; item = zero-le }
     of_base (Struct s rs) = record { first = leaf_at d (Word words.Struct) t.place; others = _; are = refl; begin = refl; nesting = refl; item = zero-le }
     of_base (Handle r) = record { first = leaf_at d (Word words.RegionType) t.place; others = _; are = refl; begin = refl; nesting = refl; item = zero-le }
     of_base (Key r) = record { first = leaf_at d (Word words.KeyType) t.place; others = _; are = refl; begin = refl; nesting = refl; item = zero-le }

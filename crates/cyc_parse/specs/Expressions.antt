@@ -9,7 +9,7 @@ use Rattle.cyc_syntax.specs.declared.tree.BinaryOperator.{BinaryOperator}
 use Rattle.cyc_syntax.specs.declared.tree.BinaryOperator.TheVariants as operators
 use Rattle.cyc_syntax.specs.Symbols.{Terminal, Identifier, RegionName, Word, Mark}
 use Rattle.cyc_syntax.specs.Symbols as terminals
-use Rattle.cyc_syntax.specs.Trees.{Named, Expression, Number, Character, Null, HeapRegion, UniqueRegion, Variable, Call, Bracketed, NumberOfElements, FreeUnique, FreeKey, Chained, Prefixed, New, RegionNew, Binary, Assign, Initial, Plain, Fields, Array, Expressions, NoExpressions, MoreExpressions, Postfixes, NoPostfixes, ThenIndex, ThenField, Operations, NoOperations, ThenOperation}
+use Rattle.cyc_syntax.specs.Trees.{Named, Expression, Number, Character, Null, HeapRegion, UniqueRegion, Variable, Call, Bracketed, NumberOfElements, LowByteOf, FreeUnique, FreeKey, Chained, Prefixed, New, RegionNew, Binary, Assign, Initial, Plain, Fields, Array, Expressions, NoExpressions, MoreExpressions, Postfixes, NoPostfixes, ThenIndex, ThenField, Operations, NoOperations, ThenOperation}
 use Rattle.cyc_syntax.specs.Grammar.{level, max_items}
 use Rattle.cyc_parse.specs.Parsing.{Parser, Unexpected, TooDeep, TooLong, ◌>>=◌, ◌>>◌, pure, refuse, choose, advance, if_is, if_sees, refuse_item, is_sign, separated, region_list, opens_regions, sign, word, identifier}
 
@@ -20,6 +20,7 @@ begins_by_word words.Null = true
 begins_by_word words.HeapRegion = true
 begins_by_word words.UniqueRegion = true
 begins_by_word words.NumberOfElements = true
+begins_by_word words.Char = true
 begins_by_word words.FreeUnique = true
 begins_by_word words.FreeKey = true
 begins_by_word words.New = true
@@ -146,6 +147,7 @@ module _ (room : ℕ) (inner : Nested) where
   primary_by (Some (Word words.HeapRegion)) = advance >>= (λ p. pure (HeapRegion p))
   primary_by (Some (Word words.UniqueRegion)) = advance >>= (λ p. pure (UniqueRegion p))
   primary_by (Some (Word words.NumberOfElements)) = advance >>= (λ p. group >>= (λ e. pure (NumberOfElements p e)))
+  primary_by (Some (Word words.Char)) = advance >>= (λ p. group >>= (λ e. pure (LowByteOf p e)))
   primary_by (Some (Word words.FreeUnique)) = advance >>= (λ p. group >>= (λ e. pure (FreeUnique p e)))
   primary_by (Some (Word words.FreeKey)) = advance >>= (λ p. sign (suc room) signs.LeftParen >> identifier room >>= (λ k. sign room signs.RightParen >> pure (FreeKey p k)))
   primary_by (Some (Mark signs.LeftParen)) = advance >>= (λ p. inner.expression >>= (λ e. sign room signs.RightParen >> pure (Bracketed p e)))

@@ -3,6 +3,7 @@
 use Rattle.std.specs.Prelude.{ℕ, zero, suc, Bool, false, List, [], ◌∷◌, Option, Some, None, is_some, ◌&&◌, Result, Ok, Err, if◌then◌else◌}
 use denote.Enum.Bare.{sameb}
 use Rattle.cyc_syntax.specs.declared.tokens.Keyword.{Keyword}
+use Rattle.cyc_syntax.specs.declared.tokens.Keyword.TheVariants as words
 use Rattle.cyc_syntax.specs.declared.tokens.Sign.{Sign}
 use Rattle.cyc_syntax.specs.contracts.tokens.Keyword as keyword
 use Rattle.cyc_syntax.specs.contracts.tokens.Sign as signs
@@ -180,6 +181,11 @@ reason_by begins why (Some t) = if begins t then why else Unexpected
 -- Refuses what begins here for this reason; what does not begin so is unexpected.
 unfoldable pub refuse_item : {A : Type 0} → (Terminal → Bool) → Reason → Parser A
 refuse_item begins why = λ ts. refuse (reason_by begins why (next ts)) ts
+
+-- `char` and a bracket: so begins the low byte of a value, and no declaration
+abbrev pub opens_low_byte : List Symbol → Bool
+opens_low_byte [] = false
+opens_low_byte (t ∷ ts) = is_some (is_word words.Char t.terminal) && sees marks.LeftParen ts
 
 -- ---- lists with commas. The number counts the items that may still come.
 

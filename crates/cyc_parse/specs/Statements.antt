@@ -6,8 +6,8 @@ use Rattle.cyc_syntax.specs.declared.tokens.Sign.{Sign}
 use Rattle.cyc_syntax.specs.declared.tokens.Sign.TheVariants as signs
 use Rattle.cyc_syntax.specs.Symbols.{Place, Terminal, Identifier, RegionName, Word, Mark}
 use Rattle.cyc_syntax.specs.Symbols as terminals
-use Rattle.cyc_syntax.specs.Trees.{Named, Expression, Number, Character, Null, HeapRegion, UniqueRegion, Variable, Call, Bracketed, NumberOfElements, FreeUnique, FreeKey, Chained, Prefixed, New, RegionNew, Binary, Assign, Initial, Plain, Fields, Array, Statement, Block, Labelled, Empty, Evaluate, Swap, If, IfElse, While, Return, Break, Continue, Throw, Try, Body, Braces, Items, NoItems, MoreItems, Item, Execute, Local, Region, Alias, DynamicRegion, Clauses, NoClauses, Default, Case}
-use Rattle.cyc_parse.specs.Parsing.{Parser, Unexpected, TooDeep, ◌>>=◌, ◌>>◌, pure, refuse, inside, choose, advance, if_starts, sees, if_sees, refuse_item, sign, word, identifier}
+use Rattle.cyc_syntax.specs.Trees.{Named, Expression, Number, Character, Null, HeapRegion, UniqueRegion, Variable, Call, Bracketed, NumberOfElements, LowByteOf, FreeUnique, FreeKey, Chained, Prefixed, New, RegionNew, Binary, Assign, Initial, Plain, Fields, Array, Statement, Block, Labelled, Empty, Evaluate, Swap, If, IfElse, While, Return, Break, Continue, Throw, Try, Body, Braces, Items, NoItems, MoreItems, Item, Execute, Local, Region, Alias, DynamicRegion, Clauses, NoClauses, Default, Case}
+use Rattle.cyc_parse.specs.Parsing.{Parser, Unexpected, TooDeep, ◌>>=◌, ◌>>◌, pure, refuse, inside, choose, advance, if_starts, sees, if_sees, refuse_item, opens_low_byte, sign, word, identifier}
 use Rattle.cyc_parse.specs.Types.{written_type, region_of}
 use Rattle.cyc_parse.specs.Expressions.{begins_by_sign, begins_by_word, nested, from_name, with_postfixes, climb, assignment}
 
@@ -38,6 +38,7 @@ begins_statement (Mark s) = statement_sign s
 
 abbrev pub item_word : Keyword → Bool
 item_word words.Int = true
+item_word words.Char = true
 item_word words.Struct = true
 item_word words.RegionType = true
 item_word words.KeyType = true
@@ -91,6 +92,7 @@ abbrev mutual
   ends_in_new (Call f es) = false
   ends_in_new (Bracketed p e) = false
   ends_in_new (NumberOfElements p e) = false
+  ends_in_new (LowByteOf p e) = false
   ends_in_new (FreeUnique p e) = false
   ends_in_new (FreeKey p k) = false
   ends_in_new (Chained e ps) = false
@@ -115,6 +117,7 @@ abbrev mutual
   is_variable (Call f es) = false
   is_variable (Bracketed p e) = false
   is_variable (NumberOfElements p e) = false
+  is_variable (LowByteOf p e) = false
   is_variable (FreeUnique p e) = false
   is_variable (FreeKey p k) = false
   is_variable (Chained e ps) = false
@@ -235,14 +238,22 @@ module _ (room : ℕ) (inner : Nested) where
   let_by (Some (Word words.NewDynamicRegion)) = dynamic_region
   let_by _ = refuse Unexpected
 
+  abbrev pub executed : Parser Item
+  executed = statement >>= (λ s. pure (Execute s))
+
+  -- `char` and a bracket begin an expression, and else a declaration
+  abbrev pub char_item : Parser Item
+  char_item = λ ts. (if opens_low_byte ts then executed else local) ts
+
   abbrev pub item_by : Option Terminal → Parser Item
   item_by (Some (Word words.Int)) = local
+  item_by (Some (Word words.Char)) = char_item
   item_by (Some (Word words.Struct)) = local
   item_by (Some (Word words.RegionType)) = local
   item_by (Some (Word words.KeyType)) = local
   item_by (Some (Word words.Region)) = region
   item_by (Some (Word words.Let)) = advance >> choose let_by
-  item_by _ = statement >>= (λ s. pure (Execute s))
+  item_by _ = executed
 
   unfoldable pub item : Parser Item
   item = choose item_by

@@ -6,12 +6,13 @@ use Rattle.cyc_syntax.specs.declared.tokens.Sign.TheVariants as signs
 use Rattle.cyc_syntax.specs.declared.tree.PointerKind.{PointerKind}
 use Rattle.cyc_syntax.specs.declared.tree.PointerKind.TheVariants as pointers
 use Rattle.cyc_syntax.specs.Symbols.{Place, Terminal, Word, Mark}
-use Rattle.cyc_syntax.specs.Trees.{Named, Pointer, BaseType, Int, Struct, Handle, Key, WrittenType}
+use Rattle.cyc_syntax.specs.Trees.{Named, Pointer, BaseType, Int, Char, Struct, Handle, Key, WrittenType}
 use Rattle.cyc_syntax.specs.Grammar.{max_items}
 use Rattle.cyc_parse.specs.Parsing.{Parser, Unexpected, TooLong, ◌>>=◌, ◌>>◌, pure, refuse, choose, advance, if_is, if_starts, if_sees, begins_region, region_list, sign, identifier, region_name}
 
 abbrev pub is_type_word : Keyword → Bool
 is_type_word words.Int = true
+is_type_word words.Char = true
 is_type_word words.Struct = true
 is_type_word words.RegionType = true
 is_type_word words.KeyType = true
@@ -51,6 +52,7 @@ region_of room = sign room signs.Less >> region_name room >>= (λ r. sign room s
 
 abbrev pub base_by : ℕ → Option Terminal → Parser WrittenType
 base_by room (Some (Word words.Int)) = advance >>= (λ p. with_pointers room p Int)
+base_by room (Some (Word words.Char)) = advance >>= (λ p. with_pointers room p Char)
 base_by room (Some (Word words.Struct)) = advance >>= (λ p. identifier room >>= (λ s. optional_regions room >>= (λ rs. with_pointers room p (Struct s rs))))
 base_by room (Some (Word words.RegionType)) = advance >>= (λ p. region_of room >>= (λ r. with_pointers room p (Handle r)))
 base_by room (Some (Word words.KeyType)) = advance >>= (λ p. region_of room >>= (λ r. with_pointers room p (Key r)))

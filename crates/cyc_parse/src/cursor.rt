@@ -9,7 +9,7 @@ ghost use Rattle.cyc_parse.specs.Code.{Gives, view_terminal, view_symbol, accept
 ghost use Rattle.cyc_parse.specs.Answers.{place_at};
 ghost use Rattle.cyc_parse.specs.Declarations.{number_value};
 ghost use Rattle.cyc_parse.specs.Steps.{behind};
-ghost use Rattle.cyc_parse.specs.Parsing.{next, sees, opens_regions, advance, take, sign, word, identifier, region_name};
+ghost use Rattle.cyc_parse.specs.Parsing.{next, sees, opens_regions, opens_low_byte, advance, take, sign, word, identifier, region_name};
 
 use crate::stop::{Reason, Stop};
 use crate::symbol::{Symbol, Terminal};
@@ -91,6 +91,20 @@ impl<'a> Parser<'a> {
             [first, second, ..] => {
                 matches!(first.terminal, Terminal::Mark(Sign::Less))
                     && matches!(second.terminal, Terminal::RegionName(_))
+            }
+            _ => false,
+        }
+    }
+
+    /// Whether the low byte of a value begins here: `char` and a bracket. Behind `char` that is a type, a mark or a name
+    /// comes.
+    pub(crate) fn opens_low_byte(&self) -> bool
+        ensures { result ≡ opens_low_byte self.now }
+    {
+        match self.left {
+            [first, second, ..] => {
+                matches!(first.terminal, Terminal::Word(Keyword::Char))
+                    && matches!(second.terminal, Terminal::Mark(Sign::LeftParen))
             }
             _ => false,
         }

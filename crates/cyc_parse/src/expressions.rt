@@ -40,6 +40,7 @@ impl<'a> Parser<'a> {
                             | Keyword::HeapRegion
                             | Keyword::UniqueRegion
                             | Keyword::NumberOfElements
+                            | Keyword::Char
                             | Keyword::FreeUnique
                             | Keyword::FreeKey
                             | Keyword::New
@@ -328,6 +329,11 @@ impl<'a> Parser<'a> {
                 let span = self.take_next();
                 let pointer = self.parse_group_here(room)?;
                 self.node(Expr::NumberOfElements { span, pointer })
+            }
+            Some(Terminal::Word(Keyword::Char)) => {
+                let span = self.take_next();
+                let value = self.parse_group_here(room)?;
+                self.node(Expr::LowByteOf { span, value })
             }
             Some(Terminal::Word(Keyword::FreeUnique)) => {
                 let span = self.take_next();

@@ -55,6 +55,7 @@ impl<'a> Parser<'a> {
             Some(
                 Terminal::Word(
                     Keyword::Int
+                    | Keyword::Char
                     | Keyword::Struct
                     | Keyword::RegionType
                     | Keyword::KeyType
@@ -623,6 +624,7 @@ impl<'a> Parser<'a> {
                     Keyword::Int | Keyword::Struct | Keyword::RegionType | Keyword::KeyType,
                 ),
             ) => self.parse_local(room),
+            Some(Terminal::Word(Keyword::Char)) if !self.opens_low_byte() => self.parse_local(room),
             Some(Terminal::Word(Keyword::Region)) => self.parse_region(room),
             Some(Terminal::Word(Keyword::Let)) => {
                 self.take_next();

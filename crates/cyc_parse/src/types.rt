@@ -29,7 +29,11 @@ impl<'a> Parser<'a> {
         matches!(
             self.next(),
             Some(Terminal::Word(
-                Keyword::Int | Keyword::Struct | Keyword::RegionType | Keyword::KeyType
+                Keyword::Int
+                    | Keyword::Char
+                    | Keyword::Struct
+                    | Keyword::RegionType
+                    | Keyword::KeyType
             ))
         )
     }
@@ -176,6 +180,10 @@ impl<'a> Parser<'a> {
             Some(Terminal::Word(Keyword::Int)) => {
                 let span = self.take_next();
                 self.parse_rest_of_type(span, BaseType::Int)
+            }
+            Some(Terminal::Word(Keyword::Char)) => {
+                let span = self.take_next();
+                self.parse_rest_of_type(span, BaseType::Char)
             }
             Some(Terminal::Word(Keyword::Struct)) => {
                 let span = self.take_next();

@@ -1,5 +1,5 @@
 -- A code for types, by which a proof tells scopes apart: what stands before the marks, and the marks.
-use Rattle.std.specs.Prelude.{◌≡◌, ◌⊎◌, ℕ, List, [], ◌∷◌, refl}
+use Rattle.std.specs.Prelude.{◌≡◌, ◌⊎◌, ℕ, zero, suc, List, [], ◌∷◌, refl}
 use Rattle.std.proofs.Common.{ap}
 use Rattle.std.specs.Coded.{Coded, code_by, coded_ℕ, coded_list, coded×, coded⊎}
 use mathlib.Core.Logic.{inl, inr}
@@ -7,13 +7,14 @@ use Rattle.cyc_syntax.specs.declared.tree.PointerKind.{PointerKind}
 use Rattle.cyc_syntax.specs.contracts.tree.PointerKind as mark
 use Rattle.cyc_types.specs.declared.region.Region.{Region}
 use Rattle.cyc_types.specs.contracts.region.Region as region
-use Rattle.cyc_types.specs.Types.{Ty, Int, Pointer, Handle, Key, Struct}
+use Rattle.cyc_types.specs.Types.{Ty, Int, Char, Pointer, Handle, Key, Struct}
 
 abbrev pub Base : Type 0
 Base = ℕ ⊎ (Region ⊎ (Region ⊎ (ℕ × List Region)))
 
 abbrev base_of : Ty → Base
 base_of Int = inl 0
+base_of Char = inl 1
 base_of (Pointer k t r) = base_of t
 base_of (Handle r) = inr (inl r)
 base_of (Key r) = inr (inr (inl r))
@@ -24,7 +25,8 @@ marks_of (Pointer k t r) = (k, r) ∷ marks_of t
 marks_of t = []
 
 abbrev of_base : Base → Ty
-of_base (inl n) = Int
+of_base (inl zero) = Int
+of_base (inl (suc n)) = Char
 of_base (inr (inl r)) = Handle r
 of_base (inr (inr (inl r))) = Key r
 of_base (inr (inr (inr s))) = Struct s.0 s.1
@@ -35,6 +37,7 @@ with_marks (m ∷ ms) b = Pointer m.0 (with_marks ms b) m.1
 
 pub marked : (t : Ty) → with_marks (marks_of t) (base_of t) ≡ t
 marked Int = refl
+marked Char = refl
 marked (Pointer k t r) = ap (λ u. Pointer k u r) (marked t)
 marked (Handle r) = refl
 marked (Key r) = refl

@@ -13,7 +13,7 @@ use Rattle.cyc_meaning.specs.State.{Region, World, Object, Found, Closed, cell_a
 use Rattle.cyc_meaning.specs.Objects.{found_object, object_at}
 use Rattle.cyc_meaning.specs.Parts.{wrong, read, loaded, stored}
 use Rattle.cyc_meaning.specs.Nesting.{ends_of, AreOpen}
-use Rattle.cyc_soundness.specs.Lives.{Life, OfRegion, Owned, Kept, RunTy, RunValue, Int, Pointer, Handle, Key, Struct, Value, Lives, at, kind_at, heap_life}
+use Rattle.cyc_soundness.specs.Lives.{Life, OfRegion, Owned, Kept, RunTy, RunValue, Int, Char, Pointer, Handle, Key, Struct, Value, Lives, at, kind_at, heap_life}
 use Rattle.cyc_soundness.specs.Lives.{at as at'}
 use Rattle.cyc_soundness.specs.Worlds.{IsKept, IsPlain, PointerTo, thing_of, same_thing, given, giving, Thing, Holder, Hand, At, IsHeld, pointer_at, Claims, ClaimsPart, ClaimsBy, IsHad, IsOpenObject, IsKeyless, AreKeyless, Stays, ObjectType, Typing, IsOpenIn, Outlasts, alike, heap as for_ever, globals as with_globals, stays, encloses, IsFilled, IsPart, IsTarget, HasType, IsResult, IsTyped, IsOpenLife, borrows, KeyOf, life_at, lent_now, global_life, Standing, Away}
 use Rattle.cyc_soundness.specs.Frames.{InScope, IsBound, AreVariables, LiveIn, Holds, Exits, KnowsProgram, IsLasting}
@@ -78,6 +78,7 @@ module _ (g : Typing) (w : World) (typed : IsTyped g w.regions w.objects) where
 
   pub part_at : (number : ℕ) (x : ObjectType) (t : RunTy) (offset : ℕ) → slice_get g.objects number ≡ Some x → slice_get x.cells offset ≡ Some t → IsFilled g number (suc offset) → IsPart g number x t offset
   part_at number x Int offset there at filled = (at, filled)
+  part_at number x Char offset there at filled = (at, filled)
   part_at number x (Pointer k t l) offset there at filled = (at, filled)
   part_at number x (Handle l) offset there at filled = (at, filled)
   part_at number x (Key l) offset there at filled = (at, filled)
@@ -134,6 +135,7 @@ module _ (g : Typing) (w : World) (typed : IsTyped g w.regions w.objects) where
 -- a place that holds a value, and no struct
 pub value_part : (n : Lives) (g : Typing) (object : ℕ) (x : ObjectType) (t : Ty) (offset : ℕ) → is_struct t ≡ false → IsPart g object x (at n t) offset → (slice_get x.cells offset ≡ Some (at n t)) × IsFilled g object (suc offset)
 value_part n g object x types.Int offset plain is = is
+value_part n g object x types.Char offset plain is = is
 value_part n g object x (types.Pointer k t r) offset plain is = is
 value_part n g object x (types.Handle r) offset plain is = is
 value_part n g object x (types.Key r) offset plain is = is
@@ -141,6 +143,7 @@ value_part n g object x (types.Struct m rs) offset plain is = absurd (let e : tr
 
 pub stored_part : (g : Typing) (object : ℕ) (x : ObjectType) (t : RunTy) (offset : ℕ) (v : values.Value) → HasType g t v → IsPart g object x t offset → (slice_get x.cells offset ≡ Some t) × IsFilled g object (suc offset)
 stored_part g object x Int offset v has is = is
+stored_part g object x Char offset v has is = is
 stored_part g object x (Pointer k t l) offset v has is = is
 stored_part g object x (Handle l) offset v has is = is
 stored_part g object x (Key l) offset v has is = is
@@ -156,6 +159,7 @@ keyless_at (u ∷ ts) (suc i) t (is, are) found = keyless_at ts i t are found
 -- what is neither a key nor unique claims nothing
 pub plain_claims : (own : Thing → Holder) (h : Holder) (t : RunTy) (v : values.Value) → IsPlain t → Claims own h t v
 plain_claims own h Int v is = (tt, tt)
+plain_claims own h Char v is = (tt, tt)
 plain_claims own h (Handle l) v is = (tt, tt)
 plain_claims own h (Struct n ls) v is = (tt, tt)
 plain_claims own h (Key (Kept (KeyOf region))) v is = absurd is
@@ -187,6 +191,7 @@ pointer_plain k t Owned common = absurd common
 -- which has no key either
 pub plain_unkept : (t : RunTy) → IsPlain t → IsKeyless t
 plain_unkept Int plain = tt
+plain_unkept Char plain = tt
 plain_unkept (Pointer k t l) plain = tt
 plain_unkept (Handle l) plain = tt
 plain_unkept (Key (Kept (KeyOf region))) plain = plain
@@ -198,6 +203,7 @@ plain_unkept (Struct n ls) plain = tt
 -- nor does what others may reach, where it is told by its type: it has no key
 pub both_plain : (t : RunTy) → IsKeyless t → IsByType t → IsPlain t
 both_plain Int keyless by = tt
+both_plain Char keyless by = tt
 both_plain (Pointer k t l) keyless by = pointer_plain k t l by
 both_plain (Handle l) keyless by = tt
 both_plain (Key (Kept (KeyOf region))) keyless by = keyless

@@ -164,6 +164,7 @@ life_claims own h m t l n z keeps is = go n refl
 converted_claims : (g : Typing) (i : ℕ) (n : Lives) (c : Context) (s : ValueType) (t : Ty) (v : Operand) (z : values.Value) → KeepsUnique c.regions n → Converts c s t → IsResult g (lives.value_at n s) v → conversion (tests.kind_of t) v.value ≡ Gives z
     → ClaimsBy g i (lives.value_at n s) v.value → Claims g.own (Hand i) (lives.at n t) z
 converted_claims g i n c s types.Int v z keeps conv is same comes = (tt, tt)
+converted_claims g i n c s types.Char v z keeps conv is same comes = (tt, tt)
 converted_claims g i n c s (types.Handle r) v z keeps conv is same comes = (tt, tt)
 converted_claims g i n c s (types.Struct m rs) v z keeps conv is same comes = (tt, tt)
 converted_claims g i n c (types.Value (types.Key r)) (types.Key q) v z keeps conv is same comes = subst (λ o. Claims g.own (Hand i) (lives.Key (n o)) z) conv (comes.0, tt)
@@ -433,6 +434,28 @@ module _ (p : Source) where
           holds,
           record { waiting = q; typed = inl (subst (λ z. WellTyped c a z) int well); flows = flows; kept = kept },
           ([], bs, Val (Value lives.Int) h, stacks.complements h, tt, subst (λ z. IsStack p g x bs (Val (read_value bs z) h) k) same stack),
+        )
+    evaluate (Unary unary.Widen a) k c t f h q opens live stands holds (inl (v, (well, int), same)) flows kept stack =
+        on (Evaluating a) (Needs (Operate unary.Widen) ∷ k) live (
+          c,
+          types.Value types.Char,
+          f,
+          h,
+          stands,
+          holds,
+          record { waiting = q; typed = inl (subst (λ z. WellTyped c a z) int well); flows = flows; kept = kept },
+          ([], bs, Val (Value lives.Int) h, stacks.widens h, tt, subst (λ z. IsStack p g x bs (Val (read_value bs z) h) k) same stack),
+        )
+    evaluate (Unary unary.LowByte a) k c t f h q opens live stands holds (inl (v, (well, int), same)) flows kept stack =
+        on (Evaluating a) (Needs (Operate unary.LowByte) ∷ k) live (
+          c,
+          types.Value types.Int,
+          f,
+          h,
+          stands,
+          holds,
+          record { waiting = q; typed = inl (subst (λ z. WellTyped c a z) int well); flows = flows; kept = kept },
+          ([], bs, Val (Value lives.Char) h, stacks.narrows h, tt, subst (λ z. IsStack p g x bs (Val (read_value bs z) h) k) same stack),
         )
     evaluate (Binary a os u) k c t f h q opens live stands holds (inl (v, left, chain, same)) (f1, d, ds) (one, kept) stack =
         on (Evaluating a) (Needs (Chain os) ∷ k) live (

@@ -103,6 +103,7 @@ new_handle (ByScope lends frees) n r same = let e : r < suc n = omega (arith, sa
 
 alias_kind : (r : Region) (t : Ty) → values.kind_of (with_region_of r t) ≡ values.kind_of t
 alias_kind r types.Int = refl
+alias_kind r types.Char = refl
 alias_kind r (types.Pointer k t s) = refl
 alias_kind r (types.Handle s) = refl
 alias_kind r (types.Key s) = refl

@@ -30,7 +30,7 @@ use Rattle.cyc_meaning.specs.Allocation.{writes_from, blanks_of, filled, makes_o
 use Rattle.cyc_meaning.specs.Nesting.{ends_of, AreOpen}
 use Rattle.cyc_meaning.proofs.ListLemmas.{slice_get-end, slice_get-set_other}
 use Rattle.cyc_meaning.proofs.NestingLemmas.{open_region}
-use Rattle.cyc_soundness.specs.Lives.{Reading, AsHeap, ByScope, at, Life, OfRegion, Kept, RunTy, Int, Pointer, Handle, Key, Struct, Value, looked, kind_at, Owned, owned_life, Lives}
+use Rattle.cyc_soundness.specs.Lives.{Reading, AsHeap, ByScope, at, Life, OfRegion, Kept, RunTy, Int, Char, Pointer, Handle, Key, Struct, Value, looked, kind_at, Owned, owned_life, Lives}
 use Rattle.cyc_soundness.specs.Worlds.{NoLocal, Thing, KeyOf, PointerTo, Holder, Nobody, Hand, At, Lent, pointer_at, Owns, Claims, given, giving, AreOwned, IsUniqueObject, IsOpenObject, IsNewOwner, IsAmong, IsHeld, IsKeyless, AreKeyless, IsDynamic, ObjectType, Typing, Outlasts, IsFilled, IsPart, IsTarget, HasType, IsResult, AreOperands, AreCells, IsOwner, IsObject, IsTyped, IsOpenLife, Grows, IsKnownOwner, life_at}
 use Rattle.cyc_soundness.specs.Frames.{first, later, InScope, Level, HasMeaning, IsBound, AreVariables, LiveIn, Holds, Implies, Exits, IsContext, KnowsProgram, lives_in, read, IsThere, frees_in, life_named, lives_among}
 use Rattle.cyc_soundness.specs.Classes.{HasLoans, InInitial, InArguments, Source, frees_of}
@@ -120,6 +120,7 @@ none_next g (suc i) (t ∷ ts) are = let few : length ts ≤ i = none_next g i t
 
 whole_grown : (g h : Typing) → Grows g h → (y : ObjectType) (t : RunTy) → IsWhole g y t → IsWhole h y t
 whole_grown g h grows y Int is = is
+whole_grown g h grows y Char is = is
 whole_grown g h grows y (Pointer k t l) is = is
 whole_grown g h grows y (Handle l) is = is
 whole_grown g h grows y (Key l) is = is
@@ -131,6 +132,7 @@ new_type ts l = record { cells = ts; life = l; is_hidden = false; slot = NoLocal
 -- of one value
 pub whole_of : (g : Typing) (l : Life) (t : RunTy) (v : values.Value) → HasType g t v → IsWhole g (new_type (t ∷ []) l) t
 whole_of g l Int v has = refl
+whole_of g l Char v has = refl
 whole_of g l (Pointer k t m) v has = refl
 whole_of g l (Handle m) v has = refl
 whole_of g l (Key m) v has = refl
@@ -146,6 +148,7 @@ one_part g object y t cells full =
 
 whole_part : (g : Typing) (object : ℕ) (y : ObjectType) (t : RunTy) → IsWhole g y t → IsFilled g object (length y.cells) → IsPart g object y t 0
 whole_part g object y Int is full = one_part g object y Int is full
+whole_part g object y Char is full = one_part g object y Char is full
 whole_part g object y (Pointer k t l) is full = one_part g object y (Pointer k t l) is full
 whole_part g object y (Handle l) is full = one_part g object y (Handle l) is full
 whole_part g object y (Key l) is full = one_part g object y (Key l) is full
@@ -162,6 +165,7 @@ unkept g Owned none known = tt
 
 unkept_type : (g : Typing) (n : Lives) (t : Ty) → ((m : ℕ) → IsAmong m g.kept → ⊥) → ((r : Region') → IsKnownOwner g (n r)) → IsKeyless (at n t)
 unkept_type g n types.Int none known = tt
+unkept_type g n types.Char none known = tt
 unkept_type g n (types.Pointer k t r) none known = tt
 unkept_type g n (types.Handle r) none known = tt
 unkept_type g n (types.Key r) none known = unkept g (n r) none (known r)

@@ -201,6 +201,7 @@ module _ (g : Typing) (w : World) (typed : IsTyped g w.regions w.objects) where
 
   part_there : (l : Lives) (object : ℕ) (y : ObjectType) (t : Ty) (offset : ℕ) (z : Object) (n : ℕ) → IsPart g object y (at l t) offset → IsObject g n y z → is_target (target_of t) offset (slice_get z.cells offset) ≡ true
   part_there l object y types.Int offset z n part is = value_there l y types.Int offset z n is part.0
+  part_there l object y types.Char offset z n part is = value_there l y types.Char offset z n is part.0
   part_there l object y (types.Pointer k t r) offset z n part is = value_there l y (types.Pointer k t r) offset z n is part.0
   part_there l object y (types.Handle r) offset z n part is = value_there l y (types.Handle r) offset z n is part.0
   part_there l object y (types.Key r) offset z n part is = value_there l y (types.Key r) offset z n is part.0
@@ -226,6 +227,7 @@ module _ (g : Typing) (w : World) (typed : IsTyped g w.regions w.objects) where
 
   no_pointer : (t : RunTy) (target : Option Kind) (v : values.Value) → leads_nowhere t → HasType g t v → leads_to w target (followed v) ≡ true
   no_pointer lives.Int target (values.Int n) plain has = refl
+  no_pointer lives.Char target (values.Int n) plain has = refl
   no_pointer (lives.Handle l) target (values.Handle r) plain has = refl
   no_pointer (lives.Key l) target (values.Key r) plain has = refl
   no_pointer (lives.Pointer k t l) target v plain has = absurd plain
@@ -234,12 +236,14 @@ module _ (g : Typing) (w : World) (typed : IsTyped g w.regions w.objects) where
   -- also of what is converted
   pub converted_leads : (l : Lives) (c : Context) (s : ValueType) (t : Ty) (v : Operand) → Converts c s t → IsResult g (value_at l s) v → leads_to w (target_of_value s) (followed v.value) ≡ true
   converted_leads l c (types.Value types.Int) t v conv is = no_pointer lives.Int None v.value tt is.1
+  converted_leads l c (types.Value types.Char) t v conv is = no_pointer lives.Char None v.value tt is.1
   converted_leads l c (types.Value (types.Pointer k u r)) t v conv is = leads_there l k u (l r) v.value is.1
   converted_leads l c (types.Value (types.Handle r)) t v conv is = no_pointer (lives.Handle (l r)) None v.value tt is.1
   converted_leads l c (types.Value (types.Key r)) t v conv is = no_pointer (lives.Key (l r)) None v.value tt is.1
   converted_leads l c (types.Value (types.Struct n rs)) t v conv is = absurd is.1
   converted_leads l c types.Null t v conv is = ap (λ z. leads_to w None (followed z)) is.1
   converted_leads l c types.Void types.Int v conv is = absurd conv
+  converted_leads l c types.Void types.Char v conv is = absurd conv
   converted_leads l c types.Void (types.Pointer k t r) v conv is = absurd conv
   converted_leads l c types.Void (types.Handle r) v conv is = absurd conv
   converted_leads l c types.Void (types.Key r) v conv is = absurd conv

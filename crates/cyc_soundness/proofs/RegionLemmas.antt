@@ -620,6 +620,7 @@ named_of k (r ∷ rs) (one, named) = (one, named_of k rs named)
 
 named_in : (k : ℕ) (t : Ty) → IsNamedIn k t → AllIn (IsNamed k) t
 named_in k types.Int named = tt
+named_in k types.Char named = tt
 named_in k (types.Pointer m t r) (named, one) = (named_in k t named, one)
 named_in k (types.Handle r) named = named
 named_in k (types.Key r) named = named

@@ -65,6 +65,7 @@ module _ (g : Typing) (bs : List InScope) (variables : AreVariables g bs) where
   -- what is copied has nothing that only one may have
   pub plain_read : (t : Ty) → is_moved t ≡ false → IsPlain (read bs t)
   plain_read types.Int plain = tt
+  plain_read types.Char plain = tt
   plain_read (types.Pointer k t regions.Heap) plain = tt
   plain_read (types.Pointer k t regions.Unique) plain = absurd (let z : true ≡ false = plain in cc)
   plain_read (types.Pointer k t (regions.Variable n)) plain = common_plain k (read bs t) (life_named bs n) (name_common n)
@@ -75,6 +76,7 @@ module _ (g : Typing) (bs : List InScope) (variables : AreVariables g bs) where
   -- what is not unique claims what its type tells
   pub unique_by_type : (t : Ty) → is_unique t ≡ false → IsByType (read bs t)
   unique_by_type types.Int plain = tt
+  unique_by_type types.Char plain = tt
   unique_by_type (types.Pointer k t regions.Heap) plain = tt
   unique_by_type (types.Pointer k t regions.Unique) plain = absurd (let z : true ≡ false = plain in cc)
   unique_by_type (types.Pointer k t (regions.Variable n)) plain = name_common n
@@ -85,6 +87,7 @@ module _ (g : Typing) (bs : List InScope) (variables : AreVariables g bs) where
 -- what is no key is read as none
 pub plain_keyless : (n : Lives) (t : Ty) → is_key t ≡ false → IsKeyless (at n t)
 plain_keyless n types.Int plain = tt
+plain_keyless n types.Char plain = tt
 plain_keyless n (types.Pointer k t r) plain = tt
 plain_keyless n (types.Handle r) plain = tt
 plain_keyless n (types.Key r) plain = absurd (let k : true ≡ false = plain in cc)

@@ -237,6 +237,8 @@ waits_whole : {p : Source} {x : Exits} {q : Relied} {bs cs : List InScope} {a : 
 waits_whole (stacks.converts c v t f agrees keeps conv from to target) peek e = part_whole None peek e
 waits_whole (stacks.negates f) peek e = part_whole None peek e
 waits_whole (stacks.complements f) peek e = part_whole None peek e
+waits_whole (stacks.widens f) peek e = part_whole None peek e
+waits_whole (stacks.narrows f) peek e = part_whole None peek e
 waits_whole (stacks.denies seen v f tested) peek e = part_whole None peek e
 waits_whole (stacks.chains seen c v t f h stands computes chained) peek e = part_whole None peek e
 waits_whole (stacks.applies f) peek e = part_whole None peek e
@@ -571,6 +573,7 @@ void_read n (types.Value t) e = absurd (let k : Value (at n t) ≡ Void = e in c
 
 void_converts : (c : Context) (t : Ty) → Converts c types.Void t → ⊥
 void_converts c types.Int conv = conv
+void_converts c types.Char conv = conv
 void_converts c (types.Pointer k t r) conv = conv
 void_converts c (types.Handle r) conv = conv
 void_converts c (types.Key r) conv = conv
@@ -636,6 +639,8 @@ void_waits : {p : Source} {x : Exits} {q : Relied} {bs cs : List InScope} {a : A
 void_waits {bs = bs} (stacks.converts c v t f agrees keeps conv from to target) e = void_converts c t (subst (λ z. Converts c z t) (void_read (lives_in bs) v e) conv)
 void_waits (stacks.negates f) e = value_void e
 void_waits (stacks.complements f) e = value_void e
+void_waits (stacks.widens f) e = value_void e
+void_waits (stacks.narrows f) e = value_void e
 void_waits {bs = bs} (stacks.denies seen v f tested) e = void_tested (lives_in bs) v (looked_void seen (read_value bs v) e) tested
 void_waits {p} {q = q} {bs = bs} (stacks.chains {os} seen c v t f h stands computes chained) e = void_chain p.reading q c os t (subst (λ z. IsChain c z os t) (void_read (lives_in bs) v (looked_void seen (read_value bs v) e)) computes.typed) computes.kept
 void_waits (stacks.applies f) e = value_void e
@@ -1003,6 +1008,8 @@ pub waits_within : {p : Source} {x : Exits} {q : Relied} {bs cs : List InScope} 
 waits_within {bs = bs} (stacks.converts c v t f agrees keeps conv from to target) = itself bs
 waits_within {bs = bs} (stacks.negates f) = itself bs
 waits_within {bs = bs} (stacks.complements f) = itself bs
+waits_within {bs = bs} (stacks.widens f) = itself bs
+waits_within {bs = bs} (stacks.narrows f) = itself bs
 waits_within {bs = bs} (stacks.denies seen v f tested) = itself bs
 waits_within {bs = bs} (stacks.chains seen c v t f h stands computes chained) = itself bs
 waits_within {bs = bs} (stacks.applies f) = itself bs

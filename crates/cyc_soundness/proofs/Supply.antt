@@ -44,7 +44,7 @@ use Rattle.cyc_soundness.proofs.Hands.{Changed, Raises, at_no_hand, given_now, m
 use Rattle.cyc_soundness.proofs.Sharing.{plain_read}
 use Rattle.cyc_soundness.proofs.StackLemmas.{stack_changed, there_present, fields_kept, passed_kept, comes_alone, claimed_next, below_more, local_new, bound_more, set_more, home_is, home_lasting, found_is, within_bound, within_variables, within_live, within_holds}
 use Rattle.cyc_soundness.proofs.RegionLemmas.{region_known, there_open, there_lasting, known_local, owner_known}
-use Rattle.cyc_soundness.proofs.ValueLemmas.{negated, complemented, combined, zero_is}
+use Rattle.cyc_soundness.proofs.ValueLemmas.{negated, complemented, widened, narrowed, combined, zero_is}
 use Rattle.cyc_soundness.specs.Classes.{InInitial, Source}
 use Rattle.cyc_soundness.proofs.Cells.{part_had, running, plain_unkept}
 use Rattle.cyc_soundness.proofs.Loans.{opens_on, aliases_on, closes_on, frees_on}
@@ -291,6 +291,10 @@ module _ (p : Source) (g : Typing) (x : Exits) (bs : List InScope) (e : Environm
       gives p g x bs e w typed globals bound variables k kinds.Int lives.Int f (unary_result unary.Negate v.value) live holds tt refl (negated g v.value is.1) stack
   given v k nests live holds is comes (stacks.complements f) are stack =
       gives p g x bs e w typed globals bound variables k kinds.Int lives.Int f (unary_result unary.Complement v.value) live holds tt refl (complemented g v.value is.1) stack
+  given v k nests live holds is comes (stacks.widens f) are stack =
+      gives p g x bs e w typed globals bound variables k kinds.Int lives.Int f (unary_result unary.Widen v.value) live holds tt refl (widened g v.value is.1) stack
+  given v k nests live holds is comes (stacks.narrows f) are stack =
+      gives p g x bs e w typed globals bound variables k kinds.Char lives.Char f (unary_result unary.LowByte v.value) live holds tt refl (narrowed g v.value is.1) stack
   given v k nests live holds is comes (stacks.denies seen s f tested) are stack = denied_on p g x bs e w typed globals bound variables seen v k s f live holds tested is stack
   given v k nests live holds is comes (stacks.chains {os} seen c s t f h stands computes chained') are stack =
       chain_on p g x bs e w typed globals bound variables os seen v k c s t f h computes.waiting live stands holds is comes chained' computes.typed computes.flows computes.kept stack

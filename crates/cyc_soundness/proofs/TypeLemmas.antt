@@ -22,6 +22,7 @@ use Rattle.cyc_soundness.specs.Lives as lives
 
 pub is_kind_self : (k : Kind) → is_kind k k ≡ true
 is_kind_self kinds.Int = refl
+is_kind_self kinds.Char = refl
 is_kind_self kinds.Nullable = refl
 is_kind_self kinds.NonNull = refl
 is_kind_self kinds.Fat = refl
@@ -39,6 +40,7 @@ mark_kinds marks.Fat = refl
 -- a kind does not depend on what regions stand for
 pub kind_read : (n : Lives) (t : Ty) → kind_at (at n t) ≡ tests.kind_of t
 kind_read n types.Int = refl
+kind_read n types.Char = refl
 kind_read n (types.Pointer k t r) = mark_kinds k
 kind_read n (types.Handle r) = refl
 kind_read n (types.Key r) = refl
@@ -46,6 +48,7 @@ kind_read n (types.Struct m rs) = refl
 
 pub kind_meant : (n : Lives) (t : Ty) → kind_at (at n t) ≡ values.kind_of t
 kind_meant n types.Int = refl
+kind_meant n types.Char = refl
 kind_meant n (types.Pointer k t r) = refl
 kind_meant n (types.Handle r) = refl
 kind_meant n (types.Key r) = refl
@@ -59,6 +62,7 @@ all_of P Q so (r ∷ rs) (one, all) = (so r one, all_of P Q so rs all)
 
 pub all_in : (P Q : Region → Type 0) → ((r : Region) → P r → Q r) → (t : Ty) → AllIn P t → AllIn Q t
 all_in P Q so types.Int all = tt
+all_in P Q so types.Char all = tt
 all_in P Q so (types.Pointer k t r) (all, one) = (all_in P Q so t all, so r one)
 all_in P Q so (types.Handle r) one = so r one
 all_in P Q so (types.Key r) one = so r one
@@ -70,6 +74,7 @@ every_of P so (r ∷ rs) = (so r, every_of P so rs)
 
 pub every_in : (P : Region → Type 0) → ((r : Region) → P r) → (t : Ty) → AllIn P t
 every_in P so types.Int = tt
+every_in P so types.Char = tt
 every_in P so (types.Pointer k t r) = (every_in P so t, so r)
 every_in P so (types.Handle r) = so r
 every_in P so (types.Key r) = so r
@@ -82,6 +87,7 @@ same_of m n (r ∷ rs) (one, same) = ap (λ l. l ∷ map m rs) one ∙ ap (λ ls
 -- a type is read alike where the regions that it names stand for the same
 pub read_alike : (m n : Lives) (t : Ty) → AllIn (λ r. m r ≡ n r) t → at m t ≡ at n t
 read_alike m n types.Int same = refl
+read_alike m n types.Char same = refl
 read_alike m n (types.Pointer k t r) (same, one) = ap (λ u. lives.Pointer k u (m r)) (read_alike m n t same) ∙ ap (λ l. lives.Pointer k (at n t) l) one
 read_alike m n (types.Handle r) same = ap lives.Handle same
 read_alike m n (types.Key r) same = ap lives.Key same
@@ -105,6 +111,7 @@ regions_by n m (r ∷ rs) = ap (λ ls. lives_by n m r ∷ ls) (regions_by n m rs
 -- the regions of an instance stand for what those that are put in their place stand for
 pub instance_by : (n : Lives) (m : List Region) (t : Ty) → at n (substituted_ty m t) ≡ at (lives_by n m) t
 instance_by n m types.Int = refl
+instance_by n m types.Char = refl
 instance_by n m (types.Pointer k t r) = ap (λ u. lives.Pointer k u (lives_by n m r)) (instance_by n m t)
 instance_by n m (types.Handle r) = refl
 instance_by n m (types.Key r) = refl

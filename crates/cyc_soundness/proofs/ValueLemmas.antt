@@ -18,7 +18,7 @@ use Rattle.cyc_meaning.specs.Values.{Operand}
 use Rattle.cyc_meaning.specs.Values as values
 use Rattle.cyc_meaning.specs.Operators.{Gives, Raises, is_zero, binary_result, has_no_result, unary_result, binary_word, division_by_zero, array_bounds}
 use Rattle.cyc_meaning.specs.Conversion.{conversion, thinned}
-use Rattle.cyc_soundness.specs.Lives.{Life, OfRegion, Owned, Kept, RunTy, Int, Pointer, Handle, Key, Lives, at, value_at}
+use Rattle.cyc_soundness.specs.Lives.{Life, OfRegion, Owned, Kept, RunTy, Int, Char, Pointer, Handle, Key, Lives, at, value_at}
 use Rattle.cyc_soundness.specs.Worlds.{Typing, Outlasts, alike, heap as for_ever, globals as with_globals, stays, encloses, borrows, life_at, IsEndOf, whole, behind, AgreesWith, IsTarget, HasType, IsResult, Fits}
 use Rattle.cyc_soundness.proofs.TypeLemmas.{kind_read}
 
@@ -55,7 +55,7 @@ given_agree c n agree a b (given _ _ is) = agree a b is
 given_agree c n agree a d (through _ b _ first second) = outlasts_through (n a) (n b) (n d) (given_agree c n agree a b first) (given_agree c n agree b d second)
 
 module _ (g : Typing) where
-  -- ---- ints
+  -- ---- ints and chars
 
   pub negated : (v : values.Value) → HasType g Int v → Fits g Int (unary_result unary.Negate v)
   negated (values.Int a) is = tt
@@ -64,6 +64,14 @@ module _ (g : Typing) where
   pub complemented : (v : values.Value) → HasType g Int v → Fits g Int (unary_result unary.Complement v)
   complemented (values.Int a) is = tt
   complemented v is = absurd is
+
+  pub widened : (v : values.Value) → HasType g Char v → Fits g Int (unary_result unary.Widen v)
+  widened (values.Int a) is = tt
+  widened v is = absurd is
+
+  pub narrowed : (v : values.Value) → HasType g Int v → Fits g Char (unary_result unary.LowByte v)
+  narrowed (values.Int a) is = tt
+  narrowed v is = absurd is
 
   pub combined : (o : Operator) (a b : values.Value) → HasType g Int a → HasType g Int b → Fits g Int (binary_result o a b)
   combined o (values.Int a) (values.Int b) first second = go (has_no_result o b)
@@ -97,6 +105,18 @@ module _ (g : Typing) where
   int_converted : (v : values.Value) → HasType g Int v → Fits g Int (conversion kinds.Int v)
   int_converted (values.Int a) is = tt
   int_converted v is = absurd is
+
+  low_converted : (v : values.Value) → HasType g Int v → Fits g Char (conversion kinds.Char v)
+  low_converted (values.Int a) is = tt
+  low_converted v is = absurd is
+
+  char_converted : (v : values.Value) → HasType g Char v → Fits g Char (conversion kinds.Char v)
+  char_converted (values.Int a) is = tt
+  char_converted v is = absurd is
+
+  char_to_int : (v : values.Value) → HasType g Char v → Fits g Int (conversion kinds.Int v)
+  char_to_int (values.Int a) is = tt
+  char_to_int v is = absurd is
 
   null_converted : (k : PointerKind) (t : RunTy) (l : Life) → Fits g (Pointer k t l) (conversion (tests.kind_of_mark k) values.Null)
   null_converted marks.Nullable t l = tt
@@ -166,6 +186,9 @@ module _ (g : Typing) where
   pub converted_by : (n : Lives) (c : Context) (s : ValueType) (t : Ty) (v : Operand) → AgreesWith c.regions n → Converts c s t → IsResult g (value_at n s) v
       → Fits g (at n t) (conversion (tests.kind_of t) v.value)
   converted_by n c (types.Value types.Int) types.Int v agrees conv is = int_converted v.value is.1
+  converted_by n c (types.Value types.Int) types.Char v agrees conv is = low_converted v.value is.1
+  converted_by n c (types.Value types.Char) types.Int v agrees conv is = char_to_int v.value is.1
+  converted_by n c (types.Value types.Char) types.Char v agrees conv is = char_converted v.value is.1
   converted_by n c (types.Value (types.Pointer k t r)) (types.Pointer m u s) v agrees conv is =
       subst (λ z. Fits g (Pointer m (at n z) (n s)) (conversion (tests.kind_of_mark m) v.value)) conv.0
       (pointer_converted k m (at n t) (n s) v.value (pointer_shortened k (at n t) (n r) (n s) v.value (agrees r s conv.1) is.1))
@@ -180,6 +203,7 @@ module _ (g : Typing) where
   -- and it has the kind that the tree says
   pub kind_given : (n : Lives) (c : Context) (s : ValueType) (t : Ty) (v : Operand) → Converts c s t → IsResult g (value_at n s) v → v.kind ≡ tests.kind_of_value s
   kind_given n c types.Void types.Int v conv is = absurd conv
+  kind_given n c types.Void types.Char v conv is = absurd conv
   kind_given n c types.Void (types.Pointer k t r) v conv is = absurd conv
   kind_given n c types.Void (types.Handle r) v conv is = absurd conv
   kind_given n c types.Void (types.Key r) v conv is = absurd conv

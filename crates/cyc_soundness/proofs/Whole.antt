@@ -151,7 +151,9 @@ null_typed frees g marks.Fat t r is = tt
 value_typed : (frees : Bool) (g : Typing) (v : GlobalVariable) → IsWellTypedGlobal v → HasType g (at (as_heap frees) v.of_type) (constant_value v.value)
 value_typed frees g v (inl (int, (word, is))) =
     subst (λ z. HasType g (at (as_heap frees) v.of_type) (constant_value z)) (sym is) (subst (λ t. HasType g (at (as_heap frees) t) (values.Int word)) (sym int) tt)
-value_typed frees g v (inr (k, t, r, pointer, null, is)) =
+value_typed frees g v (inr (inl (char, (word, is, small)))) =
+    subst (λ z. HasType g (at (as_heap frees) v.of_type) (constant_value z)) (sym is) (subst (λ t. HasType g (at (as_heap frees) t) (values.Int word)) (sym char) tt)
+value_typed frees g v (inr (inr (k, t, r, pointer, null, is))) =
     subst (λ z. HasType g (at (as_heap frees) v.of_type) (constant_value z)) (sym is)
     (subst (λ u. HasType g (at (as_heap frees) u) values.Null) (sym pointer) (null_typed frees g k t r (subst (λ u. is_non_null u ≡ false) pointer null)))
 
@@ -164,6 +166,7 @@ key_keyless frees (regions.Variable n) = tt
 
 global_keyless : (m : Reading) (t : Ty) → IsKeyless (at (as_heap (frees_of m)) t)
 global_keyless m types.Int = tt
+global_keyless m types.Char = tt
 global_keyless m (types.Pointer k t r) = tt
 global_keyless m (types.Handle r) = tt
 global_keyless m (types.Key r) = key_keyless (frees_of m) r
@@ -175,7 +178,8 @@ global_is m g v has = record { owner = refl; known = tt; keyless = λ shown. (gl
 -- what globals hold first is no thing
 value_claims : (own : Thing → Holder) (h : Holder) (frees : Bool) (v : GlobalVariable) → IsWellTypedGlobal v → Claims own h (at (as_heap frees) v.of_type) (constant_value v.value)
 value_claims own h frees v (inl (int, (word, is))) = subst (λ t. Claims own h (at (as_heap frees) t) (constant_value v.value)) (sym int) (tt, tt)
-value_claims own h frees v (inr (k, t, r, pointer, null, is)) =
+value_claims own h frees v (inr (inl (char, (word, is, small)))) = subst (λ t. Claims own h (at (as_heap frees) t) (constant_value v.value)) (sym char) (tt, tt)
+value_claims own h frees v (inr (inr (k, t, r, pointer, null, is))) =
     subst (λ z. Claims own h (at (as_heap frees) v.of_type) (constant_value z)) (sym is) (subst (λ u. Claims own h (at (as_heap frees) u) values.Null) (sym pointer) (tt, tt))
 
 abbrev content_of : Option Cell → Option values.Value

@@ -9,7 +9,7 @@ use Rattle.cyc_meaning.specs.State.{Region, Owner, InRegion, Unique, Object, Wor
 use Rattle.cyc_meaning.specs.Nesting.{IsScoped, IsFound}
 use Rattle.cyc_meaning.proofs.ListLemmas.{slice_get-append, slice_get-end, slice_get-set_other}
 use Rattle.cyc_meaning.proofs.NestingLemmas.{open_region}
-use Rattle.cyc_soundness.specs.Lives.{Life, OfRegion, Owned, Kept, RunTy, Int, Pointer, Handle, Key, Struct, RunValue, Void, Null, Value, Seen, Into, kind_at, at}
+use Rattle.cyc_soundness.specs.Lives.{Life, OfRegion, Owned, Kept, RunTy, Int, Char, Pointer, Handle, Key, Struct, RunValue, Void, Null, Value, Seen, Into, kind_at, at}
 use Rattle.cyc_soundness.specs.Worlds.{Pending, IsKept, IsAmong, KeyOf, PointerTo, At, ObjectType, Typing, IsHeld, Claims, AreOwned, IsUniqueObject, IsOpenObject, Stays, IsKnownLife, IsKnownOwner, IsDynamic, IsFilled, IsPart, IsTarget, HasType, IsResult, AreOperands, IsContent, AreCells, IsOwner, IsObject, IsTyped, Grows, Thing, Holder, Nobody, Owns, thing_of, Standing, Here, Away, Lent, AreLent}
 use Rattle.cyc_soundness.specs.Frames.{lives_among, KnowsProgram}
 use Rattle.cyc_soundness.specs.Classes.{frees_of, HasLoans, Source}
@@ -20,6 +20,7 @@ use Rattle.cyc_soundness.proofs.Numbers.{same_or_other, slice_get-set_same, appe
 module _ (g h : Typing) (grows : Grows g h) where
   part_grown : (object : ℕ) (x : ObjectType) (t : RunTy) (offset : ℕ) → IsPart g object x t offset → IsPart h object x t offset
   part_grown object x Int offset (at, filled) = (at, grows.filled object (suc offset) filled)
+  part_grown object x Char offset (at, filled) = (at, grows.filled object (suc offset) filled)
   part_grown object x (Pointer k t l) offset (at, filled) = (at, grows.filled object (suc offset) filled)
   part_grown object x (Handle l) offset (at, filled) = (at, grows.filled object (suc offset) filled)
   part_grown object x (Key l) offset (at, filled) = (at, grows.filled object (suc offset) filled)
@@ -30,6 +31,7 @@ module _ (g h : Typing) (grows : Grows g h) where
 
   pub type_grown : (t : RunTy) (v : values.Value) → HasType g t v → HasType h t v
   type_grown Int (values.Int word) is = tt
+  type_grown Char (values.Int word) is = tt
   type_grown (Pointer marks.Nullable t l) values.Null is = tt
   type_grown (Pointer marks.Nullable t l) (values.Thin object offset) is = target_grown t l object offset is
   type_grown (Pointer marks.NonNull t l) (values.Thin object offset) is = target_grown t l object offset is

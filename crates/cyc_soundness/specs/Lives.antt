@@ -28,6 +28,7 @@ pub data Life : Type 0 where
 
 pub data RunTy : Type 0 where
   Int : RunTy
+  Char : RunTy
   Pointer : PointerKind → RunTy → Life → RunTy
   Handle : Life → RunTy
   Key : Life → RunTy
@@ -50,6 +51,7 @@ Lives = Region → Life
 
 abbrev pub at : Lives → Ty → RunTy
 at m types.Int = Int
+at m types.Char = Char
 at m (types.Pointer k t r) = Pointer k (at m t) (m r)
 at m (types.Handle r) = Handle (m r)
 at m (types.Key r) = Key (m r)
@@ -69,6 +71,7 @@ looked (Some n) r = r
 -- the kind of the cells of a type
 abbrev pub kind_at : RunTy → Kind
 kind_at Int = kinds.Int
+kind_at Char = kinds.Char
 kind_at (Pointer k t l) = kind_of_mark k
 kind_at (Handle l) = kinds.Handle
 kind_at (Key l) = kinds.Key

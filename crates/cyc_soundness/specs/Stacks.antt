@@ -294,6 +294,8 @@ pub data Waits (p : Source) (x : Exits) (q : Relied) (bs : List InScope) : Await
   negates : (f : flow.State) → Waits p x q bs (Operate unary.Negate) [] (Value lives.Int) f bs (Val (Value lives.Int) f)
   complements : (f : flow.State) → Waits p x q bs (Operate unary.Complement) [] (Value lives.Int) f bs (Val (Value lives.Int) f)
   denies : (peek : Option ℕ) (v : ValueType) (f : flow.State) → is_tested v ≡ true → Waits p x q bs (Operate unary.Not) [] (looked peek (read_value bs v)) f bs (Val (Value lives.Int) f)
+  widens : (f : flow.State) → Waits p x q bs (Operate unary.Widen) [] (Value lives.Char) f bs (Val (Value lives.Int) f)
+  narrows : (f : flow.State) → Waits p x q bs (Operate unary.LowByte) [] (Value lives.Int) f bs (Val (Value lives.Char) f)
   chains : {os : Operations} (peek : Option ℕ) (c : Context) (v : ValueType) (t : Ty) (f h : flow.State) → IsContext p x bs c → Computes p.reading q c v os f t h → IsChained peek (read_value bs v) os
       → Waits p x q bs (Chain os) [] (looked peek (read_value bs v)) f bs (Val (Value (read bs t)) h)
   applies : {o : Operator} {left : Operand} (f : flow.State) → Waits p x q bs (Apply o left) (lives.Int ∷ []) (Value lives.Int) f bs (Val (Value lives.Int) f)

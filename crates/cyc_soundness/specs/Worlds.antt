@@ -10,7 +10,7 @@ use Rattle.cyc_meaning.specs.Values as values
 use Rattle.cyc_meaning.specs.Operators.{Result, Gives, Raises, Misfits}
 use Rattle.cyc_meaning.specs.State.{Dynamic, Region, Owner, InRegion, Unique, Object, heap_number, globals_number, is_open}
 pub use Rattle.cyc_soundness.specs.Lives.{Thing, KeyOf, PointerTo}
-use Rattle.cyc_soundness.specs.Lives.{Life, OfRegion, Owned, Kept, heap_life, RunTy, Int, Pointer, Handle, Key, Struct, RunValue, Void, Null, Value, Seen, Into, Lives, kind_at}
+use Rattle.cyc_soundness.specs.Lives.{Life, OfRegion, Owned, Kept, heap_life, RunTy, Int, Char, Pointer, Handle, Key, Struct, RunValue, Void, Null, Value, Seen, Into, Lives, kind_at}
 
 pub data IsAmong {A : Type 0} (a : A) : List A → Type 0 where
   first : (as' : List A) → IsAmong a (a ∷ as')
@@ -147,6 +147,7 @@ IsKeyOf l region = ⊥
 -- a value of this type
 abbrev pub HasType : Typing → RunTy → values.Value → Type 0
 HasType g Int (values.Int word) = Unit {0}
+HasType g Char (values.Int word) = Unit {0}
 HasType g (Pointer marks.Nullable t l) values.Null = Unit {0}
 HasType g (Pointer marks.Nullable t l) (values.Thin object offset) = IsTarget g t l object offset
 HasType g (Pointer marks.NonNull t l) (values.Thin object offset) = IsTarget g t l object offset

@@ -17,7 +17,7 @@ ghost use Rattle.cyc_statements.specs.Nodes.{view_boxed_statement};
 use crate::nodes::{boxed, evaluation, return_of, throw_of};
 use cyc_expressions::{check_expression, check_looked, check_place};
 use cyc_forms::types::{is_struct, same_type};
-use cyc_forms::{Found, Given, convert, converted, span_of, test_wanted, type_of_side};
+use cyc_forms::{Found, Given, as_int, convert, converted, span_of, test_wanted, type_of_side};
 use cyc_scope::{Scope, Settled, Stop, refused};
 use cyc_syntax::{Expr, Ident};
 use cyc_types::typed::Converted;
@@ -175,6 +175,7 @@ pub fn check_condition(scope: &mut Scope<'_>, condition: &Expr) -> Result<Box<ty
     ensures same { OnOk result (scope.new ≡ scope.old) }
 {
     let value = check_looked(scope, condition)?;
+    let value = as_int(scope.alloc(), value)?;
     test_wanted(Given::by(&value), span_of(condition))?;
     Ok(value)
 }
@@ -246,6 +247,7 @@ fn check_thrown(
         None => Ok(None),
         Some(written) => {
             let value = check_expression(scope, written)?;
+            let value = as_int(scope.alloc(), value)?;
             Ok(Some(value))
         }
     }

@@ -88,6 +88,7 @@ hexadecimal_starts (b ∷ c ∷ d ∷ ds) hexadecimal =
 -- a keyword is spelled like a name
 pub is_name-keyword_text : (k : Keyword) → is_name (keyword_text k) ≡ true
 is_name-keyword_text words.Int = refl
+is_name-keyword_text words.Char = refl
 is_name-keyword_text words.Void = refl
 is_name-keyword_text words.Struct = refl
 is_name-keyword_text words.Datatype = refl
@@ -180,7 +181,7 @@ piece_starts OpenComment bytes h = rw h.1 refl
 
 abbrev all_keywords : List Keyword
 all_keywords =
-    words.Int ∷ words.Void ∷ words.Struct ∷ words.Datatype ∷ words.Exn ∷ words.Region ∷ words.RegionType ∷ words.KeyType ∷ words.Open ∷ words.Let ∷ words.Alias ∷ words.NewDynamicRegion ∷ words.NewKey ∷ words.New ∷ words.RegionNew ∷ words.For ∷ words.If ∷ words.Else ∷ words.While ∷ words.Break ∷ words.Continue ∷ words.Return ∷ words.Throw ∷ words.Try ∷ words.Catch ∷ words.Case ∷ words.Default ∷ words.Null ∷ words.NumberOfElements ∷ words.FreeUnique ∷ words.FreeKey ∷ words.UniqueRegion ∷ words.HeapRegion ∷ []
+    words.Int ∷ words.Char ∷ words.Void ∷ words.Struct ∷ words.Datatype ∷ words.Exn ∷ words.Region ∷ words.RegionType ∷ words.KeyType ∷ words.Open ∷ words.Let ∷ words.Alias ∷ words.NewDynamicRegion ∷ words.NewKey ∷ words.New ∷ words.RegionNew ∷ words.For ∷ words.If ∷ words.Else ∷ words.While ∷ words.Break ∷ words.Continue ∷ words.Return ∷ words.Throw ∷ words.Try ∷ words.Catch ∷ words.Case ∷ words.Default ∷ words.Null ∷ words.NumberOfElements ∷ words.FreeUnique ∷ words.FreeKey ∷ words.UniqueRegion ∷ words.HeapRegion ∷ []
 
 abbrev all_signs : List Sign
 all_signs =
@@ -233,6 +234,7 @@ piece_of (b ∷ bs) = piece_at (start_of b) b bs
 
 piece_of-keyword_text : (k : Keyword) → piece_of (keyword_text k) ≡ Lexeme (Word k)
 piece_of-keyword_text words.Int = refl
+piece_of-keyword_text words.Char = refl
 piece_of-keyword_text words.Void = refl
 piece_of-keyword_text words.Struct = refl
 piece_of-keyword_text words.Datatype = refl

@@ -2,7 +2,7 @@
 use Rattle.std.proofs.Common.{◌≡◌, ℕ, suc, ◌+◌, Bool, true, false, List, [], ◌∷◌, length, Option, Some, None, refl, arith, length-append}
 use Rattle.cyc_syntax.specs.Symbols.{Place, Symbol}
 use Rattle.cyc_syntax.specs.Grammar.{IsSpelled, HasTree}
-use Rattle.cyc_syntax.specs.Trees.{Named, Pointer, BaseType, Int, Struct, Handle, Key, WrittenType, Expression, Number, Character, Null, HeapRegion, UniqueRegion, Variable, Call, Bracketed, NumberOfElements, FreeUnique, FreeKey, Chained, Prefixed, New, RegionNew, Binary, Assign, Initial, Plain, Fields, Array, Expressions, NoExpressions, MoreExpressions, Postfixes, NoPostfixes, ThenIndex, ThenField, Operations, NoOperations, ThenOperation, Statement, Block, Labelled, Empty, Evaluate, Swap, If, IfElse, While, Return, Break, Continue, Throw, Try, Body, Braces, Items, NoItems, MoreItems, Item, Execute, Local, Region, Alias, DynamicRegion, Clauses, NoClauses, Default, Case, Member, Constructor, GlobalValue, Positive, Negative, Byte, NullPointer, Constraint, ParameterList, Void, Listed, Declaration, StructType, Exceptions, Global, Function}
+use Rattle.cyc_syntax.specs.Trees.{Named, Pointer, BaseType, Int, Char, Struct, Handle, Key, WrittenType, Expression, Number, Character, Null, HeapRegion, UniqueRegion, Variable, Call, Bracketed, NumberOfElements, LowByteOf, FreeUnique, FreeKey, Chained, Prefixed, New, RegionNew, Binary, Assign, Initial, Plain, Fields, Array, Expressions, NoExpressions, MoreExpressions, Postfixes, NoPostfixes, ThenIndex, ThenField, Operations, NoOperations, ThenOperation, Statement, Block, Labelled, Empty, Evaluate, Swap, If, IfElse, While, Return, Break, Continue, Throw, Try, Body, Braces, Items, NoItems, MoreItems, Item, Execute, Local, Region, Alias, DynamicRegion, Clauses, NoClauses, Default, Case, Member, Constructor, GlobalValue, Positive, Negative, Byte, NullPointer, Constraint, ParameterList, Void, Listed, Declaration, StructType, Exceptions, Global, Function}
 use Rattle.cyc_syntax.specs.Yields as yields
 use Rattle.cyc_syntax.specs.Yields.{Yield}
 use Rattle.cyc_syntax.specs.Weight.{sum_of, separated_weight, regions_weight, region_list_weight, optional_weight, mark_weight, base_weight, type_weight, expression_weight, initial_weight, expressions_weight, more_expressions_weight, postfixes_weight, operations_weight, statement_weight, body_weight, items_weight, item_weight, clauses_weight, member_weight, int_weight, constructor_weight, value_weight, parameter_list_weight, constraints_weight, result_weight, declaration_weight, tree_weight}
@@ -52,6 +52,7 @@ mutual
   expression-length d (Call f es) = simp length-append (omega (arith, arguments-length (suc d) es))
   expression-length d (Bracketed p e) = simp length-append (omega (arith, expression-length (suc d) e))
   expression-length d (NumberOfElements p e) = simp length-append (omega (arith, expression-length (suc d) e))
+  expression-length d (LowByteOf p e) = simp length-append (omega (arith, expression-length (suc d) e))
   expression-length d (FreeUnique p e) = simp length-append (omega (arith, expression-length (suc d) e))
   expression-length d (FreeKey p k) = refl
   expression-length d (Chained e ps) = simp length-append (omega (arith, expression-length d e, postfixes-length d 1 ps))
@@ -93,6 +94,7 @@ mutual
 
 pub base-length : (d : ℕ) (p : Place) (b : BaseType) → length (yields.base_type d p b) ≡ base_weight b
 base-length d p Int = refl
+base-length d p Char = refl
 base-length d p (Struct s rs) = omega (arith, region_list-length d rs)
 base-length d p (Handle r) = refl
 base-length d p (Key r) = refl

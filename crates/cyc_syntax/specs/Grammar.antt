@@ -6,7 +6,7 @@ use Rattle.std.specs.Option.{IfSome}
 use Rattle.cyc_syntax.specs.declared.tree.BinaryOperator.{BinaryOperator}
 use Rattle.cyc_syntax.specs.declared.tree.BinaryOperator.TheVariants as operators
 use Rattle.cyc_syntax.specs.Symbols.{Symbol}
-use Rattle.cyc_syntax.specs.Trees.{Expression, Number, Character, Null, HeapRegion, UniqueRegion, Variable, Call, Bracketed, NumberOfElements, FreeUnique, FreeKey, Chained, Prefixed, New, RegionNew, Binary, Assign, Initial, Plain, Fields, Array, Expressions, NoExpressions, MoreExpressions, Postfixes, NoPostfixes, ThenIndex, ThenField, Operations, NoOperations, ThenOperation, Statement, Block, Labelled, Empty, Evaluate, Swap, If, IfElse, While, Return, Break, Continue, Throw, Try, Body, Braces, Items, NoItems, MoreItems, Item, Execute, Local, Region, Alias, DynamicRegion, Clauses, NoClauses, Default, Case, Declaration, StructType, Exceptions, Global, Function}
+use Rattle.cyc_syntax.specs.Trees.{Expression, Number, Character, Null, HeapRegion, UniqueRegion, Variable, Call, Bracketed, NumberOfElements, LowByteOf, FreeUnique, FreeKey, Chained, Prefixed, New, RegionNew, Binary, Assign, Initial, Plain, Fields, Array, Expressions, NoExpressions, MoreExpressions, Postfixes, NoPostfixes, ThenIndex, ThenField, Operations, NoOperations, ThenOperation, Statement, Block, Labelled, Empty, Evaluate, Swap, If, IfElse, While, Return, Break, Continue, Throw, Try, Body, Braces, Items, NoItems, MoreItems, Item, Execute, Local, Region, Alias, DynamicRegion, Clauses, NoClauses, Default, Case, Declaration, StructType, Exceptions, Global, Function}
 use Rattle.cyc_syntax.specs.Yields.{Leaf, Yield, program}
 
 -- ---- levels of expressions, tightest first: 0 is an operand with its prefixes and postfixes, 1 to 10 are the chains of binary
@@ -52,6 +52,7 @@ is_primary (Variable x) = true
 is_primary (Call f es) = true
 is_primary (Bracketed p e) = true
 is_primary (NumberOfElements p e) = true
+is_primary (LowByteOf p e) = true
 is_primary (FreeUnique p e) = true
 is_primary (FreeKey p k) = true
 is_primary (Chained e ps) = false
@@ -73,6 +74,7 @@ abbrev mutual
   IsExpression most (Call f es) = AreExpressions es
   IsExpression most (Bracketed p e) = IsExpression assignment_level e
   IsExpression most (NumberOfElements p e) = IsExpression assignment_level e
+  IsExpression most (LowByteOf p e) = IsExpression assignment_level e
   IsExpression most (FreeUnique p e) = IsExpression assignment_level e
   IsExpression most (FreeKey p k) = Unit {0}
   IsExpression most (Chained e ps) = (is_primary e ≡ true) × IsExpression unary_level e × IsSomePostfix ps × ArePostfixes ps

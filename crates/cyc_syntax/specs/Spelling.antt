@@ -42,6 +42,7 @@ is_line_feed b = b == 10
 
 abbrev pub keyword_text : Keyword → List ℕ
 keyword_text words.Int = codes "int"
+keyword_text words.Char = codes "char"
 keyword_text words.Void = codes "void"
 keyword_text words.Struct = codes "struct"
 keyword_text words.Datatype = codes "datatype"

@@ -32,7 +32,7 @@ use Rattle.cyc_syntax.specs.declared.tree.Parameters.{Parameters as ParametersCo
 use Rattle.cyc_syntax.specs.declared.tree.Declaration.{Declaration as DeclarationCode}
 use Rattle.cyc_syntax.specs.declared.tree.Declaration.TheVariants as declaration
 use Rattle.cyc_syntax.specs.Symbols.{Place}
-use Rattle.cyc_syntax.specs.Trees.{Named, Pointer, BaseType, Int, Struct, Handle, Key, WrittenType, Expression, Number, Character, Null, HeapRegion, UniqueRegion, Variable, Call, Bracketed, NumberOfElements, FreeUnique, FreeKey, Chained, Prefixed, New, RegionNew, Binary, Assign, Initial, Plain, Fields, Array, Expressions, NoExpressions, MoreExpressions, Postfixes, NoPostfixes, ThenIndex, ThenField, Operations, NoOperations, ThenOperation, Statement, Block, Labelled, Empty, Evaluate, Swap, If, IfElse, While, Return, Break, Continue, Throw, Try, Body, Braces, Items, NoItems, MoreItems, Item, Execute, Local, Region, Alias, DynamicRegion, Clauses, NoClauses, Default, Case, Member, Constructor, GlobalValue, Positive, Negative, Byte, NullPointer, Constraint, ParameterList, Void, Listed, Parameters, Declaration, StructType, Exceptions, Global, Function}
+use Rattle.cyc_syntax.specs.Trees.{Named, Pointer, BaseType, Int, Char, Struct, Handle, Key, WrittenType, Expression, Number, Character, Null, HeapRegion, UniqueRegion, Variable, Call, Bracketed, NumberOfElements, LowByteOf, FreeUnique, FreeKey, Chained, Prefixed, New, RegionNew, Binary, Assign, Initial, Plain, Fields, Array, Expressions, NoExpressions, MoreExpressions, Postfixes, NoPostfixes, ThenIndex, ThenField, Operations, NoOperations, ThenOperation, Statement, Block, Labelled, Empty, Evaluate, Swap, If, IfElse, While, Return, Break, Continue, Throw, Try, Body, Braces, Items, NoItems, MoreItems, Item, Execute, Local, Region, Alias, DynamicRegion, Clauses, NoClauses, Default, Case, Member, Constructor, GlobalValue, Positive, Negative, Byte, NullPointer, Constraint, ParameterList, Void, Listed, Parameters, Declaration, StructType, Exceptions, Global, Function}
 
 abbrev pub place_of_span : Span → Place
 place_of_span s = record { line = s.line; column = s.column }
@@ -47,6 +47,7 @@ view_pointer m = record { kind = m.kind; region = option_map view_name m.region 
 
 abbrev pub view_base : BaseTypeCode → BaseType
 view_base base.Int = Int
+view_base base.Char = Char
 view_base (base.Struct s rs) = Struct (view_name s) (map view_name rs.items)
 view_base (base.Handle r) = Handle (view_name r)
 view_base (base.Key r) = Key (view_name r)
@@ -67,6 +68,7 @@ abbrev mutual
   view_expression (expr.Call' f shape row) = Call (view_name f) (view_expressions row)
   view_expression (expr.Bracketed' s b e) = Bracketed (place_of_span s) (view_expression e)
   view_expression (expr.NumberOfElements' s b e) = NumberOfElements (place_of_span s) (view_expression e)
+  view_expression (expr.LowByteOf' s b e) = LowByteOf (place_of_span s) (view_expression e)
   view_expression (expr.FreeUnique' s b e) = FreeUnique (place_of_span s) (view_expression e)
   view_expression (expr.FreeKey s k) = FreeKey (place_of_span s) (view_name k)
   view_expression (expr.Chained' b e shape row) = Chained (view_expression e) (view_postfixes row)

@@ -20,6 +20,7 @@ pub record Pointer : Type 0 where
 
 pub data BaseType : Type 0 where
   Int : BaseType
+  Char : BaseType
   -- no region arguments: they are left out
   Struct : Named → List Named → BaseType
   Handle : Named → BaseType
@@ -45,6 +46,8 @@ mutual
     Bracketed : Place → Expression → Expression
     -- numelts
     NumberOfElements : Place → Expression → Expression
+    -- char
+    LowByteOf : Place → Expression → Expression
     -- ufree
     FreeUnique : Place → Expression → Expression
     -- free_ukey
@@ -175,6 +178,7 @@ place_of (Variable x) = x.place
 place_of (Call f es) = f.place
 place_of (Bracketed p e) = p
 place_of (NumberOfElements p e) = p
+place_of (LowByteOf p e) = p
 place_of (FreeUnique p e) = p
 place_of (FreeKey p k) = p
 place_of (Chained e ps) = place_of e

@@ -1,7 +1,7 @@
 -- The weight of a tree: how many tokens its spelling has. Brackets, separators and all. It is stated by recursion on
 -- the tree, apart from the productions, for the passes whose output is bounded by it.
 use Rattle.std.specs.Prelude.{ℕ, ◌+◌, Bool, true, false, List, [], ◌∷◌, Option, Some, None}
-use Rattle.cyc_syntax.specs.Trees.{Named, Pointer, BaseType, Int, Struct, Handle, Key, WrittenType, Expression, Number, Character, Null, HeapRegion, UniqueRegion, Variable, Call, Bracketed, NumberOfElements, FreeUnique, FreeKey, Chained, Prefixed, New, RegionNew, Binary, Assign, Initial, Plain, Fields, Array, Expressions, NoExpressions, MoreExpressions, Postfixes, NoPostfixes, ThenIndex, ThenField, Operations, NoOperations, ThenOperation, Statement, Block, Labelled, Empty, Evaluate, Swap, If, IfElse, While, Return, Break, Continue, Throw, Try, Body, Braces, Items, NoItems, MoreItems, Item, Execute, Local, Region, Alias, DynamicRegion, Clauses, NoClauses, Default, Case, Member, Constructor, GlobalValue, Positive, Negative, Byte, NullPointer, Constraint, ParameterList, Void, Listed, Parameters, Declaration, StructType, Exceptions, Global, Function}
+use Rattle.cyc_syntax.specs.Trees.{Named, Pointer, BaseType, Int, Char, Struct, Handle, Key, WrittenType, Expression, Number, Character, Null, HeapRegion, UniqueRegion, Variable, Call, Bracketed, NumberOfElements, LowByteOf, FreeUnique, FreeKey, Chained, Prefixed, New, RegionNew, Binary, Assign, Initial, Plain, Fields, Array, Expressions, NoExpressions, MoreExpressions, Postfixes, NoPostfixes, ThenIndex, ThenField, Operations, NoOperations, ThenOperation, Statement, Block, Labelled, Empty, Evaluate, Swap, If, IfElse, While, Return, Break, Continue, Throw, Try, Body, Braces, Items, NoItems, MoreItems, Item, Execute, Local, Region, Alias, DynamicRegion, Clauses, NoClauses, Default, Case, Member, Constructor, GlobalValue, Positive, Negative, Byte, NullPointer, Constraint, ParameterList, Void, Listed, Parameters, Declaration, StructType, Exceptions, Global, Function}
 
 abbrev pub sum_of : {A : Type 0} → (A → ℕ) → List A → ℕ
 sum_of weight [] = 0
@@ -28,6 +28,7 @@ mark_weight m = 1 + optional_weight (λ _. 1) m.region
 
 abbrev pub base_weight : BaseType → ℕ
 base_weight Int = 1
+base_weight Char = 1
 base_weight (Struct s rs) = 2 + region_list_weight rs
 base_weight (Handle r) = 4
 base_weight (Key r) = 4
@@ -46,6 +47,7 @@ abbrev mutual
   expression_weight (Call f es) = 3 + expressions_weight es
   expression_weight (Bracketed p e) = 2 + expression_weight e
   expression_weight (NumberOfElements p e) = 3 + expression_weight e
+  expression_weight (LowByteOf p e) = 3 + expression_weight e
   expression_weight (FreeUnique p e) = 3 + expression_weight e
   expression_weight (FreeKey p k) = 4
   expression_weight (Chained e ps) = expression_weight e + postfixes_weight ps

@@ -22,7 +22,7 @@ use Rattle.cyc_syntax.specs.declared.tree.BinaryOperator.{BinaryOperator}
 use Rattle.cyc_syntax.specs.declared.tree.BinaryOperator.TheVariants as operators
 use Rattle.cyc_syntax.specs.Symbols.{Place, Terminal, Identifier, RegionName, Word, Mark}
 use Rattle.cyc_syntax.specs.Symbols as terminals
-use Rattle.cyc_syntax.specs.Trees.{Named, Pointer, BaseType, Int, Struct, Handle, Key, WrittenType, Expression, Number, Character, Null, HeapRegion, UniqueRegion, Variable, Call, Bracketed, NumberOfElements, FreeUnique, FreeKey, Chained, Prefixed, New, RegionNew, Binary, Assign, Initial, Plain, Fields, Array, Expressions, NoExpressions, MoreExpressions, Postfixes, NoPostfixes, ThenIndex, ThenField, Operations, NoOperations, ThenOperation, Statement, Block, Labelled, Empty, Evaluate, Swap, If, IfElse, While, Return, Break, Continue, Throw, Try, Body, Braces, Items, NoItems, MoreItems, Item, Execute, Local, Region, Alias, DynamicRegion, Clauses, NoClauses, Default, Case, Member, Constructor, GlobalValue, Positive, Negative, Byte, NullPointer, Constraint, ParameterList, Void, Listed, Parameters, Declaration, StructType, Exceptions, Global, Function}
+use Rattle.cyc_syntax.specs.Trees.{Named, Pointer, BaseType, Int, Char, Struct, Handle, Key, WrittenType, Expression, Number, Character, Null, HeapRegion, UniqueRegion, Variable, Call, Bracketed, NumberOfElements, LowByteOf, FreeUnique, FreeKey, Chained, Prefixed, New, RegionNew, Binary, Assign, Initial, Plain, Fields, Array, Expressions, NoExpressions, MoreExpressions, Postfixes, NoPostfixes, ThenIndex, ThenField, Operations, NoOperations, ThenOperation, Statement, Block, Labelled, Empty, Evaluate, Swap, If, IfElse, While, Return, Break, Continue, Throw, Try, Body, Braces, Items, NoItems, MoreItems, Item, Execute, Local, Region, Alias, DynamicRegion, Clauses, NoClauses, Default, Case, Member, Constructor, GlobalValue, Positive, Negative, Byte, NullPointer, Constraint, ParameterList, Void, Listed, Parameters, Declaration, StructType, Exceptions, Global, Function}
 
 -- A leaf of a tree. It has the place of its token where the tree keeps it.
 pub record Leaf : Type 0 where
@@ -134,6 +134,7 @@ marks d ms = each (mark d) 1 ms
 
 abbrev pub base_type : ℕ → Place → BaseType → Yield
 base_type d p Int = at d (Word words.Int) p
+base_type d p Char = at d (Word words.Char) p
 base_type d p (Struct s rs) = at d (Word words.Struct) p ⨾ identifier d s ⨾ region_list d rs
 base_type d p (Handle r) = at d (Word words.RegionType) p ⨾ sign d signs.Less ⨾ region_name d r ⨾ sign d signs.Greater
 base_type d p (Key r) = at d (Word words.KeyType) p ⨾ sign d signs.Less ⨾ region_name d r ⨾ sign d signs.Greater
@@ -154,6 +155,7 @@ abbrev mutual
   expression d (Call f es) = identifier d f ⨾ sign d signs.LeftParen ⨾ arguments (suc d) es ⨾ sign (suc d) signs.RightParen
   expression d (Bracketed p e) = at d (Mark signs.LeftParen) p ⨾ expression (suc d) e ⨾ sign (suc d) signs.RightParen
   expression d (NumberOfElements p e) = at d (Word words.NumberOfElements) p ⨾ sign d signs.LeftParen ⨾ expression (suc d) e ⨾ sign (suc d) signs.RightParen
+  expression d (LowByteOf p e) = at d (Word words.Char) p ⨾ sign d signs.LeftParen ⨾ expression (suc d) e ⨾ sign (suc d) signs.RightParen
   expression d (FreeUnique p e) = at d (Word words.FreeUnique) p ⨾ sign d signs.LeftParen ⨾ expression (suc d) e ⨾ sign (suc d) signs.RightParen
   expression d (FreeKey p k) = at d (Word words.FreeKey) p ⨾ sign d signs.LeftParen ⨾ identifier (suc d) k ⨾ sign (suc d) signs.RightParen
   expression d (Chained e ps) = expression d e ⨾ postfixes d 1 ps

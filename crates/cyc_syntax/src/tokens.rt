@@ -27,6 +27,7 @@ pub enum TokenKind {
 #[derive(Clone, Copy, Debug, PartialEq, Eq)]
 pub enum Keyword {
     Int,
+    Char,
     Void,
     Struct,
     Datatype,

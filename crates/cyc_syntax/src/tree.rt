@@ -34,6 +34,7 @@ pub struct Pointer {
 #[derive(Drop)]
 pub enum BaseType {
     Int,
+    Char,
     /// With its region arguments; there are none where they are left out.
     Struct { name: Ident, regions: Vec<Ident> },
     /// `region_t<..>`
@@ -121,6 +122,11 @@ pub enum Expr {
     NumberOfElements {
         span: Span,
         pointer: Box<Expr>,
+    },
+    /// `char(..)`
+    LowByteOf {
+        span: Span,
+        value: Box<Expr>,
     },
     /// `ufree(..)`
     FreeUnique {

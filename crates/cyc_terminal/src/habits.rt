@@ -29,13 +29,14 @@ any ~~ ++ ~~ there is no ++: write i = i + 1
 -- ~~ any ~~ there is no --: write i = i - 1
 +~-~*~/~%~&~|~^~<<~>> ~~ = ~~ there is no assignment with an operator, as +=: write s = s + 5
 any ~~ ? ~~ there is no ?:, so write if (a > b) y = a; else y = b;
-sizeof~sizeof(~sizeof ( ~~ any ~~ there is no sizeof: numelts(a) is the number of elements behind a ? pointer
+sizeof~sizeof(~sizeof (~sizeof(char~sizeof (char ~~ any ~~ there is no sizeof: numelts(a) is the number of elements behind a ? pointer
 ( ~~ int~struct~void ~~ there are no casts: an int needs none, and NULL is the null pointer
-(char)~(short)~(long)~(unsigned)~(float)~(double)~(bool) ~~ any ~~ there are no casts: an int needs none, and NULL is the null pointer
-(char *~(char*~(unsigned *~(unsigned* ~~ ) ~~ there are no casts: an int needs none, and NULL is the null pointer
-argc, ~~ char ~~ main has no parameters: what it needs is read by getchar
-any ~~ char~short~long~signed~unsigned~float~double~bool~_Bool~size_t~int8_t~uint8_t~int32_t~uint32_t~int64_t~uint64_t ~~ int is the only number type: it holds a character too, as in int c = 'a';
-char~short~long~signed~unsigned~float~double~bool~_Bool~size_t~int8_t~uint8_t~int32_t~uint32_t~int64_t~uint64_t ~~ any ~~ int is the only number type: it holds a character too, as in int c = 'a';
+(short)~(long)~(unsigned)~(float)~(double)~(bool) ~~ any ~~ there are no casts: an int needs none, and NULL is the null pointer
+(unsigned *~(unsigned* ~~ ) ~~ there are no casts: an int needs none, and NULL is the null pointer
+(char ~~ ) ~~ there are no casts: char(x) is the low byte of x
+(char ~~ * ~~ there are no casts: an int needs none, and NULL is the null pointer
+any ~~ short~long~signed~unsigned~float~double~bool~_Bool~size_t~int8_t~uint8_t~int32_t~uint32_t~int64_t~uint64_t ~~ int and char are the only number types: an int has 32 bits, and a char is 0 to 255
+short~long~signed~unsigned~float~double~bool~_Bool~size_t~int8_t~uint8_t~int32_t~uint32_t~int64_t~uint64_t ~~ any ~~ int and char are the only number types: an int has 32 bits, and a char is 0 to 255
 any ~~ const~static~extern~inline~register~volatile~auto ~~ there is no const, static, extern, inline, register, volatile or auto: leave the word out
 const~static~extern~inline~register~volatile~auto ~~ any ~~ there is no const, static, extern, inline, register, volatile or auto: leave the word out
 any ~~ typedef ~~ there is no typedef: write struct P { .. };, and the type is struct P
@@ -50,12 +51,14 @@ goto ~~ any ~~ there is no goto: leave loops by break, a function by return, and
 : ~~ any ~~ a label stands before a block alone, and there is no goto
 new ~~ struct ~~ write new P{1, 2}, without the word struct
 new ~~ int ~~ new takes a value, as new 5; an array is new {for i < 10 : 0}
+new char ~~ any ~~ new takes a value, as new char(65); an array is new {for i < 10 : char(0)}
 ) ~~ ; ~~ there are no prototypes, since functions know one another wherever they stand: delete the line
 } ~~ ; ~~ no semicolon stands behind a function: delete it
 any ~~ [ ~~ an array is made by new, and a ? pointer leads to it: int ?a = new {for i < 10 : 0};
 ; ~~ else ~~ else stands right behind the one statement of its if: put several into { }, with no semicolon behind them
 )~else ~~ int~struct ~~ a declaration stands in a block: put { } round it, or end with ; what stands before it
-int ~~ ,~) ~~ each parameter has a name, as in int max(int a, int b)
+) char~else char ~~ any ~~ a declaration stands in a block: put { } round it, or end with ; what stands before it
+int~char ~~ ,~) ~~ each parameter has a name, as in int max(int a, int b)
 int~void ~~ ( ~~ there are no pointers to functions: an int tells which one, and if calls it
 catch ~~ ( ~~ what is caught stands in braces: catch { case &E: ..; default: ..; }
 any ~~ ( ~~ functions stand side by side and not in one another, and only a name is called
@@ -83,7 +86,7 @@ any ~~ assert ~~ write if (!(x > 0)) throw new Broken;, with datatype exn { Brok
 any ~~ sizeof ~~ there is no sizeof: numelts(a) is the number of elements behind a ? pointer
 any ~~ INT_MAX ~~ write 2147483647
 any ~~ INT_MIN ~~ write -2147483647 - 1
-any ~~ char~short~long~signed~unsigned~float~double~bool~_Bool~size_t~int8_t~uint8_t~int32_t~uint32_t~int64_t~uint64_t ~~ int is the only number type: it holds a character too, as in int c = 'a';";
+any ~~ short~long~signed~unsigned~float~double~bool~_Bool~size_t~int8_t~uint8_t~int32_t~uint32_t~int64_t~uint64_t ~~ int and char are the only number types: an int has 32 bits, and a char is 0 to 255";
 
 /// Whether a byte that begins or ends a word, and the one beside it, are of one name.
 fn is_joined(edge: Option<&u8>, beside: Option<&u8>) -> bool {

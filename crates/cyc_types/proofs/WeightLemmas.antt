@@ -1,6 +1,6 @@
 -- What typed trees, written types and programs weigh at least, or at most.
 use Rattle.std.proofs.Common.{◌≡◌, ℕ, zero, suc, ◌+◌, ◌*◌, ◌≤◌, List, [], ◌∷◌, Option, Some, None, ap, arith, length, slice_get}
-use Rattle.cyc_syntax.specs.Trees.{BaseType, Int, WrittenType}
+use Rattle.cyc_syntax.specs.Trees.{BaseType, Int, Char, WrittenType}
 use Rattle.cyc_syntax.specs.Weight.{sum_of, separated_weight, optional_weight, type_weight, result_weight}
 use Rattle.cyc_syntax.specs.Weight as written
 use Rattle.cyc_types.specs.Types.{Ty}
@@ -9,6 +9,7 @@ use Rattle.cyc_types.specs.Weight.{expression_weight, else_weight, statement_wei
 
 -- an expression is a token at least
 pub some_token : (a : typed.Expression) → 1 ≤ expression_weight a
+some_token (typed.Unary o a) = omega (arith, some_token a)
 some_token (typed.Binary a os t) = omega (arith, some_token a)
 some_token (typed.Load (typed.Target k a t)) = omega arith
 some_token (typed.Load (typed.Member k a s f t)) = omega arith
@@ -29,6 +30,7 @@ else_written t = omega arith
 
 base_written : (b : BaseType) → 1 ≤ written.base_weight b
 base_written Int = omega arith
+base_written Char = omega arith
 base_written b = omega arith
 
 pub type_token : (w : WrittenType) → 1 ≤ type_weight w

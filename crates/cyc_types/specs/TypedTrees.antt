@@ -11,10 +11,11 @@ use Rattle.cyc_types.specs.declared.region.Region.TheVariants.{Heap}
 use Rattle.cyc_types.specs.declared.typed.Kind.{Kind}
 use Rattle.cyc_types.specs.declared.typed.Callee.{Callee}
 use Rattle.cyc_types.specs.declared.typed.UnaryOperator.{UnaryOperator}
+use Rattle.cyc_types.specs.declared.typed.UnaryOperator.TheVariants as unary
 use Rattle.cyc_types.specs.declared.typed.Operator.{Operator}
 use Rattle.cyc_types.specs.declared.typed.LogicalOperator.{LogicalOperator}
 use Rattle.cyc_types.specs.declared.typed.PointerOperator.{PointerOperator}
-use Rattle.cyc_types.specs.Types.{Ty, Int, Handle, ValueType, Void, Value}
+use Rattle.cyc_types.specs.Types.{Ty, Int, Char, Handle, ValueType, Void, Value}
 use Rattle.cyc_types.specs.Types as types
 
 -- ---- expressions
@@ -116,6 +117,11 @@ type_of_place (Target k a t) = t
 type_of_place (Member k a s f t) = t
 type_of_place (Element a i t) = t
 
+-- what an operator of one operand gives
+abbrev pub unary_type : UnaryOperator → Ty
+unary_type unary.LowByte = Char
+unary_type o = Int
+
 abbrev pub type_of : Expression → ValueType
 type_of (Number n) = Value Int
 type_of NullPointer = types.Null
@@ -131,7 +137,7 @@ type_of (NumberOfElements a) = Value Int
 type_of (FreeUnique a) = Void
 type_of (FreeKey a) = Void
 type_of (Call f cs t) = t
-type_of (Unary o a) = Value Int
+type_of (Unary o a) = Value (unary_type o)
 type_of (Binary a os t) = Value t
 type_of (Assign l c t) = t
 type_of (Store d c t) = t

@@ -7,6 +7,8 @@ use Rattle.cyc_types.specs.Regions.{substituted_region}
 
 pub data Ty : Type 0 where
   Int : Ty
+  -- a byte, 0 to 255
+  Char : Ty
   -- the mark, the target, and the region of the target
   Pointer : PointerKind → Ty → Region → Ty
   Handle : Region → Ty
@@ -28,6 +30,7 @@ result_type (Some t) = Value t
 -- each region variable replaced by the region at its number in the list
 abbrev pub substituted_ty : List Region → Ty → Ty
 substituted_ty regions Int = Int
+substituted_ty regions Char = Char
 substituted_ty regions (Pointer k t r) = Pointer k (substituted_ty regions t) (substituted_region regions r)
 substituted_ty regions (Handle r) = Handle (substituted_region regions r)
 substituted_ty regions (Key r) = Key (substituted_region regions r)
@@ -41,6 +44,7 @@ words_of_mark Fat = 3
 -- the words of a cell: a fat pointer has three, any other value one
 abbrev pub words_of : Ty → ℕ
 words_of Int = 1
+words_of Char = 1
 words_of (Pointer k t r) = words_of_mark k
 words_of (Handle r) = 1
 words_of (Key r) = 1

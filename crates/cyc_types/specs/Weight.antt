@@ -4,7 +4,14 @@
 -- constraints. Structs and exceptions count nothing: they have no code.
 use Rattle.std.specs.Prelude.{ℕ, zero, suc, ◌+◌, Option, None, Some}
 use Rattle.cyc_syntax.specs.Weight.{sum_of, separated_weight, optional_weight}
+use Rattle.cyc_types.specs.declared.typed.UnaryOperator.{UnaryOperator}
+use Rattle.cyc_types.specs.declared.typed.UnaryOperator.TheVariants as unary
 use Rattle.cyc_types.specs.TypedTrees.{Expression, Number, NullPointer, HeapRegion, Counter, Copy, Move, Peek, Load, AddressOf, AddressOfCell, NumberOfElements, FreeUnique, FreeKey, Call, Unary, Binary, Assign, Store, New, Dereference, Target, Member, Element, Placement, OnHeap, AsUnique, ByHandle, Initial, Plain, Fields, Array, Converted, Convert, Arguments, NoArguments, MoreArguments, Operations, NoOperations, ThenCompute, ThenTest, ThenPointer, ThenPointerPeek, Side, VariableSide, CellSide, Statement, Block, Empty, Evaluate, Swap, If, While, Return, Break, Continue, Throw, Try, Items, NoItems, MoreItems, Item, Execute, Declare, DeclareRegion, OpenRegion, DeclareAlias, DeclareKey, Clauses, NoClauses, Default, Case, Constant, Word, Null, GlobalVariable, Function, Program}
+
+-- a char that serves as an int is written as it is
+abbrev pub unary_weight : UnaryOperator → ℕ
+unary_weight unary.Widen = 0
+unary_weight o = 1
 
 abbrev mutual
   pub expression_weight : Expression → ℕ
@@ -22,7 +29,7 @@ abbrev mutual
   expression_weight (FreeUnique a) = 3 + expression_weight a
   expression_weight (FreeKey a) = 3 + expression_weight a
   expression_weight (Call f cs t) = 3 + arguments_weight cs
-  expression_weight (Unary o a) = 1 + expression_weight a
+  expression_weight (Unary o a) = unary_weight o + expression_weight a
   expression_weight (Binary a os t) = expression_weight a + operations_weight os
   expression_weight (Assign l c t) = 2 + converted_weight c
   expression_weight (Store d c t) = 1 + dereference_weight d + converted_weight c

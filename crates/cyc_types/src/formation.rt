@@ -77,6 +77,7 @@ fn base_written(
 {
     Ok(match base {
         BaseType::Int => Ty::Int,
+        BaseType::Char => Ty::Char,
         BaseType::Struct { name, regions } => {
             let count = structs.parameters(name.name.number).unwrap_or(0);
             Ty::Struct {

@@ -11,6 +11,8 @@ use std::rc::Rc;
 #[derive(Drop)]
 pub enum Ty {
     Int,
+    /// A byte, 0 to 255.
+    Char,
     Pointer {
         kind: PointerKind,
         target: Rc<Ty>,
@@ -41,7 +43,7 @@ impl Ty {
         ensures { IsTrue result ↔ (view_ty self.now ≡ view_ty other.now) }
     {
         match (self, other) {
-            (Ty::Int, Ty::Int) => true,
+            (Ty::Int, Ty::Int) | (Ty::Char, Ty::Char) => true,
             (
                 Ty::Pointer {
                     kind,
@@ -83,6 +85,7 @@ impl Ty {
     {
         Ok(match self {
             Ty::Int => Ty::Int,
+            Ty::Char => Ty::Char,
             Ty::Pointer {
                 kind,
                 target,
@@ -107,6 +110,7 @@ impl Ty {
     {
         Ok(match self {
             Ty::Int => Ty::Int,
+            Ty::Char => Ty::Char,
             Ty::Pointer {
                 kind,
                 target,

@@ -15,6 +15,8 @@ use smallvec::SmallVec;
 #[derive(Clone, Copy)]
 pub enum Kind {
     Int,
+    /// A byte, 0 to 255.
+    Char,
     /// A thin pointer that may be null.
     Nullable,
     /// A thin pointer that is never null.
@@ -39,6 +41,10 @@ pub enum UnaryOperator {
     Negate,
     Not,
     Complement,
+    /// The value of a char where an int is asked for; nothing is written for it.
+    Widen,
+    /// `char(..)`: the low byte of an int.
+    LowByte,
 }
 
 /// The operators of two ints that evaluate both.

@@ -5,7 +5,7 @@ endif
 
 syntax case match
 syntax match cycloneName /\h\w*/
-syntax match cycloneType /\%(int\|void\|struct\|datatype\|exn\|region_t\|uregion_key_t\)\w\@!/
+syntax match cycloneType /\%(int\|char\|void\|struct\|datatype\|exn\|region_t\|uregion_key_t\)\w\@!/
 syntax match cycloneStatement /\%(if\|else\|while\|for\|return\|break\|continue\|throw\|try\|catch\|case\|default\)\w\@!/
 syntax match cycloneMemory /\%(region\|open\|let\|alias\|NewDynamicRegion\|new_ukey\|new\|rnew\|numelts\|ufree\|free_ukey\)\w\@!/
 syntax match cycloneConstant /\%(NULL\|unique_region\|heap_region\)\w\@!/

@@ -1,8 +1,8 @@
 """The rules of types, regions and effects in the bodies of functions: each name finds what it stands for, and each expression its type."""
 from .texts import Node, Refused
 from .types import (
-    HEAP, INT, NOTHING, NULL, UNIQUE, Faults, Variable, Written, converted, is_fat, is_owned, is_pointer, is_thin, is_unique, paired,
-    pointer, regions_of, with_regions,
+    CHAR, HEAP, INT, NOTHING, NULL, UNIQUE, Faults, Variable, Written, converted, is_fat, is_number, is_owned, is_pointer, is_thin,
+    is_unique, paired, pointer, regions_of, with_regions,
 )
 
 
@@ -131,7 +131,7 @@ class Expressions:
         type, index = self.expression(node.base), self.expression(node.index)
         if not is_fat(type):
             faults.add(22, node.base.start)
-        if index != INT:
+        if not is_number(index):
             faults.add(22, node.index.start)
         return self.led_to(node, node.base, type, type[2], faults) if is_fat(type) else None
 
@@ -190,9 +190,14 @@ class Expressions:
 
     def expression_unary(self, node):
         type = self.expression(node.operand)
-        if type != INT and not (node.sign == "!" and is_pointer(type)):
+        if not is_number(type) and not (node.sign == "!" and is_pointer(type)):
             raise Refused(22, node.operand.start)
         return INT
+
+    def expression_char(self, node):
+        if not is_number(self.expression(node.operand)):
+            raise Refused(22, node.operand.start)
+        return CHAR
 
     def expression_binary(self, node):
         left, right = self.expression(node.left), self.expression(node.right)
@@ -204,25 +209,25 @@ class Expressions:
             self.condition(node.right, right)
             return INT
         is_moved = node.sign in ("+", "-") and is_fat(left) and not is_unique(left)
-        if left != INT and not is_moved:
+        if not is_number(left) and not is_moved:
             raise Refused(22, node.left.start)
-        if right != INT:
+        if not is_number(right):
             raise Refused(22, node.right.start)
-        return left
+        return left if is_moved else INT
 
     def condition(self, node, type):
-        if type != INT and not is_pointer(type):
+        if not is_number(type) and not is_pointer(type):
             raise Refused(22, node.start)
 
     def compared(self, node, left, right):
         # The comparison begins with its left operand, inside of brackets round it.
         for side, type in ((node.left, left), (node.right, right)):
-            if type not in (INT, NULL) and not is_pointer(type):
+            if type != NULL and not is_number(type) and not is_pointer(type):
                 raise Refused(22, side.start)
-        if left == right == INT:
+        if is_number(left) and is_number(right):
             return
         if NULL in (left, right):
-            if left == right or INT in (left, right):
+            if left == right or is_number(left) or is_number(right):
                 raise Refused(22, node.left.start)
             return
         if not (is_thin(left) and is_thin(right)) or left[2] != right[2]:
@@ -337,7 +342,7 @@ class Expressions:
 
     def initial_array(self, initial, faults):
         length = self.expression(initial.length)
-        if length != INT:
+        if not is_number(length):
             faults.add(22, initial.length.start)
         counter = Variable(initial.counter.name, INT, None, "counter", self.slots)
         self.slots += 1
@@ -516,7 +521,7 @@ class Body(Expressions):
     def item_throw(self, item):
         type = self.expression(item.value) if item.value else None
         item.tag = self.constructor(item.name, bool(item.value))
-        if type not in (None, INT):
+        if type and not is_number(type):
             raise Refused(22, item.value.start)
 
     def constructor(self, name, has_int):

@@ -122,6 +122,9 @@ class Expressions:
     def expression_unary(self, node):
         self.peeked(node.operand) if node.sign == "!" else self.expression(node.operand)
 
+    def expression_char(self, node):
+        self.expression(node.operand)
+
     def expression_binary(self, node):
         if node.sign in ("==", "!="):
             variable = self.peeked(node.left)

@@ -43,7 +43,7 @@ def place(node):
 
 def operands_of(node):
     """The operands of an expression with their words and their needs, in the order in which they are evaluated."""
-    if node.kind in ("unary", "target", "numelts", "ufree"):
+    if node.kind in ("unary", "char", "target", "numelts", "ufree"):
         return [plain(node.operand)]
     if node.kind == "binary":
         return [plain(node.left), plain(node.right)]

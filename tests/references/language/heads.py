@@ -2,8 +2,8 @@
 from .bodies import Body
 from .texts import Refused
 from .types import (
-    GETCHAR, HEAP, INT, NOTHING, NULL, PUTCHAR, UNIQUE, Faults, Signature, Variable, Written, converted, is_pointer, keys_of, regions_of,
-    wrapped, written_regions,
+    GETCHAR, HEAP, INT, NOTHING, NULL, PUTCHAR, UNIQUE, Faults, Signature, Variable, Written, converted, is_number, is_pointer, keys_of,
+    narrowed, regions_of, written_regions,
 )
 
 BUILT_IN_EXCEPTIONS = ["Null_Exception", "Array_bounds", "Array_size", "Div_zero"]
@@ -70,7 +70,7 @@ class Program:
     def head_global(self, part):
         faults = Faults()
         type = Written(self.structs, faults, lambda node: False).type(part.written, lambda _: HEAP)
-        if type and type != INT and not is_pointer(type):
+        if type and not is_number(type) and not is_pointer(type):
             faults.add(22, part.written.place)
         if not faults.found and part.value is None and is_pointer(type) and type[1] == "@":
             faults.add(23, part.written.place)
@@ -82,9 +82,9 @@ class Program:
         if part.value:
             converted(faults, None, NULL if part.value.kind == "null" else INT, type, part.value.place)
             faults.settle()
-        value = part.value.value if part.value and part.value.kind == "number" else 0 if type == INT else None
+        value = part.value.value if part.value and part.value.kind == "number" else 0
         self.globals[part.name] = Variable(part.name, type, HEAP, "global")
-        self.globals[part.name].value = wrapped(value) if type == INT else None
+        self.globals[part.name].value = narrowed(value, type) if is_number(type) else None
 
     def head_function(self, part):
         Head(self, part)

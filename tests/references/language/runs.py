@@ -2,10 +2,10 @@
 error of the rules, not of the program: `Dead`. So is a state that no case speaks of: `Wrong`."""
 from typing import NamedTuple
 
-from .types import INT, NULL, is_fat, is_pointer, wrapped
+from .types import CHAR, INT, NULL, is_fat, is_number, is_pointer, narrowed, wrapped
 
 CALLS, PAGES, STEPS = 4_096, 1_024, 1_000_000_000
-PAGE_WORDS = 1_024
+PAGE_WORDS, WORD_BYTES = 1_024, 4
 ARRAY_WORDS_AT_MOST = 1_000
 NULL_EXCEPTION, ARRAY_BOUNDS, ARRAY_SIZE, DIVISION_BY_ZERO = 1, 2, 3, 4
 # What a cell holds that was never written.
@@ -138,7 +138,7 @@ def moved(value, by):
 def converted(value, wanted):
     """What a value becomes where one of this type is wanted."""
     if not is_pointer(wanted):
-        return value
+        return narrowed(value, wanted) if is_number(wanted) else value
     if value is None:
         if wanted[1] == "@":
             raise Thrown(NULL_EXCEPTION)
@@ -146,6 +146,28 @@ def converted(value, wanted):
     if is_fat(wanted):
         return value if isinstance(value, Fat) else Fat(value.object, value.offset, 1, 0)
     return value if isinstance(value, Thin) else thinned(value)
+
+
+# --- Sizes: a cell of a char takes the next byte, any other begins at the next word ---
+
+
+def bytes_of(type):
+    if type == CHAR:
+        return 1
+    return 3 * WORD_BYTES if type != NULL and is_fat(type) else WORD_BYTES
+
+
+def words_for(count):
+    """The words that so many bytes take."""
+    return -(-count // WORD_BYTES)
+
+
+def words_of(types):
+    """The words of an object with cells of these types."""
+    end = 0
+    for type in types:
+        end = (end if type == CHAR else words_for(end) * WORD_BYTES) + bytes_of(type)
+    return words_for(end)
 
 
 def number_of_elements(value):
@@ -574,6 +596,10 @@ class Run:
         operand, act = self.expression(node.operand), UNARY[node.sign]
         return lambda frame: act(operand(frame))
 
+    def expression_char(self, node):
+        operand = self.expression(node.operand)
+        return lambda frame: narrowed(operand(frame), CHAR)
+
     def expression_binary(self, node):
         left, right = self.expression(node.left), self.expression(node.right)
         if node.sign == "&&":
@@ -586,7 +612,7 @@ class Run:
     @staticmethod
     def operator(node):
         """What an operator computes: it works on ints, on a fat pointer and an int, or it compares pointers."""
-        if node.left.type == INT:
+        if is_number(node.left.type):
             return BINARY[node.sign]
         if node.sign in ("+", "-"):
             return moved if node.sign == "+" else lambda value, by: moved(value, -by)
@@ -631,12 +657,8 @@ class Run:
         handle = self.expression(node.handle)
         return lambda frame: handle(frame).region
 
-    @staticmethod
-    def words_of(type):
-        return 3 if is_pointer(type) and is_fat(type) else 1
-
     def initial_plain(self, initial):
-        value, words = self.expression(initial.value), self.words_of(initial.value.type)
+        value, words = self.expression(initial.value), words_of([initial.value.type])
 
         def make(frame, region):
             held = value(frame)
@@ -648,7 +670,7 @@ class Run:
 
     def initial_fields(self, initial):
         values = [self.converted(value) for value in initial.values]
-        words = sum(self.words_of(value.wanted) for value in initial.values)
+        words = words_of([value.wanted for value in initial.values])
 
         def make(frame, region):
             held = [value(frame) for value in values]
@@ -660,13 +682,14 @@ class Run:
 
     def initial_array(self, initial):
         length, element = self.expression(initial.length), self.expression(initial.element)
-        words, slot = self.words_of(initial.element.type), initial.counter.variable.slot
+        size, slot = bytes_of(initial.element.type), initial.counter.variable.slot
 
         def make(frame, region):
             count = length(frame)
-            if count < 0 or count * words > ARRAY_WORDS_AT_MOST:
+            words = words_for(count * size)
+            if count < 0 or words > ARRAY_WORDS_AT_MOST:
                 raise Thrown(ARRAY_SIZE)
-            thing = self.store.make(region, count, count * words)
+            thing = self.store.make(region, count, words)
             for index in range(count):
                 frame.locals[slot] = index
                 store((thing, index), element(frame))

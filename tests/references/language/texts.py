@@ -8,7 +8,7 @@ ITEMS_AT_MOST = 64
 GREATEST_NUMBER = 2**31 - 1
 
 KEYWORDS = set(
-    "int void struct datatype exn region region_t uregion_key_t open let alias NewDynamicRegion new_ukey new rnew for if else"
+    "int char void struct datatype exn region region_t uregion_key_t open let alias NewDynamicRegion new_ukey new rnew for if else"
     " while return break continue throw try catch case default NULL numelts ufree free_ukey unique_region heap_region".split()
 )
 TOKEN = re.compile(
@@ -25,9 +25,9 @@ ESCAPES = {"n": 10, "t": 9, "r": 13, "0": 0, "\\": 92, "'": 39}
 LEVELS = [["||"], ["&&"], ["|"], ["^"], ["&"], ["==", "!="], ["<", "<=", ">", ">="], ["<<", ">>"], ["+", "-"], ["*", "/", "%"]]
 LEVEL_OF = {sign: level for level, signs in enumerate(LEVELS) for sign in signs}
 MARKS = ("*", "@", "?")
-TYPE_WORDS = ("int", "struct", "region_t", "uregion_key_t")
+TYPE_WORDS = ("int", "char", "struct", "region_t", "uregion_key_t")
 EXPRESSION_SIGNS = ("-", "!", "~", "*", "&", "(")
-EXPRESSION_WORDS = ("new", "rnew", "NULL", "heap_region", "unique_region", "numelts", "ufree", "free_ukey")
+EXPRESSION_WORDS = ("new", "rnew", "NULL", "heap_region", "unique_region", "numelts", "char", "ufree", "free_ukey")
 
 
 class Refused(Exception):
@@ -200,7 +200,7 @@ class Types(Reading):
         if token.text == "struct":
             written.name = self.want_name()
             written.arguments = self.region_arguments()
-        elif token.text != "int":
+        elif token.text not in ("int", "char"):
             written.arguments = [self.one_region()]
         return self.marked(written)
 
@@ -300,7 +300,7 @@ class Expressions(Types):
             return inner
         if self.sees("NULL", "heap_region", "unique_region"):
             return Node({"NULL": "null"}.get(token.text, token.text), self.take().place)
-        if self.sees("numelts", "ufree"):
+        if self.sees("numelts", "char", "ufree"):
             return Node(self.take().text, token.place, operand=self.enclosed("(", self.expression, ")"))
         if self.takes("free_ukey"):
             return Node("free_ukey", token.place, key=self.enclosed("(", self.variable, ")"))
@@ -344,8 +344,12 @@ class Statements(Expressions):
             found.append(self.item())
         return found
 
+    def begins_low_byte(self):
+        """Whether `char` and a bracket come: an expression. Behind `char` that is a type a mark or a name comes."""
+        return self.sees("char") and self.behind.kind == "sign" and self.behind.text == "("
+
     def item(self):
-        if self.begins_type():
+        if self.begins_type() and not self.begins_low_byte():
             return self.local()
         if self.sees("region"):
             return self.region_item()

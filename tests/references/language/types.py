@@ -1,18 +1,23 @@
 """Types and regions, how they are written, and what the rules of a construct say that it breaks.
 
-A type is `INT`, or a tuple: `pointer` with its mark, its target and its region, `handle` or `key` with a region, or `struct` with its name
-and its regions. A region is its name; those that a text does not name have one with a sign that no name has.
+A type is `INT`, `CHAR`, or a tuple: `pointer` with its mark, its target and its region, `handle` or `key` with a region, or
+`struct` with its name and its regions. A region is its name; those that a text does not name have one with a sign that no name has.
 """
 from .texts import Refused
 
 HEAP, UNIQUE = "H", "U"
-INT = ("int",)
+INT, CHAR = ("int",), ("char",)
 # What an expression has for its type where it has no value, and where it is the null pointer.
 NOTHING, NULL = "nothing", "null"
 
 
 def pointer(mark, target, region):
     return ("pointer", mark, target, region)
+
+
+def is_number(type):
+    """Whether a value of the type serves where an int is asked for."""
+    return type in (INT, CHAR)
 
 
 def is_pointer(type):
@@ -132,8 +137,8 @@ class Written:
         return ("struct", name.text, tuple(found or [HEAP] * count))
 
     def base(self, node):
-        if node.base == "int":
-            return INT
+        if node.base in ("int", "char"):
+            return INT if node.base == "int" else CHAR
         if node.base == "struct":
             return self.arguments(node.name, node.arguments, node.place)
         region = self.region(node.arguments[0], False)
@@ -168,6 +173,11 @@ def wrapped(number):
     return ((number + 2**31) & 0xFFFFFFFF) - 2**31
 
 
+def narrowed(number, type):
+    """What a variable or a cell of a type holds of a number."""
+    return number & 0xFF if type == CHAR else wrapped(number)
+
+
 def converted(faults, outlives, type, wanted, place):
     """Adds what is wrong where a value of a type is converted to another."""
     if type == NULL:
@@ -180,7 +190,7 @@ def converted(faults, outlives, type, wanted, place):
             faults.add(22, place)
         elif not outlives(type[3], wanted[3]):
             faults.add(25, place)
-    elif type != wanted:
+    elif type != wanted and not (is_number(type) and is_number(wanted)):
         faults.add(22, place)
 
 

@@ -12,7 +12,7 @@ use Rattle.cyc_types.specs.declared.typed.UnaryOperator.{UnaryOperator}
 use Rattle.cyc_types.specs.declared.typed.UnaryOperator.TheVariants as unary
 use Rattle.cyc_syntax.specs.declared.tree.PointerKind.{PointerKind}
 use Rattle.cyc_syntax.specs.declared.tree.PointerKind.TheVariants as marks
-use Rattle.cyc_types.specs.Types.{Ty, Int, Pointer, Handle, Key, Struct, ValueType, Null, Value, substituted_ty}
+use Rattle.cyc_types.specs.Types.{Ty, Int, Pointer, Handle, Key, Struct, ValueType, Null, Value, substituted_ty, Char}
 use Rattle.cyc_types.specs.TypedTrees.{Lvalue, Local, Global, Expression, Number, NullPointer, HeapRegion, Counter, NumberOfElements, Copy, Move, Peek, FreeUnique, FreeKey, Load, AddressOf, AddressOfCell, Call, Unary, Binary, Assign, Store, New, Dereference, Target, Member, Element, OnHeap, AsUnique, ByHandle, Initial, Plain, Fields, Converted, Convert, Arguments, NoArguments, MoreArguments, Operations, NoOperations, ThenCompute, ThenTest, ThenPointer, ThenPointerPeek, Side, VariableSide, CellSide, Statement, Block, Empty, Evaluate, Swap, If, While, Return, Break, Continue, Items, NoItems, MoreItems, Execute, Declare, DeclareRegion, OpenRegion, DeclareAlias, DeclareKey, GlobalVariable, Signature, Function, Program, Throw, Try, Clauses, NoClauses, Default, Case, Array}
 use Rattle.cyc_types.specs.Texts.{IsOfText, IsOfTextCell, IsOfTextObject, IsOfTextConverted, AreOfTextArguments, AreOfTextOperations, IsOfTextValue, IsOfTextSide, IsOfTextThrown, IsOfTextStatement, AreOfTextItems, AreOfTextClauses, AreOfTextFunctions, IsOfTextProgram}
 use Rattle.cyc_types.specs.Numbered.{signatures_of, Numbering, IsSignature, argument_count, IsWithin, numbering_of}
@@ -53,6 +53,9 @@ pointers_converted marks.Fat marks.Fat = refl
 
 types_converted : (c : Context) (v : ValueType) (t : Ty) → Converts c v t → is_converted (kind_of_value v) (kind_of t) ≡ true
 types_converted c (Value Int) Int converts = refl
+types_converted c (Value Int) Char converts = refl
+types_converted c (Value Char) Int converts = refl
+types_converted c (Value Char) Char converts = refl
 types_converted c (Value (Pointer m t r)) (Pointer l u s) converts = pointers_converted m l
 types_converted c (Value (Handle r)) (Handle s) converts = refl
 types_converted c (Value (Key r)) (Key s) converts = refl
@@ -72,6 +75,8 @@ operand_seen : (c : Context) (o : UnaryOperator) (a : Expression) (v : ValueType
 operand_seen c unary.Not a v (w, tested) = w
 operand_seen c unary.Negate a v (w, eq) = inl w
 operand_seen c unary.Complement a v (w, eq) = inl w
+operand_seen c unary.Widen a v (w, eq) = inl w
+operand_seen c unary.LowByte a v (w, eq) = inl w
 
 -- what there is to name is what is known
 record Agrees (b : Numbering) (c : Context) : Type 0 where

@@ -4,7 +4,7 @@ use Rattle.cyc_words.specs.Word.{IsWord}
 use Rattle.cyc_syntax.specs.declared.tokens.Keyword.TheVariants as words
 use Rattle.cyc_syntax.specs.Symbols.{Terminal, Symbol}
 use Rattle.cyc_syntax.specs.Symbols as terminals
-use Rattle.cyc_syntax.specs.Trees.{Expression, Number, Character, Call, Bracketed, NumberOfElements, FreeUnique, Chained, Prefixed, New, RegionNew, Binary, Assign, Initial, Plain, Fields, Array, Expressions, NoExpressions, MoreExpressions, Postfixes, NoPostfixes, ThenIndex, ThenField, Operations, NoOperations, ThenOperation, Statement, Block, Labelled, Evaluate, Swap, If, IfElse, While, Return, Body, Braces, Items, NoItems, MoreItems, Item, Execute, Local, Region, Alias, DynamicRegion, GlobalValue, Positive, Negative, Byte, NullPointer, Declaration, StructType, Exceptions, Global, Function, Throw, Try, Clauses, NoClauses, Default, Case}
+use Rattle.cyc_syntax.specs.Trees.{Expression, Number, Character, Call, Bracketed, NumberOfElements, LowByteOf, FreeUnique, Chained, Prefixed, New, RegionNew, Binary, Assign, Initial, Plain, Fields, Array, Expressions, NoExpressions, MoreExpressions, Postfixes, NoPostfixes, ThenIndex, ThenField, Operations, NoOperations, ThenOperation, Statement, Block, Labelled, Evaluate, Swap, If, IfElse, While, Return, Body, Braces, Items, NoItems, MoreItems, Item, Execute, Local, Region, Alias, DynamicRegion, GlobalValue, Positive, Negative, Byte, NullPointer, Declaration, StructType, Exceptions, Global, Function, Throw, Try, Clauses, NoClauses, Default, Case}
 use Rattle.cyc_syntax.specs.Yields.{Yield, item_number}
 use Rattle.cyc_syntax.specs.Yields as yields
 use Rattle.cyc_syntax.specs.Grammar.{IsSpelled, HasTree}
@@ -18,6 +18,7 @@ abbrev mutual
   IsOfWordsWritten (Call f es) = AreOfWordsWritten es
   IsOfWordsWritten (Bracketed p e) = IsOfWordsWritten e
   IsOfWordsWritten (NumberOfElements p e) = IsOfWordsWritten e
+  IsOfWordsWritten (LowByteOf p e) = IsOfWordsWritten e
   IsOfWordsWritten (FreeUnique p e) = IsOfWordsWritten e
   IsOfWordsWritten (Prefixed p o e) = IsOfWordsWritten e
   IsOfWordsWritten (Binary e os) = IsOfWordsWritten e × AreOfWordsChain os
@@ -144,6 +145,7 @@ mutual
   expression_constants d (Call f es) h = arguments_constants (suc d) es (front_part (yields.arguments (suc d) es) _ h.1.1)
   expression_constants d (Bracketed p e) (l, h) = expression_constants (suc d) e (front_part (yields.expression (suc d) e) _ h)
   expression_constants d (NumberOfElements p e) (w, (l, h)) = expression_constants (suc d) e (front_part (yields.expression (suc d) e) _ h)
+  expression_constants d (LowByteOf p e) (w, (l, h)) = expression_constants (suc d) e (front_part (yields.expression (suc d) e) _ h)
   expression_constants d (FreeUnique p e) (w, (l, h)) = expression_constants (suc d) e (front_part (yields.expression (suc d) e) _ h)
   expression_constants d (Prefixed p o e) (l, h) = expression_constants (suc d) e h
   expression_constants d (Binary e os) h = (expression_constants d e (front_part (yields.expression d e) _ h), chain_constants d 1 os (rest_part (yields.expression d e) _ h))

@@ -1,12 +1,13 @@
 -- The constants of a typed tree are words, where those of the tree that it is of are; and so the typed tree of a text has all its
 -- numbers in words.
-use Rattle.std.proofs.Common.{◌≡◌, ℕ, Bool, true, false, cond, List, [], ◌∷◌, Option, Some, None, sym, ap, subst, ◌∙◌, arith}
+use Rattle.std.proofs.Common.{◌≡◌, ℕ, Bool, true, false, cond, List, [], ◌∷◌, Option, Some, None, sym, ap, subst, ◌∙◌, arith, ◌-◌, ◌%◌, ◌^◌}
 use Rattle.cyc_syntax.specs.declared.tree.PrefixOperator.TheVariants as prefixes
 use Rattle.cyc_syntax.specs.declared.tree.BinaryOperator.{BinaryOperator}
 use Rattle.cyc_syntax.specs.declared.tree.BinaryOperator.TheVariants as operators
 use Rattle.cyc_syntax.specs.Symbols.{Place}
-use Rattle.cyc_syntax.specs.Trees.{Named, WrittenType, Expression, Number, Character, Null, HeapRegion, UniqueRegion, Variable, Call, Bracketed, NumberOfElements, FreeUnique, FreeKey, Chained, Prefixed, New, RegionNew, Binary, Assign, Initial, Plain, Fields, Array, Expressions, NoExpressions, MoreExpressions, Postfixes, NoPostfixes, ThenIndex, ThenField, Operations, NoOperations, ThenOperation, Statement, Block, Labelled, Empty, Evaluate, Swap, If, IfElse, While, Return, Break, Continue, Throw, Try, Body, Braces, Items, NoItems, MoreItems, Execute, Local, Region, Alias, DynamicRegion, GlobalValue, Positive, Negative, Byte, NullPointer, Declaration, StructType, Exceptions, Global, Function, place_of, Clauses, NoClauses, Default, Case}
+use Rattle.cyc_syntax.specs.Trees.{Named, WrittenType, Expression, Number, Character, Null, HeapRegion, UniqueRegion, Variable, Call, Bracketed, NumberOfElements, FreeUnique, FreeKey, Chained, Prefixed, New, RegionNew, Binary, Assign, Initial, Plain, Fields, Array, Expressions, NoExpressions, MoreExpressions, Postfixes, NoPostfixes, ThenIndex, ThenField, Operations, NoOperations, ThenOperation, Statement, Block, Labelled, Empty, Evaluate, Swap, If, IfElse, While, Return, Break, Continue, Throw, Try, Body, Braces, Items, NoItems, MoreItems, Execute, Local, Region, Alias, DynamicRegion, GlobalValue, Positive, Negative, Byte, NullPointer, Declaration, StructType, Exceptions, Global, Function, place_of, Clauses, NoClauses, Default, Case, LowByteOf}
 use Rattle.cyc_types.specs.declared.typed.Operator.{Operator}
+use Rattle.cyc_types.specs.declared.typed.UnaryOperator.TheVariants as unary
 use Rattle.cyc_types.specs.declared.typed.LogicalOperator.{LogicalOperator}
 use Rattle.cyc_types.specs.declared.typed.PointerOperator.{PointerOperator}
 use Rattle.cyc_types.specs.Types.{Ty, Int, Pointer, ValueType, Value}
@@ -17,11 +18,11 @@ use Rattle.cyc_types.specs.Rules.{Rule, Derives}
 use Rattle.cyc_types.specs.Texts.{IsOfText, IsOfTextCell, IsOfTextObject, IsOfTextConverted, AreOfTextArguments, AreOfTextOperations, IsOfTextValue, IsOfTextSide, IsOfTextThrown, IsOfTextStatement, AreOfTextItems, AreOfTextClauses, AreOfTextFunctions, IsOfTextProgram}
 use Rattle.cyc_types.specs.typing.Scopes.{Meaning, Unknown, Fixed, Counter, Routine, Scope, meaning_of, behind, in_block, in_labelled, in_body, counted, with_counter}
 use Rattle.cyc_types.specs.typing.Scopes as scopes
-use Rattle.cyc_types.specs.typing.Tests.{is_unique, is_moved, is_pointer}
-use Rattle.cyc_types.specs.typing.Expressions.{passed, variable_read, variable_looked, read, looked, rule_looked, Found, place_meant, Reached, pointed, indexed, selected, loaded, pointer_to, address_of, assignment, is_looking, is_looking_first, operand, Joined, peeked_local, then_pointer, then_added, ints_joined, tests_joined, sums_joined, then_compared, equality_joined, joined, instance_of, instantiated, called, key_freed, Made, field_types, arguments_written, fields_known, rule, rule_all, rule_chain, rule_place, rule_postfixed, rule_further, rule_made, Placed, rule_placement}
+use Rattle.cyc_types.specs.typing.Tests.{is_unique, is_moved, is_pointer, is_char}
+use Rattle.cyc_types.specs.typing.Expressions.{passed, variable_read, variable_looked, read, looked, rule_looked, Found, place_meant, Reached, pointed, indexed, selected, loaded, pointer_to, address_of, assignment, is_looking, is_looking_first, operand, Joined, peeked_local, then_pointer, then_added, ints_joined, tests_joined, sums_joined, then_compared, equality_joined, joined, instance_of, instantiated, called, key_freed, Made, field_types, arguments_written, fields_known, rule, rule_all, rule_chain, rule_place, rule_postfixed, rule_further, rule_made, Placed, rule_placement, as_int}
 use Rattle.cyc_types.specs.typing.Statements.{rule_condition, returned, rule_returned, exception_among, rule_initial, behind_item, rule_statement, rule_body, rule_items, rule_thrown, rule_clauses, with_caught, behind_clause}
 use Rattle.cyc_types.specs.typing.Heads.{signature_of}
-use Rattle.cyc_types.specs.typing.Programs.{Program, program_known, body_scope, rule_functions, constant_of, globals_of, IsTypedProgram}
+use Rattle.cyc_types.specs.typing.Programs.{Program, program_known, body_scope, rule_functions, constant_of, globals_of, IsTypedProgram, word_of}
 use Rattle.cyc_types.specs.typing.Heads as heads
 use Rattle.cyc_types.proofs.typing.CountLemmas.{thrown_shape, opened_shape, aliased_shape}
 use Rattle.cyc_words.specs.Word.{IsWord}
@@ -128,6 +129,9 @@ GivesCells r = (w : Reached) → Derives r w → CellHasWords w.cell
 either_words : (b : Bool) (a c : typed.Expression) → HasWords a → HasWords c → HasWords (cond b a c)
 either_words true a c h k = h
 either_words false a c h k = k
+
+as_int_words : (a : typed.Expression) → HasWords a → HasWords (as_int a)
+as_int_words a h = either_words (is_char (type_of a)) (typed.Unary unary.Widen a) a h h
 
 variable_words : (l : Lvalue) (t : Ty) → HasWords (variable_read l t)
 variable_words (typed.Local p n) t = either_words (is_moved t) (typed.Move p n t) (typed.Copy (typed.Local p n) t) tt tt
@@ -274,14 +278,16 @@ mutual
   expression_constants g (Variable x) w a d = read_constants (meaning_of g x) x.place a d
   expression_constants g (Call x es) w a (bs, hs, d) = called_constants g (meaning_of g x) x.place es bs (expressions_constants g es w bs hs) a d
   expression_constants g (Bracketed p e) w a d = expression_constants g e w a d
+  expression_constants g (LowByteOf p e) w a (b, kb, (k, eq)) = subst HasWords (sym eq) (as_int_words b (expression_constants g e w b kb))
   expression_constants g (NumberOfElements p e) w a (b, kb, (k, eq)) = subst HasWords (sym eq) (seen_constants g e (rule g e) (λ c h. expression_constants g e w c h) b kb)
   expression_constants g (FreeUnique p e) w a (b, kb, (k, eq)) = subst HasWords (sym eq) (expression_constants g e w b kb)
   expression_constants g (FreeKey p x) w a d = key_constants (meaning_of g x) x.place a d
   expression_constants g (Chained e ps) (w, ws) a (v, kv, d) =
       loaded_constants (place_of e) v (postfixed_constants g (place_of e) e ps (seen_constants g e (rule g e) (λ c h. expression_constants g e w c h)) ws v kv) a d
-  expression_constants g (Prefixed p prefixes.Negate e) w a (b, kb, (k, eq)) = subst HasWords (sym eq) (expression_constants g e w b kb)
-  expression_constants g (Prefixed p prefixes.Not e) w a (b, kb, (k, eq)) = subst HasWords (sym eq) (seen_constants g e (rule g e) (λ c h. expression_constants g e w c h) b kb)
-  expression_constants g (Prefixed p prefixes.Complement e) w a (b, kb, (k, eq)) = subst HasWords (sym eq) (expression_constants g e w b kb)
+  expression_constants g (Prefixed p prefixes.Negate e) w a (b, kb, (k, eq)) = subst HasWords (sym eq) (as_int_words b (expression_constants g e w b kb))
+  expression_constants g (Prefixed p prefixes.Not e) w a (b, kb, (k, eq)) =
+      subst HasWords (sym eq) (as_int_words b (seen_constants g e (rule g e) (λ c h. expression_constants g e w c h) b kb))
+  expression_constants g (Prefixed p prefixes.Complement e) w a (b, kb, (k, eq)) = subst HasWords (sym eq) (as_int_words b (expression_constants g e w b kb))
   expression_constants g (Prefixed p prefixes.Dereference e) w a (b, kb, d) =
       loaded_constants p (pointed g (place_of e) b) (seen_constants g e (rule g e) (λ c h. expression_constants g e w c h) b kb) a d
   expression_constants g (Prefixed p prefixes.AddressOf e) w a (x, kx, (k, eq)) = subst HasWords (sym eq) (address_words x.side (pointer_to x) (found_constants g (place_of e) e w x kx))
@@ -289,8 +295,10 @@ mutual
   expression_constants g (RegionNew p e v) (w, ws) a (v', kv, (m, km, (k, eq))) =
       subst HasWords (sym eq) (placement_constants g (place_of e) e (rule g e) (λ c h. expression_constants g e w c h) v' kv, made_constants g v ws m km)
   expression_constants g (Binary e os) (w, ws) a (b, kb, (bs, ks, (u, eq))) =
-      subst HasWords (sym eq)
-      (operand_constants g (is_looking_first os) e (λ c h. expression_constants g e w c h) b kb, chain_constants g (place_of e) (peeked_local b) (type_of b) os ws bs ks)
+      subst HasWords (sym eq) (
+        as_int_words b (operand_constants g (is_looking_first os) e (λ c h. expression_constants g e w c h) b kb),
+        chain_constants g (place_of e) (peeked_local (as_int b)) (type_of (as_int b)) os ws bs ks,
+      )
   expression_constants g (Assign e v) (w, ws) a (x, kx, (b, kb, (k, eq))) =
       subst HasWords (sym eq) (assignment_words x.side b (found_constants g (place_of e) e w x kx) (expression_constants g v ws b kb))
 
@@ -303,7 +311,8 @@ mutual
   chain_constants g p k left NoOperations w bs (kept, eq) = subst (λ (z : typed.Operations × Ty). OperationsHaveWords z.0) (sym eq) tt
   chain_constants g p k left (ThenOperation o q e os) (w, ws) bs (put, (b, kb, d), (cs, ks, (u, eq))) =
       subst (λ (z : typed.Operations × Ty). OperationsHaveWords z.0) (sym eq)
-      (joined_words g p k left (place_of e) b o put d cs.0 (operand_constants g (is_looking o) e (λ c h. expression_constants g e w c h) b kb) (chain_constants g p None (Value put.1) os ws cs ks))
+      (joined_words g p k left (place_of e) (as_int b) o put d cs.0 (as_int_words b (operand_constants g (is_looking o) e (λ c h. expression_constants g e w c h) b kb))
+      (chain_constants g p None (Value put.1) os ws cs ks))
 
   found_constants : (g : Scope) (p : Place) (e : Expression) → IsOfWordsWritten e → (x : Found) → Derives (rule_place g p e (rule g e)) x → SideHasWords x.side
   found_constants g p (Variable y) w x d = place_constants (meaning_of g y) y.place p x d
@@ -322,13 +331,13 @@ mutual
       → GivesCells (rule_postfixed g p (rule_looked g e (rule g e)) ps)
   postfixed_constants g p e NoPostfixes h w v d = absurd d
   postfixed_constants g p e (ThenIndex i ps) h (w, ws) v (a, ka, (b, kb, d)) =
-      further_constants g p (indexed g p a (place_of i) b) ps (h a ka, expression_constants g i w b kb) ws v d
+      further_constants g p (indexed g p a (place_of i) (as_int b)) ps (h a ka, as_int_words b (expression_constants g i w b kb)) ws v d
   postfixed_constants g p e (ThenField f ps) h w v (a, ka, d) = further_constants g p (selected g p a f) ps (h a ka) w v d
 
   further_constants : (g : Scope) (p : Place) (r : Reached) (ps : Postfixes) → CellHasWords r.cell → AreOfWordsPostfixes ps → GivesCells (rule_further g p r ps)
   further_constants g p r NoPostfixes h w v (k, eq) = subst (λ (z : Reached). CellHasWords z.cell) (sym eq) h
   further_constants g p r (ThenIndex i ps) h (w, ws) v (a, ka, (b, kb, d)) =
-      further_constants g p (indexed g p a (place_of i) b) ps (loaded_constants p r h a ka, expression_constants g i w b kb) ws v d
+      further_constants g p (indexed g p a (place_of i) (as_int b)) ps (loaded_constants p r h a ka, as_int_words b (expression_constants g i w b kb)) ws v d
   further_constants g p r (ThenField f ps) h w v (a, ka, d) = further_constants g p (selected g p a f) ps (loaded_constants p r h a ka) w v d
 
   made_constants : (g : Scope) (i : Initial) → IsOfWordsMadeOf i → (m : Made) → Derives (rule_made g i) m → InitialHasWords m.initial
@@ -336,7 +345,7 @@ mutual
   made_constants g (Fields s rs es) w m (as', ks, (k, eq)) =
       subst (λ (z : Made). InitialHasWords z.initial) (sym eq) (passed_words as' (field_types (arguments_written g s rs) (fields_known g s)) (expressions_constants g es w as' ks))
   made_constants g (Array p x n e) (w, ws) m (a, ka, (b, kb, (k, eq))) =
-      subst (λ (z : Made). InitialHasWords z.initial) (sym eq) (expression_constants g n w a ka, expression_constants (with_counter x g) e ws b kb)
+      subst (λ (z : Made). InitialHasWords z.initial) (sym eq) (as_int_words a (expression_constants g n w a ka), expression_constants (with_counter x g) e ws b kb)
 
 -- ---- from the rules: statements
 
@@ -354,10 +363,10 @@ returned_constants g p (Some e) c w (a, h, k) = value_constants g g.result p (pl
 
 thrown_constants : (g : Scope) (v : Option Expression) (a : Option typed.Expression) → IsOfWordsValue v → Derives (rule_thrown g v) a → ThrownHasWords a
 thrown_constants g None a w (k, eq) = subst ThrownHasWords (sym eq) tt
-thrown_constants g (Some e) a w (b, h, (k, eq)) = subst ThrownHasWords (sym eq) (expression_constants g e w b h)
+thrown_constants g (Some e) a w (b, h, (k, eq)) = subst ThrownHasWords (sym eq) (as_int_words b (expression_constants g e w b h))
 
 condition_constants : (g : Scope) (e : Expression) → IsOfWordsWritten e → GivesWords (rule_condition g e)
-condition_constants g e w a (b, h, (k, eq)) = subst HasWords (sym eq) (seen_constants g e (rule g e) (λ c d. expression_constants g e w c d) b h)
+condition_constants g e w a (b, h, (k, eq)) = subst HasWords (sym eq) (as_int_words b (seen_constants g e (rule g e) (λ c d. expression_constants g e w c d) b h))
 
 mutual
   statement_constants : (g : Scope) (s : Statement) → IsOfWordsWrittenStatement s → (t : typed.Statement) → Derives (rule_statement g s) t → StatementHasWords t
@@ -416,12 +425,16 @@ either_constant : (b : Bool) → IsOfWordsConstant (cond b typed.Null (typed.Wor
 either_constant true = tt
 either_constant false = omega arith
 
+value_word : (t : Ty) (n : ℕ) → IsWord n → IsWord (word_of t n)
+value_word types.Char n w = omega arith
+value_word t n w = w
+
 -- that of a negative value too: it is wrapped
 global_constants : (t : Ty) (v : Option GlobalValue) → IsOfWordsGlobalValue v → IsOfWordsConstant (constant_of t v)
 global_constants t None w = either_constant (is_pointer t)
-global_constants t (Some (Positive p n)) w = w
-global_constants t (Some (Negative p n)) w = omega arith
-global_constants t (Some (Byte p c)) w = w
+global_constants t (Some (Positive p n)) w = value_word t n w
+global_constants t (Some (Negative p n)) w = value_word t ((2 ^ 32 - n) % 2 ^ 32) (omega arith)
+global_constants t (Some (Byte p c)) w = value_word t c w
 global_constants t (Some (NullPointer p)) w = tt
 
 globals_constants : (k : heads.Known) (tree : List Declaration) → IsOfWordsTree tree → AreOfWordsGlobals (globals_of k tree)

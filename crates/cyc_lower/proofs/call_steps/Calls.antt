@@ -3,7 +3,6 @@ use Rattle.std.proofs.Common.{◌≡◌, ℕ, zero, suc, ◌+◌, ◌-◌, ◌<�
 use Rattle.std.specs.Prelude.{◌==◌, nat_le, if◌then◌else◌}
 use Rattle.std.proofs.lemmas.Bool.{cases_lt, false_from_ne_true, leb-true, and_right}
 use Rattle.std.proofs.lemmas.Option.{same_Some, none-some}
-use Rattle.std.proofs.lemmas.Grind.{and_numeral}
 use Rattle.cyc_words.specs.Ending.{Full}
 use Rattle.cyc_words.proofs.PrefixLemmas.{IsPrefix-append}
 use Rattle.cyc_types.specs.declared.typed.Kind.{Kind}
@@ -33,9 +32,9 @@ use Rattle.cyc_lower.specs.ControlCode.{outside_loops}
 use Rattle.cyc_lower.specs.Lowering.{lower_program, raises_of, globals_of, scopes_of}
 use Rattle.cyc_lower.proofs.relation.Stands.{ItemsAt}
 use Rattle.cyc_lower.specs.Slots.{starts_of, slot_of, global_types}
-use Rattle.cyc_lower.proofs.slots.Slots.{slot-parameter, words-parameter, slot_types-many, words-append}
-use Rattle.cyc_lower.proofs.slots.Widths.{kind_of_result, result_kind, same_kind, type_words, words_in, HasRoom}
-use Rattle.cyc_lower.proofs.value_steps.ValueWords.{of_kind, int_is}
+use Rattle.cyc_lower.proofs.slots.Slots.{slot-parameter, words-parameter, slot_types-many, words-append, kind-parameter}
+use Rattle.cyc_lower.proofs.slots.Widths.{kind_of_result, result_kind, same_kind, type_words, words_in, HasRoom, kind_in}
+use Rattle.cyc_lower.proofs.value_steps.ValueWords.{of_kind, int_is, low_byte_of}
 use Rattle.cyc_objects.specs.Tables.{with_row, with_handle}
 use Rattle.cyc_objects.specs.Words.{Is}
 use Rattle.cyc_objects.specs.Related.{scopes}
@@ -47,7 +46,7 @@ use Rattle.cyc_lower.proofs.relation.Accesses.{IsWell, is_fitting, is_declared, 
 use Rattle.cyc_lower.proofs.relation.Matched.{IsMatched, above, below, matching, silently, by_one, by_two_known, shared_within, shared_way, steps_to, place_in, known}
 use Rattle.cyc_lower.proofs.value_steps.Evaluations.{IsStep, landed_word, lands_at}
 use Rattle.cyc_lower.proofs.relation.Sharing.{shared_declared, row_declared, shared_opened}
-use Rattle.cyc_lower.proofs.relation.Rows.{row-fits, row-variable}
+use Rattle.cyc_lower.proofs.relation.Rows.{row-fits, row-variable, declared_low}
 
 module _ (source : Program) (pages calls : ℕ) where
   -- ---- services
@@ -73,9 +72,6 @@ module _ (source : Program) (pages calls : ℕ) where
       } in
       by_one source pages calls refl shared here
       (λ choice. landed_word source pages calls byte word d k e next read q (ap (λ (l : List ℕ). unwrap_or (slice_get l 0) (2 ^ 32 - 1)) shared.same_input) shared_read facts holds end lands)
-
-  low_byte_of : (a : ℕ) → bit_and a 255 ≡ a % 256
-  low_byte_of a = and_numeral a 254 refl
 
   abbrev shared_printed : (a x : ℕ) (k : List Entry) (e : Environment) (w : World) (c : Configuration) → (shared : SharedAt source pages calls k e w c) → x ≡ a
       → SharedAt source pages calls k e (record w { output = w.output ++ a % 256 ∷ [] }) (advanced (record c { output = c.output ++ x % 256 ∷ [] }))
@@ -136,11 +132,13 @@ module _ (source : Program) (pages calls : ℕ) where
   -- a parameter is a local, whose slots are behind those of the parameters before it
   parameter_in : (h : Option Function) (first rest : List Ty) (t : Ty) → parameters_in source h ≡ first ++ t ∷ rest
       → (length first < length (types_in source h).locals) × (slot_of (starts_of (types_in source h)) (length first) ≡ words_of_all first) × (words_in (types_in source h).locals (length first) ≡ words_of t)
+      × (kind_in (types_in source h).locals (length first) ≡ kind_of t)
   parameter_in None first rest t own = absurd (omega (arith, ap length own, length-append first (t ∷ rest)))
   parameter_in (Some h) first rest t own = (
     omega (arith, slot_types-many h, ap length own, length-append first (t ∷ rest)),
     ap (λ (ts : List Ty). slot_of (starts_of (record { locals = ts ++ h.locals; structs = source.structs; raises = raises_of source.structs (globals_of source) (scopes_of source) h; counters = []; globals = global_types source.globals; scopes = scopes_of source })) (length first)) own ∙ slot-parameter source.structs (raises_of source.structs (globals_of source) (scopes_of source) h) (global_types source.globals) (scopes_of source) first rest t h.locals,
     ap (λ (ts : List Ty). words_in (ts ++ h.locals) (length first)) own ∙ words-parameter first rest t h.locals,
+    ap (λ (ts : List Ty). kind_in (ts ++ h.locals) (length first)) own ∙ kind-parameter first rest t h.locals,
   )
 
   pub binding : (n : ℕ) (types : List Ty) (arguments : List Kinded) (body : Items) (k : List Entry) (e : Environment) (w : World) (c : Configuration) → IsStep source pages calls (Binding n types arguments body) k e w c
@@ -152,7 +150,7 @@ module _ (source : Program) (pages calls : ℕ) where
   binding n (t ∷ types) [] body k e w c well related = absurd (well refl)
   binding n (t ∷ types) (v ∷ arguments) body k e w c well (shared, facts, (m, first, items, stack, (is, holds), own, count)) =
       let g = c.active.function in
-      let (local, slot, words) = parameter_in (slice_get source.functions g) first types t own in
+      let (local, slot, words, of_type) = parameter_in (slice_get source.functions g) first types t own in
       let x = variable e.home (kind_of t) (Some v.value) in
       let made_it = declared (region_at w e.home) (Binding (suc n) types arguments body) n (kind_of t) (Some v.value) k e w in
       let fits = is_fitting (is_kind v.kind (kind_of t)) made_it w well in
@@ -173,10 +171,11 @@ module _ (source : Program) (pages calls : ℕ) where
       (does ∙ is_declared (region_at w e.home) (Binding (suc n) types arguments body) n (kind_of t) (Some v.value) k e w (subst IsWell does well)) (
         shared_declared source pages calls k e w c shared n r (kind_of t) (Some v.value) row home (row-fits (call_slots source g c.active.base) (slot_of (starts_at source g) n) (kind_of t) e.home (Some v.value)) (row-variable (call_slots source g c.active.base) (slot_of (starts_at source g) n) (kind_of t)),
         (
-          data_declared grown source g c.active.base w.objects e (callers k) c.active.slots c.active.slots c.globals c.frames n 0 x (omega (arith, local, count)) (omega arith) (record { kind = kind_of t; room = subst (HasRoom (types_at source g) n) kind_is room; row = row_declared source pages calls k e w c shared row }) (λ i out. refl)
+          data_declared grown source g c.active.base w.objects e (callers k) c.active.slots c.active.slots c.globals c.frames n 0 x (omega (arith, local, count)) (omega arith) (record { kind = kind_of t; room = subst (HasRoom (types_at source g) n) kind_is room; of_type = ap (kind_in (types_at source g).locals) (sym count) ∙ of_type; row = row_declared source pages calls k e w c shared row }) (λ i out. refl)
               (λ u has.
               let u_is : v ≡ u = ap (λ i. of_kind i v.value) kind_is ∙ same_Some (of_kind (kind_of t) v.value) u has in
-              subst (λ (y : Kinded). Is grown y.kind y.value c.active.slots (slot_of (starts_at source g) n) × HasRoom (types_at source g) n y.kind) u_is (subst (Is grown v.kind v.value c.active.slots) (sym there) is_now, room)) more,
+              subst (λ (y : Kinded). Is grown y.kind y.value c.active.slots (slot_of (starts_at source g) n) × HasRoom (types_at source g) n y.kind) u_is (subst (Is grown v.kind v.value c.active.slots) (sym there) is_now, room))
+              (λ is_char. declared_low grown (call_slots source g c.active.base) (slot_of (starts_at source g) n) (kind_of t) (length w.objects) v c.active.slots (row_declared source pages calls k e w c shared row) kind_is (subst (Is grown v.kind v.value c.active.slots) (sym there) is_now) is_char) more,
           facts.1,
         ),
         (

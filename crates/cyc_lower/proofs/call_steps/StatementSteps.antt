@@ -15,34 +15,34 @@ use Rattle.cyc_plain.specs.declared.instruction.Instruction.TheVariants as instr
 use Rattle.cyc_plain.specs.Program.{no_routine, routine_at}
 use Rattle.cyc_store.specs.State.{StoreState}
 use Rattle.cyc_plain.specs.State as plain
-use Rattle.cyc_plain.specs.State.{Words, copied, Activation, Frame, Configuration}
-use Rattle.cyc_plain.specs.Step.{Choice, at, performed}
+use Rattle.cyc_plain.specs.State.{Words, copied, Activation, Frame, Configuration, put}
+use Rattle.cyc_plain.specs.Step.{Choice, at, performed, with_slots, advanced}
 use Rattle.cyc_plain.specs.Step as plain_step
-use Rattle.cyc_plain.proofs.SlotLaws.{copied-below}
+use Rattle.cyc_plain.proofs.SlotLaws.{copied-below, put-same}
 use Rattle.cyc_plain.specs.Straight.{At}
 use Rattle.cyc_meaning.specs.Values.{Value, Int, kind_of, Operand as Kinded, words_of_kind}
-use Rattle.cyc_meaning.specs.State.{Access, Region, World, Environment, variable, made, opened, closed, with_local, region_at, ConvertTo, Initialise, Choose, Return, Entry, Needs, NeedsPlace, Discard, Rest, Join, Loop, CloseRegion, CloseLexical, EndLoan, Handler, Caller, Main, Focus, Evaluating, Given, Executing, Proceeding, Breaking, Continuing, Returning, Running, Ended, State}
+use Rattle.cyc_meaning.specs.State.{Access, Region, World, Environment, variable, made, opened, closed, with_local, region_at, ConvertTo, Initialise, Choose, Return, Entry, Needs, NeedsPlace, Discard, Rest, Join, Loop, CloseRegion, CloseLexical, EndLoan, Handler, Caller, Main, Focus, Evaluating, Given, Executing, Proceeding, Breaking, Continuing, Returning, Running, Ended, State, Object}
 use Rattle.cyc_meaning.specs.Nesting.{IsNested}
 use Rattle.cyc_meaning.specs.Regions.{closing_lexical}
 use Rattle.cyc_meaning.specs.Step.{target_by, inside, region_end, step}
 use Rattle.cyc_lower.specs.declared.statements.Exits.{Exits}
 use Rattle.cyc_lower.specs.Slots.{slot_of}
 use Rattle.cyc_lower.proofs.slots.Slots.{slot-room, room-inside}
-use Rattle.cyc_lower.proofs.slots.Widths.{HasRoom, Outside}
-use Rattle.cyc_lower.proofs.relation.Moves.{copied_is, copied_elsewhere}
-use Rattle.cyc_lower.specs.ValueCode.{are_as_wide, converts_there, null_of}
+use Rattle.cyc_lower.proofs.slots.Widths.{HasRoom, Outside, HasLocal, kind_in, kind_positive}
+use Rattle.cyc_lower.proofs.relation.Moves.{copied_is, copied_elsewhere, put_elsewhere}
+use Rattle.cyc_lower.specs.ValueCode.{converts_there, null_of, keeps_words}
 use Rattle.cyc_lower.specs.ControlCode.{counter_operand, break_target, continue_target, inside_loop}
-use Rattle.cyc_lower.specs.ExpressionCode.{operand_of}
+use Rattle.cyc_lower.specs.ExpressionCode.{operand_of, value_slot}
 use Rattle.cyc_lower.specs.Lowering.{scopes_of, results_of, lower_function, lower_program, globals_of}
-use Rattle.cyc_lower.proofs.relation.Stands.{OperandBy, ExpressionAt, InitialAt, InitialBy, ReturnedAt, ItemsAt}
-use Rattle.cyc_objects.specs.Tables.{Tables, with_row, with_handle}
+use Rattle.cyc_lower.proofs.relation.Stands.{OperandBy, ExpressionAt, InitialAt, InitialBy, ReturnedAt, ItemsAt, BlankAt}
+use Rattle.cyc_objects.specs.Tables.{Tables, with_row, with_handle, Row}
 use Rattle.cyc_objects.specs.Related.{scopes}
 use Rattle.cyc_objects.specs.Words.{Is}
 use Rattle.cyc_objects.proofs.Values.{Grows-row, Grows-handle}
 use Rattle.cyc_lower.proofs.relation.Sharing.{shared_declared, row_declared, shared_opened, shared_closed}
-use Rattle.cyc_lower.proofs.relation.HeldValues.{kept, counters_of, Holds, held, callers, homes, behind_records, row_of}
+use Rattle.cyc_lower.proofs.relation.HeldValues.{kept, counters_of, Holds, held, callers, homes, behind_records, row_of, IsLocalRow}
 use Rattle.cyc_lower.proofs.relation.Relation.{CountsBy, opened_by, types_on, starts_on, types_at, starts_at, given_at, returned_at, Shared, DataAt, SharedAt, in_temporary, in_local, ValueStack, AheadStack, StatementStack, LandsStack, Related, EvaluatingAt, as_operand, into_slot, for_effect, as_condition, in_operand, ahead, behind_statement, behind_call, behind_wrong, Below, IsLast, Arrives, in_place, by_jump, code_of, bounds_in, bounds_at, top, by_jumps, HandlersStand, DataIn, Matches, floor, call_slots}
-use Rattle.cyc_lower.proofs.relation.Data.{height-least, Holds-same, Holds-above, data_declared, data_returned, data_grows, held_by_caller, floor-least, handlers_same, calls_counted}
+use Rattle.cyc_lower.proofs.relation.Data.{height-least, Holds-same, Holds-above, data_declared, data_returned, data_grows, held_by_caller, floor-least, handlers_same, calls_counted, handlers_beside}
 use Rattle.cyc_lower.proofs.value_steps.ValueWords.{int_at}
 use Rattle.cyc_lower.proofs.relation.Accesses.{IsWell, is_declared, is_closed, home_there}
 use Rattle.cyc_lower.proofs.place_steps.SwapSteps.{begins_swap}
@@ -54,7 +54,8 @@ use Rattle.cyc_lower.proofs.relation.Matched.{IsMatched, silently, by_one, by_tw
 use Rattle.cyc_lower.proofs.handler_steps.ExceptionSteps.{begins, ends, throws_none, throws_some}
 use Rattle.cyc_lower.proofs.value_steps.Evaluations.{IsStep, sources}
 use Rattle.cyc_lower.proofs.region_steps.RegionSteps.{local_there, opens_region, opens_by, aliases_local, declares_key, closes_region, ends_loan}
-use Rattle.cyc_lower.proofs.relation.Rows.{row-fits, row-variable}
+use Rattle.cyc_lower.proofs.relation.Rows.{row-fits, row-variable, char_row}
+use Rattle.cyc_types.specs.declared.typed.Kind.TheVariants as kinds
 
 module _ (source : Program) (pages calls : ℕ) where
   -- ---- calls
@@ -86,22 +87,23 @@ module _ (source : Program) (pages calls : ℕ) where
       into_slot (top source g k) m at holds (in_temporary (omega arith) (subst (λ x. ValueStack source g locals (given_at source g NullPointer) (operands.Slot x) m frames k) is stack))
   returned tables a false locals g p slots frames k s m (is, at) holds stack =
       into_slot (top source g k) m at holds (in_temporary (omega arith) (subst (λ x. ValueStack source g locals (given_at source g a) (operands.Slot x) m frames k) is stack))
-  returned tables (Copy (Local w n) t) true locals g p slots frames k s m (is, end) holds stack = as_operand (operands.Slot s) m (ap operands.Slot is, end) holds stack
-  returned tables (Move w n t) true locals g p slots frames k s m (is, end) holds stack = as_operand (operands.Slot s) m (ap operands.Slot is, end) holds stack
-  returned tables (Peek w n t) true locals g p slots frames k s m (is, end) holds stack = as_operand (operands.Slot s) m (ap operands.Slot is, end) holds stack
-  returned tables (Counter l) true locals g p slots frames k s m at holds stack = by (slice_get (counters_of (floor source g k) k) l) refl at
+  returned tables a true locals g p slots frames k s m at holds stack = by (operand_of (starts_on source g k) a) refl at
     where
-      by : (slot : Option ℕ) → slice_get (counters_of (floor source g k) k) l ≡ slot
-          → ReturnedAt (code_of source g) (bounds_at source g) (types_on source g k) (counter_operand slot)
-          (ExpressionAt (code_of source g) (bounds_at source g) (types_on source g k) (Counter l) (top source g k) (top source g k) p m) (top source g k) s p m
-          → EvaluatingAt source tables (Counter l) locals g p slots frames k
-      by None none (is, at) = into_slot (top source g k) m at holds (in_temporary (omega arith) (subst (λ x. ValueStack source g locals (given_at source g (Counter l)) (operands.Slot x) m frames k) is stack))
-      by (Some n) there (is, end) =
+      computed : Type 0
+      computed = ExpressionAt (code_of source g) (bounds_at source g) (types_on source g k) a (top source g k) (top source g k) p m
+
+      brought : s ≡ top source g k → computed → EvaluatingAt source tables a locals g p slots frames k
+      brought is at = into_slot (top source g k) m at holds (in_temporary (omega arith) (subst (λ x. ValueStack source g locals (given_at source g a) (operands.Slot x) m frames k) is stack))
+
+      by : (known : Option Operand) → operand_of (starts_on source g k) a ≡ known
+          → ReturnedAt (code_of source g) (bounds_at source g) (types_on source g k) known computed (top source g k) s p m → EvaluatingAt source tables a locals g p slots frames k
+      by None none (is, at) = brought is at
+      by (Some (operands.Word n)) known (is, at) = brought is at
+      by (Some (operands.Slot n)) known (is, end) =
           as_operand (operands.Slot s) m
-          (subst (λ x. OperandBy (code_of source g) (bounds_at source g) (types_on source g k) (counter_operand x)
-          (ExpressionAt (code_of source g) (bounds_at source g) (types_on source g k) (Counter l) (top source g k) (top source g k) p m) (top source g k) (operands.Slot s) p m) (sym there) (ap operands.Slot is, end)) holds stack
-  returned tables a true locals g p slots frames k s m (is, at) holds stack =
-      into_slot (top source g k) m at holds (in_temporary (omega arith) (subst (λ x. ValueStack source g locals (given_at source g a) (operands.Slot x) m frames k) is stack))
+          (subst (λ x. OperandBy (code_of source g) (bounds_at source g) (types_on source g k) x
+          (ExpressionAt (code_of source g) (bounds_at source g) (types_on source g k) a (value_slot (starts_on source g k) a (top source g k)) (top source g k) p m)
+          (value_slot (starts_on source g k) a (top source g k)) (operands.Slot s) p m) (sym known) (ap operands.Slot is, end)) holds stack
 
   pub executing : (s : Statement) (k : List Entry) (e : Environment) (w : World) (c : Configuration) → IsNested k e w → IsStep source pages calls (Executing s) k e w c
   executing (Block r js) k e w c nested well (shared, facts, (exits, q, items, stack)) =
@@ -133,7 +135,7 @@ module _ (source : Program) (pages calls : ℕ) where
       (λ handlers stand marks_there marked. (shared_leaving source pages calls false k e w c shared, (facts.0, stand), m, marks_there, marked, (exits, q, s, here, stack)))
   executing (typed.Return (Some (Convert from to a))) k e w c nested well (shared, facts, (exits, q, (s, m, r, u, at_a, at_to, leave, here, wide, kind_is), stack)) =
       silently source pages calls (Running (Executing (typed.Return (Some (Convert from to a)))) k e w) (Running (Evaluating a) (Needs (ConvertTo from to (target_by a)) ∷ Needs Return ∷ k) e w) (plain.Running c) refl
-      (shared, facts, returned shared.tables a (are_as_wide from to) e.locals c.active.function c.active.next c.active.slots c.frames (Needs (ConvertTo from to (target_by a)) ∷ Needs Return ∷ k) s m at_a tt (r, at_to, (exits, q, s, u, refl, leave, here, (wide, kind_is), stack)))
+      (shared, facts, returned shared.tables a (keeps_words from to) e.locals c.active.function c.active.next c.active.slots c.frames (Needs (ConvertTo from to (target_by a)) ∷ Needs Return ∷ k) s m at_a tt (r, at_to, (exits, q, s, u, refl, leave, here, (wide, kind_is), stack)))
       (omega arith)
   executing Break k e w c nested well (shared, facts, (exits, q, (m, (r, closing, marks), here), stack)) =
       leaving source pages calls true (Executing Break) Breaking k k e w c exits.in_loop r m refl shared (omega arith) (record_left source c.active.function exits q c.frames k stack).0 closing marks facts.1
@@ -258,26 +260,69 @@ module _ (source : Program) (pages calls : ℕ) where
   declares : (n : ℕ) (t : Ty) (js : Items) (k : List Entry) (e : Environment) (w : World) (c : Configuration) (exits : Exits) (m q : ℕ)
       → IsWell (step source (Running Proceeding (Rest (MoreItems (Declare n t None) js) ∷ k) e w))
       → (shared : SharedAt source pages calls k e w c) → DataIn source shared.tables c.active.slots k e w c
-      → n < length (types_at source c.active.function).locals → HasRoom (types_at source c.active.function) n (kind_of t) → c.active.next ≡ m
+      → n < length (types_at source c.active.function).locals → HasLocal (types_at source c.active.function) n (kind_of t)
+      → BlankAt (code_of source c.active.function) (kind_of t) (slot_of (starts_at source c.active.function) n) c.active.next m
       → ItemsAt (code_of source c.active.function) (bounds_at source c.active.function) (types_at source c.active.function) js exits (floor source c.active.function k) m q
       → StatementStack source c.active.function exits q c.frames k
       → IsMatched source pages calls (Running Proceeding (Rest (MoreItems (Declare n t None) js) ∷ k) e w) (plain.Running c)
-  declares n t js k e w c exits m q well shared facts few room end items stack =
-      let g = c.active.function in
-      let x = variable e.home (kind_of t) None in
-      let (r, home) = home_there Proceeding n (kind_of t) None (Rest js ∷ k) e w well in
-      let row = row_of (call_slots source g c.active.base) (slot_of (starts_at source g) n) (kind_of t) in
-      let grown = with_row shared.tables row in
-      let more = data_grows shared.tables grown (Grows-row shared.tables row) source g c.active.base w.objects e.locals (callers k) c.active.slots c.globals c.frames facts.0 in
-      silently source pages calls (Running Proceeding (Rest (MoreItems (Declare n t None) js) ∷ k) e w)
-      (Running Proceeding (Rest js ∷ k) (with_local e n (length w.objects)) (made w x)) (plain.Running c)
-      (is_declared (region_at w e.home) Proceeding n (kind_of t) None (Rest js ∷ k) e w well) (
-        shared_declared source pages calls k e w c shared n r (kind_of t) None row home (row-fits (call_slots source g c.active.base) (slot_of (starts_at source g) n) (kind_of t) e.home None) (row-variable (call_slots source g c.active.base) (slot_of (starts_at source g) n) (kind_of t)),
-        behind_statement exits
-            (data_declared grown source g c.active.base w.objects e (callers k) c.active.slots c.active.slots c.globals c.frames n 0 x few (omega arith) (record { kind = kind_of t; room = room; row = row_declared source pages calls k e w c shared row }) (λ m out. refl) (λ v has. absurd (none-some v has)) more, facts.1)
-            (q, subst (λ p. ItemsAt (code_of source g) (bounds_at source g) (types_at source g) js exits (floor source g k) p q) (sym end) items, stack),
-      )
-      (omega arith)
+  declares n t js k e w c exits m q well shared facts few (room, of_type) blank items stack = by (kind_of t) refl blank
+    where
+      g : ℕ
+      g = c.active.function
+
+      slot : ℕ
+      slot = slot_of (starts_at source g) n
+
+      x : Object
+      x = variable e.home (kind_of t) None
+
+      row : Row
+      row = row_of (call_slots source g c.active.base) slot (kind_of t)
+
+      grown : Tables
+      grown = with_row shared.tables row
+
+      local : IsLocalRow grown (types_at source g) (call_slots source g c.active.base) n (length w.objects)
+      local = record { kind = kind_of t; room = room; of_type = of_type; row = row_declared source pages calls k e w c shared row }
+
+      more : DataAt source grown g c.active.base w.objects e.locals (callers k) c.active.slots c.globals c.frames
+      more = data_grows shared.tables grown (Grows-row shared.tables row) source g c.active.base w.objects e.locals (callers k) c.active.slots c.globals c.frames facts.0
+
+      does : step source (Running Proceeding (Rest (MoreItems (Declare n t None) js) ∷ k) e w) ≡ Running Proceeding (Rest js ∷ k) (with_local e n (length w.objects)) (made w x)
+      does = is_declared (region_at w e.home) Proceeding n (kind_of t) None (Rest js ∷ k) e w well
+
+      declared_by : (d : Configuration) → SharedAt source pages calls k e w d → SharedAt source pages calls (Rest js ∷ k) (with_local e n (length w.objects)) (made w x) d
+      declared_by d there =
+          let (r, home) = home_there Proceeding n (kind_of t) None (Rest js ∷ k) e w well in
+          shared_declared source pages calls k e w d there n r (kind_of t) None row home (row-fits (call_slots source g c.active.base) slot (kind_of t) e.home None) (row-variable (call_slots source g c.active.base) slot (kind_of t))
+
+      by : (kind : Kind) → kind_of t ≡ kind → BlankAt (code_of source g) kind slot c.active.next m
+          → IsMatched source pages calls (Running Proceeding (Rest (MoreItems (Declare n t None) js) ∷ k) e w) (plain.Running c)
+      by kinds.Char is (here, end) =
+          let slots = put c.active.slots slot 0 in
+          let elsewhere : (i : ℕ) → Outside slot 1 i → slots i ≡ c.active.slots i = λ i out. put_elsewhere c.active.slots slot 0 1 i (omega arith) out in
+          by_one source pages calls does shared here
+          (λ choice. (
+            declared_by (advanced (with_slots c slots)) shared,
+            behind_statement exits (
+              data_declared grown source g c.active.base w.objects e (callers k) c.active.slots slots c.globals c.frames n 1 x few (omega (arith, room, kind_positive (kind_of t))) local elsewhere (λ v has. absurd (none-some v has))
+                  (λ is_char. subst (λ (word : ℕ). word < 256) (sym (put-same c.active.slots slot 0)) (omega arith)) more,
+              handlers_beside source g c.active.slots slots c.active.handlers c.frames k slot 1 (omega (arith, slot-room (types_at source g) n few, room, kind_positive (kind_of t))) elsewhere facts.1,
+            )
+                (q, subst (λ p. ItemsAt (code_of source g) (bounds_at source g) (types_at source g) js exits (floor source g k) p q) (sym end) items, stack),
+          ))
+      by kind is end =
+          silently source pages calls (Running Proceeding (Rest (MoreItems (Declare n t None) js) ∷ k) e w)
+          (Running Proceeding (Rest js ∷ k) (with_local e n (length w.objects)) (made w x)) (plain.Running c) does (
+            declared_by c shared,
+            behind_statement exits (
+              data_declared grown source g c.active.base w.objects e (callers k) c.active.slots c.active.slots c.globals c.frames n 0 x few (omega arith) local (λ i out. refl) (λ v has. absurd (none-some v has))
+                  (λ is_char. absurd (let f : kind ≡ kinds.Char = sym is ∙ char_row grown (call_slots source g c.active.base) slot (kind_of t) (length w.objects) (row_declared source pages calls k e w c shared row) is_char in cc)) more,
+              facts.1,
+            )
+                (q, subst (λ p. ItemsAt (code_of source g) (bounds_at source g) (types_at source g) js exits (floor source g k) p q) (sym end) items, stack),
+          )
+          (omega arith)
 
   -- code comes to where another statement goes on
   arrives : (old k : List Entry) (e e0 : Environment) (w w0 : World) (c : Configuration) (exits : Exits) (q : ℕ)
@@ -298,31 +343,31 @@ module _ (source : Program) (pages calls : ℕ) where
   initial_by : (there : Bool) (n : ℕ) (ty : Ty) (from to : Kind) (a : Expression) (js : Items) (k : List Entry) (e : Environment) (w : World) (c : Configuration) (exits : Exits) (m q : ℕ)
       → converts_there from to ≡ there
       → (shared : SharedAt source pages calls k e w c) → DataIn source shared.tables c.active.slots k e w c
-      → HasRoom (types_at source c.active.function) n to
+      → HasRoom (types_at source c.active.function) n to → kind_in (types_at source c.active.function).locals n ≡ kind_of ty
       → InitialBy (code_of source c.active.function) (bounds_at source c.active.function) (types_at source c.active.function) there from to a (slot_of (starts_at source c.active.function) n) (floor source c.active.function k) c.active.next m
       → ItemsAt (code_of source c.active.function) (bounds_at source c.active.function) (types_at source c.active.function) js exits (floor source c.active.function k) m q
       → StatementStack source c.active.function exits q c.frames k
       → Related source pages calls (Evaluating a) (Needs (ConvertTo from to (target_by a)) ∷ Needs (Initialise n (kind_of ty) js) ∷ k) e w c
-  initial_by true n ty from to a js k e w c exits m q lands shared facts room (wide, at_a) items stack =
+  initial_by true n ty from to a js k e w c exits m q lands shared facts room of_type (wide, at_a) items stack =
       let g = c.active.function in
       let inside = slot-room (types_at source g) n (room-inside (types_at source g) n to room) in
-      (shared, facts, into_slot (slot_of (starts_at source g) n) m at_a tt (in_local (omega (arith, inside, room, wide)) (lands, wide, (exits, q, refl, room, items, stack))))
-  initial_by false n ty from to a js k e w c exits m q lands shared facts room (o, s, r, at_a, at_to, move, end) items stack =
+      (shared, facts, into_slot (slot_of (starts_at source g) n) m at_a tt (in_local (omega (arith, inside, room, wide)) (lands, wide, (exits, q, refl, room, of_type, items, stack))))
+  initial_by false n ty from to a js k e w c exits m q lands shared facts room of_type (o, s, r, at_a, at_to, move, end) items stack =
       let g = c.active.function in
       let rest = subst (λ p. ItemsAt (code_of source g) (bounds_at source g) (types_at source g) js exits (floor source g k) p q) (sym end) items in
-      (shared, facts, sources source pages calls shared.tables from to a (Needs (ConvertTo from to (target_by a)) ∷ Needs (Initialise n (kind_of ty) js) ∷ k) e w c o s at_a tt (r, at_to, (exits, q, move, room, rest, stack)))
+      (shared, facts, sources source pages calls shared.tables from to a (Needs (ConvertTo from to (target_by a)) ∷ Needs (Initialise n (kind_of ty) js) ∷ k) e w c o s at_a tt (r, at_to, (exits, q, move, room, of_type, rest, stack)))
 
   initial : (n : ℕ) (ty : Ty) (from to : Kind) (a : Expression) (js : Items) (k : List Entry) (e : Environment) (w : World) (c : Configuration) (exits : Exits) (m q : ℕ)
       → (shared : SharedAt source pages calls k e w c) → DataIn source shared.tables c.active.slots k e w c
-      → HasRoom (types_at source c.active.function) n to
+      → HasRoom (types_at source c.active.function) n to → kind_in (types_at source c.active.function).locals n ≡ kind_of ty
       → InitialAt (code_of source c.active.function) (bounds_at source c.active.function) (types_at source c.active.function) (Convert from to a) (slot_of (starts_at source c.active.function) n) (floor source c.active.function k) c.active.next m
       → ItemsAt (code_of source c.active.function) (bounds_at source c.active.function) (types_at source c.active.function) js exits (floor source c.active.function k) m q
       → StatementStack source c.active.function exits q c.frames k
       → IsMatched source pages calls (Running Proceeding (Rest (MoreItems (Declare n ty (Some (Convert from to a))) js) ∷ k) e w) (plain.Running c)
-  initial n ty from to a js k e w c exits m q shared facts room at items stack =
+  initial n ty from to a js k e w c exits m q shared facts room of_type at items stack =
       silently source pages calls (Running Proceeding (Rest (MoreItems (Declare n ty (Some (Convert from to a))) js) ∷ k) e w)
       (Running (Evaluating a) (Needs (ConvertTo from to (target_by a)) ∷ Needs (Initialise n (kind_of ty) js) ∷ k) e w) (plain.Running c) refl
-      (initial_by (converts_there from to) n ty from to a js k e w c exits m q refl shared facts room at items stack)
+      (initial_by (converts_there from to) n ty from to a js k e w c exits m q refl shared facts room of_type at items stack)
       (omega arith)
 
   after_statement : (k : List Entry) (e : Environment) (w : World) (c : Configuration) (exits : Exits) → IsNested k e w → IsWell (step source (Running Proceeding k e w))
@@ -338,8 +383,8 @@ module _ (source : Program) (pages calls : ℕ) where
       (omega arith)
   after_statement (Rest (MoreItems (Declare n t None) js) ∷ k) e w c exits nested well shared facts (q, (m, room, (few, end), items), stack) =
       declares n t js k e w c exits m q well shared facts (local_there source pages calls c.active.function n few) room end items stack
-  after_statement (Rest (MoreItems (Declare n t (Some (Convert from to a))) js) ∷ k) e w c exits nested well shared facts (q, (m, there, (few, room, at), items), stack) =
-      initial n t from to a js k e w c exits m q shared facts room at items stack
+  after_statement (Rest (MoreItems (Declare n t (Some (Convert from to a))) js) ∷ k) e w c exits nested well shared facts (q, (m, (declared, of_type), (few, room, at), items), stack) =
+      initial n t from to a js k e w c exits m q shared facts room of_type at items stack
   after_statement (Rest (MoreItems (DeclareRegion r n) js) ∷ k) e w c exits nested well shared facts (q, items, stack) =
       opens_region source pages calls r n js k e w c exits q shared facts nested items stack
   after_statement (Rest (MoreItems (OpenRegion r n p key) js) ∷ k) e w c exits nested well shared facts (q, items, stack) =

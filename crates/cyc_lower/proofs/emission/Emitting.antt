@@ -14,6 +14,7 @@ use Rattle.cyc_types.specs.declared.typed.Callee.{Callee}
 use Rattle.cyc_types.specs.declared.typed.Callee.TheVariants as callees
 use Rattle.cyc_types.specs.declared.typed.Operator.{Operator}
 use Rattle.cyc_types.specs.declared.typed.Operator.TheVariants as operators
+use Rattle.cyc_types.specs.declared.typed.UnaryOperator.TheVariants as unary
 use Rattle.cyc_types.specs.declared.typed.PointerOperator.{PointerOperator}
 use Rattle.cyc_types.specs.declared.typed.PointerOperator.TheVariants as pointers
 use Rattle.cyc_types.specs.declared.typed.LogicalOperator.{LogicalOperator}
@@ -32,7 +33,7 @@ use Rattle.cyc_types.specs.TypeView.{view_ty, view_value_type}
 use Rattle.cyc_types.specs.TypedTrees.{Load, New, OnHeap, AsUnique, ByHandle, FreeKey, Initial, Plain, Fields, Array, Dereference, Target, Lvalue, Local, Global, Expression, Number, Copy, Call, Unary, Binary, Assign, Converted, Convert, Arguments, Operations, NoOperations, ThenCompute, ThenTest, Move, Peek, AddressOfCell, Store, Member, Element, FreeUnique, NumberOfElements, type_of_place, AddressOf}
 use Rattle.cyc_types.specs.TypedTreeView.{view_lvalue, view_initial, view_expression, view_converted, arguments_of, operations_of, view_dereference}
 use Rattle.cyc_types.specs.declared.typed.Kind.{Kind}
-use Rattle.cyc_meaning.specs.Values.{words_of_kind, begins, behind as cell_end, bytes_from, words_for, is_thin}
+use Rattle.cyc_meaning.specs.Values.{words_of_kind, kind_of, is_thin}
 use Rattle.cyc_types.proofs.TypedTreeViewLemmas.{view_call, view_binary, view_fields}
 use Rattle.cyc_plain.specs.declared.instruction.BinaryOperator.TheVariants as plain_binary
 use Rattle.cyc_plain.specs.declared.instruction.Comparison.TheVariants as comparisons
@@ -43,9 +44,8 @@ use Rattle.cyc_plain.specs.declared.instruction.Instruction.{Instruction}
 use Rattle.cyc_plain.specs.declared.instruction.Instruction.TheVariants as instructions
 use Rattle.cyc_lower.specs.Slots.{with_counter, slot_of, Starts, global_of}
 use Rattle.cyc_lower.specs.declared.operands.Condition.{Condition}
-use Rattle.cyc_lower.specs.ValueCode.{passed_words, all_passed, kinds_passed, converts_there, converted_by, moved_by, move_of, operand_or, code_unless, left_with, low_byte, next_slot, operator_code, compute_code, test_jump, truth_code, test_code, copy_code, binary_operator, behind_left, pointer_instructions, address_code, addressed_by, jump_if_zero, reached_code, count_code, span_of, followed_code, span_in, code_unless_slot, global_code, word_by_word}
-use Rattle.cyc_lower.specs.ObjectCode.{measured_code, asked_code, begun_code, written_code, filled_code, restarted_code, ended_code, elements_code, last_element, stores_code, cells_code, slots_of_kinds, object_code, words_code, saved_code}
-use Rattle.cyc_lower.proofs.slots.CellBytes.{begins_even, behind_even, bytes_whole, passed_slots}
+use Rattle.cyc_lower.specs.ValueCode.{passed_words, kind_passed, all_passed, kinds_passed, load_of, converts_there, converted_by, moved_by, move_of, operand_or, code_unless, left_with, low_byte, next_slot, operator_code, compute_code, test_jump, truth_code, test_code, copy_code, binary_operator, behind_left, pointer_instructions, address_code, addressed_by, jump_if_zero, reached_code, count_code, span_of, followed_code, span_in, code_unless_slot, global_code, word_by_word}
+use Rattle.cyc_lower.specs.ObjectCode.{measured_code, asked_code, begun_code, written_code, filled_code, restarted_code, ended_code, elements_code, last_element, object_code, saved_code}
 use Rattle.cyc_lower.specs.ControlCode.{failing_jump}
 use Rattle.cyc_lower.specs.ExpressionCode.{source_of, source_slot, operand_of, left_of, slot_with, left_slot, value_operand, converted_operand, printed_operand, load_code, expression_code, value_slot, arguments_code, converted_code, converted_operand_code, printed_code, initial_code, operations_code, made_code, place_operand, place_offset, place_code, pointer_of}
 use Rattle.cyc_lower.specs.Lowering.{assignment_code, assigned_operand, discarded_code, store_address_code, store_code}
@@ -59,10 +59,10 @@ behind xs ys some = omega (arith, length-append xs ys)
 before : (xs ys : List Instruction) → 0 < length xs → 0 < length (xs ++ ys)
 before xs ys some = omega (arith, length-append xs ys)
 
-loaded_some : (narrow : Bool) (o : Operand) (bytes d t : ℕ)
-    → 0 < length (if narrow then instructions.Load d o bytes ∷ [] else address_code o bytes t ++ (instructions.Load (d + 2) (operands.Slot t) 8 ∷ instructions.Load (d + 1) (operands.Slot t) 4 ∷ instructions.Load d (operands.Slot t) 0 ∷ []))
-loaded_some true o bytes d t = omega arith
-loaded_some false o bytes d t = behind (address_code o bytes t) _ (omega arith)
+loaded_some : (narrow : Bool) (kind : Kind) (o : Operand) (bytes d t : ℕ)
+    → 0 < length (if narrow then load_of kind d o bytes ∷ [] else address_code o bytes t ++ (instructions.Load (d + 2) (operands.Slot t) 8 ∷ instructions.Load (d + 1) (operands.Slot t) 4 ∷ instructions.Load d (operands.Slot t) 0 ∷ []))
+loaded_some true kind o bytes d t = omega arith
+loaded_some false kind o bytes d t = behind (address_code o bytes t) _ (omega arith)
 
 counted_some : (o : Operand) (p d : ℕ) → 0 < length (count_code o p d)
 counted_some (operands.Slot n) p d = omega arith
@@ -244,78 +244,6 @@ made_count pointer j n behind here d old m1 m2 m3 m4 m5 m6 pointer_is behind_is 
     joined old (a ∷ b ∷ less ∷ jump ∷ []) (λ p. none ∷ []) m4 m6 four s5
     ∙ ap (λ (o : Operand). old ++ count_code o (length old) d) (sym pointer_is)
 
--- words that come to memory one after the other: from the word of this number on they are left
-abbrev pub StoresLeft : (old code : List Instruction) → (many address first i : ℕ) → Type 0
-StoresLeft old code many address first i =
-    (left : ℕ) × (i + left ≡ many) × (code ++ stores_code left address (4 * i) (first + i) ≡ old ++ stores_code many address 0 first)
-
-pub stores_begin : (old : List Instruction) (many address first : ℕ) → StoresLeft old old many address first 0
-stores_begin old many address first = (many, omega arith, ap (λ (n : ℕ). old ++ stores_code many address 0 n) (let e : first + 0 ≡ first = omega arith in e))
-
-pub stores_next : (old code new : List Instruction) (many address first i : ℕ) → i < many → new ≡ code ++ instructions.Store (operands.Slot address) (4 * i) (operands.Slot (first + i)) ∷ []
-    → StoresLeft old code many address first i → StoresLeft old new many address first (i + 1)
-stores_next old code new many address first i below added (zero, count, made) = absurd (omega (arith, count, below))
-stores_next old code new many address first i below added (suc left, count, made) =
-    let store = instructions.Store (operands.Slot address) (4 * i) (operands.Slot (first + i)) in
-    let offset : 4 * (i + 1) ≡ 4 * i + 4 = omega arith in
-    let slot : first + (i + 1) ≡ suc (first + i) = omega arith in (
-      left,
-      omega (arith, count),
-      ap (λ (n : ℕ). new ++ stores_code left address n (first + (i + 1))) offset
-          ∙ ap (λ (n : ℕ). new ++ stores_code left address (4 * i + 4) n) slot
-          ∙ ap (λ (l : List Instruction). l ++ stores_code left address (4 * i + 4) (suc (first + i))) added
-          ∙ append_assoc code (store ∷ []) (stores_code left address (4 * i + 4) (suc (first + i)))
-          ∙ made,
-    )
-
-pub stores_end : (old code : List Instruction) (many address first i : ℕ) → many ≤ i → StoresLeft old code many address first i → code ≡ old ++ stores_code many address 0 first
-stores_end old code many address first i done (zero, count, made) = sym (append-nil code) ∙ made
-stores_end old code many address first i done (suc left, count, made) = absurd (omega (arith, count, done))
-
--- ---- objects
-
--- words that come to memory one after the other, in two parts
-stores_split : (a b n address offset slot : ℕ) → n ≡ a + b → stores_code n address offset slot ≡ stores_code a address offset slot ++ stores_code b address (offset + 4 * a) (slot + a)
-stores_split zero b n address offset slot is =
-    ap (λ (m : ℕ). stores_code m address offset slot) (let e : n ≡ b = omega (arith, is) in e)
-    ∙ ap (λ (m : ℕ). stores_code b address m slot) (let e : offset ≡ offset + 4 * 0 = omega arith in e)
-    ∙ ap (λ (m : ℕ). stores_code b address (offset + 4 * 0) m) (let e : slot ≡ slot + 0 = omega arith in e)
-stores_split (suc a) b zero address offset slot is = absurd (omega (arith, is))
-stores_split (suc a) b (suc n) address offset slot is =
-    let offset_is : offset + 4 + 4 * a ≡ offset + 4 * suc a = omega arith in
-    let slot_is : suc slot + a ≡ slot + suc a = omega arith in
-    ap (λ (l : List Instruction). instructions.Store (operands.Slot address) offset (operands.Slot slot) ∷ l)
-    (stores_split a b n address (offset + 4) (suc slot) (omega (arith, is))
-    ∙ ap (λ (m : ℕ). stores_code a address (offset + 4) (suc slot) ++ stores_code b address m (suc slot + a)) offset_is
-    ∙ ap (λ (m : ℕ). stores_code a address (offset + 4) (suc slot) ++ stores_code b address (offset + 4 * suc a) m) slot_is)
-
--- the cells of an object are words one behind the other
-cells_are : (ks : List Kind) (address at slot : ℕ) → at % 4 ≡ 0 → stores_code (slots_of_kinds ks) address at slot ≡ cells_code ks address at slot
-cells_are [] address at slot even = refl
-cells_are (kind ∷ ks) address at slot even =
-    let words = words_of_kind kind in
-    let here : at ≡ begins kind at = sym (begins_even kind at even) in
-    let next : at + 4 * words ≡ cell_end kind at = sym (behind_even kind at even) in
-    stores_split words (slots_of_kinds ks) (words + slots_of_kinds ks) address at slot refl
-    ∙ ap (λ (n : ℕ). stores_code words address n slot ++ stores_code (slots_of_kinds ks) address (at + 4 * words) (slot + words)) here
-    ∙ ap (λ (n : ℕ). stores_code words address (begins kind at) slot ++ stores_code (slots_of_kinds ks) address n (slot + words)) next
-    ∙ ap (λ (l : List Instruction). stores_code words address (begins kind at) slot ++ l)
-    (cells_are ks address (cell_end kind at) (slot + words) (omega (arith, next, even)))
-
-pub object_is : (handle : Operand) (ks : List Kind) (words d t : ℕ) → words ≡ slots_of_kinds ks → words_code handle words d t ≡ object_code handle ks d t
-object_is handle ks words d t counted =
-    let slots = slots_of_kinds ks in
-    let size : slots ≡ words_for (bytes_from 0 ks) = omega (arith, bytes_whole ks 0 refl) in
-    ap (λ (n : ℕ). words_code handle n d t) counted
-    ∙ ap (λ (n : ℕ). instructions.Ask (requests.Allocate (t + slots) handle (operands.Word (max 1 n))) ∷ (stores_code slots (t + slots) 0 t ++ (instructions.Move d (operands.Slot (t + slots)) ∷ []))) size
-    ∙ ap (λ (l : List Instruction). instructions.Ask (requests.Allocate (t + slots) handle (operands.Word (max 1 (words_for (bytes_from 0 ks))))) ∷ (l ++ (instructions.Move d (operands.Slot (t + slots)) ∷ [])))
-    (cells_are ks (t + slots) 0 t refl)
-
--- an object with one cell
-pub made_cell : (old new : List Instruction) (handle : Operand) (kind : Kind) (words d t : ℕ) → words ≡ words_of_kind kind → new ≡ old ++ words_code handle words d t → new ≡ old ++ object_code handle (kind ∷ []) d t
-made_cell old new handle kind words d t is made =
-    made ∙ ap (λ (l : List Instruction). old ++ l) (object_is handle (kind ∷ []) words d t (omega (arith, is)))
-
 -- ---- arrays
 
 pub made_begun : (starts : Starts) (old m1 m2 : List Instruction) (handle : Operand) (kind : Kind) (behind t : ℕ) → behind ≡ t + 3 → m1 ≡ old ++ measured_code starts kind (behind - 2) (behind - 1) t
@@ -449,6 +377,7 @@ module _ (starts : Starts) where
     expression_some (Call callees.Getchar cs ty) p d t = behind (arguments_code starts cs p t) _ (omega arith)
     expression_some (Call (callees.Function n) cs ty) p d t = behind (arguments_code starts cs p t) _ (omega arith)
     expression_some (NumberOfElements a) p d t = behind (value_code starts a p t) _ (counted_some (value_operand starts a t) (p + length (value_code starts a p t)) d)
+    expression_some (Unary unary.Widen a) p d t = expression_some a p d t
     expression_some (Unary o a) p d t = behind (value_code starts a p t) _ (omega arith)
     expression_some (Binary a NoOperations ty) p d t = before (expression_code starts a p d t) _ (expression_some a p d t)
     expression_some (Binary a (ThenCompute o b os) ty) p d t =
@@ -461,7 +390,7 @@ module _ (starts : Starts) where
     expression_some (Assign (Local w n) c ty) p d t = before (initial_code starts c p (slot_of starts n) t) _ (initial_some c p (slot_of starts n) t)
     expression_some (Assign (Global n) c ty) p d t =
         before (converted_operand_code starts c p t ++ _) (copy_code (passed_words c) (converted_operand starts c t) d) (behind (converted_operand_code starts c p t) _ (saves (passed_words c) (global_of starts n) (converted_operand starts c t) (passed_some c)))
-    expression_some (Load x) p d t = behind (place_code starts x p t) _ (loaded_some (words_of (type_of_place x) == 1) (place_operand starts x t) (place_offset starts x) d t)
+    expression_some (Load x) p d t = behind (place_code starts x p t) _ (loaded_some (words_of_kind (kind_of (type_of_place x)) == 1) (kind_of (type_of_place x)) (place_operand starts x t) (place_offset starts x) d t)
     expression_some (AddressOf (Local w n) ty) p d t = omega arith
     expression_some (AddressOf (Global n) ty) p d t = omega arith
     expression_some (AddressOfCell x ty) p d t = before (place_code starts x p t) _ (place_some x p t)
@@ -580,14 +509,12 @@ module _ (starts : Starts) where
       ∙ ap (λ (a : Expression). old ++ expression_code starts a (length old) d t) (sym (call_viewed value f v ty is items same))
 
   -- a new struct, of its fields
-  pub made_fields : (value : InitialCode) (v : Vec ConvertedCode Heap) (items : List ConvertedCode) (old m1 m2 : List Instruction) (handle : Operand) (many d t : ℕ) → value ≡ initial.Fields v → items ≡ v.items → many ≡ all_passed (arguments_of items)
-      → m1 ≡ old ++ arguments_code starts (arguments_of items) (length old) t → m2 ≡ m1 ++ words_code handle many d t → m2 ≡ old ++ made_code starts (view_initial value) handle (length old) d t
-  made_fields value v items old m1 m2 handle many d t is same count first second =
+  pub made_fields : (value : InitialCode) (v : Vec ConvertedCode Heap) (items : List ConvertedCode) (ks : List Kind) (old m1 m2 : List Instruction) (handle : Operand) (d t : ℕ) → value ≡ initial.Fields v → items ≡ v.items → ks ≡ kinds_passed (arguments_of items)
+      → m1 ≡ old ++ arguments_code starts (arguments_of items) (length old) t → m2 ≡ m1 ++ object_code handle ks d t → m2 ≡ old ++ made_code starts (view_initial value) handle (length old) d t
+  made_fields value v items ks old m1 m2 handle d t is same ks_are first second =
       let cs = arguments_of v.items in
-      let counted : many ≡ slots_of_kinds (kinds_passed cs) = count ∙ ap (λ (l : List ConvertedCode). all_passed (arguments_of l)) same ∙ sym (passed_slots cs) in
-      let code : words_code handle many d t ≡ object_code handle (kinds_passed cs) d t = object_is handle (kinds_passed cs) many d t counted in
       second
-      ∙ ap (λ (l : List Instruction). m1 ++ l) code
+      ∙ ap (λ (l : List Kind). m1 ++ object_code handle l d t) (ks_are ∙ ap (λ (l : List ConvertedCode). kinds_passed (arguments_of l)) same)
       ∙ ap (λ (l : List Instruction). l ++ object_code handle (kinds_passed cs) d t) (first ∙ ap (λ (l : List ConvertedCode). old ++ arguments_code starts (arguments_of l) (length old) t) same)
       ∙ append_assoc old (arguments_code starts cs (length old) t) (object_code handle (kinds_passed cs) d t)
       ∙ ap (λ (i : Initial). old ++ made_code starts i handle (length old) d t) (sym (ap view_initial is ∙ view_fields v))
@@ -789,15 +716,15 @@ module _ (starts : Starts) where
   -- the address, and behind it what is stored there
   made_store : (x : Dereference) (c : Converted) (old m1 m2 : List Instruction) (t : ℕ)
       → m1 ≡ old ++ addressed_by (place_code starts x (length old) t) (place_operand starts x t) (place_offset starts x) t
-      → m2 ≡ m1 ++ (converted_operand_code starts c (length m1) (t + 1) ++ saved_code (passed_words c) t (converted_operand starts c (t + 1))) → m2 ≡ old ++ store_code starts x c (length old) t
+      → m2 ≡ m1 ++ (converted_operand_code starts c (length m1) (t + 1) ++ saved_code (kind_passed c) t (converted_operand starts c (t + 1))) → m2 ≡ old ++ store_code starts x c (length old) t
   made_store x c old m1 m2 t e1 e2 =
-      joined old (store_address_code starts x (length old) t) (λ p. converted_operand_code starts c p (t + 1) ++ saved_code (passed_words c) t (converted_operand starts c (t + 1))) m1 m2 e1 e2
+      joined old (store_address_code starts x (length old) t) (λ p. converted_operand_code starts c p (t + 1) ++ saved_code (kind_passed c) t (converted_operand starts c (t + 1))) m1 m2 e1 e2
 
   -- a value that is stored in a cell comes to a slot then
   pub made_stored : (value : Expr) (b : Box DereferenceCode Heap) (b' : Box ConvertedCode Heap) (ty : ValueTypeCode) → value ≡ expr.Store b b' ty → (x : DereferenceCode) → x ≡ b.value → (y : ConvertedCode) → y ≡ b'.value
       → (old m1 m2 m3 : List Instruction) (o : Operand) (d t : ℕ) → o ≡ converted_operand starts (view_converted y) (t + 1)
       → m1 ≡ old ++ addressed_by (place_code starts (view_dereference x) (length old) t) (place_operand starts (view_dereference x) t) (place_offset starts (view_dereference x)) t
-      → m2 ≡ m1 ++ (converted_operand_code starts (view_converted y) (length m1) (t + 1) ++ saved_code (words_of_kind y.to) t (converted_operand starts (view_converted y) (t + 1)))
+      → m2 ≡ m1 ++ (converted_operand_code starts (view_converted y) (length m1) (t + 1) ++ saved_code y.to t (converted_operand starts (view_converted y) (t + 1)))
       → m3 ≡ m2 ++ copy_code (words_of_kind y.to) o d → m3 ≡ old ++ expression_code starts (view_expression value) (length old) d t
   made_stored value b b' ty is x x_at y y_at old m1 m2 m3 o d t o_is e1 e2 e3 =
       let front = store_code starts (view_dereference x) (view_converted y) (length old) t in
@@ -809,7 +736,7 @@ module _ (starts : Starts) where
   pub made_stored_only : (value : Expr) (b : Box DereferenceCode Heap) (b' : Box ConvertedCode Heap) (ty : ValueTypeCode) → value ≡ expr.Store b b' ty → (x : DereferenceCode) → x ≡ b.value → (y : ConvertedCode) → y ≡ b'.value
       → (old m1 m2 : List Instruction) (t : ℕ)
       → m1 ≡ old ++ addressed_by (place_code starts (view_dereference x) (length old) t) (place_operand starts (view_dereference x) t) (place_offset starts (view_dereference x)) t
-      → m2 ≡ m1 ++ (converted_operand_code starts (view_converted y) (length m1) (t + 1) ++ saved_code (words_of_kind y.to) t (converted_operand starts (view_converted y) (t + 1)))
+      → m2 ≡ m1 ++ (converted_operand_code starts (view_converted y) (length m1) (t + 1) ++ saved_code y.to t (converted_operand starts (view_converted y) (t + 1)))
       → m2 ≡ old ++ discarded_code starts (view_expression value) (length old) t
   made_stored_only value b b' ty is x x_at y y_at old m1 m2 t e1 e2 =
       made_store (view_dereference x) (view_converted y) old m1 m2 t e1 e2

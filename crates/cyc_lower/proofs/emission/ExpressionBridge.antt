@@ -15,19 +15,21 @@ use Rattle.cyc_plain.specs.declared.instruction.Instruction.TheVariants as instr
 use Rattle.cyc_plain.specs.Straight.{At, HasAt}
 use Rattle.cyc_plain.proofs.Straight.{has_front, has_back}
 use Rattle.cyc_store.specs.declared.range.TheConstants.{HEAP, UNIQUE}
-use Rattle.cyc_meaning.specs.Values.{kind_of, is_thin}
+use Rattle.cyc_meaning.specs.Values.{kind_of, is_thin, words_of_kind}
 use Rattle.cyc_meaning.specs.FrameCount.{operand_words}
 use Rattle.cyc_objects.proofs.NumberLemmas.{slice_get-there}
 use Rattle.cyc_lower.specs.Slots.{counted, Types, starts_of, slot_of, global_of}
-use Rattle.cyc_lower.specs.ValueCode.{converts_there, passed_words, operand_or, code_unless, code_unless_slot, next_slot, check_code, conversion_code, operator_code, truth_code, low_byte, test_code, is_in, copy_code, behind_left, pointer_code, pointer_instructions, address_code, count_code, span_of, loaded_code, kinds_passed, reached_code, followed_code, span_in, global_code}
+use Rattle.cyc_lower.specs.ValueCode.{converts_there, passed_words, operand_or, code_unless, code_unless_slot, next_slot, check_code, conversion_code, operator_code, truth_code, low_byte, test_code, is_in, copy_code, behind_left, pointer_code, pointer_instructions, address_code, count_code, span_of, loaded_code, kinds_passed, reached_code, followed_code, span_in, global_code, kind_behind, kind_passed, address_of_global}
 use Rattle.cyc_lower.specs.ObjectCode.{begun_code, filled_code, ended_code, elements_code, object_code, free_code, saved_code}
 use Rattle.cyc_lower.specs.ExpressionCode.{source_of, source_slot, operand_of, left_of, value_slot, left_slot, value_operand, converted_operand, printed_operand, expression_code, arguments_code, converted_code, converted_operand_code, printed_code, initial_code, operations_code, made_code, place_operand, place_offset, place_code, pointer_of, pointer_slot}
-use Rattle.cyc_lower.proofs.relation.Stands.{ExpressionAt, InitialAt, ConvertedAt, ConvertedOperandAt, PrintedAt, ArgumentsAt, OperationsAt, MadeAt, PlaceAt}
-use Rattle.cyc_lower.proofs.slots.Widths.{kind_few}
+use Rattle.cyc_lower.proofs.relation.Stands.{ExpressionAt, InitialAt, ConvertedAt, ConvertedOperandAt, PrintedAt, ArgumentsAt, OperationsAt, MadeAt, PlaceAt, LastByteAt}
+use Rattle.cyc_lower.proofs.slots.Widths.{kind_few, type_words}
 use Rattle.cyc_lower.proofs.slots.CellBytes.{passed_slots, passed_many}
 use Rattle.cyc_lower.proofs.relation.Fitting.{FitsCell, FitsObject, Fits, FitsConverted, FitArguments, FitOperations}
 use Rattle.cyc_lower.proofs.place_steps.Sources.{stored_apart}
-use Rattle.cyc_lower.proofs.emission.OperandBridge.{cut, BlocksStand, operand_by, returned_by, right_by, IsLeft, next_left, first_left, freed_stands, check_stands, reached_stands, followed_stands, in_slots, source_brought, conversion_stands, operator_stands, pointer_stands, global_stands, count_stands, load_stands, saved_stands, object_stands, begun_stands, filled_stands, copy_by, address_stands, loaded_stands, initial_by}
+use Rattle.cyc_lower.proofs.emission.OperandBridge.{cut, BlocksStand, operand_by, returned_by, right_by, IsLeft, next_left, first_left, freed_stands, check_stands, reached_stands, followed_stands, in_slots, source_brought, conversion_stands, operator_stands, pointer_stands, global_stands, count_stands, load_stands, saved_stands, object_stands, begun_stands, filled_stands, copy_by, address_stands, loaded_stands, initial_by, last_byte_stands}
+use Rattle.cyc_types.specs.declared.typed.UnaryOperator.TheVariants as unary
+use Rattle.cyc_types.specs.declared.typed.Kind.{Kind}
 
 module _ (code : List Instruction) (b : Numbering) where
   mutual
@@ -63,6 +65,7 @@ module _ (code : List Instruction) (b : Numbering) where
         let m = p + length front in
         let count = count_code o m d in
         (o, m, operand_by code b types raised (operand_of (starts_of types) a) _ inner slot p m refl (has_front code p front count has) (λ e h. expression_stands types raised a slot t p m numbered e h), count_stands code b types raised o d m q (cut p q front count end) (has_back code p front count has))
+    expression_stands types raised (Unary unary.Widen a) d t p q (one, numbered) end has = (one, expression_stands types raised a d t p q numbered end has)
     expression_stands types raised (Unary o a) d t p q numbered end has =
         let inner = expression_code (starts_of types) a p (value_slot (starts_of types) a t) t in
         let front = code_unless (operand_of (starts_of types) a) inner in
@@ -95,17 +98,23 @@ module _ (code : List Instruction) (b : Numbering) where
     expression_stands types raised (Load x) d t p q numbered end has =
         let front = place_code (starts_of types) x p t in
         let o = place_operand (starts_of types) x t in
-        let back = loaded_code (words_of (type_of_place x)) o (place_offset (starts_of types) x) d t in
+        let back = loaded_code (kind_of (type_of_place x)) o (place_offset (starts_of types) x) d t in
         let r = p + length front in (
           o,
           place_offset (starts_of types) x,
           r,
           place_stands types raised x t p r numbered refl (has_front code p front back has),
-          loaded_stands code b types raised (words_of (type_of_place x) == 1) o (place_offset (starts_of types) x) d t r q (cut p q front back end) (has_back code p front back has),
+          loaded_stands code b types raised (words_of_kind (kind_of (type_of_place x)) == 1) (kind_of (type_of_place x)) o (place_offset (starts_of types) x) d t r q (cut p q front back end) (has_back code p front back has),
         )
-    expression_stands types raised (AddressOf (Local w n) ty) d t p q (few, (v, there, words)) end (here, none) =
-        (v, there, subst (λ (count : ℕ). At code p (instructions.AddressOf d (slot_of (starts_of types) n) count)) words here, end)
-    expression_stands types raised (AddressOf (Global n) ty) d t p q (v, there, words) end (here, none) = (v, there, here, end)
+    expression_stands types raised (AddressOf (Local w n) ty) d t p q (few, (v, there, kind)) end (here, last) =
+        let behind = kind_behind ty in (
+          v,
+          there,
+          subst (λ (count : ℕ). At code p (instructions.AddressOf d (slot_of (starts_of types) n) count)) (ap words_of_kind kind ∙ type_words v) here,
+          subst (λ (k : Kind). LastByteAt code k d (p + 1) q) kind (last_byte_stands code b types raised behind d (p + 1) q (omega (arith, end)) last),
+        )
+    expression_stands types raised (AddressOf (Global n) ty) d t p q (v, there, kind) end (here, none) =
+        (v, there, subst (λ (k : Kind). At code p (instructions.Move d (operands.Word (address_of_global k (global_of (starts_of types) n))))) kind here, end)
     expression_stands types raised (AddressOfCell x ty) d t p q numbered end has =
         let o = place_operand (starts_of types) x t in
         let front = place_code (starts_of types) x p t in
@@ -123,7 +132,7 @@ module _ (code : List Instruction) (b : Numbering) where
         let s = p + length address in
         let value = converted_operand_code (starts_of types) c s (t + 1) in
         let u = s + length value in
-        let write = saved_code (passed_words c) t o in
+        let write = saved_code (kind_passed c) t o in
         let both = address ++ (value ++ write) in
         let back = copy_code (passed_words c) o d in
         let m = p + length both in
@@ -141,7 +150,7 @@ module _ (code : List Instruction) (b : Numbering) where
             place_stands types raised x t p r place refl (has_front code p front bring has_address),
             address_stands code b types raised a bytes t r s (cut p s front bring refl) (has_back code p front bring has_address),
             converted_operand_stands types raised c (t + 1) s u numbered refl (has_front code s value write has_value),
-            saved_stands code b types raised (passed_words c) t o u m (stored_apart types b c t numbered) (cut s m value write (cut p m address (value ++ write) refl)) (has_back code s value write has_value),
+            saved_stands code b types raised (kind_passed c) t o u m (stored_apart types b c t numbered) (cut s m value write (cut p m address (value ++ write) refl)) (has_back code s value write has_value),
           ),
           copy_by code b types raised (is_in o d) (passed_words c) o d m q (cut p q both back end) (has_back code p both back has),
         )
@@ -249,8 +258,8 @@ module _ (code : List Instruction) (b : Numbering) where
     made_stands types raised (Array w level n kind a) handle d t p q (level_is, kind_is, fits_n, fits_a) end has =
         let count = expression_code (starts_of types) n p t t in
         let m = p + length count in
-        let h = m + 7 in
         let begun = begun_code (starts_of types) handle kind t in
+        let h = m + length begun in
         let element = expression_code (starts_of (counted types (t + 2))) a (h + 1) (t + 3) (t + 3) in
         let filled = filled_code kind h t in
         let ended = ended_code d t in

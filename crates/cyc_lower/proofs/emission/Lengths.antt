@@ -6,25 +6,26 @@ use Rattle.std.specs.Prelude.{if◌then◌else◌}
 use Rattle.cyc_types.specs.declared.typed.Kind.{Kind}
 use Rattle.cyc_types.specs.declared.typed.Kind.TheVariants as kinds
 use Rattle.cyc_types.specs.declared.typed.Callee.TheVariants as callees
+use Rattle.cyc_types.specs.declared.typed.UnaryOperator.TheVariants as unary
 use Rattle.cyc_types.specs.declared.typed.Operator.{Operator}
 use Rattle.cyc_types.specs.declared.typed.Operator.TheVariants as operators
 use Rattle.cyc_types.specs.declared.typed.PointerOperator.{PointerOperator}
 use Rattle.cyc_types.specs.declared.typed.PointerOperator.TheVariants as pointers
 use Rattle.cyc_types.specs.TypedTrees.{Load, New, OnHeap, Initial, Plain, Fields, Array, Dereference, Target, Member, Element, Lvalue, Local, Global, Expression, Copy, Call, Unary, Binary, Assign, Converted, Convert, Arguments, NoArguments, MoreArguments, Operations, NoOperations, ThenCompute, ThenTest, ThenPointer, ThenPointerPeek, Statement, Block, Empty, Evaluate, If, While, Return, Break, Continue, Items, NoItems, MoreItems, Execute, Declare, StructType, Function, Move, Peek, AddressOf, AddressOfCell, Store, AsUnique, FreeUnique, Side, VariableSide, CellSide, Swap, Throw, Try, Clauses, NoClauses, Default, Case, NumberOfElements, type_of_place, ByHandle, FreeKey, DeclareRegion, OpenRegion, DeclareAlias, DeclareKey}
-use Rattle.cyc_types.specs.Types.{words_of}
+use Rattle.cyc_types.specs.Types.{Ty, words_of}
 use Rattle.cyc_plain.specs.declared.instruction.Operand.{Operand}
 use Rattle.cyc_plain.specs.declared.instruction.Operand.TheVariants as operands
 use Rattle.cyc_plain.specs.declared.instruction.Instruction.{Instruction}
 use Rattle.cyc_store.specs.declared.range.TheConstants.{HEAP, UNIQUE}
 use Rattle.cyc_lower.specs.declared.statements.Exits.{Exits}
 use Rattle.cyc_lower.specs.Slots.{with_counter, Starts, slot_of, global_of}
-use Rattle.cyc_lower.specs.ValueCode.{first_temporary, are_as_wide, converts_there, passed_words, operand_or, code_unless, code_unless_slot, left_with, next_slot, converted_by, conversion_code, divisor_code, operator_code, pointer_instructions, first_two, copy_code, address_code, behind_left, checked_code, null_of, span_of, span_in, followed_operand, followed_code, conversion_by, widened_code, count_code, loaded_code, slot_or, kinds_passed, thinned_code, bounded_code, past_bounded, reached_operand, reached_code, word_by_word, load_word, global_code}
+use Rattle.cyc_lower.specs.ValueCode.{first_temporary, keeps_words, masked_code, kind_behind, last_byte_code, kind_passed, converts_there, passed_words, operand_or, code_unless, code_unless_slot, left_with, next_slot, converted_by, conversion_code, divisor_code, operator_code, pointer_instructions, first_two, copy_code, address_code, behind_left, checked_code, null_of, span_of, span_in, followed_operand, followed_code, conversion_by, widened_code, count_code, loaded_code, slot_or, kinds_passed, thinned_code, bounded_code, past_bounded, reached_operand, reached_code, word_by_word, load_word, global_code}
 use Rattle.cyc_lower.specs.ObjectCode.{begun_code, filled_code, elements_code, ended_code, object_code, right_slot, saved_code, stores_code}
 use Rattle.cyc_lower.specs.ControlCode.{outside_loops, if_code, while_code, failing_jump, compared_of, inside_loop, leave_code, try_code, clause_code, break_target, continue_target, kept_code, restored_code, behind_record, inside_try, inside_region, opened_code, closed_code}
 use Rattle.cyc_lower.specs.ExpressionCode.{operand_of, left_of, value_slot, slot_with, left_slot, value_operand, source_of, source_slot, converted_operand, load_code, place_operand, place_offset, expression_code, place_code, made_code, arguments_code, converted_code, converted_operand_code, printed_code, initial_code, operations_code, pointer_of}
 use Rattle.cyc_lower.specs.Lowering.{raises_of, body_code, assignment_code, discarded_code, pair_code, condition_code, return_code, declaration_code, statement_code, items_code, condition_of, side_code, swap_code, thrown_code, caught_code, clauses_code, starts_with, read_side, write_side, exchange_code}
 use Rattle.cyc_plain.specs.declared.instruction.Instruction.TheVariants as instructions
-use Rattle.cyc_meaning.specs.Values.{is_thin, words_of_kind}
+use Rattle.cyc_meaning.specs.Values.{is_thin, kind_of, words_of_kind}
 
 -- ---- lists
 
@@ -34,7 +35,7 @@ joined a b x y first second = omega (arith, length-append a b, length-append x y
 -- an element of an array is written
 filled_long : (kind : Kind) (h i t : ℕ) → length (filled_code kind h t) ≡ length (filled_code kind i t)
 filled_long kind h i t =
-    let stores = stores_code (words_of_kind kind) (t + 3 + words_of_kind kind) 0 (t + 3) in
+    let stores = stores_code kind (words_of_kind kind) (t + 3 + words_of_kind kind) 0 (t + 3) in
     ap (λ n. suc (suc n)) (joined stores (_ ∷ _ ∷ []) stores (_ ∷ _ ∷ []) refl refl)
 
 unless_long : (known same : Option Operand) (a x : List Instruction) → known ≡ same → length a ≡ length x → length (code_unless known a) ≡ length (code_unless same x)
@@ -92,11 +93,13 @@ module _ (starts : Starts) (raises : ℕ) where
   same_operand : (a : Expression) → operand_of starts a ≡ operand_of other a
   same_operand (Copy (Local w n) t) = refl
   same_operand (Copy (Global n) t) = refl
+  same_operand (Unary unary.Widen a) = same_operand a
   same_operand a = refl
 
   same_slot : (a : Expression) (t : ℕ) → value_slot starts a t ≡ value_slot other a t
   same_slot (Assign (Local w n) c ty) t = refl
   same_slot (Assign (Global n) c ty) t = refl
+  same_slot (Unary unary.Widen a) t = same_slot a t
   same_slot a t = refl
 
   same_value : (a : Expression) (t : ℕ) → value_operand starts a t ≡ value_operand other a t
@@ -116,10 +119,10 @@ module _ (starts : Starts) (raises : ℕ) where
   same_left_slot a os d e t same = refl
 
   same_source : (c : Converted) → source_of starts c ≡ source_of other c
-  same_source (Convert from to a) = λ i. if are_as_wide from to then same_operand a i else null_of a
+  same_source (Convert from to a) = λ i. if keeps_words from to then same_operand a i else null_of a
 
   same_source_slot : (c : Converted) (t : ℕ) → source_slot starts c t ≡ source_slot other c t
-  same_source_slot (Convert from to a) t = λ i. if are_as_wide from to then same_slot a t i else t
+  same_source_slot (Convert from to a) t = λ i. if keeps_words from to then same_slot a t i else t
 
   same_converted : (c : Converted) (t : ℕ) → converted_operand starts c t ≡ converted_operand other c t
   same_converted c t = λ i. operand_or (same_source c i) (same_source_slot c t i)
@@ -156,10 +159,11 @@ module _ (starts : Starts) (raises : ℕ) where
   conversion_by_long true kinds.NonNull span o r p q same = refl
   conversion_by_long true to span o r p q same = refl
   conversion_by_long false kinds.Fat span o r p q same = λ i. length (widened_code (same i))
+  conversion_by_long false kinds.Char span o r p q same = λ i. length (masked_code (same i))
   conversion_by_long false to span o r p q same = thinned_long to span o p q ∙ (λ i. length (thinned_code other to span (same i) q))
 
   conversion_long : (from to : Kind) (span : Option ℕ) (o r : Operand) (p q : ℕ) → o ≡ r → length (conversion_code starts from to span o p) ≡ length (conversion_code other from to span r q)
-  conversion_long from to span o r p q same = conversion_by_long (are_as_wide from to) to span o r p q same
+  conversion_long from to span o r p q same = conversion_by_long (keeps_words from to) to span o r p q same
 
   -- an access by a pointer, and the number of its elements
   followed_long : (thin : Bool) (span : Option ℕ) (o r : Operand) (t : ℕ) → o ≡ r → length (followed_code starts thin span o t) ≡ length (followed_code other thin span r t)
@@ -203,6 +207,7 @@ module _ (raises : ℕ) where
     expression_long starts (Call callees.Getchar cs ty) p q d e t same = joined _ _ _ _ (arguments_long starts cs p q t) refl
     expression_long starts (Call (callees.Function n) cs ty) p q d e t same = joined _ _ _ _ (arguments_long starts cs p q t) refl
     expression_long starts (NumberOfElements a) p q d e t same = joined _ _ _ _ (operand_by starts raises a p q t (expression_long starts a p q _ _ t (same_slot starts raises a t))) (counted_long starts raises _ _ _ _ d e (same_value starts raises a t))
+    expression_long starts (Unary unary.Widen a) p q d e t same = expression_long starts a p q d e t same
     expression_long starts (Unary o a) p q d e t same = joined _ _ _ _ (operand_by starts raises a p q t (expression_long starts a p q _ _ t (same_slot starts raises a t))) refl
     expression_long starts (Binary a os ty) p q d e t same =
         joined _ _ _ _ (unless_long _ _ _ _ (same_left starts raises a os) (expression_long starts a p q _ _ t (same_left_slot starts raises a os d e t same)))
@@ -211,13 +216,13 @@ module _ (raises : ℕ) where
         joined _ _ _ _ (initial_long starts c p q (slot_of starts n) (slot_of starts n) t refl) (λ i. length (copy_code (passed_words c) (operands.Slot (slot_of starts n)) (same i)))
     expression_long starts (Assign (Global n) c ty) p q d e t same =
         joined _ _ _ _ (joined _ _ _ _ (converted_operand_long starts c p q t) (λ i. length (global_code (passed_words c) (global_of starts n) (same_converted starts raises c t i)))) (λ i. length (copy_code (passed_words c) (same_converted starts raises c t i) (same i)))
-    expression_long starts (Load x) p q d e t same = joined _ _ _ _ (place_long starts x p q t) (λ i. length (loaded_code (words_of (type_of_place x)) (same_place starts raises x t i) (same_offset starts raises x i) (same i) t))
-    expression_long starts (AddressOf (Local w n) ty) p q d e t same = refl
+    expression_long starts (Load x) p q d e t same = joined _ _ _ _ (place_long starts x p q t) (λ i. length (loaded_code (kind_of (type_of_place x)) (same_place starts raises x t i) (same_offset starts raises x i) (same i) t))
+    expression_long starts (AddressOf (Local w n) ty) p q d e t same = λ i. suc (length (last_byte_code (kind_behind ty) (same i)))
     expression_long starts (AddressOf (Global n) ty) p q d e t same = refl
     expression_long starts (AddressOfCell x ty) p q d e t same = joined _ _ _ _ (place_long starts x p q t) (λ i. length (address_code (same_place starts raises x t i) (same_offset starts raises x i) (same i)))
     expression_long starts (Store x c ty) p q d e t same =
         joined _ _ _ _
-        (joined _ _ _ _ (joined _ _ _ _ (place_long starts x p q t) (λ i. length (address_code (same_place starts raises x t i) (same_offset starts raises x i) t))) (joined _ _ _ _ (converted_operand_long starts c _ _ (t + 1)) (λ i. length (saved_code (passed_words c) t (same_converted starts raises c (t + 1) i)))))
+        (joined _ _ _ _ (joined _ _ _ _ (place_long starts x p q t) (λ i. length (address_code (same_place starts raises x t i) (same_offset starts raises x i) t))) (joined _ _ _ _ (converted_operand_long starts c _ _ (t + 1)) (λ i. length (saved_code (kind_passed c) t (same_converted starts raises c (t + 1) i)))))
         (λ i. length (copy_code (passed_words c) (same_converted starts raises c (t + 1) i) (same i)))
     expression_long starts (New OnHeap x ty) p q d e t same = made_long starts x (operands.Word HEAP) p q d e t same
     expression_long starts (New AsUnique x ty) p q d e t same = made_long starts x (operands.Word UNIQUE) p q d e t same
@@ -243,8 +248,8 @@ module _ (raises : ℕ) where
     made_long starts (Array w level n kind a) handle p q d e t same =
         let first = expression_code starts n p t t in
         let second = expression_code (other starts raises) n q t t in
-        let h = p + length first + 7 in
-        let i = q + length second + 7 in
+        let h = p + length first + length (begun_code starts handle kind t) in
+        let i = q + length second + length (begun_code (other starts raises) handle kind t) in
         let inner = expression_code (with_counter starts (t + 2)) a (h + 1) (t + 3) (t + 3) in
         let alike = expression_code (with_counter (other starts raises) (t + 2)) a (i + 1) (t + 3) (t + 3) in
         joined first (begun_code starts handle kind t ++ elements_code kind inner h d t) second (begun_code (other starts raises) handle kind t ++ elements_code kind alike i e t) (expression_long starts n p q t t t refl)
@@ -300,7 +305,7 @@ module _ (starts : Starts) (raises : ℕ) where
   discarded_long (Call callees.Putchar cs ty) p q t = joined _ _ _ _ (printed_long raises starts cs p q t) refl
   discarded_long (Assign l c ty) p q t = assignment_long l c p q t
   discarded_long (Store x c ty) p q t =
-      joined _ _ _ _ (joined _ _ _ _ (place_long raises starts x p q t) (λ i. length (address_code (same_place starts raises x t i) (same_offset starts raises x i) t))) (joined _ _ _ _ (converted_operand_long raises starts c _ _ (t + 1)) (λ i. length (saved_code (passed_words c) t (same_converted starts raises c (t + 1) i))))
+      joined _ _ _ _ (joined _ _ _ _ (place_long raises starts x p q t) (λ i. length (address_code (same_place starts raises x t i) (same_offset starts raises x i) t))) (joined _ _ _ _ (converted_operand_long raises starts c _ _ (t + 1)) (λ i. length (saved_code (kind_passed c) t (same_converted starts raises c (t + 1) i))))
   discarded_long a p q t = unless_long (operand_of starts a) (operand_of (other starts raises) a) (expression_code starts a p t t) (expression_code (other starts raises) a q t t) (same_operand starts raises a) (expression_long raises starts a p q t t t refl)
 
   condition_long : (a b : Expression) (p q t : ℕ) → length (pair_code starts a b p t) ≡ length (pair_code (other starts raises) a b q t)
@@ -314,31 +319,32 @@ module _ (starts : Starts) (raises : ℕ) where
   return_long (Some (Convert from to a)) p q head exits t =
       joined _ _ _ _ (joined _ _ _ _ (joined _ _ _ _ (unless_slot_long _ _ _ _ (same_source starts raises (Convert from to a)) (expression_long raises starts a p q t t t refl)) (conversion_long starts raises from to (span_of a) _ _ _ _ (λ i. operands.Slot (slot_or (same_source starts raises (Convert from to a) i) t)))) refl) refl
 
-  declaration_long : (n : ℕ) (v : Option Converted) (p q t : ℕ) → length (declaration_code starts n v p t) ≡ length (declaration_code (other starts raises) n v q t)
-  declaration_long n None p q t = refl
-  declaration_long n (Some c) p q t = initial_long raises starts c p q (slot_of starts n) (slot_of starts n) t refl
+  declaration_long : (n : ℕ) (ty : Ty) (v : Option Converted) (p q t : ℕ) → length (declaration_code starts n ty v p t) ≡ length (declaration_code (other starts raises) n ty v q t)
+  declaration_long n ty None p q t = refl
+  declaration_long n ty (Some c) p q t = initial_long raises starts c p q (slot_of starts n) (slot_of starts n) t refl
 
   side_long : (x : Side) (p q t : ℕ) → length (side_code starts x p t) ≡ length (side_code (other starts raises) x q t)
   side_long (VariableSide l ty) p q t = refl
   side_long (CellSide x) p q t = joined _ _ _ _ (place_long raises starts x p q t) (λ i. length (address_code (same_place starts raises x t i) (same_offset starts raises x i) t))
 
-  read_long : (x : Side) (words s d : ℕ) → length (read_side starts x words s d) ≡ length (read_side (other starts raises) x words s d)
-  read_long (VariableSide (Local w n) ty) words s d = refl
-  read_long (VariableSide (Global n) ty) words s d = refl
-  read_long (CellSide x) words s d = refl
+  read_long : (x : Side) (kind : Kind) (s d : ℕ) → length (read_side starts x kind s d) ≡ length (read_side (other starts raises) x kind s d)
+  read_long (VariableSide (Local w n) ty) kind s d = refl
+  read_long (VariableSide (Global n) ty) kind s d = refl
+  read_long (CellSide x) kind s d = refl
 
-  write_long : (x : Side) (words s v : ℕ) → length (write_side starts x words s v) ≡ length (write_side (other starts raises) x words s v)
-  write_long (VariableSide (Local w n) ty) words s v = refl
-  write_long (VariableSide (Global n) ty) words s v = refl
-  write_long (CellSide x) words s v = refl
+  write_long : (x : Side) (kind : Kind) (s v : ℕ) → length (write_side starts x kind s v) ≡ length (write_side (other starts raises) x kind s v)
+  write_long (VariableSide (Local w n) ty) kind s v = refl
+  write_long (VariableSide (Global n) ty) kind s v = refl
+  write_long (CellSide x) kind s v = refl
 
-  exchange_long : (words : ℕ) (x y : Side) (t : ℕ) → length (exchange_code starts words x y t) ≡ length (exchange_code (other starts raises) words x y t)
-  exchange_long words x y t =
-      joined _ _ _ _ (read_long x words t (t + 2))
-      (joined _ _ _ _ (read_long y words (right_slot x t) (t + 2 + words)) (joined _ _ _ _ (write_long x words t (t + 2 + words)) (write_long y words (right_slot x t) (t + 2))))
+  exchange_long : (kind : Kind) (x y : Side) (t : ℕ) → length (exchange_code starts kind x y t) ≡ length (exchange_code (other starts raises) kind x y t)
+  exchange_long kind x y t =
+      let words = words_of_kind kind in
+      joined _ _ _ _ (read_long x kind t (t + 2))
+      (joined _ _ _ _ (read_long y kind (right_slot x t) (t + 2 + words)) (joined _ _ _ _ (write_long x kind t (t + 2 + words)) (write_long y kind (right_slot x t) (t + 2))))
 
   swap_long : (x y : Side) (p q t : ℕ) → length (swap_code starts x y p t) ≡ length (swap_code (other starts raises) x y q t)
-  swap_long x y p q t = joined _ _ _ _ (side_long x p q t) (joined _ _ _ _ (side_long y _ _ (right_slot x t)) (exchange_long (words_of (type_of_side x)) x y t))
+  swap_long x y p q t = joined _ _ _ _ (side_long x p q t) (joined _ _ _ _ (side_long y _ _ (right_slot x t)) (exchange_long (kind_of (type_of_side x)) x y t))
 
   thrown_long : (v : Option Expression) (p q t : ℕ) → length (thrown_code starts v p t) ≡ length (thrown_code (other starts raises) v q t)
   thrown_long None p q t = refl
@@ -399,7 +405,7 @@ module _ (starts : Starts) (raises : ℕ) where
     items_long : (js : Items) (p q head : ℕ) (exits : Exits) (t : ℕ) → length (items_code starts js p exits t) ≡ length (items_code (other starts raises) js q (record exits { head = head }) t)
     items_long NoItems p q head exits t = refl
     items_long (MoreItems (Execute s) js) p q head exits t = joined _ _ _ _ (statement_long s p q head exits t) (items_long js _ _ head exits t)
-    items_long (MoreItems (Declare n ty v) js) p q head exits t = joined _ _ _ _ (declaration_long n v p q t) (items_long js _ _ head exits t)
+    items_long (MoreItems (Declare n ty v) js) p q head exits t = joined _ _ _ _ (declaration_long n ty v p q t) (items_long js _ _ head exits t)
     items_long (MoreItems (DeclareRegion r n) js) p q head exits t =
         let opened = opened_code starts n t in
         let closed = closed_code t in

@@ -1,5 +1,5 @@
 -- Operands, and what changes them, stand where the code of a function is.
-use Rattle.std.proofs.Common.{◌≡◌, ℕ, zero, suc, ◌+◌, ◌<◌, ◌≤◌, Bool, true, false, List, [], ◌∷◌, ◌++◌, length, Option, None, Some, slice_get, refl, sym, ap, subst, ◌∙◌, arith, length-append}
+use Rattle.std.proofs.Common.{◌≡◌, ℕ, zero, suc, ◌+◌, ◌<◌, ◌≤◌, Bool, true, false, List, [], ◌∷◌, ◌++◌, length, Option, None, Some, slice_get, refl, sym, ap, subst, ◌∙◌, arith, length-append, ◌⊎◌, ◌≢◌, inl, inr}
 use Rattle.std.specs.Prelude.{if◌then◌else◌, ◌==◌}
 use Rattle.cyc_meaning.specs.Operators.{array_size, null_exception, division_by_zero, array_bounds}
 use Rattle.cyc_types.specs.declared.typed.Kind.{Kind}
@@ -8,7 +8,7 @@ use Rattle.cyc_types.specs.declared.typed.Operator.{Operator}
 use Rattle.cyc_types.specs.declared.typed.Operator.TheVariants as operators
 use Rattle.cyc_types.specs.declared.typed.PointerOperator.{PointerOperator}
 use Rattle.cyc_types.specs.declared.typed.PointerOperator.TheVariants as pointers
-use Rattle.cyc_types.specs.TypedTrees.{Counter, Load, Lvalue, Local, Global, Expression, Number, NullPointer, Copy, Binary, Convert, Arguments, NoArguments, MoreArguments, Operations, NoOperations, ThenCompute, Move, Peek, HeapRegion}
+use Rattle.cyc_types.specs.TypedTrees.{Counter, Load, Lvalue, Local, Global, Expression, Number, NullPointer, Copy, Binary, Convert, Arguments, NoArguments, MoreArguments, Operations, NoOperations, ThenCompute, Move, Peek, HeapRegion, Unary}
 use Rattle.cyc_types.specs.Numbered.{Numbering}
 use Rattle.cyc_plain.specs.declared.instruction.BinaryOperator.TheVariants as plain_binary
 use Rattle.cyc_plain.specs.declared.instruction.Comparison.{Comparison}
@@ -21,21 +21,24 @@ use Rattle.cyc_plain.specs.declared.instruction.Instruction.TheVariants as instr
 use Rattle.cyc_plain.specs.Straight.{At, HasAt}
 use Rattle.cyc_plain.proofs.Straight.{has_front, has_back}
 use Rattle.cyc_store.specs.declared.range.TheConstants.{MOST_BLOCK_WORDS}
-use Rattle.cyc_meaning.specs.Values.{words_of_kind, bytes_of_kind, begins, behind, is_thin}
+use Rattle.cyc_meaning.specs.Values.{words_of_kind, bytes_of_kind, begins, behind, is_thin, number_of_kind}
 use Rattle.cyc_lower.specs.Slots.{Types, starts_of, slot_of, global_of}
-use Rattle.cyc_lower.specs.ValueCode.{are_as_wide, converts_there, moved_by, move_of, operand_or, code_unless, slot_or, code_unless_slot, left_with, next_slot, check_code, conversion_code, divisor_code, checked_code, operator_code, is_in, pointer_operator, index_code, pointer_instructions, address_code, raising, blocks, guard_code, jump_if_zero, count_code, span_of, null_of, tested_code, widened_code, conversion_by, bounds_code, stepped_code, bounded_code, past_bounded, thinned_code, reached_code, followed_code, word_by_word, load_word, store_word, global_code}
-use Rattle.cyc_lower.specs.ObjectCode.{most_elements, begun_code, filled_code, stores_code, cells_code, slots_of_kinds, object_code, free_code, saved_code}
+use Rattle.cyc_lower.specs.ValueCode.{converts_there, moved_by, move_of, operand_or, code_unless, slot_or, code_unless_slot, left_with, next_slot, check_code, conversion_code, divisor_code, checked_code, operator_code, is_in, pointer_operator, index_code, pointer_instructions, address_code, raising, blocks, guard_code, jump_if_zero, count_code, span_of, null_of, tested_code, widened_code, conversion_by, bounds_code, stepped_code, bounded_code, past_bounded, thinned_code, reached_code, followed_code, word_by_word, load_word, store_word, global_code, keeps_words, masked_code, last_byte_code, blank_code, load_of}
+use Rattle.cyc_lower.specs.ObjectCode.{most_elements, begun_code, filled_code, stores_code, cells_code, slots_of_kinds, object_code, free_code, saved_code, sized_code}
 use Rattle.cyc_lower.specs.ControlCode.{counter_operand}
 use Rattle.cyc_lower.specs.ExpressionCode.{source_of, source_slot, operand_of, left_of, value_slot, slot_with, left_slot, value_operand, converted_operand, load_code, expression_code}
-use Rattle.cyc_lower.proofs.relation.Stands.{BegunAt, FilledAt, OperandBy, CheckAt, ConversionBy, ConversionAt, DivisorAt, CheckedAt, OperatorAt, LoadAt, CopyBy, ExpressionAt, InitialBy, ReturnedAt, FirstTwoAt, IndexAt, PointerAt, StoresAt, CellsAt, ObjectAt, AddressAt, GuardAt, FreedAt, CountAt, TestedAt, WidenedAt, LoadedBy, SavedAt, BoundsAt, SteppedAt, ThinnedAt, ReachedAt, FollowedAt, EachAt, GlobalAt}
+use Rattle.cyc_lower.proofs.relation.Stands.{BegunAt, FilledAt, OperandBy, CheckAt, ConversionBy, ConversionAt, DivisorAt, CheckedAt, OperatorAt, LoadAt, CopyBy, ExpressionAt, InitialBy, ReturnedAt, FirstTwoAt, IndexAt, PointerAt, StoresAt, CellsAt, ObjectAt, AddressAt, GuardAt, FreedAt, CountAt, TestedAt, WidenedAt, LoadedBy, SavedAt, BoundsAt, SteppedAt, ThinnedAt, ReachedAt, FollowedAt, EachAt, GlobalAt, MaskedAt, SizedAt, LastByteAt, BlankAt}
 use Rattle.cyc_lower.proofs.emission.Lengths.{past_long}
 use Rattle.cyc_lower.specs.Lowerable.{is_converted, is_pointer}
-use Rattle.cyc_lower.proofs.slots.Widths.{given}
+use Rattle.cyc_lower.proofs.slots.Widths.{given, changes}
 use Rattle.cyc_lower.proofs.relation.Fitting.{FitsPlace}
 use Rattle.cyc_lower.specs.Lowerable.{is_converted}
 use Rattle.cyc_lower.proofs.value_steps.ValueWords.{as_wide}
 use Rattle.cyc_lower.proofs.slots.Slots.{global-inside}
 use Rattle.cyc_lower.proofs.place_steps.Sources.{IsApart}
+use Rattle.cyc_types.specs.declared.typed.UnaryOperator.TheVariants as unary
+use Rattle.cyc_plain.specs.declared.instruction.UnaryOperator.TheVariants as plain_unary
+use Rattle.cyc_plain.specs.declared.instruction.Request.TheVariants as requests
 
 -- the end of the second part
 pub cut : (p q : ℕ) (a b : List Instruction) → p + length (a ++ b) ≡ q → p + length a + length b ≡ q
@@ -165,6 +168,7 @@ module _ (code : List Instruction) (b : Numbering) (types : Types) (raised : Blo
   in_slots k (Copy (Local p n) ty) t pointer is = slot_any (is_thin k) (slot_of (starts_of types) n)
   in_slots k (Move p n ty) t pointer is = slot_any (is_thin k) (slot_of (starts_of types) n)
   in_slots k (Peek p n ty) t pointer is = slot_any (is_thin k) (slot_of (starts_of types) n)
+  in_slots k (Unary unary.Widen a) t pointer is = absurd (let f : is_pointer kinds.Int ≡ true = ap is_pointer (sym is) ∙ pointer in cc)
   in_slots k (Counter l) t pointer is = counter_in_slot (is_thin k) (slice_get types.counters l) t
   in_slots k a t pointer is = slot_any (is_thin k) (value_slot (starts_of types) a t)
 
@@ -178,19 +182,20 @@ module _ (code : List Instruction) (b : Numbering) (types : Types) (raised : Blo
   IsBrought kinds.Fat (operands.Word w) t = w ≡ 0
   IsBrought to (operands.Word w) t = ⊥
 
-  null_brought : (from to : Kind) (a : Expression) (t : ℕ) → from ≡ given b.functions a → are_as_wide from to ≡ false → IsBrought to (operand_or (null_of a) t) t
-  null_brought from to NullPointer t kind narrow = by to (ap (λ (k : Kind). are_as_wide k to) (sym kind) ∙ narrow)
+  null_brought : (from to : Kind) (a : Expression) (t : ℕ) → from ≡ given b.functions a → keeps_words from to ≡ false → IsBrought to (operand_or (null_of a) t) t
+  null_brought from to NullPointer t kind narrow = by to (ap (λ (k : Kind). keeps_words k to) (sym kind) ∙ narrow)
     where
-      by : (k : Kind) → are_as_wide kinds.Nullable k ≡ false → IsBrought k (operands.Word 0) t
+      by : (k : Kind) → keeps_words kinds.Nullable k ≡ false → IsBrought k (operands.Word 0) t
       by kinds.Fat wider = refl
       by kinds.Int wider = absurd (let f : true ≡ false = wider in cc)
+      by kinds.Char wider = absurd (let f : true ≡ false = wider in cc)
       by kinds.Nullable wider = absurd (let f : true ≡ false = wider in cc)
       by kinds.NonNull wider = absurd (let f : true ≡ false = wider in cc)
       by kinds.Handle wider = absurd (let f : true ≡ false = wider in cc)
       by kinds.Key wider = absurd (let f : true ≡ false = wider in cc)
   null_brought from to a t kind narrow = refl
 
-  pub source_brought : (from to : Kind) (a : Expression) (t : ℕ) → from ≡ given b.functions a → are_as_wide from to ≡ false → IsBrought to (converted_operand (starts_of types) (Convert from to a) t) t
+  pub source_brought : (from to : Kind) (a : Expression) (t : ℕ) → from ≡ given b.functions a → keeps_words from to ≡ false → IsBrought to (converted_operand (starts_of types) (Convert from to a) t) t
   source_brought from to a t kind narrow =
       subst (λ (same : Bool). IsBrought to (operand_or (if same then operand_of (starts_of types) a else null_of a) (if same then value_slot (starts_of types) a t else t)) t) (sym narrow) (null_brought from to a t kind narrow)
 
@@ -198,7 +203,7 @@ module _ (code : List Instruction) (b : Numbering) (types : Types) (raised : Blo
   returned_null NullPointer t = refl
   returned_null a t = refl
 
-  pub returned_brought : (from to : Kind) (a : Expression) (t : ℕ) → are_as_wide from to ≡ false → slot_or (source_of (starts_of types) (Convert from to a)) t ≡ t
+  pub returned_brought : (from to : Kind) (a : Expression) (t : ℕ) → keeps_words from to ≡ false → slot_or (source_of (starts_of types) (Convert from to a)) t ≡ t
   returned_brought from to a t narrow = subst (λ (same : Bool). slot_or (if same then operand_of (starts_of types) a else null_of a) t ≡ t) (sym narrow) (returned_null a t)
 
   widened_stands : (o : Operand) (t p q : ℕ) → IsBrought kinds.Fat o t → p + length (widened_code o) ≡ q → HasAt code p (widened_code o) → WidenedAt code b types o t p q
@@ -214,23 +219,35 @@ module _ (code : List Instruction) (b : Numbering) (types : Types) (raised : Blo
   thinned_stands kinds.NonNull span (operands.Word w) t p q thin brought end has = absurd brought
   thinned_stands kinds.Nullable span (operands.Word w) t p q thin brought end has = absurd brought
   thinned_stands kinds.Int span o t p q thin brought end has = absurd (let f : false ≡ true = thin in cc)
+  thinned_stands kinds.Char span o t p q thin brought end has = absurd (let f : false ≡ true = thin in cc)
   thinned_stands kinds.Fat span o t p q thin brought end has = absurd (let f : false ≡ true = thin in cc)
   thinned_stands kinds.Handle span o t p q thin brought end has = absurd (let f : false ≡ true = thin in cc)
   thinned_stands kinds.Key span o t p q thin brought end has = absurd (let f : false ≡ true = thin in cc)
 
-  conversion_by_stands : (wide : Bool) (to : Kind) (span : Option ℕ) (o : Operand) (t p q : ℕ) → (if wide then true else is_pointer to) ≡ true → (wide ≡ false → IsBrought to o t)
-      → p + length (conversion_by (starts_of types) wide to span o p) ≡ q → HasAt code p (conversion_by (starts_of types) wide to span o p) → ConversionBy code b types wide to span o t p q
+  masked_stands : (o : Operand) (t p q : ℕ) → IsBrought kinds.Char o t → p + length (masked_code o) ≡ q → HasAt code p (masked_code o) → MaskedAt code b types o t p q
+  masked_stands (operands.Slot n) t p q brought end (here, none) = (brought, here, end)
+  masked_stands (operands.Word w) t p q brought end has = absurd brought
+
+  not_changed : (to : Kind) → number_of_kind to ≢ 6 → is_pointer to ≡ false → (to ≡ kinds.Char) ⊎ (is_pointer to ≡ true) → ⊥
+  not_changed to other plain changed = elim changed [
+    | inl char ↦ other (ap number_of_kind char)
+    | inr pointer ↦ let f : false ≡ true = sym plain ∙ pointer in cc
+  ]
+
+  conversion_by_stands : (same : Bool) (to : Kind) (span : Option ℕ) (o : Operand) (t p q : ℕ) → (same ≡ false → (to ≡ kinds.Char) ⊎ (is_pointer to ≡ true)) → (same ≡ false → IsBrought to o t)
+      → p + length (conversion_by (starts_of types) same to span o p) ≡ q → HasAt code p (conversion_by (starts_of types) same to span o p) → ConversionBy code b types same to span o t p q
   conversion_by_stands true to span o t p q known brought end has = tested_stands to o p q end has
   conversion_by_stands false kinds.Fat span o t p q known brought end has = widened_stands o t p q (brought refl) end has
+  conversion_by_stands false kinds.Char span o t p q known brought end has = masked_stands o t p q (brought refl) end has
   conversion_by_stands false kinds.NonNull span o t p q known brought end has = thinned_stands kinds.NonNull span o t p q refl (brought refl) end has
   conversion_by_stands false kinds.Nullable span o t p q known brought end has = thinned_stands kinds.Nullable span o t p q refl (brought refl) end has
-  conversion_by_stands false kinds.Int span o t p q known brought end has = absurd (let f : false ≡ true = known in cc)
-  conversion_by_stands false kinds.Handle span o t p q known brought end has = absurd (let f : false ≡ true = known in cc)
-  conversion_by_stands false kinds.Key span o t p q known brought end has = absurd (let f : false ≡ true = known in cc)
+  conversion_by_stands false kinds.Int span o t p q known brought end has = absurd (not_changed kinds.Int (λ e. let f : 0 ≡ 6 = e in omega (arith, f)) refl (known refl))
+  conversion_by_stands false kinds.Handle span o t p q known brought end has = absurd (not_changed kinds.Handle (λ e. let f : 4 ≡ 6 = e in omega (arith, f)) refl (known refl))
+  conversion_by_stands false kinds.Key span o t p q known brought end has = absurd (not_changed kinds.Key (λ e. let f : 5 ≡ 6 = e in omega (arith, f)) refl (known refl))
 
-  pub conversion_stands : (from to : Kind) (span : Option ℕ) (o : Operand) (t p q : ℕ) → is_converted from to ≡ true → (are_as_wide from to ≡ false → IsBrought to o t)
+  pub conversion_stands : (from to : Kind) (span : Option ℕ) (o : Operand) (t p q : ℕ) → is_converted from to ≡ true → (keeps_words from to ≡ false → IsBrought to o t)
       → p + length (conversion_code (starts_of types) from to span o p) ≡ q → HasAt code p (conversion_code (starts_of types) from to span o p) → ConversionAt code b types from to span o t p q
-  conversion_stands from to span o t p q known brought end has = conversion_by_stands (are_as_wide from to) to span o t p q known brought end has
+  conversion_stands from to span o t p q known brought end has = conversion_by_stands (keeps_words from to) to span o t p q (λ changed. changes from to known changed) brought end has
 
   divisor_stands : (o : Operand) (p q : ℕ) → p + length (divisor_code (starts_of types) o) ≡ q → HasAt code p (divisor_code (starts_of types) o) → DivisorAt code b types o p q
   divisor_stands (operands.Word (suc n)) p q end has = omega (arith, end)
@@ -301,22 +318,24 @@ module _ (code : List Instruction) (b : Numbering) (types : Types) (raised : Blo
   load_stands (Local w n) kind words d p q few end (here, none) = (here, end)
   load_stands (Global n) kind words d p q room end has = (global-inside types n kind room, each_stands load_word words (global_of (starts_of types) n) d p q end has)
 
-  pub stores_stand : (many address offset slot p q : ℕ) → p + length (stores_code many address offset slot) ≡ q → HasAt code p (stores_code many address offset slot) → StoresAt code b types many address offset slot p q
-  stores_stand zero address offset slot p q end has = omega (arith, end)
-  stores_stand (suc many) address offset slot p q end (here, rest) = (here, stores_stand many address (offset + 4) (suc slot) (p + 1) q (omega (arith, end)) rest)
+  pub stores_stand : (kind : Kind) (many address offset slot p q : ℕ) → p + length (stores_code kind many address offset slot) ≡ q → HasAt code p (stores_code kind many address offset slot)
+      → StoresAt code b types kind many address offset slot p q
+  stores_stand kind zero address offset slot p q end has = omega (arith, end)
+  stores_stand kind (suc many) address offset slot p q end (here, rest) = (here, stores_stand kind many address (offset + 4) (suc slot) (p + 1) q (omega (arith, end)) rest)
 
-  pub saved_stands : (words address : ℕ) (o : Operand) (p q : ℕ) → IsApart types words address o → p + length (saved_code words address o) ≡ q → HasAt code p (saved_code words address o) → SavedAt code b types words address o p q
-  saved_stands words address (operands.Slot n) p q apart end has = (stores_stand words address 0 n p q end has, apart)
-  saved_stands words address (operands.Word n) p q apart end (here, none) = (here, end)
+  pub saved_stands : (kind : Kind) (address : ℕ) (o : Operand) (p q : ℕ) → IsApart types (words_of_kind kind) address o → p + length (saved_code kind address o) ≡ q → HasAt code p (saved_code kind address o)
+      → SavedAt code b types kind address o p q
+  saved_stands kind address (operands.Slot n) p q apart end has = (stores_stand kind (words_of_kind kind) address 0 n p q end has, apart)
+  saved_stands kind address (operands.Word n) p q apart end (here, none) = (here, end)
 
   pub cells_stand : (ks : List Kind) (address at slot p q : ℕ) → p + length (cells_code ks address at slot) ≡ q → HasAt code p (cells_code ks address at slot) → CellsAt code b types ks address at slot p q
   cells_stand [] address at slot p q end has = omega (arith, end)
   cells_stand (kind ∷ ks) address at slot p q end has =
-      let first = stores_code (words_of_kind kind) address (begins kind at) slot in
+      let first = stores_code kind (words_of_kind kind) address (begins kind at) slot in
       let others = cells_code ks address (behind kind at) (slot + words_of_kind kind) in
       let r = p + length first in (
         r,
-        stores_stand (words_of_kind kind) address (begins kind at) slot p r refl (has_front code p first others has),
+        stores_stand kind (words_of_kind kind) address (begins kind at) slot p r refl (has_front code p first others has),
         cells_stand ks address (behind kind at) (slot + words_of_kind kind) r q (cut p q first others end) (has_back code p first others has),
       )
 
@@ -330,18 +349,37 @@ module _ (code : List Instruction) (b : Numbering) (types : Types) (raised : Blo
       let (here, none) = has_back code (p + 1) stores move rest in
       (m, some, few, ask, cells_stand ks (t + words) 0 t (p + 1) m refl (has_front code (p + 1) stores move rest), here, omega (arith, end, length-append stores move))
 
-  pub begun_stands : (handle : Operand) (kind : Kind) (t p q : ℕ) → p + 7 ≡ q → HasAt code p (begun_code (starts_of types) handle kind t) → BegunAt code b types handle kind t p q
-  begun_stands handle kind t p q end (guard, (count, (index, (all, (none, (size, (ask, rest))))))) =
-      (p + 1, guard_stands array_size comparisons.GreaterOrEqualUnsigned (operands.Slot t) (operands.Word (most_elements (bytes_of_kind kind) + 1)) p (p + 1) (omega arith) (omega arith) refl (guard, tt), count, index, all, none, size, ask, omega (arith, end))
+  sized_stands : (kind : Kind) (t p q : ℕ) → p + length (sized_code kind t) ≡ q → HasAt code p (sized_code kind t) → SizedAt code b types kind t p q
+  sized_stands kinds.Char t p q end (sum, (shift, none)) = (sum, shift, omega (arith, end))
+  sized_stands kind t p q end (product, none) = (product, end)
+
+  pub begun_stands : (handle : Operand) (kind : Kind) (t p q : ℕ) → p + length (begun_code (starts_of types) handle kind t) ≡ q → HasAt code p (begun_code (starts_of types) handle kind t)
+      → BegunAt code b types handle kind t p q
+  begun_stands handle kind t p q end (guard, (count, (index, rest))) =
+      let sized = sized_code kind t in
+      let back = instructions.Unary plain_unary.Not (t + 3) (operands.Slot t) ∷ instructions.Binary plain_binary.Add (t + 3) (operands.Slot (t + 3)) (operands.Slot t) ∷ instructions.Ask (requests.Allocate t handle (operands.Slot (t + 3))) ∷ [] in
+      let r = p + 1 + 1 + 1 + length sized in
+      let (none, (size, (ask, nothing))) = has_back code (p + 1 + 1 + 1) sized back rest in (
+        p + 1,
+        r,
+        guard_stands array_size comparisons.GreaterOrEqualUnsigned (operands.Slot t) (operands.Word (most_elements (bytes_of_kind kind) + 1)) p (p + 1) (omega arith) (omega arith) refl (guard, tt),
+        count,
+        index,
+        sized_stands kind t (p + 1 + 1 + 1) r refl (has_front code (p + 1 + 1 + 1) sized back rest),
+        none,
+        size,
+        ask,
+        omega (arith, end, length-append sized back),
+      )
 
   pub filled_stands : (kind : Kind) (t head p q : ℕ) → p + length (filled_code kind head t) ≡ q → HasAt code p (filled_code kind head t) → FilledAt code b types kind t head p q
   filled_stands kind t head p q end (scaled, (address, rest)) =
       let words = words_of_kind kind in
-      let stores = stores_code words (t + 3 + words) 0 (t + 3) in
+      let stores = stores_code kind words (t + 3 + words) 0 (t + 3) in
       let up = instructions.Binary plain_binary.Add (t + 2) (operands.Slot (t + 2)) (operands.Word 1) ∷ instructions.Jump head ∷ [] in
       let m = p + 1 + 1 + length stores in
       let (next, (again, none)) = has_back code (p + 1 + 1) stores up rest in
-      (m, scaled, address, stores_stand words (t + 3 + words) 0 (t + 3) (p + 1 + 1) m refl (has_front code (p + 1 + 1) stores up rest), next, again, omega (arith, end, length-append stores up))
+      (m, scaled, address, stores_stand kind words (t + 3 + words) 0 (t + 3) (p + 1 + 1) m refl (has_front code (p + 1 + 1) stores up rest), next, again, omega (arith, end, length-append stores up))
 
   pub copy_by : (is : Bool) (words : ℕ) (o : Operand) (d p q : ℕ) → p + length (if is then [] else move_of words d o ∷ []) ≡ q → HasAt code p (if is then [] else move_of words d o ∷ []) → CopyBy code is words o d p q
   copy_by true words o d p q end has = omega (arith, end)
@@ -351,12 +389,20 @@ module _ (code : List Instruction) (b : Numbering) (types : Types) (raised : Blo
   address_stands o zero d p q end has = copy_by (is_in o d) 1 o d p q end has
   address_stands o (suc bytes) d p q end (here, none) = (here, end)
 
-  pub loaded_stands : (narrow : Bool) (o : Operand) (bytes d t p q : ℕ)
-      → p + length (if narrow then instructions.Load d o bytes ∷ [] else address_code o bytes t ++ (instructions.Load (d + 2) (operands.Slot t) 8 ∷ instructions.Load (d + 1) (operands.Slot t) 4 ∷ instructions.Load d (operands.Slot t) 0 ∷ [])) ≡ q
-      → HasAt code p (if narrow then instructions.Load d o bytes ∷ [] else address_code o bytes t ++ (instructions.Load (d + 2) (operands.Slot t) 8 ∷ instructions.Load (d + 1) (operands.Slot t) 4 ∷ instructions.Load d (operands.Slot t) 0 ∷ []))
-      → LoadedBy code narrow o bytes d t p q
-  loaded_stands true o bytes d t p q end (here, none) = (here, end)
-  loaded_stands false o bytes d t p q end has =
+  pub last_byte_stands : (kind : Kind) (d p q : ℕ) → p + length (last_byte_code kind d) ≡ q → HasAt code p (last_byte_code kind d) → LastByteAt code kind d p q
+  last_byte_stands kinds.Char d p q end (here, none) = (here, end)
+  last_byte_stands kind d p q end has = omega (arith, end)
+
+  pub blank_stands : (kind : Kind) (slot p q : ℕ) → p + length (blank_code kind slot) ≡ q → HasAt code p (blank_code kind slot) → BlankAt code kind slot p q
+  blank_stands kinds.Char slot p q end (here, none) = (here, end)
+  blank_stands kind slot p q end has = omega (arith, end)
+
+  pub loaded_stands : (narrow : Bool) (kind : Kind) (o : Operand) (bytes d t p q : ℕ)
+      → p + length (if narrow then load_of kind d o bytes ∷ [] else address_code o bytes t ++ (instructions.Load (d + 2) (operands.Slot t) 8 ∷ instructions.Load (d + 1) (operands.Slot t) 4 ∷ instructions.Load d (operands.Slot t) 0 ∷ [])) ≡ q
+      → HasAt code p (if narrow then load_of kind d o bytes ∷ [] else address_code o bytes t ++ (instructions.Load (d + 2) (operands.Slot t) 8 ∷ instructions.Load (d + 1) (operands.Slot t) 4 ∷ instructions.Load d (operands.Slot t) 0 ∷ []))
+      → LoadedBy code narrow kind o bytes d t p q
+  loaded_stands true kind o bytes d t p q end (here, none) = (here, end)
+  loaded_stands false kind o bytes d t p q end has =
       let front = address_code o bytes t in
       let back = instructions.Load (d + 2) (operands.Slot t) 8 ∷ instructions.Load (d + 1) (operands.Slot t) 4 ∷ instructions.Load d (operands.Slot t) 0 ∷ [] in
       let r = p + length front in

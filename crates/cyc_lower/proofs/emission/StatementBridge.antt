@@ -16,7 +16,7 @@ use Rattle.cyc_plain.specs.Straight.{At, HasAt}
 use Rattle.cyc_plain.proofs.Straight.{has_front, has_back}
 use Rattle.cyc_meaning.specs.Values.{kind_of, words_of_kind}
 use Rattle.cyc_lower.specs.Slots.{Types, starts_of, slot_of, global_of}
-use Rattle.cyc_lower.specs.ValueCode.{passed_words, move_of, operand_or, slot_or, code_unless_slot, left_with, conversion_code, failing_comparison, address_code, span_of, global_code}
+use Rattle.cyc_lower.specs.ValueCode.{passed_words, move_of, operand_or, slot_or, code_unless_slot, left_with, conversion_code, failing_comparison, address_code, span_of, global_code, kind_passed}
 use Rattle.cyc_lower.specs.ObjectCode.{right_slot, saved_code, load_at}
 use Rattle.cyc_lower.specs.ControlCode.{compared_or, compared_of, failing_jump, break_target, continue_target, inside_loop, leave_code, other_jump, clause_code, kept_code, kept_code_in, restored_code, restored_code_in, behind_record, inside_try, closed_code, handlers_code, marks_code, try_code, opened_code, inside_region, dynamic_code}
 use Rattle.cyc_lower.specs.ExpressionCode.{source_of, operand_of, value_slot, slot_with, value_operand, converted_operand, printed_operand, expression_code, converted_operand_code, printed_code, place_operand, place_offset, place_code}
@@ -25,10 +25,10 @@ use Rattle.cyc_lower.specs.declared.statements.Exits.{Exits}
 use Rattle.cyc_lower.specs.declared.statements.Opened.{Opened}
 use Rattle.cyc_lower.proofs.relation.Stands.{PairAt, ConditionAt, AssignmentAt, DiscardedAt, ReturnAt, DeclarationAt, StatementAt, ItemsAt, HasSide, SideAt, ReadAt, WriteAt, SwapAt, LeaveAt, ThrownAt, CaughtAt, ClausesAt, ExchangeAt, ClosedAt, HandlersAt, MarksAt, KeptAt, RestoredAt, OpenedAt}
 use Rattle.cyc_types.specs.typing.Expressions.{type_of_side}
-use Rattle.cyc_lower.proofs.slots.Widths.{kind_of_result, passed_kind, type_words, HasRoom}
+use Rattle.cyc_lower.proofs.slots.Widths.{kind_of_result, passed_kind, type_words, HasRoom, HasLocal}
 use Rattle.cyc_lower.proofs.relation.Fitting.{FitsPlace, Fits, FitsConverted, FitsReturn, FitsInitial, FitsStatement, FitItems, FitsSide, FitsThrown, FitsCaught, FitClauses}
 use Rattle.cyc_lower.proofs.place_steps.Sources.{stored_apart}
-use Rattle.cyc_lower.proofs.emission.OperandBridge.{cut, BlocksStand, operand_by, returned_by, right_by, left_first, returned_brought, conversion_stands, each_stands, global_stands, load_stands, stores_stand, saved_stands, address_stands}
+use Rattle.cyc_lower.proofs.emission.OperandBridge.{cut, BlocksStand, operand_by, returned_by, right_by, left_first, returned_brought, conversion_stands, each_stands, global_stands, load_stands, stores_stand, saved_stands, address_stands, blank_stands}
 use Rattle.cyc_lower.proofs.emission.ExpressionBridge.{expression_stands, place_stands, initial_stands, converted_operand_stands, printed_stands}
 
 module _ (code : List Instruction) (b : Numbering) (types : Types) (raised : BlocksStand code types.raises) where
@@ -58,7 +58,7 @@ module _ (code : List Instruction) (b : Numbering) (types : Types) (raised : Blo
       let s = p + length address in
       let value = converted_operand_code (starts_of types) c s (t + 1) in
       let u = s + length value in
-      let write = saved_code (passed_words c) t o in
+      let write = saved_code (kind_passed c) t o in
       let has_address = has_front code p address (value ++ write) has in
       let has_value = has_back code p address (value ++ write) has in (
         o,
@@ -71,7 +71,7 @@ module _ (code : List Instruction) (b : Numbering) (types : Types) (raised : Blo
           place_stands code b types raised x t p r place refl (has_front code p front bring has_address),
           address_stands code b types raised a bytes t r s (cut p s front bring refl) (has_back code p front bring has_address),
           converted_operand_stands code b types raised c (t + 1) s u numbered refl (has_front code s value write has_value),
-          saved_stands code b types raised (passed_words c) t o u q (stored_apart types b c t numbered) (cut s q value write (cut p q address (value ++ write) end)) (has_back code s value write has_value),
+          saved_stands code b types raised (kind_passed c) t o u q (stored_apart types b c t numbered) (cut s q value write (cut p q address (value ++ write) end)) (has_back code s value write has_value),
         ),
       )
   discarded_stands a t p q numbered end has =
@@ -136,7 +136,7 @@ module _ (code : List Instruction) (b : Numbering) (types : Types) (raised : Blo
       (r, handlers_stand opened.handler p r refl (has_front code p front back has), marks_stand opened.mark r q (cut p q front back end) (has_back code p front back has))
 
   -- a region is opened, and its handle is named
-  opened_stands : (n place t p q : ℕ) → types.scopes ≡ Some place → n < b.locals → HasRoom types n kinds.Handle → p + length (opened_code (starts_of types) n t) ≡ q → HasAt code p (opened_code (starts_of types) n t)
+  opened_stands : (n place t p q : ℕ) → types.scopes ≡ Some place → n < b.locals → HasLocal types n kinds.Handle → p + length (opened_code (starts_of types) n t) ≡ q → HasAt code p (opened_code (starts_of types) n t)
       → OpenedAt code b types n t p q
   opened_stands n place t p q counts few room end (ask, (move, (named, none))) = (place, counts, ask, move, (few, room, named, omega (arith, end)))
 
@@ -182,9 +182,10 @@ module _ (code : List Instruction) (b : Numbering) (types : Types) (raised : Blo
         kind,
       )
 
-  declaration_stands : (n : ℕ) (v : Option Converted) (t p q : ℕ) → n < b.locals → FitsInitial b types n v → p + length (declaration_code (starts_of types) n v p t) ≡ q → HasAt code p (declaration_code (starts_of types) n v p t) → DeclarationAt code b types n v t p q
-  declaration_stands n None t p q few numbered end has = (few, omega (arith, end))
-  declaration_stands n (Some c) t p q few (room, numbered) end has = (few, room, initial_stands code b types raised c (slot_of (starts_of types) n) t p q numbered end has)
+  declaration_stands : (n : ℕ) (ty : Ty) (v : Option Converted) (t p q : ℕ) → n < b.locals → FitsInitial b types n v → p + length (declaration_code (starts_of types) n ty v p t) ≡ q
+      → HasAt code p (declaration_code (starts_of types) n ty v p t) → DeclarationAt code b types n (kind_of ty) v t p q
+  declaration_stands n ty None t p q few numbered end has = (few, blank_stands code b types raised (kind_of ty) (slot_of (starts_of types) n) p q end has)
+  declaration_stands n ty (Some c) t p q few (room, numbered) end has = (few, room, initial_stands code b types raised c (slot_of (starts_of types) n) t p q numbered end has)
 
   -- ---- swaps
 
@@ -203,29 +204,29 @@ module _ (code : List Instruction) (b : Numbering) (types : Types) (raised : Blo
       let r = p + length front in
       (o, bytes, r, place_stands code b types raised x t p r numbered refl (has_front code p front back has), address_stands code b types raised o bytes t r q (cut p q front back end) (has_back code p front back has))
 
-  read_stands : (a : Side) (kind : Kind) (words s d p q : ℕ) → FitsSide b types a kind → p + length (read_side (starts_of types) a words s d) ≡ q → HasAt code p (read_side (starts_of types) a words s d) → ReadAt code b types a words s d p q
-  read_stands (VariableSide l ty) kind words s d p q fits end has = load_stands code b types raised l kind words d p q fits end has
-  read_stands (CellSide x) kind words s d p q fits end has = each_stands code b types raised (load_at s) words 0 d p q end has
+  read_stands : (a : Side) (kind : Kind) (s d p q : ℕ) → FitsSide b types a kind → p + length (read_side (starts_of types) a kind s d) ≡ q → HasAt code p (read_side (starts_of types) a kind s d) → ReadAt code b types a kind s d p q
+  read_stands (VariableSide l ty) kind s d p q fits end has = load_stands code b types raised l kind (words_of_kind kind) d p q fits end has
+  read_stands (CellSide x) kind s d p q fits end has = each_stands code b types raised (load_at kind s) (words_of_kind kind) 0 d p q end has
 
-  write_stands : (a : Side) (words s v p q : ℕ) → p + length (write_side (starts_of types) a words s v) ≡ q → HasAt code p (write_side (starts_of types) a words s v) → WriteAt code b types a words s v p q
-  write_stands (VariableSide (Local w n) ty) words s v p q end (here, none) = (here, end)
-  write_stands (VariableSide (Global n) ty) words s v p q end has = global_stands code b types raised words (global_of (starts_of types) n) (operands.Slot v) p q end has
-  write_stands (CellSide x) words s v p q end has = stores_stand code b types raised words s 0 v p q end has
+  write_stands : (a : Side) (kind : Kind) (s v p q : ℕ) → p + length (write_side (starts_of types) a kind s v) ≡ q → HasAt code p (write_side (starts_of types) a kind s v) → WriteAt code b types a kind s v p q
+  write_stands (VariableSide (Local w n) ty) kind s v p q end (here, none) = (here, end)
+  write_stands (VariableSide (Global n) ty) kind s v p q end has = global_stands code b types raised (words_of_kind kind) (global_of (starts_of types) n) (operands.Slot v) p q end has
+  write_stands (CellSide x) kind s v p q end has = stores_stand code b types raised kind (words_of_kind kind) s 0 v p q end has
 
   swap_stands : (x y : Side) (t p q : ℕ) → FitsSide b types x (kind_of (type_of_side x)) → FitsSide b types y (kind_of (type_of_side x))
       → p + length (swap_code (starts_of types) x y p t) ≡ q → HasAt code p (swap_code (starts_of types) x y p t) → SwapAt code b types x y t p q
   swap_stands x y t p q fits_x fits_y end has =
       let kind = kind_of (type_of_side x) in
-      let words = words_of (type_of_side x) in
+      let words = words_of_kind kind in
       let front = side_code (starts_of types) x p t in
       let m = p + length front in
       let middle = side_code (starts_of types) y m (right_slot x t) in
       let r = m + length middle in
-      let first = read_side (starts_of types) x words t (t + 2) in
-      let second = read_side (starts_of types) y words (right_slot x t) (t + 2 + words) in
-      let third = write_side (starts_of types) x words t (t + 2 + words) in
-      let fourth = write_side (starts_of types) y words (right_slot x t) (t + 2) in
-      let back = exchange_code (starts_of types) words x y t in
+      let first = read_side (starts_of types) x kind t (t + 2) in
+      let second = read_side (starts_of types) y kind (right_slot x t) (t + 2 + words) in
+      let third = write_side (starts_of types) x kind t (t + 2 + words) in
+      let fourth = write_side (starts_of types) y kind (right_slot x t) (t + 2) in
+      let back = exchange_code (starts_of types) kind x y t in
       let has_rest = has_back code p front (middle ++ back) has in
       let has_all = has_back code m middle back has_rest in
       let has_three = has_back code r first (second ++ (third ++ fourth)) has_all in
@@ -234,15 +235,15 @@ module _ (code : List Instruction) (b : Numbering) (types : Types) (raised : Blo
       let u = s + length second in
       let v = u + length third in
       let end_two = cut s q second (third ++ fourth) (cut r q first (second ++ (third ++ fourth)) (cut m q middle back (cut p q front (middle ++ back) end))) in
-      let exchange : ExchangeAt code b types words x y t r q
+      let exchange : ExchangeAt code b types kind x y t r q
       = (
         s,
         u,
         v,
-        read_stands x kind words t (t + 2) r s fits_x refl (has_front code r first (second ++ (third ++ fourth)) has_all),
-        read_stands y kind words (right_slot x t) (t + 2 + words) s u fits_y refl (has_front code s second (third ++ fourth) has_three),
-        write_stands x words t (t + 2 + words) u v refl (has_front code u third fourth has_two),
-        write_stands y words (right_slot x t) (t + 2) v q (cut u q third fourth end_two) (has_back code u third fourth has_two),
+        read_stands x kind t (t + 2) r s fits_x refl (has_front code r first (second ++ (third ++ fourth)) has_all),
+        read_stands y kind (right_slot x t) (t + 2 + words) s u fits_y refl (has_front code s second (third ++ fourth) has_three),
+        write_stands x kind t (t + 2 + words) u v refl (has_front code u third fourth has_two),
+        write_stands y kind (right_slot x t) (t + 2) v q (cut u q third fourth end_two) (has_back code u third fourth has_two),
       ) in (
         m,
         r,
@@ -250,7 +251,7 @@ module _ (code : List Instruction) (b : Numbering) (types : Types) (raised : Blo
         has_side y kind fits_y,
         side_stands x kind t p m fits_x refl (has_front code p front (middle ++ back) has),
         side_stands y kind (right_slot x t) m r fits_y refl (has_front code m middle back has_rest),
-        subst (λ n. ExchangeAt code b types n x y t r q) (sym (type_words (type_of_side x))) exchange,
+        exchange,
       )
 
   thrown_stands : (v : Option Expression) (t p q : ℕ) → FitsThrown b types v → p + length (thrown_code (starts_of types) v p t) ≡ q → HasAt code p (thrown_code (starts_of types) v p t)
@@ -377,9 +378,9 @@ module _ (code : List Instruction) (b : Numbering) (types : Types) (raised : Blo
         let back = items_code (starts_of types) js (p + length front) exits d in
         (p + length front, statement_stands s in_loop exits d p (p + length front) numbered refl (has_front code p front back has), items_stand js in_loop exits d (p + length front) q rest (cut p q front back end) (has_back code p front back has))
     items_stand (MoreItems (Declare n t v) js) in_loop exits d p q (few, room, numbered, rest) end has =
-        let front = declaration_code (starts_of types) n v p d in
+        let front = declaration_code (starts_of types) n t v p d in
         let back = items_code (starts_of types) js (p + length front) exits d in
-        (p + length front, room, declaration_stands n v d p (p + length front) few numbered refl (has_front code p front back has), items_stand js in_loop exits d (p + length front) q rest (cut p q front back end) (has_back code p front back has))
+        (p + length front, room, declaration_stands n t v d p (p + length front) few numbered refl (has_front code p front back has), items_stand js in_loop exits d (p + length front) q rest (cut p q front back end) (has_back code p front back has))
     items_stand (MoreItems (DeclareRegion r n) js) in_loop exits d p q ((global, counts), few, room, numbered) end has =
         let front = opened_code (starts_of types) n d in
         let m = p + length front in

@@ -55,7 +55,7 @@ use Rattle.cyc_lower.proofs.region_steps.Scoped.{scopes_word}
 use Rattle.cyc_lower.proofs.handler_steps.Handling.{intact, closes_here, newest_open, caught_by, raised}
 use Rattle.cyc_lower.proofs.value_steps.Evaluations.{IsStep}
 use Rattle.cyc_lower.proofs.value_steps.Values.{taken, not_taken}
-use Rattle.cyc_lower.proofs.relation.Rows.{row-fits, row-variable}
+use Rattle.cyc_lower.proofs.relation.Rows.{row-fits, row-variable, declared_low}
 
 module _ (source : Program) (pages calls : ℕ) where
   -- ---- a `try`
@@ -189,7 +189,7 @@ module _ (source : Program) (pages calls : ℕ) where
 
   -- a local is made that gets what stands in an operand
   pub naming : (n : ℕ) (v : Kinded) (js : Items) (k : List Entry) (e : Environment) (w : World) (c : Configuration) → IsStep source pages calls (Naming n v js) k e w c
-  naming n v js k e w c well (shared, facts, (exits, q, o, here, is, local, room, items, stack)) =
+  naming n v js k e w c well (shared, facts, (exits, q, o, here, is, local, (room, of_type), items, stack)) =
       let g = c.active.function in
       let words = words_of_kind v.kind in
       let slot = slot_of (starts_at source g) n in
@@ -203,8 +203,9 @@ module _ (source : Program) (pages calls : ℕ) where
       (λ choice. subst (Matches source pages calls (Running Proceeding (Rest js ∷ k) (with_local e n (length w.objects)) (made w (variable e.home v.kind (Some v.value))))) (sym (moves (lower_program source) choice c words slot o)) (
         shared_declared source pages calls k e w (advanced (with_slots c slots)) shared n r v.kind (Some v.value) row home (row-fits (call_slots source g c.active.base) slot v.kind e.home (Some v.value)) (row-variable (call_slots source g c.active.base) slot v.kind),
         behind_statement exits (
-          data_declared grown source g c.active.base w.objects e (callers k) c.active.slots slots c.globals c.frames n words (variable e.home v.kind (Some v.value)) local room (record { kind = v.kind; room = room; row = row_declared source pages calls k e w c shared row }) elsewhere
+          data_declared grown source g c.active.base w.objects e (callers k) c.active.slots slots c.globals c.frames n words (variable e.home v.kind (Some v.value)) local room (record { kind = v.kind; room = room; of_type = of_type; row = row_declared source pages calls k e w c shared row }) elsewhere
               (λ u has. subst (λ (x : Kinded). Is grown x.kind x.value slots slot × HasRoom (types_at source g) n x.kind) (same_Some v u has) (Is-grows grows v.kind v.value slots slot (moved_is shared.tables v c.active.slots slot o is), room))
+              (λ is_char. declared_low grown (call_slots source g c.active.base) slot v.kind (length w.objects) v slots (row_declared source pages calls k e w c shared row) refl (Is-grows grows v.kind v.value slots slot (moved_is shared.tables v c.active.slots slot o is)) is_char)
               (data_grows shared.tables grown grows source g c.active.base w.objects e.locals (callers k) c.active.slots c.globals c.frames facts.0),
           handlers_beside source g c.active.slots slots c.active.handlers c.frames k slot words (omega (arith, slot-room (types_at source g) n local, room)) elsewhere facts.1,
         )
@@ -464,7 +465,7 @@ module _ (source : Program) (pages calls : ℕ) where
           operands.Slot (floor source g k + 1),
           move,
           value_is,
-          room-inside (types_at source g) n kinds.Int room,
+          room-inside (types_at source g) n kinds.Int room.0,
           room,
           subst (λ p. ItemsAt (code_of source g) (bounds_at source g) (types_at source g) js exits (floor source g k) p u) (sym end) items,
           (q, comes, stack),

@@ -25,7 +25,7 @@ use Rattle.cyc_plain.specs.Step.{Choice, advanced, operand_word, served_to, perf
 use Rattle.cyc_plain.specs.Step as plain_step
 use Rattle.cyc_plain.specs.Straight.{At}
 use Rattle.cyc_plain.proofs.SlotLaws.{put-same, put-other}
-use Rattle.cyc_meaning.specs.Values.{Thin, Operand as Kinded, Cell, kinds_of, is_kind, words_of_kind, bytes_of_kind, begins, behind, bytes_from, words_for, block_size}
+use Rattle.cyc_meaning.specs.Values.{Thin, Operand as Kinded, Cell, kinds_of, is_kind, words_of_kind, bytes_of_kind, begins, behind, words_for, block_size}
 use Rattle.cyc_meaning.specs.Allocation.{writes_from, blanks_of, filled, makes_of}
 use Rattle.cyc_meaning.specs.Objects.{made_in, made_unique, created, created_in}
 use Rattle.cyc_meaning.specs.Effects.{pages_of}
@@ -40,7 +40,6 @@ use Rattle.cyc_objects.proofs.Values.{Grows-row}
 use Rattle.cyc_objects.proofs.RegionLemmas.{counted-same}
 use Rattle.cyc_objects.proofs.Making.{open-home, allocated, allocated-unique, refusal-allocate, refusal-unique, operands-blank, row-made, placed-range, room-fits}
 use Rattle.cyc_lower.proofs.slots.Widths.{kind_positive, wide_kind, Outside}
-use Rattle.cyc_lower.proofs.slots.CellBytes.{behind_even}
 use Rattle.cyc_lower.proofs.relation.Stands.{StoresAt, CellsAt, ObjectAt}
 use Rattle.cyc_lower.proofs.relation.HeldValues.{IsWord, IsIn, IsObject, words_held, height, Holds, HoldsFrom, held, callers, homes, IsHandleOf, HasHandle, contents}
 use Rattle.cyc_lower.proofs.relation.Relation.{types_on, silent, DataIn, SharedAt, in_temporary, into_slot, LandsMade, ValueStack, Matches, code_of, bounds_at, top, floor, base_of}
@@ -60,19 +59,15 @@ use Rattle.cyc_lower.specs.Slots.{global_types}
 use Rattle.cyc_lower.specs.ValueCode.{kinds_passed}
 use Rattle.cyc_lower.specs.ObjectCode.{slots_of_kinds}
 use Rattle.cyc_lower.proofs.place_steps.PlaceWords.{add_is}
+use Rattle.cyc_lower.proofs.slots.CellBytes.{bytes_within}
+use Rattle.cyc_lower.proofs.place_steps.KindWords.{saved_at, saves_by}
+use Rattle.cyc_lower.specs.Lowering.{lower_program}
 
 -- ---- words and cells of values
 
 words_many : (vs : List Kinded) → length vs ≤ words_held vs
 words_many [] = omega arith
 words_many (v ∷ vs) = omega (arith, words_many vs, kind_positive v.kind)
-
--- the bytes of cells for these values are those of their words
-bytes_blank : (at : ℕ) (vs : List Kinded) → at % 4 ≡ 0 → bytes_from at (kinds_of (blanks_of vs)) ≡ at + 4 * words_held vs
-bytes_blank at [] even = omega arith
-bytes_blank at (v ∷ vs) even =
-    let here = behind_even v.kind at even in
-    omega (arith, here, bytes_blank (behind v.kind at) vs (omega (arith, here, even)))
 
 -- the kind behind others
 there_is : (done rest : List Kind) (kind : Kind) → slice_get (done ++ kind ∷ rest) (length done) ≡ Some kind
@@ -113,16 +108,16 @@ HoldsFrom-later t slots other first (v ∷ vs) same (is, holds) = (
   HoldsFrom-later t slots other (first + words_of_kind v.kind) vs (λ n from. same n (omega (arith, from))) holds,
 )
 
--- the size of a block that is asked for
-sized : (vs : List Kinded) → 1 ≤ words_held vs → words_held vs ≤ MOST_BLOCK_WORDS → max 1 (words_held vs) ≡ block_size (blanks_of vs)
-sized vs some few = ap (max 1) (let words : words_held vs ≡ words_for (bytes_of_kinds (kinds_of (blanks_of vs))) = omega (arith, bytes_blank 0 vs refl) in words)
+-- the size of a block that is asked for: values that stand in so many slots have no more words in cells
+at_most : (n most : ℕ) → 1 ≤ most → n ≤ most → max 1 n ≤ most
+at_most zero most some few = omega (arith, some)
+at_most (suc n) most some few = omega (arith, few)
 
-max_one : (n : ℕ) → 1 ≤ n → max 1 n ≡ n
-max_one zero some = absurd (omega arith)
-max_one (suc n) some = omega (arith, some)
-
-size_fits : (vs : List Kinded) → 1 ≤ words_held vs → words_held vs ≤ MOST_BLOCK_WORDS → block_size (blanks_of vs) ≤ MOST_BLOCK_WORDS
-size_fits vs some few = omega (arith, max_one (words_held vs) some, sized vs some few, few)
+size_fits : (vs : List Kinded) → words_held vs ≤ MOST_BLOCK_WORDS → block_size (blanks_of vs) ≤ MOST_BLOCK_WORDS
+size_fits vs few =
+    let ks : List Kind = kinds_of (blanks_of vs) in
+    let enough : bytes_of_kinds ks ≤ 4 * (0 + slots_of_kinds ks) = bytes_within ks 0 0 (omega arith) in
+    at_most (words_for (bytes_of_kinds ks)) MOST_BLOCK_WORDS (omega arith) (omega (arith, enough, slots_held vs, few))
 
 -- ---- what is made for an owner
 
@@ -274,7 +269,7 @@ module _ (source : Program) (pages calls : ℕ) where
         subst (λ a. IsObject grown (length w.objects) a (kinds_of cells)) (sym (put-same c.active.slots (t + words_held vs) choice.address))
         (record {
           row = row-made shared.related (Placed choice.address (kinds_of cells));
-          range = placed-range c.store.pages (services.block_of handle (block_size cells) choice) (kinds_of cells) served.allowed.may.0 shared.related.few (room-fits handle cells (omega (arith, size_fits vs some few)));
+          range = placed-range c.store.pages (services.block_of handle (block_size cells) choice) (kinds_of cells) served.allowed.may.0 shared.related.few (room-fits handle cells (omega (arith, size_fits vs few)));
           some = some_cells vs some;
         })
       where
@@ -301,7 +296,7 @@ module _ (source : Program) (pages calls : ℕ) where
       let has = has_handle shared.tables c.active.slots (floor source c.active.function k) owner handle k shared.related.heap owned holds in
       let cells = blanks_of vs in
       let (made, creates) = object_made (created w owner cells) (length w.objects) vs k e w well in
-      let (new, makes) = made_for shared.related cells (operands-blank vs) (size_fits vs some few) owner word made has creates in
+      let (new, makes) = made_for shared.related cells (operands-blank vs) (size_fits vs few) owner word made has creates in
       let pointer : Kinded = record { kind = kinds.NonNull; value = Thin (length w.objects) 0 } in
       let next = Running (Writing (writes_from (length w.objects) 0 vs) (Some pointer)) k e new in
       let is_next : step source (Running focus k₀ e w) ≡ next = does ∙ ap (λ a. filled a (length w.objects) vs k e w) makes.creates in
@@ -418,7 +413,7 @@ module _ (source : Program) (pages calls : ℕ) where
       (shared : SharedAt source pages calls k e w c) (facts : DataIn source shared.tables c.active.slots k e w c) (is : pointer ≡ record { kind = kinds.NonNull; value = Thin object 0 })
       (there : IsObject shared.tables object (c.active.slots address) (done ++ kinds_of (blanks_of (u ∷ us)))) (is_u : Is shared.tables u.kind u.value c.active.slots slot)
       (held_in : HoldsFrom shared.tables c.active.slots (slot + words_of_kind u.kind) us)
-      (r : ℕ) (stores : StoresAt (code_of source c.active.function) (bounds_at source c.active.function) (types_on source c.active.function k) (words_of_kind u.kind) address (begins u.kind (bytes_of_kinds done)) slot c.active.next r)
+      (r : ℕ) (stores : StoresAt (code_of source c.active.function) (bounds_at source c.active.function) (types_on source c.active.function k) u.kind (words_of_kind u.kind) address (begins u.kind (bytes_of_kinds done)) slot c.active.next r)
       (others : CellsAt (code_of source c.active.function) (bounds_at source c.active.function) (types_on source c.active.function k) (kinds_of (blanks_of us)) address (behind u.kind (bytes_of_kinds done)) (slot + words_of_kind u.kind) r m)
       (move : At (code_of source c.active.function) m (instructions.Move d (operands.Slot address))) (end : m + 1 ≡ q) (holds : Holds shared.tables c.active.slots (floor source c.active.function k) (held k))
       (lands : LandsMade source c.active.function e.locals kinds.NonNull d q c.frames k) where
@@ -455,13 +450,15 @@ module _ (source : Program) (pages calls : ℕ) where
         let (cell, found, same, gives) = cell_is_there (cell_at w object (length done)) object (length done) u next_write k e w (subst IsWell does well) in
         let word = slots slot in
         let is_word : IsWord tables cell.cell.kind u.value word = subst (λ i. IsWord tables i u.value word) (sym same) (one_word tables u.kind u.value slots slot one is_u) in
-        let (store, last) = subst (λ n. StoresAt (code_of source g) (bounds_at source g) (types_on source g k) n address (begins u.kind (bytes_of_kinds done)) slot c.active.next r) one stores in
+        let (store, last) = subst (λ n. StoresAt (code_of source g) (bounds_at source g) (types_on source g k) u.kind n address (begins u.kind (bytes_of_kinds done)) slot c.active.next r) one stores in
         let later = shared_saved source pages calls k e w c shared names facts object (length done) place word cell u.value found points is_word (words.0 slot) in
         let after = with_word source pages calls k e w c shared names facts object (length done) place word cell u.value found points is_word (words.0 slot) in
         let stands : (n : ℕ) → base_of source g ≤ n → after.active.slots n ≡ slots n = λ n least. above_there source pages calls k e w c shared names facts object (length done) place word cell u.value found points is_word (words.0 slot) n least in
         by_one source pages calls (does ∙ gives) shared store
         (λ choice. subst (Matches source pages calls (Running next_write k e (written w object (length done) cell u.value)))
-        (sym (saves_there source pages calls k e w c shared names facts object (length done) place word cell u.value found points is_word (words.0 slot))) (
+        (sym (saves_by (lower_program source) choice c u.kind (operands.Slot address) (begins u.kind (bytes_of_kinds done)) (operands.Slot slot)
+        ∙ ap (λ (i : Kind). saved_at (lower_program source) i c place word) (sym same)
+        ∙ saves_there source pages calls k e w c shared names facts object (length done) place word cell u.value found points is_word (words.0 slot))) (
           later,
           data_saved source pages calls k e w c shared names facts object (length done) place word cell u.value found points is_word (words.0 slot),
           (
@@ -510,7 +507,7 @@ module _ (source : Program) (pages calls : ℕ) where
         let (cell, found, same, gives) = cell_is_there (cell_at w object (length done)) object (length done) u next_write k e w (subst IsWell does well) in
         let wide = same ∙ fat in
         let fat_is = subst (λ i. Is tables i u.value slots slot) fat is_u in
-        let (at_first, (at_second, (at_third, last))) = subst (λ n. StoresAt (code_of source g) (bounds_at source g) (types_on source g k) n address bytes slot c.active.next r) three stores in
+        let (at_first, (at_second, (at_third, last))) = subst (λ (i : Kind). StoresAt (code_of source g) (bounds_at source g) (types_on source g k) i (words_of_kind i) address bytes slot c.active.next r) fat stores in
         let first : add_of (slots address) bytes ≡ place + 4 * 0 = ap (add_of (slots address)) (let e : bytes ≡ bytes + 4 * 0 = omega arith in e) ∙ unwrapped fat 0 (omega arith) in
         let second : add_of (slots address) (bytes + 4) ≡ place + 4 * 1 = ap (add_of (slots address)) (let e : bytes + 4 ≡ bytes + 4 * 1 = omega arith in e) ∙ unwrapped fat 1 (omega arith) in
         let third : add_of (slots address) (bytes + 4 + 4) ≡ place + 4 * 2 = ap (add_of (slots address)) (let e : bytes + 4 + 4 ≡ bytes + 4 * 2 = omega arith in e) ∙ unwrapped fat 2 (omega arith) in

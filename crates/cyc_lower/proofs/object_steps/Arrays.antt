@@ -3,11 +3,12 @@ use Rattle.std.proofs.Common.{◌≡◌, ◌≢◌, ℕ, zero, suc, ◌+◌, ◌
 use Rattle.std.specs.Prelude.{nat_le, nat_lt, ◌==◌, if◌then◌else◌}
 use Rattle.std.proofs.lemmas.Bool.{le-leb, eqb-true, eq-eqb, false_from_ne_true, leb-true, leb-false, cases_Bool, cases_eq}
 use Rattle.std.proofs.Math.Nat.{mod-eq_of_lt}
-use Rattle.cyc_words.specs.Word.{add_of, mul_of, shl_of}
+use Rattle.cyc_words.specs.Word.{add_of, mul_of, shl_of, sar_of}
 use Rattle.cyc_words.specs.Word.{IsWord as IsMachineWord}
 use Rattle.cyc_types.specs.declared.typed.Kind.{Kind}
 use Rattle.cyc_types.specs.declared.typed.Kind.TheVariants as kinds
 use Rattle.cyc_types.specs.TypedTrees.{Expression, Program}
+use Rattle.cyc_types.specs.Numbered.{Numbering}
 use Rattle.cyc_store.specs.State.{demand}
 use Rattle.cyc_store.specs.Services as services
 use Rattle.cyc_store.specs.Services.{Allocate, refusal, full_at}
@@ -27,7 +28,7 @@ use Rattle.cyc_plain.specs.Step.{Choice, operand_word, with_slots, at, advanced,
 use Rattle.cyc_plain.specs.Step as plain_step
 use Rattle.cyc_plain.specs.Straight.{At}
 use Rattle.cyc_plain.proofs.SlotLaws.{put-same, put-other}
-use Rattle.cyc_meaning.specs.Values.{Value, Int, Fat, Operand as Kinded, Cell, kinds_of, is_kind, words_of_kind, bytes_of_kind, behind, bytes_from, words_for, block_size}
+use Rattle.cyc_meaning.specs.Values.{Value, Int, Fat, Operand as Kinded, Cell, kinds_of, is_kind, words_of_kind, bytes_of_kind, words_for, block_size}
 use Rattle.cyc_meaning.specs.Operators.{array_size}
 use Rattle.cyc_meaning.specs.Allocation.{blanks, begun, makes_array, most_words}
 use Rattle.cyc_meaning.specs.Objects.{created}
@@ -41,13 +42,13 @@ use Rattle.cyc_objects.specs.Related as objects
 use Rattle.cyc_objects.proofs.Values.{Grows-row}
 use Rattle.cyc_objects.proofs.Pointers.{pointer-word}
 use Rattle.cyc_objects.proofs.Cells.{element-found}
+use Rattle.cyc_objects.proofs.Places.{blanks-size}
 use Rattle.cyc_objects.proofs.Making.{blanks-blank, part-made}
-use Rattle.cyc_lower.specs.ValueCode.{is_in, scale_of}
+use Rattle.cyc_lower.specs.ValueCode.{is_in, scale_of, store_of}
 use Rattle.cyc_lower.specs.ObjectCode.{most_elements}
 use Rattle.cyc_lower.specs.Lowering.{lower_program}
 use Rattle.cyc_lower.proofs.slots.Widths.{Outside, same_kind, wide_kind}
-use Rattle.cyc_lower.proofs.slots.CellBytes.{behind_even}
-use Rattle.cyc_lower.proofs.relation.Stands.{CopyBy, BegunAt, ElementsAt, StoresAt}
+use Rattle.cyc_lower.proofs.relation.Stands.{CopyBy, BegunAt, ElementsAt, StoresAt, SizedAt}
 use Rattle.cyc_lower.proofs.object_steps.Handles.{has_handle}
 use Rattle.cyc_lower.proofs.relation.HeldValues.{IsWord, IsIn, Holds, held, callers, counters_of, arrays_in, IsHandleOf, homes, contents}
 use Rattle.cyc_lower.proofs.relation.Relation.{silent, DataIn, SharedAt, in_temporary, into_slot, LandsMade, ValueStack, Matches, code_of, bounds_at, types_on, floor, top, base_of}
@@ -55,7 +56,7 @@ use Rattle.cyc_lower.proofs.relation.Data.{Is-same, height-least, one_word, Hold
 use Rattle.cyc_lower.proofs.relation.Accesses.{IsWell, is_fitting}
 use Rattle.cyc_lower.proofs.relation.Counters.{counters-many, counted_before}
 use Rattle.cyc_lower.proofs.relation.Sharing.{shared_less}
-use Rattle.cyc_lower.proofs.place_steps.PlaceWords.{add_is, shifted_is, multiplied_is, stays, cell_kind, word_is}
+use Rattle.cyc_lower.proofs.place_steps.PlaceWords.{add_is, stays, cell_kind, word_is}
 use Rattle.cyc_lower.proofs.relation.Paths.{Link, is_quiet, end_of, IsPath, end_joined, path_joined, by_path}
 use Rattle.cyc_lower.proofs.place_steps.WideCells.{stored, all_links, all_path, shared_stored, data_stored, Parts, parts_of, stage, above_stored, frames_stored}
 use Rattle.cyc_lower.proofs.pointer_steps.Elements.{scaled}
@@ -65,93 +66,15 @@ use Rattle.cyc_lower.proofs.relation.Matched.{IsMatched, by_one, by_two, by_thre
 use Rattle.cyc_lower.proofs.value_steps.Evaluations.{IsStep, landed_made, made_moved}
 use Rattle.cyc_lower.proofs.handler_steps.Handling.{raised}
 use Rattle.cyc_lower.proofs.object_steps.Allocations.{Makes, made_for}
+use Rattle.cyc_lower.proofs.object_steps.ArrayWords.{elements_few, words_few, most_is, scaled_is, scaled_word, quarter_is, product_is, sized_is}
 use Rattle.cyc_lower.proofs.object_steps.Asking.{past_pages, by_asking, by_full}
-use Rattle.cyc_words.proofs.WordLemmas.{IsWord-add_of, IsWord-mul_of, IsWord-shl_of}
+use Rattle.cyc_words.proofs.WordLemmas.{IsWord-add_of}
 use Rattle.cyc_lower.proofs.relation.Known.{row-made_there}
 use Rattle.cyc_lower.proofs.relation.Leads.{AreNamed}
 use Rattle.cyc_lower.proofs.relation.Moving.{Like, like_long, made_moves}
-use Rattle.cyc_lower.specs.Slots.{global_types}
+use Rattle.cyc_lower.specs.Slots.{Types, global_types}
 use Rattle.cyc_lower.proofs.pointer_steps.PointerSteps.{int_word}
-
--- ---- words
-
--- The elements of a kind are few enough exactly where their words are.
-elements_few : (kind : Kind) (n : ℕ) → n * words_of_kind kind ≤ MOST_BLOCK_WORDS → n ≤ most_elements (bytes_of_kind kind)
-elements_few kinds.Int n few = omega (arith, few)
-elements_few kinds.Nullable n few = omega (arith, few)
-elements_few kinds.NonNull n few = omega (arith, few)
-elements_few kinds.Fat n few = omega (arith, few)
-elements_few kinds.Handle n few = omega (arith, few)
-elements_few kinds.Key n few = omega (arith, few)
-
-words_few : (kind : Kind) (n : ℕ) → n ≤ most_elements (bytes_of_kind kind) → n * words_of_kind kind ≤ MOST_BLOCK_WORDS
-words_few kinds.Int n few = omega (arith, few)
-words_few kinds.Nullable n few = omega (arith, few)
-words_few kinds.NonNull n few = omega (arith, few)
-words_few kinds.Fat n few = omega (arith, few)
-words_few kinds.Handle n few = omega (arith, few)
-words_few kinds.Key n few = omega (arith, few)
-
-most_is : (kind : Kind) → most_elements (bytes_of_kind kind) ≤ MOST_BLOCK_WORDS
-most_is kinds.Int = omega arith
-most_is kinds.Nullable = omega arith
-most_is kinds.NonNull = omega arith
-most_is kinds.Fat = omega arith
-most_is kinds.Handle = omega arith
-most_is kinds.Key = omega arith
-
-product_is : (n words : ℕ) → n * words ≤ MOST_BLOCK_WORDS → mul_of n words ≡ n * words
-product_is n words few = mod-eq_of_lt (omega (arith, few))
-
--- the bytes before an element
-scaled_is : (kind : Kind) (i : ℕ) → i < 1000 → scaled (bytes_of_kind kind) i ≡ i * bytes_of_kind kind
-scaled_is kinds.Int i few = shifted_is i (omega (arith, few))
-scaled_is kinds.Nullable i few = shifted_is i (omega (arith, few))
-scaled_is kinds.NonNull i few = shifted_is i (omega (arith, few))
-scaled_is kinds.Fat i few = multiplied_is i (omega (arith, few))
-scaled_is kinds.Handle i few = shifted_is i (omega (arith, few))
-scaled_is kinds.Key i few = shifted_is i (omega (arith, few))
-
--- the words of elements
-measured_is : (kind : Kind) (n : ℕ) → words_for (n * bytes_of_kind kind) ≡ n * words_of_kind kind
-measured_is kinds.Int n = omega arith
-measured_is kinds.Nullable n = omega arith
-measured_is kinds.NonNull n = omega arith
-measured_is kinds.Fat n = omega arith
-measured_is kinds.Handle n = omega arith
-measured_is kinds.Key n = omega arith
-
-shifted_word : (kind : Kind) (n : ℕ) → IsMachineWord (scaled (bytes_of_kind kind) n)
-shifted_word kinds.Int n = IsWord-shl_of n 2
-shifted_word kinds.Nullable n = IsWord-shl_of n 2
-shifted_word kinds.NonNull n = IsWord-shl_of n 2
-shifted_word kinds.Fat n = IsWord-mul_of n 12
-shifted_word kinds.Handle n = IsWord-shl_of n 2
-shifted_word kinds.Key n = IsWord-shl_of n 2
-
--- a block has as many words as its elements have, or one
-sized_is : (count : ℕ) → count ≤ MOST_BLOCK_WORDS → add_of (truth (count == 0)) count ≡ max 1 count
-sized_is zero few = add_is 1 0 (omega arith)
-sized_is (suc n) few =
-    ap (λ b. add_of (truth b) (suc n)) (false_from_ne_true (suc n == 0) (λ told. absurd (omega (arith, eqb-true (suc n) 0 told)))) ∙ add_is 0 (suc n) (omega (arith, few)) ∙ at_least n
-  where
-    at_least : (n : ℕ) → 0 + suc n ≡ max 1 (suc n)
-    at_least n = omega arith
-
-blank_bytes : (at count : ℕ) (kind : Kind) → at % 4 ≡ 0 → bytes_from at (kinds_of (blanks count kind)) ≡ at + 4 * (count * words_of_kind kind)
-blank_bytes at zero kind even = omega arith
-blank_bytes at (suc count) kind even =
-    let here = behind_even kind at even in
-    blank_bytes (behind kind at) count kind (omega (arith, here, even)) ∙ further (behind kind at) at (words_of_kind kind) count here
-  where
-    further : (b a words count : ℕ) → b ≡ a + 4 * words → b + 4 * (count * words) ≡ a + 4 * (suc count * words)
-    further b a words count is = omega (arith, is)
-
-blank_words : (count : ℕ) (kind : Kind) → words_for (bytes_from 0 (kinds_of (blanks count kind))) ≡ count * words_of_kind kind
-blank_words count kind = ap words_for (blank_bytes 0 count kind refl) ∙ whole (count * words_of_kind kind)
-  where
-    whole : (n : ℕ) → words_for (0 + 4 * n) ≡ n
-    whole n = omega arith
+use Rattle.cyc_lower.proofs.place_steps.KindWords.{saved_at, saves_by}
 
 -- ---- the owner for whom it is made
 
@@ -161,6 +84,63 @@ array_made : (a : Access World) (object count level : ℕ) (wanted : Kind) (elem
 array_made (Found made) object count level wanted element k e w well = (made, refl)
 array_made Closed object count level wanted element k e w well = absurd (well refl)
 array_made Missing object count level wanted element k e w well = absurd (well refl)
+
+-- The number of words that so many elements have comes to a slot, on a path.
+record Sized (source : Program) (kind : Kind) (a : Configuration) (t r n : ℕ) : Type 0 where
+  pub slots : Words
+  pub links : List Link
+  pub ends : end_of a links ≡ at (with_slots a slots) r
+  pub path : IsPath source a links
+  pub words : slots t ≡ words_for (n * bytes_of_kind kind)
+  pub others : (x : ℕ) → x ≢ t → slots x ≡ a.active.slots x
+
+module _ (source : Program) (a : Configuration) (t r n : ℕ) (is : a.active.slots t ≡ n) where
+  -- of one element there are some
+  product_sized : (kind : Kind) → words_for (n * bytes_of_kind kind) ≡ n * words_of_kind kind → words_for (n * bytes_of_kind kind) ≤ MOST_BLOCK_WORDS
+      → At (code_of source a.active.function) a.active.next (instructions.Binary plain_binary.Multiply t (operands.Slot t) (operands.Word (words_of_kind kind))) × (a.active.next + 1 ≡ r)
+      → Sized source kind a t r n
+  product_sized kind whole few (all, end) =
+      let s1 = put a.active.slots t (mul_of (a.active.slots t) (words_of_kind kind)) in
+      let a1 = advanced (with_slots a s1) in
+      record {
+        slots = s1;
+        links = record { instruction = instructions.Binary plain_binary.Multiply t (operands.Slot t) (operands.Word (words_of_kind kind)); behind = a1 } ∷ [];
+        ends = ap (at (with_slots a s1)) end;
+        path = (all, (λ choice. refl), omega arith, is_quiet a a1.active, tt);
+        words = put-same a.active.slots t (mul_of (a.active.slots t) (words_of_kind kind)) ∙ ap (λ m. mul_of m (words_of_kind kind)) is
+            ∙ product_is n (words_of_kind kind) (subst (λ m. m ≤ MOST_BLOCK_WORDS) whole few) ∙ sym whole;
+        others = λ x other. put-other a.active.slots t x (mul_of (a.active.slots t) (words_of_kind kind)) other;
+      }
+
+  -- of four chars there is one
+  quarter_sized : words_for (n * bytes_of_kind kinds.Char) ≤ MOST_BLOCK_WORDS
+      → At (code_of source a.active.function) a.active.next (instructions.Binary plain_binary.Add t (operands.Slot t) (operands.Word 3))
+      × At (code_of source a.active.function) (a.active.next + 1) (instructions.Binary plain_binary.ShiftRight t (operands.Slot t) (operands.Word 2)) × (a.active.next + 1 + 1 ≡ r)
+      → Sized source kinds.Char a t r n
+  quarter_sized few (sum, shift, end) =
+      let s1 = put a.active.slots t (add_of (a.active.slots t) 3) in
+      let s2 = put s1 t (sar_of (s1 t) 2) in
+      let a1 = advanced (with_slots a s1) in
+      let a2 = advanced (with_slots a1 s2) in
+      record {
+        slots = s2;
+        links = record { instruction = instructions.Binary plain_binary.Add t (operands.Slot t) (operands.Word 3); behind = a1 }
+            ∷ record { instruction = instructions.Binary plain_binary.ShiftRight t (operands.Slot t) (operands.Word 2); behind = a2 } ∷ [];
+        ends = ap (at (with_slots a s2)) end;
+        path = (sum, (λ choice. refl), omega arith, is_quiet a a1.active, (shift, (λ choice. refl), omega arith, is_quiet a1 a2.active, tt));
+        words = put-same s1 t (sar_of (s1 t) 2) ∙ ap (λ m. sar_of m 2) (put-same a.active.slots t (add_of (a.active.slots t) 3) ∙ ap (λ m. add_of m 3) is) ∙ quarter_is n few;
+        others = λ x other. put-other s1 t x (sar_of (s1 t) 2) other ∙ put-other a.active.slots t x (add_of (a.active.slots t) 3) other;
+      }
+
+  sizes : (bounds : Numbering) (types : Types) (kind : Kind) → words_for (n * bytes_of_kind kind) ≤ MOST_BLOCK_WORDS
+      → SizedAt (code_of source a.active.function) bounds types kind t a.active.next r → Sized source kind a t r n
+  sizes bounds types kinds.Char few sized = quarter_sized few sized
+  sizes bounds types kinds.Int few sized = product_sized kinds.Int (omega arith) few sized
+  sizes bounds types kinds.Nullable few sized = product_sized kinds.Nullable (omega arith) few sized
+  sizes bounds types kinds.NonNull few sized = product_sized kinds.NonNull (omega arith) few sized
+  sizes bounds types kinds.Fat few sized = product_sized kinds.Fat (omega arith) few sized
+  sizes bounds types kinds.Handle few sized = product_sized kinds.Handle (omega arith) few sized
+  sizes bounds types kinds.Key few sized = product_sized kinds.Key (omega arith) few sized
 
 module _ (source : Program) (pages calls : ℕ) where
   -- ---- the length
@@ -181,37 +161,37 @@ module _ (source : Program) (pages calls : ℕ) where
 
     -- it is not too long: all that the store is asked for comes to slots
     begins : (focus : Focus) (k₀ : List Entry) (n : ℕ) → step source (Running focus k₀ e w) ≡ Running (Beginning owner n level wanted element) k e w → SharedAt source pages calls k₀ e w c
-        → c.active.slots t ≡ n → n * words_of_kind wanted ≤ MOST_BLOCK_WORDS → Waits c.active.next → IsMatched source pages calls (Running focus k₀ e w) (plain.Running c)
-    begins focus k₀ n does shared₀ is few (handle, d, h, r, s, q, owned, (m, (block_at, branch, raising_it, passed), count, index, all, none, size, ask, end), level_is, elements, lands) =
+        → c.active.slots t ≡ n → words_for (n * bytes_of_kind wanted) ≤ MOST_BLOCK_WORDS → Waits c.active.next → IsMatched source pages calls (Running focus k₀ e w) (plain.Running c)
+    begins focus k₀ n does shared₀ is few (handle, d, h, r, s, q, owned, (m, u, (block_at, branch, raising_it, passed), count, index, size, none, sum, ask, end), level_is, elements, lands) =
         let slots = c.active.slots in
         let g = c.active.function in
         let base = floor source g k in
-        let own = words_of_kind wanted in
+        let words = words_for (n * bytes_of_kind wanted) in
         let next = Running (Beginning owner n level wanted element) k e w in
         let s1 = put slots (t + 1) (slots t) in
         let s2 = put s1 (t + 2) 0 in
-        let s3 = put s2 t (mul_of (s2 t) own) in
-        let s4 = put s3 (t + 3) (truth (s3 t == 0)) in
-        let s5 = put s4 (t + 3) (add_of (s4 (t + 3)) (s4 t)) in
         let c0 = at c m in
         let c1 = advanced (with_slots c0 s1) in
         let c2 = advanced (with_slots c1 s2) in
-        let c3 = advanced (with_slots c2 s3) in
+        let first : s2 t ≡ slots t = put-other s1 (t + 2) t 0 (λ same. omega (arith, same)) ∙ put-other slots (t + 1) t (slots t) (λ same. omega (arith, same)) in
+        let sized = sizes source c2 t u n (first ∙ is) (bounds_at source g) (types_on source g k) wanted few size in
+        let s3 = sized.slots in
+        let s4 = put s3 (t + 3) (truth (s3 t == 0)) in
+        let s5 = put s4 (t + 3) (add_of (s4 (t + 3)) (s4 t)) in
+        let c3 = at (with_slots c2 s3) u in
         let c4 = advanced (with_slots c3 s4) in
         let c5 = advanced (with_slots c4 s5) in
-        let first : s2 t ≡ slots t = put-other s1 (t + 2) t 0 (λ same. omega (arith, same)) ∙ put-other slots (t + 1) t (slots t) (λ same. omega (arith, same)) in
-        let product : s3 t ≡ n * own = put-same s2 t (mul_of (s2 t) own) ∙ ap (λ x. mul_of x own) (first ∙ is) ∙ product_is n own few in
-        let second : s4 t ≡ n * own = put-other s3 (t + 3) t (truth (s3 t == 0)) (λ same. omega (arith, same)) ∙ product in
-        let third : s4 (t + 3) ≡ truth (n * own == 0) = put-same s3 (t + 3) (truth (s3 t == 0)) ∙ ap (λ x. truth (x == 0)) product in
-        let block : s5 (t + 3) ≡ max 1 (n * own) = put-same s4 (t + 3) (add_of (s4 (t + 3)) (s4 t)) ∙ ap (λ x. add_of x (s4 t)) third ∙ ap (add_of (truth (n * own == 0))) second ∙ sized_is (n * own) few in
+        let second : s4 t ≡ words = put-other s3 (t + 3) t (truth (s3 t == 0)) (λ same. omega (arith, same)) ∙ sized.words in
+        let third : s4 (t + 3) ≡ truth (words == 0) = put-same s3 (t + 3) (truth (s3 t == 0)) ∙ ap (λ x. truth (x == 0)) sized.words in
+        let block : s5 (t + 3) ≡ max 1 words = put-same s4 (t + 3) (add_of (s4 (t + 3)) (s4 t)) ∙ ap (λ x. add_of x (s4 t)) third ∙ ap (add_of (truth (words == 0))) second ∙ sized_is words few in
         let behind : (x : ℕ) → t < x → x < t + 3 → s5 x ≡ s2 x
         = λ x above below. put-other s4 (t + 3) x (add_of (s4 (t + 3)) (s4 t)) (λ same. omega (arith, same, below)) ∙ put-other s3 (t + 3) x (truth (s3 t == 0)) (λ same. omega (arith, same, below))
-        ∙ put-other s2 t x (mul_of (s2 t) own) (λ same. omega (arith, same, above)) in
+        ∙ sized.others x (λ same. omega (arith, same, above)) in
         let long : s5 (t + 1) ≡ n = behind (t + 1) (omega arith) (omega arith) ∙ put-other s1 (t + 2) (t + 1) 0 (λ same. omega (arith, same)) ∙ put-same slots (t + 1) (slots t) ∙ is in
         let start : s5 (t + 2) ≡ 0 = behind (t + 2) (omega arith) (omega arith) ∙ put-same s1 (t + 2) 0 in
         let kept : (x : ℕ) → Outside t 4 x → s5 x ≡ slots x
         = λ x out. put-other s4 (t + 3) x (add_of (s4 (t + 3)) (s4 t)) (apart_from x t 4 (t + 3) out (omega arith) (omega arith)) ∙ put-other s3 (t + 3) x (truth (s3 t == 0)) (apart_from x t 4 (t + 3) out (omega arith) (omega arith))
-        ∙ put-other s2 t x (mul_of (s2 t) own) (apart_from x t 4 t out (omega arith) (omega arith))
+        ∙ sized.others x (apart_from x t 4 t out (omega arith) (omega arith))
         ∙ put-other s1 (t + 2) x 0 (apart_from x t 4 (t + 2) out (omega arith) (omega arith)) ∙ put-other slots (t + 1) x (slots t) (apart_from x t 4 (t + 1) out (omega arith) (omega arith)) in
         let matches : Matches source pages calls next (plain.Running c5) = (
           shared,
@@ -238,15 +218,16 @@ module _ (source : Program) (pages calls : ℕ) where
         ) in
         let short : nat_le (most_elements (bytes_of_kind wanted) + 1) n ≡ false
         = false_from_ne_true (nat_le (most_elements (bytes_of_kind wanted) + 1) n) (λ told. absurd (omega (arith, elements_few wanted n few, leb-true (most_elements (bytes_of_kind wanted) + 1) n told))) in
+        let tests : Link = record { instruction = instructions.Unary plain_unary.Not (t + 3) (operands.Slot t); behind = c4 } in
+        let end_is : end_of c2 (sized.links ++ tests ∷ []) ≡ c4 = end_joined c2 sized.links (tests ∷ []) in
+        let adds = instructions.Binary plain_binary.Add (t + 3) (operands.Slot (t + 3)) (operands.Slot t) in
         by_path source pages calls focus k₀ e w c next (
         record { instruction = instructions.Branch comparisons.GreaterOrEqualUnsigned (operands.Slot t) (operands.Word (most_elements (bytes_of_kind wanted) + 1)) block_at; behind = c0 }
         ∷ record { instruction = instructions.Move (t + 1) (operands.Slot t); behind = c1 }
         ∷ record { instruction = instructions.Move (t + 2) (operands.Word 0); behind = c2 }
-        ∷ record { instruction = instructions.Binary plain_binary.Multiply t (operands.Slot t) (operands.Word own); behind = c3 }
-        ∷ record { instruction = instructions.Unary plain_unary.Not (t + 3) (operands.Slot t); behind = c4 }
-        ∷ []
+        ∷ (sized.links ++ tests ∷ [])
         )
-        (instructions.Binary plain_binary.Add (t + 3) (operands.Slot (t + 3)) (operands.Slot t)) does shared₀ (
+        adds does shared₀ (
           branch,
           (λ choice. ap (λ b. plain_step.branches c b block_at) (ap (nat_le (most_elements (bytes_of_kind wanted) + 1)) is ∙ short) ∙ ap (λ x. plain.Running (at c x)) passed),
           omega (arith, passed),
@@ -256,10 +237,17 @@ module _ (source : Program) (pages calls : ℕ) where
             (λ choice. refl),
             omega arith,
             is_quiet c0 c1.active,
-            (index, (λ choice. refl), omega arith, is_quiet c1 c2.active, (all, (λ choice. refl), omega arith, is_quiet c2 c3.active, (none, (λ choice. refl), omega arith, is_quiet c3 c4.active, tt))),
+            (
+              index,
+              (λ choice. refl),
+              omega arith,
+              is_quiet c1 c2.active,
+              path_joined source c2 sized.links (tests ∷ []) sized.path (subst (λ x. IsPath source x (tests ∷ [])) (sym sized.ends) (none, (λ choice. refl), omega arith, is_quiet c3 c4.active, tt)),
+            ),
           ),
         )
-        size (λ choice. matches)
+        (subst (λ (x : Configuration). At (code_of source x.active.function) x.active.next adds) (sym end_is) sum)
+        (λ choice. subst (λ (x : Configuration). Matches source pages calls next (performed (lower_program source) choice x adds)) (sym end_is) matches)
       where
         apart_from : (m first many x : ℕ) → Outside first many m → first ≤ x → x < first + many → m ≢ x
         apart_from m first many x (inl before) from to same = omega (arith, before, from, same)
@@ -267,8 +255,8 @@ module _ (source : Program) (pages calls : ℕ) where
 
     -- it is too long
     raises : (focus : Focus) (k₀ : List Entry) (n : ℕ) → step source (Running focus k₀ e w) ≡ Running (Throwing array_size 0) k e w → SharedAt source pages calls k₀ e w c
-        → c.active.slots t ≡ n → (n * words_of_kind wanted ≤ MOST_BLOCK_WORDS → ⊥) → Waits c.active.next → IsMatched source pages calls (Running focus k₀ e w) (plain.Running c)
-    raises focus k₀ n does shared₀ is long (handle, d, h, r, s, q, owned, (m, (block_at, branch, raising_it, passed), count, index, all, none, size, ask, end), level_is, elements, lands) =
+        → c.active.slots t ≡ n → (words_for (n * bytes_of_kind wanted) ≤ MOST_BLOCK_WORDS → ⊥) → Waits c.active.next → IsMatched source pages calls (Running focus k₀ e w) (plain.Running c)
+    raises focus k₀ n does shared₀ is long (handle, d, h, r, s, q, owned, (m, u, (block_at, branch, raising_it, passed), count, index, size, none, sum, ask, end), level_is, elements, lands) =
         let limit = most_elements (bytes_of_kind wanted) + 1 in
         by_one source pages calls does shared₀ branch
         (λ choice. subst (λ b. Matches source pages calls (Running (Throwing array_size 0) k e w) (plain_step.branches c b block_at))
@@ -293,12 +281,12 @@ module _ (source : Program) (pages calls : ℕ) where
         by true told =
             begins (Given (record { kind = i; value = Int n })) (Needs (MakeArray owner level wanted element) ∷ k) n
             (ap (λ (b : Bool). if b then Running (Beginning owner n level wanted element) k e w else Running (Throwing array_size 0) k e w) told) shared₀
-            (int_word shared.tables i n c.active.slots t is) (subst (λ m. m ≤ MOST_BLOCK_WORDS) (measured_is wanted n) (leb-true (words_for (n * bytes_of_kind wanted)) most_words told)) waits
+            (int_word shared.tables i n c.active.slots t is) (leb-true (words_for (n * bytes_of_kind wanted)) most_words told) waits
         by false told =
             raises (Given (record { kind = i; value = Int n })) (Needs (MakeArray owner level wanted element) ∷ k) n
             (ap (λ (b : Bool). if b then Running (Beginning owner n level wanted element) k e w else Running (Throwing array_size 0) k e w) told) shared₀
             (int_word shared.tables i n c.active.slots t is)
-            (λ few. let f : false ≡ true = sym told ∙ le-leb (words_for (n * bytes_of_kind wanted)) most_words (subst (λ m. m ≤ most_words) (sym (measured_is wanted n)) few) in cc) waits
+            (λ few. let f : false ≡ true = sym told ∙ le-leb (words_for (n * bytes_of_kind wanted)) most_words few in cc) waits
     measures i u well is shared₀ waits = absurd (well refl)
 
   -- the length of an array
@@ -387,8 +375,8 @@ module _ (source : Program) (pages calls : ℕ) where
       let word = operand_word c.active.slots handle in
       let has = has_handle shared.tables c.active.slots (floor source g k) owner handle k shared.related.heap owned holds in
       let cells = blanks count wanted in
-      let size : c.active.slots (t + 3) ≡ block_size cells = block ∙ ap (max 1) (sym (blank_words count wanted)) in
-      let small : block_size cells ≤ MOST_BLOCK_WORDS = omega (arith, size, block, at_most (count * words_of_kind wanted) few) in
+      let size : c.active.slots (t + 3) ≡ block_size cells = block ∙ sym (blanks-size count wanted) in
+      let small : block_size cells ≤ MOST_BLOCK_WORDS = omega (arith, size, block, at_most (words_for (count * bytes_of_kind wanted)) few) in
       let (made, creates) = array_made (created w owner cells) (length w.objects) count level wanted element k e w well in
       let (new, makes) = made_for shared.related cells (blanks-blank count wanted) small owner word made has creates in
       let next = Running (Repeating (length w.objects) count 0 level wanted element) k e new in
@@ -548,7 +536,7 @@ module _ (source : Program) (pages calls : ℕ) where
       (words : plain.HoldsWords (plain.Running c)) (names : AreNamed source e.locals (callers k) w c.active.function c.active.base c.frames c.store) (shared₀ : SharedAt source pages calls (Needs (FillElement object count index level wanted element) ∷ k) e w c)
       (facts : DataIn source shared₀.tables c.active.slots k e w c) (part : IsPartOf shared₀.tables object 0 count (c.active.slots (top source c.active.function k)))
       (long : c.active.slots (top source c.active.function k + 1) ≡ count) (now : c.active.slots (top source c.active.function k + 2) ≡ index)
-      (holds : Holds shared₀.tables c.active.slots (floor source c.active.function k) (held k)) (d h s q : ℕ) (inside : index < count) (few : count * words_of_kind wanted ≤ MOST_BLOCK_WORDS)
+      (holds : Holds shared₀.tables c.active.slots (floor source c.active.function k) (held k)) (d h s q : ℕ) (inside : index < count) (few : words_for (count * bytes_of_kind wanted) ≤ MOST_BLOCK_WORDS)
       (level_is : level ≡ length (counters_of (floor source c.active.function k) k))
       (elements : ElementsAt (code_of source c.active.function) (bounds_at source c.active.function) (types_on source c.active.function k) element wanted (top source c.active.function k) d h c.active.next s q)
       (lands : LandsMade source c.active.function e.locals kinds.Fat d q c.frames k) (cell : Located) (found : cell_at w object index ≡ Found cell) (same : cell.cell.kind ≡ wanted) (fits : v.kind ≡ wanted)
@@ -623,12 +611,16 @@ module _ (source : Program) (pages calls : ℕ) where
     here : Points shared.tables object index (s2 z)
     here = subst (Points shared.tables object index) (sym place) points
 
-    scales : (narrow : Bool) (choice : Choice)
-        → performed (lower_program source) choice c
-        (if narrow then instructions.Binary plain_binary.ShiftLeft z (operands.Slot (free + 2)) (operands.Word 2) else instructions.Binary plain_binary.Multiply z (operands.Slot (free + 2)) (operands.Word 12))
-        ≡ plain.Running (advanced (with_slots c (put slots z (if narrow then shl_of (slots (free + 2)) 2 else mul_of (slots (free + 2)) 12))))
-    scales true choice = refl
-    scales false choice = refl
+    scales : (choice : Choice) → performed (lower_program source) choice c (scale_of (bytes_of_kind wanted) z (free + 2)) ≡ plain.Running c1
+    scales choice = by (bytes_of_kind wanted == 4) (bytes_of_kind wanted == 1)
+      where
+        by : (narrow one : Bool)
+            → performed (lower_program source) choice c
+            (if narrow then instructions.Binary plain_binary.ShiftLeft z (operands.Slot (free + 2)) (operands.Word 2) else if one then instructions.Move z (operands.Slot (free + 2)) else instructions.Binary plain_binary.Multiply z (operands.Slot (free + 2)) (operands.Word 12))
+            ≡ plain.Running (advanced (with_slots c (put slots z (if narrow then shl_of (slots (free + 2)) 2 else if one then slots (free + 2) else mul_of (slots (free + 2)) 12))))
+        by true one = refl
+        by false true = refl
+        by false false = refl
 
     facts_there : DataIn source shared.tables s2 k e w c2
     facts_there = data_written source shared.tables g c.active.base w.objects e.locals k slots s2 c.active.handlers c.globals c.frames z 1 (omega (arith, height-least (floor source g k) (held k))) outside_both facts
@@ -696,7 +688,7 @@ module _ (source : Program) (pages calls : ℕ) where
         (record { instruction = scale_of (bytes_of_kind wanted) z (free + 2); behind = c1 } ∷ record { instruction = instructions.Binary plain_binary.Add z (operands.Slot free) (operands.Slot z); behind = c2 } ∷ (links ++ counts ∷ []))
         (instructions.Jump h) does shared₀ (
           scale,
-          scales (bytes_of_kind wanted == 4),
+          scales,
           omega arith,
           is_quiet c c1.active,
           (
@@ -717,7 +709,7 @@ module _ (source : Program) (pages calls : ℕ) where
     fills_word : own ≡ 1 → Is shared.tables v.kind v.value slots (free + 3) → IsMatched source pages calls (Running (Given v) (entry ∷ k) e w) (plain.Running c)
     fills_word one is =
         let (branch, before, at_element, (m, scale, sum, stores, count_up, jump, end), restart, copy) = elements in
-        let (store, last) = subst (λ n. StoresAt (code_of source g) (bounds_at source g) (types_on source g k) n z 0 (free + 3) (c.active.next + 1 + 1) m) one stores in
+        let (store, last) = subst (λ n. StoresAt (code_of source g) (bounds_at source g) (types_on source g k) wanted n z 0 (free + 3) (c.active.next + 1 + 1) m) one stores in
         let address = add_of (s2 z) 0 in
         let word = s2 (free + 3) in
         let there : Points shared.tables object index address = stays here in
@@ -729,10 +721,11 @@ module _ (source : Program) (pages calls : ℕ) where
         let after = with_word source pages calls k e w c2 shared names facts_there object index address word cell v.value found there value machine in
         let kept : SharedAt source pages calls k e new (advanced after) = shared_saved source pages calls k e w c2 shared names facts_there object index address word cell v.value found there value machine in
         let saves_it = saves_there source pages calls k e w c2 shared names facts_there object index address word cell v.value found there value machine in
-        goes_on m (parts_of after) (record { instruction = instructions.Store (operands.Slot z) 0 (operands.Slot (free + 3)); behind = advanced after } ∷ [])
+        goes_on m (parts_of after) (record { instruction = store_of wanted (operands.Slot z) 0 (operands.Slot (free + 3)); behind = advanced after } ∷ [])
         (ap (reached (parts_of after)) last) (
           store,
-          (λ choice. saves_it),
+          (λ choice. saves_by (lower_program source) choice c2 wanted (operands.Slot z) 0 (operands.Slot (free + 3))
+              ∙ ap (λ (i : Kind). saved_at (lower_program source) i c2 address word) (sym same) ∙ saves_it),
           omega arith,
           record { output = refl; demand = demand_there source pages calls k e w c2 shared names facts_there object index address word cell v.value found there value machine; frames = like_long source c.frames after.frames (frames_there source pages calls k e w c2 shared names facts_there object index address word cell v.value found there value machine) },
           tt,
@@ -744,7 +737,7 @@ module _ (source : Program) (pages calls : ℕ) where
 
     -- slots hold words also with the address of the cell
     words_there : plain.HoldsWords (plain.Running c2)
-    words_there = (with_slot s1 (add_of (s1 free) (s1 z)) (with_slot slots bytes words.0 (shifted_word wanted (slots (free + 2)))) (IsWord-add_of (s1 free) (s1 z)), words.1, words.2, words.3, words.4)
+    words_there = (with_slot s1 (add_of (s1 free) (s1 z)) (with_slot slots bytes words.0 (scaled_word wanted (slots (free + 2)) (words.0 (free + 2)))) (IsWord-add_of (s1 free) (s1 z)), words.1, words.2, words.3, words.4)
       where
         with_slot : (slots : Words) (x : ℕ) → ((m : ℕ) → IsMachineWord (slots m)) → IsMachineWord x → (m : ℕ) → IsMachineWord (put slots z x m)
         with_slot slots x are is m = elim (cases_eq m z) [
@@ -757,7 +750,7 @@ module _ (source : Program) (pages calls : ℕ) where
     fills_words fat is =
         let (branch, before, at_element, (m, scale, sum, stores, count_up, jump, end), restart, copy) = elements in
         let three : own ≡ 3 = ap words_of_kind fat in
-        let (at_first, (at_second, (at_third, last))) = subst (λ n. StoresAt (code_of source g) (bounds_at source g) (types_on source g k) n z 0 (free + 3) (c.active.next + 1 + 1) m) three stores in
+        let (at_first, (at_second, (at_third, last))) = subst (λ (i : Kind). StoresAt (code_of source g) (bounds_at source g) (types_on source g k) i (words_of_kind i) z 0 (free + 3) (c.active.next + 1 + 1) m) fat stores in
         let wide = same ∙ fat in
         let fat_is : Is shared.tables kinds.Fat v.value s2 (free + 3)
         = Is-same shared.tables kinds.Fat v.value slots s2 (free + 3) (free + 3) (λ i below. early (free + 3 + i) (omega (arith, three, below))) (subst (λ i. Is shared.tables i v.value slots (free + 3)) (fits ∙ fat) is) in

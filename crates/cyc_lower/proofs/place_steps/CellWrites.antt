@@ -1,5 +1,5 @@
 -- Objects that are no variables are made, and cells are written: what is said of variables stays, or follows, and what is shared does.
-use Rattle.std.proofs.Common.{◌≡◌, ℕ, ◌+◌, ◌*◌, ◌≤◌, ◌<◌, List, [], ◌∷◌, length, set, Option, Some, slice_get, refl, sym, ap, subst, ◌∙◌, arith, length-set, inl, inr, suc}
+use Rattle.std.proofs.Common.{◌≡◌, ℕ, ◌+◌, ◌*◌, ◌≤◌, ◌<◌, List, [], ◌∷◌, length, set, Option, Some, slice_get, refl, sym, ap, subst, ◌∙◌, arith, length-set, inl, inr, suc, false}
 use Rattle.std.specs.Prelude.{if◌then◌else◌, ◌⊎◌}
 use Rattle.cyc_words.specs.Word as words
 use Rattle.cyc_lower.specs.Slots.{Types, global_types, slot_of}
@@ -16,34 +16,39 @@ use Rattle.cyc_meaning.specs.Values.{Value, Operand as Kinded, is_kind, words_of
 use Rattle.cyc_meaning.specs.State.{Object, World, Access, Found, Closed, Missing, Located, cell_at, written, Environment, Entry, Focus, Running}
 use Rattle.cyc_meaning.specs.Step.{wrong, stored}
 use Rattle.cyc_meaning.proofs.WorldLaws.{cell_found}
-use Rattle.cyc_objects.specs.Tables.{Tables}
-use Rattle.cyc_objects.specs.Words.{words_from, Points}
+use Rattle.cyc_objects.specs.Tables.{Tables, Placed}
+use Rattle.cyc_objects.specs.Words.{words_from, Points, Holds, IsBeside}
 use Rattle.cyc_objects.specs.Related as objects
-use Rattle.cyc_objects.proofs.Bytes.{bytes-beside}
+use Rattle.cyc_objects.proofs.Bytes.{bytes-beside, put_byte, put_byte-words, byte-beside}
 use Rattle.cyc_objects.proofs.Values.{Holds-of_words}
 use Rattle.cyc_objects.proofs.Cells.{cell-aligned, related-written, saved-is}
 use Rattle.cyc_objects.proofs.Variables.{assigned-away}
 use Rattle.cyc_lower.proofs.slots.Widths.{same_kind, kind_positive, words_in, HasGlobal, Outside, HasRoom}
-use Rattle.cyc_lower.proofs.slots.CellBytes.{kind_bytes, aligned_even}
 use Rattle.cyc_lower.proofs.slots.Slots.{global-room, slot-room}
 use Rattle.cyc_lower.proofs.relation.Moves.{put_elsewhere}
 use Rattle.cyc_lower.proofs.relation.Known.{IsVariableRow, row-away, global-first, global_kind, first_word}
-use Rattle.cyc_lower.proofs.relation.HeldValues.{IsWord, content_of, contents, Waiting, LocalsHold, GlobalsHold, callers, CallSlots}
+use Rattle.cyc_lower.proofs.relation.HeldValues.{IsWord, content_of, contents, Waiting, LocalsHold, GlobalsHold, callers, CallSlots, IsCharAt}
 use Rattle.cyc_lower.proofs.relation.Relation.{FramesHold, DataAt, DataIn, SharedAt, silent, types_at, call_slots, base_of, starts_at}
 use Rattle.cyc_lower.proofs.relation.Data.{IsWord-is, get_set_other, locals_raised, data_assigned_global, data_assigned, handlers_same}
 use Rattle.cyc_lower.proofs.relation.Accesses.{IsWell, is_fitting, written_here, written_elsewhere, written_length}
 use Rattle.cyc_lower.proofs.place_steps.PlaceWords.{cell_kind}
 use Rattle.cyc_lower.proofs.place_steps.CellReads.{globals_long}
-use Rattle.cyc_plain.specs.Memory.{memory_at}
 use Rattle.cyc_plain.proofs.MemoryLaws.{store_word, stored-word, memory-active, memory-waiting, written-active, written-waiting_at}
 use Rattle.cyc_lower.specs.Lowering.{lower_program, scopes_of}
-use Rattle.cyc_lower.proofs.place_steps.StoredWords.{cell-stored, saves-stored, saves-global}
-use Rattle.cyc_lower.proofs.relation.Rows.{local-row, local-pointer, local-kind}
+use Rattle.cyc_lower.proofs.place_steps.StoredWords.{cell-stored, saves-stored, saves-global, byte-stored, saves-stored_byte, global-found}
+use Rattle.cyc_lower.proofs.relation.Rows.{local-row, local-pointer, local-kind, char_there, char_cell}
 use Rattle.cyc_lower.proofs.relation.Leads.{AreNamed, Leads, leads, to_store, to_variable, is_global, is_local, is_waiting}
 use Rattle.cyc_lower.proofs.relation.WaitingData.{with_slots_of, callers_least, frame_at, data_assigned_waiting}
 use Rattle.cyc_lower.proofs.relation.Moving.{Like, like_same, like_set, like_long, handlers_move}
-use Rattle.std.proofs.lemmas.Bool.{cases_eq}
+use Rattle.std.proofs.lemmas.Bool.{cases_eq, cases_Bool}
 use Rattle.cyc_words.proofs.Numbers.{when_equal}
+use Rattle.cyc_objects.proofs.Chars.{char-stored, wide-aligned, wide-bytes, char-kind}
+use Rattle.cyc_lower.proofs.place_steps.KindWords.{saved_at, saved_wide, saved_variable, small_word, slot_even, waiting_even}
+use Rattle.cyc_lower.specs.ValueCode.{variable_bytes}
+use Rattle.cyc_types.specs.declared.typed.Kind.{Kind}
+use Rattle.cyc_types.specs.declared.typed.Kind.TheVariants as kinds
+use Rattle.cyc_plain.specs.declared.limits.TheConstants.{GLOBALS_BASE}
+use Rattle.cyc_store.specs.declared.range.TheConstants.{STORE_BASE}
 
 -- ---- variables
 
@@ -63,6 +68,7 @@ module _ (t : Tables) (source : Program) where
     apart = hold.apart;
     rows = hold.rows;
     holds = λ number object v at has. hold.holds number object v at (sym (same object (local-row (global_types source.globals) (hold.rows number object at))) ∙ has);
+    small = hold.small;
   }
 
   frames_beside : (objects others : List Object) (high : ℕ) (frames : List Frame) (outer : List Waiting) → Same objects others
@@ -80,8 +86,8 @@ module _ (t : Tables) (source : Program) where
   globals_beside : (g : ℕ) (objects others : List Object) (globals : Words) → Same objects others → GlobalsHold t (types_at source g) objects globals
       → GlobalsHold t (types_at source g) others globals
   globals_beside g objects others globals same hold number below =
-      let (row, is) = hold number below in
-      (row, λ v has. is v (sym (same number (inr (inl row))) ∙ has))
+      let (row, is, small) = hold number below in
+      (row, (λ v has. is v (sym (same number (inr (inl row))) ∙ has)), small)
 
   -- all data stay, with as many objects or more
   pub data_beside : (g base : ℕ) (objects others : List Object) (locals : ℕ → Option ℕ) (outer : List Waiting) (slots globals : Words) (frames : List Frame) → length objects ≤ length others
@@ -137,7 +143,7 @@ module _ (source : Program) (pages calls : ℕ) (k : List Entry) (e : Environmen
     pub globals : Words
     pub slots : Words
     pub frames : List Frame
-    pub goes : saves (lower_program source) c address word (memory_at (lower_program source) c address) ≡ plain.Running (advanced (with_parts c store globals slots frames))
+    pub goes : saved_at (lower_program source) at.cell.kind c address word ≡ plain.Running (advanced (with_parts c store globals slots frames))
     pub related : objects.Related shared.tables (silent next) store
     pub same_pages : store.pages ≡ c.store.pages
     pub same_demand : demand store ≡ demand c.store
@@ -146,34 +152,71 @@ module _ (source : Program) (pages calls : ℕ) (k : List Entry) (e : Environmen
     pub either : (n : ℕ) → (slots n ≡ c.active.slots n) ⊎ (slots n ≡ word)
     pub stays : DataAt source shared.tables c.active.function c.active.base next.objects e.locals (callers k) slots globals frames
 
-  in_store : (h : ℕ) → objects.Alive shared.tables (silent w) object h at.object → slice_get at.object.cells offset ≡ Some at.cell → IsSaved
-  in_store h alive cell =
+  -- the word of a char is a byte
+  byte_fits : at.cell.kind ≡ kinds.Char → word < 256
+  byte_fits char = small_word shared.tables at.cell.kind v word is char
+
+  -- what the tables say of variables stays where a cell of the store's is written
+  data_there : (h : ℕ) → objects.Alive shared.tables (silent w) object h at.object
+      → DataAt source shared.tables c.active.function c.active.base next.objects e.locals (callers k) c.active.slots c.globals c.frames
+  data_there h alive =
+      data_beside shared.tables source c.active.function c.active.base w.objects next.objects e.locals (callers k) c.active.slots c.globals c.frames (omega (arith, objects_many))
+      (λ o row. ap content_of (get_set_other w.objects object o now (λ same. row-away shared.related globals_of_source o h at.object row (subst (λ n. objects.Alive shared.tables (silent w) n h at.object) (sym same) alive))))
+      facts.0
+
+  -- the store's memory is another
+  remembers : (m : Memory) (h : ℕ) → objects.Alive shared.tables (silent w) object h at.object
+      → saved_at (lower_program source) at.cell.kind c address word ≡ plain.Running (advanced (record c { store = record c.store { memory = m } }))
+      → objects.Related shared.tables (silent next) (record c.store { memory = m }) → IsSaved
+  remembers m h alive goes related = record {
+    store = record c.store { memory = m };
+    globals = c.globals;
+    slots = c.active.slots;
+    frames = c.frames;
+    goes = goes;
+    related = related;
+    same_pages = refl;
+    same_demand = refl;
+    like = like_same source c.frames;
+    above = λ n least. refl;
+    either = λ n. inl refl;
+    stays = data_there h alive;
+  }
+
+  in_words : (h : ℕ) → objects.Alive shared.tables (silent w) object h at.object → slice_get at.object.cells offset ≡ Some at.cell → is_kind at.cell.kind kinds.Char ≡ false → IsSaved
+  in_words h alive cell wide =
       let zero_far : address + 4 * 0 ≡ address = omega arith in
       let there : store_word c.store address ≡ Some (c.store.memory address)
-      = subst (λ n. store_word c.store n ≡ Some (c.store.memory n)) zero_far (cell-stored shared.related alive points cell 0 (kind_positive at.cell.kind)) in
+      = subst (λ n. store_word c.store n ≡ Some (c.store.memory n)) zero_far (cell-stored shared.related alive points cell wide 0 (kind_positive at.cell.kind)) in
       let m : Memory = put c.store.memory address word in
       let saved_is : saved c.store address word ≡ record c.store { memory = m } = saved-is c.store address word (c.store.memory address) (stored-word c.store address (c.store.memory address) there) in
-      record {
-        store = record c.store { memory = m };
-        globals = c.globals;
-        slots = c.active.slots;
-        frames = c.frames;
-        goes = saves-stored source c address word (c.store.memory address) there ∙ ap (λ (s : StoreState). plain.Running (advanced (record c { store = s }))) saved_is;
-        related = related-written shared.related alive points cell m v (words-put c.store.memory address word shared.related.sound.words fits)
-            (bytes-beside c.store.memory m at.cell.kind address (words_of_kind at.cell.kind) (kind_bytes at.cell.kind)
-            (aligned_even at.cell.kind address (cell-aligned shared.related alive points cell))
-            (λ y other. when_other y address word (c.store.memory y) (λ same. other 0 (kind_positive at.cell.kind) (same ∙ sym zero_far))))
-            (Holds-of_words shared.tables at.cell.kind v m address
-            (IsWord-is shared.tables at.cell.kind v word (words_from m address) 0 (ap m zero_far ∙ when_equal address address word (c.store.memory address) refl) is));
-        same_pages = refl;
-        same_demand = refl;
-        like = like_same source c.frames;
-        above = λ n least. refl;
-        either = λ n. inl refl;
-        stays = data_beside shared.tables source c.active.function c.active.base w.objects next.objects e.locals (callers k) c.active.slots c.globals c.frames (omega (arith, objects_many))
-            (λ o row. ap content_of (get_set_other w.objects object o now (λ same. row-away shared.related globals_of_source o h at.object row (subst (λ n. objects.Alive shared.tables (silent w) n h at.object) (sym same) alive))))
-            facts.0;
-      }
+      remembers m h alive
+      (saved_wide (lower_program source) at.cell.kind c address word wide
+      ∙ (saves-stored source c address word (c.store.memory address) there ∙ ap (λ (s : StoreState). plain.Running (advanced (record c { store = s }))) saved_is))
+      (related-written shared.related alive points cell m v (words-put c.store.memory address word shared.related.sound.words fits)
+      (bytes-beside c.store.memory m at.cell.kind address (words_of_kind at.cell.kind) (wide-bytes at.cell.kind wide)
+      (wide-aligned at.cell.kind address wide (cell-aligned shared.related alive points cell))
+      (λ y other. when_other y address word (c.store.memory y) (λ same. other 0 (kind_positive at.cell.kind) (same ∙ sym zero_far))))
+      (Holds-of_words shared.tables at.cell.kind v m address wide
+      (IsWord-is shared.tables at.cell.kind v word (words_from m address) 0 (ap m zero_far ∙ when_equal address address word (c.store.memory address) refl) is)))
+
+  in_byte : (h : ℕ) → objects.Alive shared.tables (silent w) object h at.object → slice_get at.object.cells offset ≡ Some at.cell → at.cell.kind ≡ kinds.Char → IsSaved
+  in_byte h alive cell char =
+      let small : word < 256 = byte_fits char in
+      let m : Memory = put_byte c.store.memory address word in
+      remembers m h alive
+      (ap (λ (kind : Kind). saved_at (lower_program source) kind c address word) char
+      ∙ saves-stored_byte source c address word small (byte-stored shared.related alive points cell))
+      (related-written shared.related alive points cell m v (put_byte-words c.store.memory address word shared.related.sound.words small)
+      (λ x beside. byte-beside c.store.memory address word small x (subst (λ (kind : Kind). IsBeside kind address x) char beside))
+      (subst (λ (kind : Kind). Holds shared.tables kind v m address) (sym char)
+      (char-stored shared.tables v (λ (j : ℕ). word) 0 c.store.memory address (subst (λ (kind : Kind). IsWord shared.tables kind v word) char is))))
+
+  in_store : (h : ℕ) → objects.Alive shared.tables (silent w) object h at.object → slice_get at.object.cells offset ≡ Some at.cell → IsSaved
+  in_store h alive cell = elim (cases_Bool (is_kind at.cell.kind kinds.Char)) [
+    | inl char ↦ in_byte h alive cell (char-kind at.cell.kind char)
+    | inr wide ↦ in_words h alive cell wide
+  ]
 
   -- a variable, of one cell
   module _ (first : offset ≡ 0) (cell : slice_get at.object.cells offset ≡ Some at.cell) (row : IsVariableRow shared.tables globals_of_source object) where
@@ -195,6 +238,9 @@ module _ (source : Program) (pages calls : ℕ) (k : List Entry) (e : Environmen
     holds_now : contents first_written.objects object ≡ Some value
     holds_now = written_here w object at v object_there cell_there at.cell.kind refl
 
+    char_now : IsCharAt shared.tables object → at.cell.kind ≡ kinds.Char
+    char_now = char_cell shared.related object at.object at.cell object_there cell_there
+
     related_now : objects.Related shared.tables (silent next) c.store
     related_now = assigned-away shared.related object offset at.object at.cell v object_there cell (λ h alive. row-away shared.related globals_of_source object h at.object row alive)
 
@@ -204,20 +250,28 @@ module _ (source : Program) (pages calls : ℕ) (k : List Entry) (e : Environmen
 
   in_globals : object < length globals_of_source → slice_get at.object.cells offset ≡ Some at.cell → IsSaved
   in_globals few cell =
-      let (row, holds) = facts.0.4 object few in
+      let (row, holds, small) = facts.0.4 object few in
       let first = first_word globals_of_source object in
       let (start, place) = global-first globals_of_source object offset address row points in
       let kind = global_kind row points (cell_kind shared.related at points found) in
       let room : HasGlobal (types_at source g) object at.cell.kind = subst (λ i. words_of_kind i ≤ words_in globals_of_source object) kind row.room in
       let globals = plain.put c.globals first word in
+      let start_at : ℕ = GLOBALS_BASE + 4 * first in
+      let low : row.kind ≡ kinds.Char → c.globals first < 256
+      = λ char. small (start_at + variable_bytes row.kind, row.row ∙ ap (λ (i : Kind). Some (Placed (start_at + variable_bytes row.kind) (i ∷ []))) char) in
+      let first_long = globals_long source first (omega (arith, global-room (types_at source g) object few, row.room, kind_positive row.kind)) in
+      let first_low : start_at < STORE_BASE = omega (arith, row.low, kind_positive row.kind) in
       let elsewhere : (m : ℕ) → Outside first (words_of_kind at.cell.kind) m → globals m ≡ c.globals m = λ m out. put_elsewhere c.globals first word (words_of_kind at.cell.kind) m (kind_positive at.cell.kind) out in
       record {
         store = c.store;
         globals = globals;
         slots = c.active.slots;
         frames = c.frames;
-        goes = ap (λ a. saves (lower_program source) c a word (memory_at (lower_program source) c a)) place
-            ∙ saves-global source c first (globals_long source first (omega (arith, global-room (types_at source g) object few, row.room, kind_positive row.kind))) (omega (arith, row.low, kind_positive row.kind)) word;
+        goes = ap (λ (i : Kind). saved_at (lower_program source) i c address word) (sym kind)
+            ∙ ap (λ a. saved_at (lower_program source) row.kind c a word) place
+            ∙ saved_variable (lower_program source) row.kind c start_at word (c.globals first) (omega arith) (λ char. (low char, byte_fits (sym kind ∙ char)))
+            (global-found source c first first_long first_low)
+            ∙ saves-global source c first first_long first_low word;
         related = related_now start cell (inr (inl row));
         same_pages = refl;
         same_demand = refl;
@@ -227,7 +281,7 @@ module _ (source : Program) (pages calls : ℕ) (k : List Entry) (e : Environmen
         stays = moved start cell (inr (inl row)) c.active.slots globals c.frames
             (data_assigned_global shared.tables source g c.active.base w.objects (written w object 0 at v).objects e.locals (callers k) c.active.slots c.globals globals c.frames object (record { kind = at.cell.kind; value = v }) room
             (holds_now start cell (inr (inl row))) (written_elsewhere w object at v (object_there start cell (inr (inl row))) (cell_there start cell (inr (inl row)))) (written_length w object at v (object_there start cell (inr (inl row))) (cell_there start cell (inr (inl row))))
-            (IsWord-is shared.tables at.cell.kind v word globals first (put-same c.globals first word) is) elsewhere facts.0);
+            (IsWord-is shared.tables at.cell.kind v word globals first (put-same c.globals first word) is) (char_now start cell (inr (inl row))) elsewhere facts.0);
       }
 
   in_local : (number : ℕ) → e.locals number ≡ Some object → slice_get at.object.cells offset ≡ Some at.cell → IsSaved
@@ -247,7 +301,11 @@ module _ (source : Program) (pages calls : ℕ) (k : List Entry) (e : Environmen
         globals = c.globals;
         slots = slots;
         frames = c.frames;
-        goes = ap (λ a. saves (lower_program source) c a word (memory_at (lower_program source) c a)) place.at
+        goes = ap (λ (i : Kind). saved_at (lower_program source) i c address word) (sym kind)
+            ∙ ap (λ a. saved_at (lower_program source) r.kind c a word) place.at
+            ∙ saved_variable (lower_program source) r.kind c (c.active.base + 4 * slot) word (c.active.slots slot) (slot_even (lower_program source) g c.active.base c.frames slot names.lie)
+            (λ char. (hold.small number object here (char_there r points char), byte_fits (sym kind ∙ char)))
+            (memory-active (lower_program source) names.well c names.lie slot place.pinned)
             ∙ (ap (saves (lower_program source) c (c.active.base + 4 * slot) word) (memory-active (lower_program source) names.well c names.lie slot place.pinned)
             ∙ ap (λ (d : Configuration). plain.Running (advanced d)) (written-active (lower_program source) names.well c names.lie slot word place.pinned));
         related = related_now place.first cell row;
@@ -262,7 +320,7 @@ module _ (source : Program) (pages calls : ℕ) (k : List Entry) (e : Environmen
         stays = moved place.first cell row slots c.globals c.frames
             (data_assigned shared.tables source g c.active.base w.objects (written w object 0 at v).objects e.locals (callers k) c.active.slots slots c.globals c.frames number object (record { kind = at.cell.kind; value = v }) here
             (holds_now place.first cell row) (written_elsewhere w object at v (object_there place.first cell row) (cell_there place.first cell row)) (written_length w object at v (object_there place.first cell row) (cell_there place.first cell row))
-            room (IsWord-is shared.tables at.cell.kind v word slots slot (put-same c.active.slots slot word) is) elsewhere facts.0);
+            room (IsWord-is shared.tables at.cell.kind v word slots slot (put-same c.active.slots slot word) is) (char_now place.first cell row) elsewhere facts.0);
       }
 
   in_waiting : (i number : ℕ) (x : Waiting) → slice_get (callers k) i ≡ Some x → x.locals number ≡ Some object → slice_get at.object.cells offset ≡ Some at.cell → IsSaved
@@ -285,7 +343,11 @@ module _ (source : Program) (pages calls : ℕ) (k : List Entry) (e : Environmen
         globals = c.globals;
         slots = c.active.slots;
         frames = set c.frames i (with_slots_of f slots);
-        goes = ap (λ a. saves (lower_program source) c a word (memory_at (lower_program source) c a)) place.at
+        goes = ap (λ (i : Kind). saved_at (lower_program source) i c address word) (sym kind)
+            ∙ ap (λ a. saved_at (lower_program source) r.kind c a word) place.at
+            ∙ saved_variable (lower_program source) r.kind c (f.caller.base + 4 * slot) word (f.caller.slots slot) (waiting_even (lower_program source) g c.active.base c.frames i f slot names.lie frame.at)
+            (λ char. (hold.small number object here (char_there r points char), byte_fits (sym kind ∙ char)))
+            (memory-waiting (lower_program source) names.well c names.lie i f frame.at slot place.pinned)
             ∙ (ap (saves (lower_program source) c (f.caller.base + 4 * slot) word) (memory-waiting (lower_program source) names.well c names.lie i f frame.at slot place.pinned)
             ∙ ap (λ (d : Configuration). plain.Running (advanced d)) (written-waiting_at (lower_program source) names.well c names.lie i f frame.at slot word place.pinned));
         related = related_now place.first cell row;
@@ -297,7 +359,7 @@ module _ (source : Program) (pages calls : ℕ) (k : List Entry) (e : Environmen
         stays = moved place.first cell row c.active.slots c.globals (set c.frames i (with_slots_of f slots))
             (data_assigned_waiting shared.tables source w.objects (written w object 0 at v).objects f x number object (record { kind = at.cell.kind; value = v }) slots here
             (holds_now place.first cell row) (written_elsewhere w object at v (object_there place.first cell row) (cell_there place.first cell row)) room
-            (IsWord-is shared.tables at.cell.kind v word slots slot (put-same f.caller.slots slot word) is) elsewhere (callers_least k (scopes_of source) i x waits)
+            (IsWord-is shared.tables at.cell.kind v word slots slot (put-same f.caller.slots slot word) is) (char_now place.first cell row) elsewhere (callers_least k (scopes_of source) i x waits)
             g c.active.base e.locals (callers k) c.active.slots c.globals c.frames i (written_length w object at v (object_there place.first cell row) (cell_there place.first cell row)) frame.at waits facts.0);
       }
 
@@ -317,7 +379,7 @@ module _ (source : Program) (pages calls : ℕ) (k : List Entry) (e : Environmen
   with_word = with_parts c is_saved.store is_saved.globals is_saved.slots is_saved.frames
 
   -- the instruction goes on
-  pub saves_there : saves (lower_program source) c address word (memory_at (lower_program source) c address) ≡ plain.Running (advanced with_word)
+  pub saves_there : saved_at (lower_program source) at.cell.kind c address word ≡ plain.Running (advanced with_word)
   saves_there = is_saved.goes
 
   pub demand_there : demand with_word.store ≡ demand c.store

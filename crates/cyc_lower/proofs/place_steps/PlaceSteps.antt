@@ -15,7 +15,7 @@ use Rattle.cyc_plain.specs.Step.{operand_word, with_slots, at, advanced, loads}
 use Rattle.cyc_plain.specs.Straight.{At}
 use Rattle.cyc_plain.proofs.SlotLaws.{put-same}
 use Rattle.cyc_meaning.specs.Values.{Value, Thin, Operand as Kinded, is_kind, words_of_kind}
-use Rattle.cyc_meaning.specs.State.{World, Access, Found, Closed, Missing, Located, cell_at, Environment, LoadFrom, Entry, NeedsPlace, GivenPlace, Given, Running, ConvertTo, StoreCell, TakeAddress, StoreTo, Needs, Evaluating, SwapLeft, SwapRight, Chain, BesideHandle, Store, Initialise}
+use Rattle.cyc_meaning.specs.State.{World, Access, Found, Closed, Missing, Located, cell_at, Environment, LoadFrom, Entry, NeedsPlace, GivenPlace, Given, Running, ConvertTo, StoreCell, TakeAddress, StoreTo, Needs, Evaluating, SwapLeft, SwapRight, Chain, BesideHandle, Store, Initialise, Operate}
 use Rattle.cyc_meaning.specs.Step.{wrong, read, loaded, target_by}
 use Rattle.cyc_objects.specs.Words.{Points, Is}
 use Rattle.cyc_lower.specs.ObjectCode.{right_slot}
@@ -42,6 +42,8 @@ use Rattle.cyc_lower.proofs.relation.Leads.{AreNamed}
 use Rattle.cyc_lower.proofs.slots.Slots.{room-inside}
 use Rattle.cyc_lower.specs.Slots.{slot_of}
 use Rattle.cyc_objects.specs.Tables.{Tables}
+use Rattle.cyc_lower.proofs.place_steps.KindWords.{loaded_at, loads_by}
+use Rattle.cyc_types.specs.declared.typed.UnaryOperator.TheVariants as unary
 
 -- ---- a cell is read
 
@@ -91,7 +93,7 @@ module _ (source : Program) (pages calls : ℕ) where
   abbrev StoresBehind : (from to : Kind) → Expression → List Entry → Environment → Configuration → (s : ℕ) → Type 0
   StoresBehind from to a k e c s =
       (x : Operand) × (u : ℕ) × (q : ℕ) × ConvertedOperandAt (code_of source c.active.function) (bounds_at source c.active.function) (types_on source c.active.function k) (Convert from to a) (top source c.active.function k + 1) x s u
-      × SavedAt (code_of source c.active.function) (bounds_at source c.active.function) (types_on source c.active.function k) (words_of_kind to) (top source c.active.function k) x u q
+      × SavedAt (code_of source c.active.function) (bounds_at source c.active.function) (types_on source c.active.function k) to (top source c.active.function k) x u q
       × HandsOnStack source c.active.function e.locals to x q c.frames k
 
   abbrev right_side : (from to : Kind) → Expression → Option ℕ → (place : Value) → List Entry → List Entry
@@ -142,10 +144,12 @@ module _ (source : Program) (pages calls : ℕ) where
       → (number : ℕ) × (slot_of (starts_at source g) number ≡ d) × HasRoom (types_at source g) number kind
   ahead_slot g locals kind d q frames (Needs (ConvertTo from to target) ∷ k) (quiet, wide, stack) =
       let (number, start, room) = ahead_slot g locals to d q frames k stack in (number, start, omega (arith, wide, room))
+  ahead_slot g locals kind d q frames (Needs (Operate unary.Widen) ∷ k) (one, stack) =
+      let (number, start, room) = ahead_slot g locals kinds.Int d q frames k stack in (number, start, omega (arith, one, room))
   ahead_slot g locals kind d q frames (Needs (Chain NoOperations) ∷ k) stack = ahead_slot g locals kind d q frames k stack
   ahead_slot g locals kind d q frames (Needs (BesideHandle region) ∷ k) stack = ahead_slot g locals kind d q frames k stack
   ahead_slot g locals kind d q frames (Needs (Store place) ∷ k) (number, object, is, found, start, room, hands) = (number, start, room)
-  ahead_slot g locals kind d q frames (Needs (Initialise number wanted items) ∷ k) (exits, r, start, room, at, stack) = (number, start, room)
+  ahead_slot g locals kind d q frames (Needs (Initialise number wanted items) ∷ k) (exits, r, start, room, of_type, at, stack) = (number, start, room)
   ahead_slot g locals kind d q frames k stack = absurd stack
 
   -- where a value of three words comes
@@ -188,7 +192,7 @@ module _ (source : Program) (pages calls : ℕ) where
       let reads = cell_reads source c shared.related names facts.0 object offset (c.active.slots t) found.at found.there points in
       let content = subst (λ i. Is shared.tables i found.value reads.word 0) wide (reads.is found.value found.has) in
       let there : (slots : Words) (next j : ℕ) → AreMixed d reads.word c.active.slots slots → j < 3 → memory_at (lower_program source) (at (with_slots c slots) next) (add_of (c.active.slots t) (4 * j)) ≡ Some (reads.word j)
-      = λ slots next j mixed below. reads_mixed c d found.at fat wide reads (comes_where g e.locals kind d q c.frames k fat lands) slots mixed (λ same few. read_there source c shared.related found.at found.there points reads slots next j same few) below in
+      = λ slots next j mixed below. reads_mixed c d found.at fat wide reads (comes_where g e.locals kind d q c.frames k fat lands) slots mixed (λ same few. sym (ap (λ (i : Kind). loaded_at (lower_program source) i (at (with_slots c slots) next) (add_of (c.active.slots t) (4 * j))) wide) ∙ read_there source c shared.related found.at found.there points reads slots next j same few) below in
       let after = all_in source shared.tables c d t apart found.value reads.word there content in
       by_path source pages calls (GivenPlace (Thin object offset)) (NeedsPlace (LoadFrom kind) ∷ k) e w c (Running (Given v) k e w) (load_links source shared.tables c d t apart found.value reads.word there content) (instructions.Load d (operands.Slot t) 0)
       found.gives shared
@@ -217,7 +221,7 @@ module _ (source : Program) (pages calls : ℕ) where
       let reads = cell_reads source b shared.related names facts_there.0 object offset (b.active.slots t) found.at found.there points_there in
       let content = subst (λ i. Is shared.tables i found.value reads.word 0) wide (reads.is found.value found.has) in
       let there : (slots : Words) (next j : ℕ) → AreMixed d reads.word b.active.slots slots → j < 3 → memory_at (lower_program source) (at (with_slots b slots) next) (add_of (b.active.slots t) (4 * j)) ≡ Some (reads.word j)
-      = λ slots next j mixed below. reads_mixed b d found.at fat wide reads (comes_where g e.locals kind d q c.frames k fat lands) slots mixed (λ same few. read_there source b shared.related found.at found.there points_there reads slots next j same few) below in
+      = λ slots next j mixed below. reads_mixed b d found.at fat wide reads (comes_where g e.locals kind d q c.frames k fat lands) slots mixed (λ same few. sym (ap (λ (i : Kind). loaded_at (lower_program source) i (at (with_slots b slots) next) (add_of (b.active.slots t) (4 * j))) wide) ∙ read_there source b shared.related found.at found.there points_there reads slots next j same few) below in
       let after = all_in source shared.tables b d t apart found.value reads.word there content in
       by_path source pages calls (GivenPlace (Thin object offset)) (NeedsPlace (LoadFrom kind) ∷ k) e w c (Running (Given v) k e w)
       (record { instruction = i; behind = b } ∷ load_links source shared.tables b d t apart found.value reads.word there content) (instructions.Load d (operands.Slot t) 0)
@@ -244,7 +248,7 @@ module _ (source : Program) (pages calls : ℕ) where
       → IsWell (loaded kind (cell_at w object offset) k e w)
       → (shared : SharedAt source pages calls (NeedsPlace (LoadFrom kind) ∷ k) e w c) → DataIn source shared.tables c.active.slots k e w c → Holds shared.tables c.active.slots (floor source c.active.function k) (held k)
       → operand_word c.active.slots o < 2 ^ 32 → Points shared.tables object offset (add_of (operand_word c.active.slots o) more)
-      → LoadedBy (code_of source c.active.function) narrow o more d (top source c.active.function k) c.active.next q → LandsStack source c.active.function e.locals kind d q c.frames k
+      → LoadedBy (code_of source c.active.function) narrow kind o more d (top source c.active.function k) c.active.next q → LandsStack source c.active.function e.locals kind d q c.frames k
       → IsMatched source pages calls (Running (GivenPlace (Thin object offset)) (NeedsPlace (LoadFrom kind) ∷ k) e w) (plain.Running c)
   loads_cell true object offset more o d q kind k e w c names narrow well shared facts holds small points (load, end) lands =
       let found = is_read kind (cell_at w object offset) k e w well in
@@ -254,7 +258,10 @@ module _ (source : Program) (pages calls : ℕ) where
       let one = ap words_of_kind found.same ∙ eqb-true (words_of_kind kind) 1 narrow in
       let after = put c.active.slots d (reads.word 0) in
       by_one source pages calls found.gives shared load
-      (λ choice. subst (λ x. Matches source pages calls (Running (Given v) k e w) (loads c d x)) (sym (one_there reads one))
+      (λ choice. subst (Matches source pages calls (Running (Given v) k e w))
+      (sym (loads_by (lower_program source) choice c kind d o more
+      ∙ ap (λ (i : Kind). loads c d (loaded_at (lower_program source) i c word)) (sym found.same)
+      ∙ ap (loads c d) (one_there reads one)))
       (landed source pages calls v after d k e w c q shared
       (subst (λ i. Is shared.tables i found.value after d) found.same (one_is reads one found.value found.has after d (put-same c.active.slots d (reads.word 0))))
       (λ m out. put_elsewhere c.active.slots d (reads.word 0) (words_of_kind kind) m (kind_positive kind) out) facts holds end lands))

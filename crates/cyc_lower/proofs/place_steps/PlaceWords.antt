@@ -22,7 +22,7 @@ use Rattle.cyc_objects.proofs.Places.{before-least, before-inside}
 use Rattle.cyc_objects.proofs.Values.{Is-same}
 use Rattle.cyc_objects.specs.Related.{Related}
 use Rattle.cyc_lower.specs.Slots.{begins_word, field_from}
-use Rattle.cyc_lower.proofs.slots.CellBytes.{kind_bytes}
+use Rattle.cyc_lower.proofs.slots.CellBytes.{kind_bytes, last_low, begins_is}
 use Rattle.cyc_objects.proofs.Pointers.{thinned, member-points, pointer-word}
 use Rattle.cyc_plain.proofs.MemoryLaws.{store_word_in, store_word}
 use Rattle.cyc_plain.specs.Memory.{Range, OfGlobals, OfStore, OfSlots, range_of}
@@ -41,15 +41,6 @@ shifted_is i below = below_wrap (i * 4) (omega (arith, below))
 
 pub multiplied_is : (i : ℕ) → 12 * i < 4294967296 → mul_of i 12 ≡ i * 12
 multiplied_is i below = below_wrap (i * 12) (omega (arith, below))
-
--- a cell begins there without wrapping, where that is a word
-begins_is : (kind : Kind) (at : ℕ) → begins kind at < 4294967296 → begins_word kind at ≡ begins kind at
-begins_is kinds.Int at below = omega (arith, below)
-begins_is kinds.Nullable at below = omega (arith, below)
-begins_is kinds.NonNull at below = omega (arith, below)
-begins_is kinds.Fat at below = omega (arith, below)
-begins_is kinds.Handle at below = omega (arith, below)
-begins_is kinds.Key at below = omega (arith, below)
 
 -- the bytes before a field are those before its cell, where they are a word
 field_before : (ts : List Ty) (field bytes : ℕ) → before_from bytes field (map kind_of ts) < 4294967296 → field_from bytes ts field ≡ before_from bytes field (map kind_of ts)
@@ -82,7 +73,7 @@ module _ {t : Tables} where
       let high : p.address + bytes_of_kinds p.kinds < 4294967296 = p.range.high in
       let at : w ≡ p.address + before k p.kinds = p.at in
       let inside : before k p.kinds + bytes_of_kind kind ≤ bytes_of_kinds p.kinds = before-inside 0 k p.kinds kind there in
-      add_is w (4 * j) (omega (arith, high, at, inside, kind_bytes kind, below))
+      add_is w (4 * j) (omega (arith, high, at, inside, kind_bytes kind, last_low kind, below))
 
   -- ---- members
 
@@ -106,13 +97,20 @@ module _ {t : Tables} where
   element_below : {o start n w : ℕ} (i : ℕ) (part : IsPartOf t o start n w) → i < n → w + i * bytes_of_kind part.kind < 4294967296
   element_below i part below = pointer-word (thinned i part below)
 
-  -- the address of the cell at the index, by the words that the code computes: cells of four bytes, and cells of twelve
+  -- the address of the cell at the index, by the words that the code computes: cells of four bytes, of one, and of twelve
   pub narrow_element : {o start n w : ℕ} (i : ℕ) (part : IsPartOf t o start n w) → i < n → bytes_of_kind part.kind ≡ 4
       → Points t o (start + i) (add_of w (shl_of i 2))
   narrow_element {o} {start} {n} {w} i part below four =
       let short : w + i * 4 < 4294967296 = subst (λ q. w + i * q < 4294967296) four (element_below i part below) in
       subst (Points t o (start + i))
       (sym (ap (add_of w) (shifted_is i (omega (arith, short))) ∙ (add_is w (i * 4) short ∙ ap (λ q. w + i * q) (sym four)))) (thinned i part below)
+
+  pub byte_element : {o start n w : ℕ} (i : ℕ) (part : IsPartOf t o start n w) → i < n → bytes_of_kind part.kind ≡ 1
+      → Points t o (start + i) (add_of w i)
+  byte_element {o} {start} {n} {w} i part below one =
+      let same : i * bytes_of_kind part.kind ≡ i = ap (λ q. i * q) one ∙ (let e : i * 1 ≡ i = omega arith in e) in
+      let short : w + i < 4294967296 = subst (λ x. w + x < 4294967296) same (element_below i part below) in
+      subst (Points t o (start + i)) (sym (add_is w i short ∙ ap (λ x. w + x) (sym same))) (thinned i part below)
 
   pub wide_element : {o start n w : ℕ} (i : ℕ) (part : IsPartOf t o start n w) → i < n → bytes_of_kind part.kind ≡ 12
       → Points t o (start + i) (add_of w (mul_of i 12))

@@ -4,18 +4,19 @@ use Rattle.std.specs.Prelude.{if◌then◌else◌}
 use Rattle.std.proofs.lemmas.Bool.{eqb-true}
 use Rattle.std.proofs.lemmas.Option.{same_Some, none-some}
 use Rattle.cyc_types.specs.declared.typed.Kind.{Kind}
-use Rattle.cyc_types.specs.TypedTrees.{Local, Global, Expression, Number, NullPointer, HeapRegion, Counter, Copy, Move, Peek, Assign, Converted, Convert}
+use Rattle.cyc_types.specs.TypedTrees.{Local, Global, Expression, Number, NullPointer, HeapRegion, Counter, Copy, Move, Peek, Assign, Converted, Convert, Unary}
 use Rattle.cyc_types.specs.Numbered.{Numbering}
 use Rattle.cyc_plain.specs.declared.instruction.Operand.{Operand}
 use Rattle.cyc_plain.specs.declared.instruction.Operand.TheVariants as operands
 use Rattle.cyc_meaning.specs.Values.{words_of_kind, kind_of}
 use Rattle.cyc_lower.specs.Slots.{Types, starts_of, slot_of}
-use Rattle.cyc_lower.specs.ValueCode.{operand_or, null_of, are_as_wide, passed_words}
+use Rattle.cyc_lower.specs.ValueCode.{operand_or, null_of, passed_words, keeps_words, kind_passed}
 use Rattle.cyc_lower.specs.ControlCode.{counter_operand}
 use Rattle.cyc_lower.specs.ExpressionCode.{operand_of, value_slot, converted_operand}
-use Rattle.cyc_lower.proofs.slots.Widths.{given, words_in}
+use Rattle.cyc_lower.proofs.slots.Widths.{given, words_in, keeps_wide}
 use Rattle.cyc_lower.proofs.slots.Slots.{room-inside}
 use Rattle.cyc_lower.proofs.relation.Fitting.{Fits, FitsConverted}
+use Rattle.cyc_types.specs.declared.typed.UnaryOperator.TheVariants as unary
 
 module _ (types : Types) where
   -- (what the code of a store stands for)
@@ -54,11 +55,12 @@ module _ (types : Types) where
         by (Some slot) = inl wide
     operand_apart words t (Assign (Local w n) (Convert from to a) ty) wide ((few, room), fits) = in_local n words t to room wide
     operand_apart words t (Assign (Global n) c ty) wide fits = inr (inl (omega arith))
+    operand_apart words t (Unary unary.Widen a) wide (one, fits) = operand_apart words t a (wide ∙ sym one) fits
     operand_apart words t a wide fits = inr (inl (omega arith))
 
-    pub stored_apart : (c : Converted) (t : ℕ) → FitsConverted b types c → IsApart (passed_words c) t (converted_operand (starts_of types) c (t + 1))
-    stored_apart (Convert from to a) t (is, converted, fits) = by (are_as_wide from to) refl
+    pub stored_apart : (c : Converted) (t : ℕ) → FitsConverted b types c → IsApart (words_of_kind (kind_passed c)) t (converted_operand (starts_of types) c (t + 1))
+    stored_apart (Convert from to a) t (is, converted, fits) = by (keeps_words from to) refl
       where
-        by : (wide : Bool) → are_as_wide from to ≡ wide → IsApart (words_of_kind to) t (operand_or (if wide then operand_of (starts_of types) a else null_of a) (if wide then value_slot (starts_of types) a (t + 1) else t + 1))
-        by true wide = operand_apart (words_of_kind to) t a (sym (eqb-true (words_of_kind from) (words_of_kind to) wide) ∙ ap words_of_kind is) fits
+        by : (wide : Bool) → keeps_words from to ≡ wide → IsApart (words_of_kind to) t (operand_or (if wide then operand_of (starts_of types) a else null_of a) (if wide then value_slot (starts_of types) a (t + 1) else t + 1))
+        by true wide = operand_apart (words_of_kind to) t a (sym (keeps_wide from to wide) ∙ ap words_of_kind is) fits
         by false wide = null_apart (words_of_kind to) t a

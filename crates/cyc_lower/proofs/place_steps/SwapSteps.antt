@@ -28,7 +28,7 @@ use Rattle.cyc_lower.proofs.slots.Slots.{slot-room, global-inside}
 use Rattle.cyc_lower.proofs.relation.Moves.{put_elsewhere, moved_slots, moves, moved_elsewhere, moved_is}
 use Rattle.cyc_lower.proofs.relation.Weights.{focus_weight, stack_weight}
 use Rattle.cyc_lower.proofs.relation.Stands.{EachAt, StoresAt, HasSide, SideAt, ReadAt, WriteAt, ExchangeAt, PlaceAt}
-use Rattle.cyc_lower.proofs.relation.HeldValues.{IsWord, Holds, held, contents, callers}
+use Rattle.cyc_lower.proofs.relation.HeldValues.{IsWord, Holds, held, contents, callers, IsCharAt}
 use Rattle.cyc_lower.proofs.relation.Relation.{base_of, floor, behind_statement, IsSideAt, IsLeft, WritesAt, StatementStack, DataIn, SharedAt, Matches, code_of, bounds_at, types_at, starts_at, base_of}
 use Rattle.cyc_lower.proofs.relation.Data.{Is-same, one_word, data_written, data_assigned, data_assigned_global, handlers_beside, floor-least}
 use Rattle.cyc_lower.proofs.relation.Sharing.{shared_written, shared_beside}
@@ -43,11 +43,11 @@ use Rattle.cyc_lower.proofs.place_steps.AddressSteps.{Brought, in_slot, by_word}
 use Rattle.cyc_lower.proofs.relation.Matched.{IsMatched, silently, by_one}
 use Rattle.cyc_lower.proofs.value_steps.Evaluations.{IsStep, object_of_same}
 use Rattle.cyc_lower.proofs.place_steps.CellReads.{held_there, cell_reads, read_there, low_same}
-use Rattle.cyc_plain.specs.Memory.{memory_at}
 use Rattle.cyc_lower.proofs.relation.Known.{IsGlobalRow}
-use Rattle.cyc_lower.proofs.relation.Rows.{local-row}
+use Rattle.cyc_lower.proofs.relation.Rows.{local-row, char_cell}
 use Rattle.cyc_lower.proofs.relation.Leads.{AreNamed}
 use Rattle.cyc_lower.proofs.relation.Moving.{statement_moves}
+use Rattle.cyc_lower.proofs.place_steps.KindWords.{loaded_at, saved_at, saves_by}
 
 -- ---- what is read
 
@@ -133,19 +133,19 @@ module _ (source : Program) (pages calls : ℕ) where
 
   -- those of a cell, whose address is in slot s
   reads_cell : (t : Tables) (kind : Kind) (v : Value) (address s d q words bound : ℕ) (c : Configuration) → 1 ≤ words → words_of_kind kind ≡ words → c.active.slots s ≡ address → s < d → bound ≤ d
-      → (word : ℕ → ℕ) → ((slots : Words) (next j : ℕ) → ((n : ℕ) → n < bound → slots n ≡ c.active.slots n) → j < words → memory_at (lower_program source) (at (with_slots c slots) next) (add_of address (4 * j)) ≡ Some (word j)) → Is t kind v word 0
-      → EachAt (code_of source c.active.function) (load_at s) words 0 d c.active.next q → IsSideRead t kind v d q c
+      → (word : ℕ → ℕ) → ((slots : Words) (next j : ℕ) → ((n : ℕ) → n < bound → slots n ≡ c.active.slots n) → j < words → loaded_at (lower_program source) kind (at (with_slots c slots) next) (add_of address (4 * j)) ≡ Some (word j)) → Is t kind v word 0
+      → EachAt (code_of source c.active.function) (load_at kind s) words 0 d c.active.next q → IsSideRead t kind v d q c
   reads_cell t kind v address s d q zero bound c some wide same before least word there is here = absurd (omega (arith, some))
   reads_cell t kind v address s d q (suc words) bound c some wide same before least word there is here =
-      let (path, end) = word_path source word c address (suc words) 0 s d q bound same before least (λ slots next j low below. there slots next j low (omega (arith, below))) here in
+      let (path, end) = word_path source kind word c address (suc words) 0 s d q bound same before least (λ slots next j low below. there slots next j low (omega (arith, below))) here in
       let slots = each_put word c.active.slots (suc words) 0 d in
       let last : c.active.next + words + 1 ≡ q = omega (arith, end) in
       record {
-        links = word_links word c (suc words) 0 s d;
+        links = word_links kind word c (suc words) 0 s d;
         some = omega arith;
         path = path;
         slots = slots;
-        leads = word_end word c words 0 s d ∙ ap (λ (n : ℕ). at (with_slots c slots) n) last;
+        leads = word_end kind word c words 0 s d ∙ ap (λ (n : ℕ). at (with_slots c slots) n) last;
         is = each_is t (record { kind = kind; value = v }) word c.active.slots (suc words) 0 d wide is;
         elsewhere = λ m out. each-outside word c.active.slots (suc words) 0 d m (subst (λ n. Outside d n m) wide out);
       }
@@ -153,7 +153,7 @@ module _ (source : Program) (pages calls : ℕ) where
   reads_side : (a : Side) (s d q object offset : ℕ) (kind : Kind) (v : Value) (k : List Entry) (e : Environment) (w : World) (c : Configuration) (shared : SharedAt source pages calls k e w c)
       → DataIn source shared.tables c.active.slots k e w c → (found : Located) → cell_at w object offset ≡ Found found → found.cell.kind ≡ kind → found.cell.content ≡ Some v → s < d → base_of source c.active.function ≤ d → AreNamed source e.locals (callers k) w c.active.function c.active.base c.frames c.store
       → IsSideAt source shared.tables e.locals c.active.slots a s object offset → HasSide (code_of source c.active.function) (bounds_at source c.active.function) (types_at source c.active.function) a kind
-      → ReadAt (code_of source c.active.function) (bounds_at source c.active.function) (types_at source c.active.function) a (words_of_kind kind) s d c.active.next q → IsSideRead shared.tables kind v d q c
+      → ReadAt (code_of source c.active.function) (bounds_at source c.active.function) (types_at source c.active.function) a kind s d c.active.next q → IsSideRead shared.tables kind v d q c
   reads_side (VariableSide (Local p n) ty) s d q object offset kind v k e w c shared facts found there same has before least names (first, is_there) room (here, end) =
       let g = c.active.function in
       let slot = slot_of (starts_at source g) n in
@@ -180,7 +180,7 @@ module _ (source : Program) (pages calls : ℕ) where
       let address = c.active.slots s in
       let reads = cell_reads source c shared.related names facts.0 object offset address found there points in
       reads_cell shared.tables kind v address s d q (words_of_kind kind) (base_of source g) c (kind_positive kind) refl refl before least reads.word
-      (λ slots next j low below. read_there source c shared.related found there points reads slots next j (low_same source g found.cell.kind reads.here c.active.slots slots reads.own low) (omega (arith, below, ap words_of_kind same)))
+      (λ slots next j low below. sym (ap (λ (i : Kind). loaded_at (lower_program source) i (at (with_slots c slots) next) (add_of address (4 * j))) same) ∙ read_there source c shared.related found there points reads slots next j (low_same source g found.cell.kind reads.here c.active.slots slots reads.own low) (omega (arith, below, ap words_of_kind same)))
       (subst (λ i. Is shared.tables i v reads.word 0) same (reads.is v has)) here
 
   -- ---- both sides are read
@@ -259,7 +259,7 @@ module _ (source : Program) (pages calls : ℕ) where
               right_slot a base,
               base + 2,
               q,
-              subst (λ i. WriteAt (code_of source g) (bounds_at source g) (types_at source g) b (words_of_kind i) (right_slot a base) (base + 2) r q) (sym same_before) second,
+              subst (λ i. WriteAt (code_of source g) (bounds_at source g) (types_at source g) b i (right_slot a base) (base + 2) r q) (sym same_before) second,
               has_before,
               omega (arith, above, below_base base a),
               omega (arith, above),
@@ -283,19 +283,21 @@ module _ (source : Program) (pages calls : ℕ) where
       (does : stored_at x.place x.operand (Writing writes None) k e w ≡ stored_at (Thin object offset) x.operand (Writing writes None) k e w)
       (well : IsWell (stored_at (Thin object offset) x.operand (Writing writes None) k e w)) (points : Points shared.tables object offset (c.active.slots s))
       (value : Is shared.tables x.operand.kind x.operand.value c.active.slots v)
-      (here : StoresAt (code_of source c.active.function) (bounds_at source c.active.function) (types_at source c.active.function) (words_of_kind x.operand.kind) s 0 v c.active.next r)
+      (here : StoresAt (code_of source c.active.function) (bounds_at source c.active.function) (types_at source c.active.function) x.operand.kind (words_of_kind x.operand.kind) s 0 v c.active.next r)
       (rest : WritesAt source shared.tables e.locals c.active.function c.active.slots writes r q) (stack : StatementStack source c.active.function exits q c.frames k) where
     writes_word : words_of_kind x.operand.kind ≡ 1 → IsMatched source pages calls (Running (Writing (x ∷ writes) None) k e w) (plain.Running c)
     writes_word one =
         let g = c.active.function in
-        let (store, end) = subst (λ n. StoresAt (code_of source g) (bounds_at source g) (types_at source g) n s 0 v c.active.next r) one here in
+        let (store, end) = subst (λ n. StoresAt (code_of source g) (bounds_at source g) (types_at source g) x.operand.kind n s 0 v c.active.next r) one here in
         let address = add_of (c.active.slots s) 0 in
         let (cell, found, same, gives) = cell_is_there (cell_at w object offset) object offset x.operand (Writing writes None) k e w well in
         let is_word = subst (λ i. IsWord shared.tables i x.operand.value (c.active.slots v)) (sym same) (one_word shared.tables x.operand.kind x.operand.value c.active.slots v one value) in
         let after = with_word source pages calls k e w c shared names facts object offset address (c.active.slots v) cell x.operand.value found (stays points) is_word (words.0 v) in
         by_one source pages calls (does ∙ gives) shared store
         (λ choice. subst (Matches source pages calls (Running (Writing writes None) k e (written w object offset cell x.operand.value)))
-        (sym (saves_there source pages calls k e w c shared names facts object offset address (c.active.slots v) cell x.operand.value found (stays points) is_word (words.0 v))) (
+        (sym (saves_by (lower_program source) choice c x.operand.kind (operands.Slot s) 0 (operands.Slot v)
+        ∙ ap (λ (i : Kind). saved_at (lower_program source) i c address (c.active.slots v)) (sym same)
+        ∙ saves_there source pages calls k e w c shared names facts object offset address (c.active.slots v) cell x.operand.value found (stays points) is_word (words.0 v))) (
           shared_saved source pages calls k e w c shared names facts object offset address (c.active.slots v) cell x.operand.value found (stays points) is_word (words.0 v),
           data_saved source pages calls k e w c shared names facts object offset address (c.active.slots v) cell x.operand.value found (stays points) is_word (words.0 v),
           (
@@ -309,7 +311,7 @@ module _ (source : Program) (pages calls : ℕ) where
     writes_words : x.operand.kind ≡ kinds.Fat → IsMatched source pages calls (Running (Writing (x ∷ writes) None) k e w) (plain.Running c)
     writes_words fat =
         let g = c.active.function in
-        let (at_first, (at_second, (at_third, end))) = subst (λ n. StoresAt (code_of source g) (bounds_at source g) (types_at source g) n s 0 v c.active.next r) (ap words_of_kind fat) here in
+        let (at_first, (at_second, (at_third, end))) = subst (λ (i : Kind). StoresAt (code_of source g) (bounds_at source g) (types_at source g) i (words_of_kind i) s 0 v c.active.next r) fat here in
         let address = c.active.slots s in
         let (cell, found, same, gives) = cell_is_there (cell_at w object offset) object offset x.operand (Writing writes None) k e w well in
         let wide = same ∙ fat in
@@ -364,7 +366,8 @@ module _ (source : Program) (pages calls : ℕ) where
           data_assigned shared.tables source g c.active.base w.objects next.objects e.locals (callers k) c.active.slots slots c.globals c.frames n object x.operand found
               (written_here w object stored.at x.operand.value stored.object_there stored.cell_there x.operand.kind stored.same) (written_elsewhere w object stored.at x.operand.value stored.object_there stored.cell_there)
               (written_length w object stored.at x.operand.value stored.object_there stored.cell_there) room
-              (moved_is shared.tables x.operand c.active.slots slot (operands.Slot v) value) elsewhere facts.0,
+              (moved_is shared.tables x.operand c.active.slots slot (operands.Slot v) value)
+              (λ is_char. sym stored.same ∙ char_cell shared.related object stored.at.object stored.at.cell stored.object_there stored.cell_there is_char) elsewhere facts.0,
           handlers_beside source g c.active.slots slots c.active.handlers c.frames k slot own (omega (arith, inside, room)) elsewhere facts.1,
         ),
         (
@@ -397,6 +400,7 @@ module _ (source : Program) (pages calls : ℕ) where
               (ap (contents next.objects) same ∙ written_here w object stored.at x.operand.value stored.object_there stored.cell_there x.operand.kind stored.same)
               (λ i other. written_elsewhere w object stored.at x.operand.value stored.object_there stored.cell_there i (λ equal. other (equal ∙ sym same)))
               (written_length w object stored.at x.operand.value stored.object_there stored.cell_there) (stored_is shared.tables x.operand c.active.slots c.globals place_of (operands.Slot v) value)
+              (λ is_char. sym stored.same ∙ char_cell shared.related object stored.at.object stored.at.cell stored.object_there stored.cell_there (subst (IsCharAt shared.tables) same is_char))
               (λ m out. stored_elsewhere c.active.slots c.globals own place_of (operands.Slot v) m (kind_positive x.operand.kind) out) facts.0,
           facts.1,
         ),
@@ -442,7 +446,7 @@ module _ (source : Program) (pages calls : ℕ) where
       → Brought source shared.tables object offset (floor source c.active.function k) m c
       → (let g = c.active.function in (exits : Exits) × (x : Dereference) × (r : ℕ) × (q : ℕ) × HasSide (code_of source g) (bounds_at source g) (types_at source g) right kind
       × SideAt (code_of source g) (bounds_at source g) (types_at source g) right (floor source g k + 1) m r
-      × ExchangeAt (code_of source g) (bounds_at source g) (types_at source g) (words_of_kind kind) (CellSide x) right (floor source g k) r q × StatementStack source g exits q c.frames k)
+      × ExchangeAt (code_of source g) (bounds_at source g) (types_at source g) kind (CellSide x) right (floor source g k) r q × StatementStack source g exits q c.frames k)
       → IsMatched source pages calls (Running (GivenPlace (Thin object offset)) (NeedsPlace (SwapLeft kind peek right) ∷ k) e w) (plain.Running c)
   left_found object offset kind peek (VariableSide l ty) k e w c {m} well shared facts brought (exits, x, r, q, has, end, exchange, stack) =
       let g = c.active.function in
@@ -462,7 +466,7 @@ module _ (source : Program) (pages calls : ℕ) where
           has,
           points,
           (refl, object_of_same l e ∙ found),
-          subst (λ p. ExchangeAt (code_of source g) (bounds_at source g) (types_at source g) (words_of_kind kind) (CellSide x) (VariableSide l ty) base p q) (sym end) exchange,
+          subst (λ p. ExchangeAt (code_of source g) (bounds_at source g) (types_at source g) kind (CellSide x) (VariableSide l ty) base p q) (sym end) exchange,
           stack,
         ),
       ))
@@ -482,7 +486,7 @@ module _ (source : Program) (pages calls : ℕ) where
       (shared : SharedAt source pages calls k e w c) → DataIn source shared.tables c.active.slots k e w c → Holds shared.tables c.active.slots (floor source c.active.function k) (held (NeedsPlace (SwapRight kind peek is_cell left) ∷ k))
       → Brought source shared.tables object offset (right_slot a (floor source c.active.function k)) m c → IsLeft source e.locals is_cell a left
       → (let g = c.active.function in (exits : Exits) × (y : Dereference) × (q : ℕ) × HasSide (code_of source g) (bounds_at source g) (types_at source g) a kind
-      × ExchangeAt (code_of source g) (bounds_at source g) (types_at source g) (words_of_kind kind) a (CellSide y) (floor source g k) m q × StatementStack source g exits q c.frames k)
+      × ExchangeAt (code_of source g) (bounds_at source g) (types_at source g) kind a (CellSide y) (floor source g k) m q × StatementStack source g exits q c.frames k)
       → IsMatched source pages calls (Running (GivenPlace (Thin object offset)) (NeedsPlace (SwapRight kind peek is_cell left) ∷ k) e w) (plain.Running c)
   right_found object offset kind peek false (Thin first start) (VariableSide l ty) k e w c {m} shared facts holds brought is_left (exits, y, q, has, exchange, stack) =
       let base = floor source c.active.function k in
@@ -527,7 +531,7 @@ module _ (source : Program) (pages calls : ℕ) where
           has_b,
           (refl, object_of_same l e ∙ found),
           (refl, object_of_same l' e ∙ found_right),
-          subst (λ p. ExchangeAt (code_of source g) (bounds_at source g) (types_at source g) (words_of_kind kind) (VariableSide l ty) (VariableSide l' ty') (floor source g k) p q) (sym (start ∙ end)) exchange,
+          subst (λ p. ExchangeAt (code_of source g) (bounds_at source g) (types_at source g) kind (VariableSide l ty) (VariableSide l' ty') (floor source g k) p q) (sym (start ∙ end)) exchange,
           stack,
         ),
       )

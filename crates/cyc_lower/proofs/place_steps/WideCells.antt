@@ -15,7 +15,7 @@ use Rattle.cyc_plain.specs.State.{Words, Configuration, Frame}
 use Rattle.cyc_plain.specs.Step.{Choice, at, with_slots, saves, loads, performed, advanced}
 use Rattle.cyc_plain.proofs.SlotLaws.{put-other, put-same}
 use Rattle.cyc_plain.specs.Straight.{At}
-use Rattle.cyc_meaning.specs.Values.{Value, Operand as Kinded, words_of_kind, bytes_of_kind}
+use Rattle.cyc_meaning.specs.Values.{Value, Operand as Kinded, words_of_kind, bytes_of_kind, is_kind}
 use Rattle.cyc_meaning.specs.State.{Object, World, Found, Located, cell_at, written, Environment, Entry}
 use Rattle.cyc_meaning.proofs.WorldLaws.{cell_found}
 use Rattle.cyc_objects.specs.Tables.{Tables}
@@ -28,12 +28,11 @@ use Rattle.cyc_objects.proofs.Variables.{assigned-away}
 use Rattle.cyc_lower.specs.Slots.{global_types, slot_of}
 use Rattle.cyc_lower.specs.Lowering.{lower_program, scopes_of}
 use Rattle.cyc_lower.proofs.slots.Widths.{Outside, HasGlobal, words_in, HasRoom}
-use Rattle.cyc_lower.proofs.slots.CellBytes.{aligned_even}
 use Rattle.cyc_lower.proofs.slots.Slots.{global-room, slot-room, slot-apart}
 use Rattle.cyc_lower.proofs.relation.Moves.{put_elsewhere}
 use Rattle.cyc_lower.proofs.relation.Known.{row-away, global-first, global_kind, first_word, IsVariableRow}
 use Rattle.cyc_lower.proofs.place_steps.PlaceWords.{stored_still, three_put, three_words, three_elsewhere, three_written, three_of, cell_kind}
-use Rattle.cyc_lower.proofs.relation.HeldValues.{content_of, callers, Waiting, contents}
+use Rattle.cyc_lower.proofs.relation.HeldValues.{content_of, callers, Waiting, contents, IsCharAt}
 use Rattle.cyc_lower.proofs.relation.Relation.{SharedAt, DataAt, DataIn, silent, code_of, types_at, base_of, starts_at}
 use Rattle.cyc_lower.proofs.relation.Data.{Is-same, get_set_other, data_assigned_global, data_assigned, handlers_same}
 use Rattle.cyc_lower.proofs.relation.Accesses.{written_here, written_elsewhere, written_length}
@@ -47,9 +46,12 @@ use Rattle.cyc_lower.proofs.place_steps.StoredWords.{cell-stored, saves-stored, 
 use Rattle.cyc_lower.proofs.relation.Leads.{AreNamed, Leads, leads, to_store, to_variable, is_global, is_local, is_waiting}
 use Rattle.cyc_lower.proofs.relation.WaitingData.{with_slots_of, callers_least, frame_at, data_assigned_waiting, below_set, set_at, set_again}
 use Rattle.cyc_lower.proofs.relation.Moving.{Like, like_same, like_slots, like_long, handlers_move}
-use Rattle.cyc_lower.proofs.relation.Rows.{local-row, local-pointer, local-kind}
+use Rattle.cyc_lower.proofs.relation.Rows.{local-row, local-pointer, local-kind, char_cell}
 use Rattle.cyc_types.specs.Types.{Ty}
 use Rattle.std.proofs.lemmas.Bool.{cases_eq, cases_lt}
+use Rattle.cyc_types.specs.declared.typed.Kind.{Kind}
+use Rattle.cyc_lower.specs.ValueCode.{variable_bytes}
+use Rattle.cyc_objects.proofs.Chars.{wide-aligned}
 
 -- on the way: what changes where words of a cell are written
 pub record Parts : Type 0 where
@@ -144,7 +146,7 @@ module _ (source : Program) (pages calls : ℕ) (k : List Entry) (e : Environmen
     -- each word is there, also once others were written
     there : (m : Memory) (j : ℕ) → j < 3 → store_word (holding m).store (address + 4 * j) ≡ Some (m (address + 4 * j))
     there m j below =
-        stored_still c.store m (address + 4 * j) (c.store.memory (address + 4 * j)) (cell-stored shared.related alive points at_cell j (omega (arith, below, ap words_of_kind fat)))
+        stored_still c.store m (address + 4 * j) (c.store.memory (address + 4 * j)) (cell-stored shared.related alive points at_cell (ap (λ (i : Kind). is_kind i kinds.Char) fat) j (omega (arith, below, ap words_of_kind fat)))
 
     stores_word : (m : Memory) (i more from j : ℕ) (choice : Choice) → j < 3 → add_of (slots a) more ≡ address + 4 * j
         → performed lowered choice (stage c (holding m) i) (instructions.Store (operands.Slot a) more (operands.Slot from)) ≡ plain.Running (stage c (holding (put m (address + 4 * j) (slots from))) (i + 1))
@@ -179,7 +181,7 @@ module _ (source : Program) (pages calls : ℕ) (k : List Entry) (e : Environmen
       related = related-written shared.related alive points at_cell all_put v
           (three_words c.store.memory address (slots n) (slots (suc n)) (slots (suc (suc n))) shared.related.sound.words (words.0 n) (words.0 (suc n)) (words.0 (suc (suc n))))
           (bytes-beside c.store.memory all_put cell.cell.kind address 3 (ap bytes_of_kind fat)
-          (aligned_even cell.cell.kind address (cell-aligned shared.related alive points at_cell))
+          (wide-aligned cell.cell.kind address (ap (λ (i : Kind). is_kind i kinds.Char) fat) (cell-aligned shared.related alive points at_cell))
           (λ y other. three_elsewhere c.store.memory address (slots n) (slots (suc n)) (slots (suc (suc n))) y other))
           (subst (λ kind. Holds shared.tables kind v all_put address) (sym fat) (three_written shared.tables v c.store.memory address (slots n) (slots (suc n)) (slots (suc (suc n))) in_slots));
       like = like_same source c.frames;
@@ -211,6 +213,9 @@ module _ (source : Program) (pages calls : ℕ) (k : List Entry) (e : Environmen
     holds_now : contents first_written.objects object ≡ Some value
     holds_now = written_here w object cell v object_there cell_there cell.cell.kind refl
 
+    char_now : IsCharAt shared.tables object → cell.cell.kind ≡ kinds.Char
+    char_now = char_cell shared.related object cell.object cell.cell object_there cell_there
+
     related_now : objects.Related shared.tables (silent next) c.store
     related_now = assigned-away shared.related object offset cell.object cell.cell v object_there at_cell (λ h alive. row-away shared.related globals_of_source object h cell.object row alive)
 
@@ -236,11 +241,12 @@ module _ (source : Program) (pages calls : ℕ) (k : List Entry) (e : Environmen
 
   in_globals : object < length globals_of_source → slice_get cell.object.cells offset ≡ Some cell.cell → IsSaved
   in_globals few at_cell =
-      let (row, holds) = facts.0.4 object few in
+      let (row, holds, small) = facts.0.4 object few in
       let start = first_word globals_of_source object in
       let (zeroth, place) = global-first globals_of_source object offset address row points in
       let kind = global_kind row points (cell_kind shared.related cell points found) in
       let wide : words_of_kind row.kind ≡ 3 = ap words_of_kind (kind ∙ fat) in
+      let whole : variable_bytes row.kind ≡ 0 = ap variable_bytes (kind ∙ fat) in
       let room : HasGlobal (types_at source g) object cell.cell.kind = subst (λ i. words_of_kind i ≤ words_in globals_of_source object) kind row.room in
       let elsewhere : (m : ℕ) → Outside start (words_of_kind cell.cell.kind) m → after c.globals start 3 m ≡ c.globals m
       = λ m out. each-outside slots c.globals 3 n start m (subst (λ x. Outside start x m) three out) in
@@ -248,7 +254,7 @@ module _ (source : Program) (pages calls : ℕ) (k : List Entry) (e : Environmen
       let goes : (globals : Words) (i more from j x : ℕ) (choice : Choice) → j < 3 → add_of (slots a) more ≡ address + 4 * j → start + j ≡ x
       → performed lowered choice (stage c (with_globals globals) i) (instructions.Store (operands.Slot a) more (operands.Slot from)) ≡ plain.Running (stage c (with_globals (plain.put globals x (slots from))) (i + 1))
       = λ globals i more from j x choice below same at_x.
-      ap (λ y. saves lowered (stage c (with_globals globals) i) y (slots from) (memory_at lowered (stage c (with_globals globals) i) y)) (same ∙ (let z : address + 4 * j ≡ GLOBALS_BASE + 4 * x = omega (arith, place, at_x) in z))
+      ap (λ y. saves lowered (stage c (with_globals globals) i) y (slots from) (memory_at lowered (stage c (with_globals globals) i) y)) (same ∙ (let z : address + 4 * j ≡ GLOBALS_BASE + 4 * x = omega (arith, place, whole, at_x) in z))
       ∙ saves-global source (stage c (with_globals globals) i) x (globals_long source x (omega (arith, at_x, global-room (types_at source g) object few, row.room, wide, below))) (omega (arith, at_x, row.low, wide, below)) (slots from) in
       record {
         one = with_globals (after c.globals start 1);
@@ -268,7 +274,7 @@ module _ (source : Program) (pages calls : ℕ) (k : List Entry) (e : Environmen
         stays = moved zeroth at_cell (inr (inl row)) c.active.slots (after c.globals start 3) c.frames
             (data_assigned_global shared.tables source g c.active.base w.objects (written w object 0 cell v).objects e.locals (callers k) c.active.slots c.globals (after c.globals start 3) c.frames object (record { kind = cell.cell.kind; value = v }) room
             (holds_now zeroth at_cell (inr (inl row))) (beside zeroth at_cell (inr (inl row))) (long zeroth at_cell (inr (inl row)))
-            (each_is shared.tables (record { kind = cell.cell.kind; value = v }) slots c.globals 3 n start three fat_value) elsewhere facts.0);
+            (each_is shared.tables (record { kind = cell.cell.kind; value = v }) slots c.globals 3 n start three fat_value) (char_now zeroth at_cell (inr (inl row))) elsewhere facts.0);
       }
 
   -- of a local of the running call: the words that are stored are none that are written, or the very ones
@@ -305,6 +311,7 @@ module _ (source : Program) (pages calls : ℕ) (k : List Entry) (e : Environmen
       let inside = (hold.within number object here).0 in
       let kind = local-kind r points (cell_kind shared.related cell points found) in
       let room : HasRoom (types_at source g) number kinds.Fat = subst (HasRoom (types_at source g) number) (kind ∙ fat) r.room in
+      let whole : variable_bytes r.kind ≡ 0 = ap variable_bytes (kind ∙ fat) in
       let start = slot_of (starts_at source g) number in
       let with_slots_now : Words → Parts = λ now. record { store = c.store; globals = c.globals; slots = now; frames = c.frames } in
       let elsewhere : (m : ℕ) → Outside start (words_of_kind cell.cell.kind) m → after slots start 3 m ≡ slots m = λ m out. each-outside slots slots 3 n start m (subst (λ x. Outside start x m) three out) in
@@ -316,7 +323,7 @@ module _ (source : Program) (pages calls : ℕ) (k : List Entry) (e : Environmen
       let pinned = names.whole g number j inside (omega (arith, room, below)) place.pinned in
       ap (λ y. saves lowered d (add_of y more) (after slots start many (n + j)) (memory_at lowered d (add_of y more))) (high_still number inside room many few a temporary)
       ∙ (ap (λ y. saves lowered d (add_of (slots a) more) y (memory_at lowered d (add_of (slots a) more))) (still number inside room many few j below)
-      ∙ (ap (λ y. saves lowered d y (slots (n + j)) (memory_at lowered d y)) (same ∙ (let z : address + 4 * j ≡ c.active.base + 4 * (start + j) = omega (arith, place.at) in z))
+      ∙ (ap (λ y. saves lowered d y (slots (n + j)) (memory_at lowered d y)) (same ∙ (let z : address + 4 * j ≡ c.active.base + 4 * (start + j) = omega (arith, place.at, whole) in z))
       ∙ (ap (saves lowered d (c.active.base + 4 * (start + j)) (slots (n + j))) (memory-active lowered names.well d names.lie (start + j) pinned)
       ∙ ap (λ (x : Configuration). plain.Running (advanced x)) (written-active lowered names.well d names.lie (start + j) (slots (n + j)) pinned)))) in
       let step_to : (many i more j from x : ℕ) (choice : Choice) → many ≤ 3 → j < 3 → add_of (slots a) more ≡ address + 4 * j → n + j ≡ from → start + j ≡ x
@@ -344,7 +351,7 @@ module _ (source : Program) (pages calls : ℕ) (k : List Entry) (e : Environmen
         stays = moved place.first at_cell row (after slots start 3) c.globals c.frames
             (data_assigned shared.tables source g c.active.base w.objects (written w object 0 cell v).objects e.locals (callers k) slots (after slots start 3) c.globals c.frames number object (record { kind = cell.cell.kind; value = v }) here
             (holds_now place.first at_cell row) (beside place.first at_cell row) (long place.first at_cell row) (subst (HasRoom (types_at source g) number) kind r.room)
-            (each_is shared.tables (record { kind = cell.cell.kind; value = v }) slots slots 3 n start three fat_value) elsewhere facts.0);
+            (each_is shared.tables (record { kind = cell.cell.kind; value = v }) slots slots 3 n start three fat_value) (char_now place.first at_cell row) elsewhere facts.0);
       }
 
   in_waiting : (i number : ℕ) (x : Waiting) → slice_get (callers k) i ≡ Some x → x.locals number ≡ Some object → slice_get cell.object.cells offset ≡ Some cell.cell → IsSaved
@@ -359,6 +366,7 @@ module _ (source : Program) (pages calls : ℕ) (k : List Entry) (e : Environmen
       let inside = (hold.within number object here).0 in
       let kind = local-kind r points (cell_kind shared.related cell points found) in
       let room : HasRoom (types_at source h) number kinds.Fat = subst (HasRoom (types_at source h) number) (kind ∙ fat) r.room in
+      let whole : variable_bytes r.kind ≡ 0 = ap variable_bytes (kind ∙ fat) in
       let start = slot_of (starts_at source h) number in
       let bound = slot-room (types_at source h) number inside in
       let old = f.caller.slots in
@@ -372,13 +380,13 @@ module _ (source : Program) (pages calls : ℕ) (k : List Entry) (e : Environmen
       let lie = below_set lowered g c.active.base c.frames i f now frame.at names.lie in
       let at_d = set_at c.frames i f fd frame.at in
       let pinned = subst (λ z. is_pinned (code_of source h) z ≡ true) y_is (names.whole h number j inside (omega (arith, room, below)) place.pinned) in
-      ap (λ z. saves lowered d z (slots from) (memory_at lowered d z)) (same ∙ (let z : address + 4 * j ≡ f.caller.base + 4 * y = omega (arith, place.at, y_is) in z))
+      ap (λ z. saves lowered d z (slots from) (memory_at lowered d z)) (same ∙ (let z : address + 4 * j ≡ f.caller.base + 4 * y = omega (arith, place.at, whole, y_is) in z))
       ∙ (ap (saves lowered d (f.caller.base + 4 * y) (slots from)) (memory-waiting lowered names.well d lie i fd at_d y pinned)
       ∙ (ap (λ (z : Configuration). plain.Running (advanced z)) (written-waiting_at lowered names.well d lie i fd at_d y (slots from) pinned)
       ∙ ap (λ (fs : List Frame). plain.Running (stage c (record { store = c.store; globals = c.globals; slots = c.active.slots; frames = fs }) (q + 1))) (set_again c.frames i fd (with_slots_of f (plain.put now y (slots from)))))) in
       let begins : Goes (parts_of c) (written_in (after old start 1)) bytes n
       = λ q choice.
-      ap (λ z. saves lowered (stage c (parts_of c) q) z (slots n) (memory_at lowered (stage c (parts_of c) q) z)) (first ∙ (let z : address + 4 * 0 ≡ f.caller.base + 4 * start = omega (arith, place.at) in z))
+      ap (λ z. saves lowered (stage c (parts_of c) q) z (slots n) (memory_at lowered (stage c (parts_of c) q) z)) (first ∙ (let z : address + 4 * 0 ≡ f.caller.base + 4 * start = omega (arith, place.at, whole) in z))
       ∙ (ap (saves lowered (stage c (parts_of c) q) (f.caller.base + 4 * start) (slots n)) (memory-waiting lowered names.well (stage c (parts_of c) q) names.lie i f frame.at start place.pinned)
       ∙ ap (λ (z : Configuration). plain.Running (advanced z)) (written-waiting_at lowered names.well (stage c (parts_of c) q) names.lie i f frame.at start (slots n) place.pinned)) in
       let far : (now : Words) → length (set c.frames i (with_slots_of f now)) ≡ length c.frames = λ now. length-set c.frames i (with_slots_of f now) in
@@ -400,7 +408,7 @@ module _ (source : Program) (pages calls : ℕ) (k : List Entry) (e : Environmen
         stays = moved place.first at_cell row c.active.slots c.globals (set c.frames i (with_slots_of f (after old start 3)))
             (data_assigned_waiting shared.tables source w.objects (written w object 0 cell v).objects f x number object (record { kind = cell.cell.kind; value = v }) (after old start 3) here
             (holds_now place.first at_cell row) (beside place.first at_cell row) (subst (HasRoom (types_at source h) number) kind r.room)
-            (each_is shared.tables (record { kind = cell.cell.kind; value = v }) slots old 3 n start three fat_value) elsewhere (callers_least k (scopes_of source) i x waits)
+            (each_is shared.tables (record { kind = cell.cell.kind; value = v }) slots old 3 n start three fat_value) (char_now place.first at_cell row) elsewhere (callers_least k (scopes_of source) i x waits)
             g c.active.base e.locals (callers k) c.active.slots c.globals c.frames i (long place.first at_cell row) frame.at waits facts.0);
       }
 

@@ -42,7 +42,7 @@ use Rattle.cyc_lower.proofs.relation.HeldValues.{IsIn, IsLow, Holds, held, IsPar
 use Rattle.cyc_lower.proofs.relation.Relation.{types_at, types_on, floor, as_operand, DataIn, SharedAt, ValueStack, PlaceStack, Matches, code_of, bounds_at, top, ReadyAt, with_left, as_right}
 use Rattle.cyc_lower.proofs.relation.Data.{Is-same, height-least, Holds-same, data_written, in_words}
 use Rattle.cyc_lower.proofs.relation.Accesses.{IsWell, is_fitting}
-use Rattle.cyc_lower.proofs.place_steps.PlaceWords.{narrow_element, wide_element, stays}
+use Rattle.cyc_lower.proofs.place_steps.PlaceWords.{narrow_element, byte_element, wide_element, stays}
 use Rattle.cyc_lower.proofs.relation.Matched.{IsMatched, silently, by_one}
 use Rattle.cyc_lower.proofs.handler_steps.Handling.{raised}
 use Rattle.cyc_lower.proofs.pointer_steps.PointerSteps.{as_fat, int_word, is_moved, outside_index}
@@ -52,7 +52,7 @@ use Rattle.cyc_lower.proofs.relation.Paths.{Link, is_quiet, by_path}
 
 -- a number of bytes by an index that counts cells of four bytes, or of twelve
 abbrev pub scaled : (bytes index : ℕ) → ℕ
-scaled bytes index = if bytes == 4 then shl_of index 2 else mul_of index 12
+scaled bytes index = if bytes == 4 then shl_of index 2 else if bytes == 1 then index else mul_of index 12
 
 -- the words of a pointer in slots one behind the other
 pub parts_of : (t : Tables) (v : Value) (slots : Words) (n : ℕ) → Is t kinds.Fat v slots n → IsParts t v slots n (n + 2)
@@ -67,11 +67,13 @@ parts_of t v slots n is = Is-same t kinds.Fat v slots (λ j. if j == 0 then slot
 -- the address of the cell at an index, by what the code computes of it
 module _ {t : Tables} where
   pub element_is : {o start count w : ℕ} (i : ℕ) (part : IsPartOf t o start count w) → i < count → Points t o (start + i) (add_of w (scaled (bytes_of_kind part.kind) i))
-  element_is {o} {start} {count} {w} i part below = by (bytes_of_kind part.kind == 4) refl
+  element_is {o} {start} {count} {w} i part below = by (bytes_of_kind part.kind == 4) (bytes_of_kind part.kind == 1) refl refl
     where
-      by : (narrow : Bool) → (bytes_of_kind part.kind == 4) ≡ narrow → Points t o (start + i) (add_of w (if narrow then shl_of i 2 else mul_of i 12))
-      by true narrow = narrow_element i part below (eqb-true (bytes_of_kind part.kind) 4 narrow)
-      by false wide = wide_element i part below (ap bytes_of_kind (wide_cell part.kind wide))
+      by : (narrow one : Bool) → (bytes_of_kind part.kind == 4) ≡ narrow → (bytes_of_kind part.kind == 1) ≡ one
+          → Points t o (start + i) (add_of w (if narrow then shl_of i 2 else if one then i else mul_of i 12))
+      by true one narrow is = narrow_element i part below (eqb-true (bytes_of_kind part.kind) 4 narrow)
+      by false true other is = byte_element i part below (eqb-true (bytes_of_kind part.kind) 1 is)
+      by false false other wide = wide_element i part below (ap bytes_of_kind (wide_cell part.kind other wide))
 
   -- a struct is reached at its first cell
   pub first_is : {o start count a : ℕ} (i : ℕ) → IsPartOf t o start count a → start + i ≡ 0 → i < count → Points t o (start + i) a
@@ -202,14 +204,15 @@ module _ (source : Program) (pages calls : ℕ) where
         → performed (lower_program source) choice (at c s)
         (scale_of bytes (t + 2) m)
         ≡ plain.Running (at (with_slots c (put slots (t + 2) (scaled bytes (slots m)))) (s + 1))
-    scales bytes choice = by (bytes == 4)
+    scales bytes choice = by (bytes == 4) (bytes == 1)
       where
-        by : (narrow : Bool)
+        by : (narrow one : Bool)
             → performed (lower_program source) choice (at c s)
-            (if narrow then instructions.Binary plain_binary.ShiftLeft (t + 2) (operands.Slot m) (operands.Word 2) else instructions.Binary plain_binary.Multiply (t + 2) (operands.Slot m) (operands.Word 12))
-            ≡ plain.Running (at (with_slots c (put slots (t + 2) (if narrow then shl_of (slots m) 2 else mul_of (slots m) 12))) (s + 1))
-        by true = refl
-        by false = refl
+            (if narrow then instructions.Binary plain_binary.ShiftLeft (t + 2) (operands.Slot m) (operands.Word 2) else if one then instructions.Move (t + 2) (operands.Slot m) else instructions.Binary plain_binary.Multiply (t + 2) (operands.Slot m) (operands.Word 12))
+            ≡ plain.Running (at (with_slots c (put slots (t + 2) (if narrow then shl_of (slots m) 2 else if one then slots m else mul_of (slots m) 12))) (s + 1))
+        by true one = refl
+        by false true = refl
+        by false false = refl
 
     pub reaches_cell : (bytes : ℕ) → span ≡ Some bytes → (next : State) → n ≤ t → slots n ≢ 0 → nat_lt (slots m) (slots (n + 1)) ≡ true → step source (Running focus k₀ e w) ≡ next
         → Matches source pages calls next (plain.Running (at (with_slots c (stepped bytes)) q)) → IsMatched source pages calls (Running focus k₀ e w) (plain.Running c)
@@ -358,6 +361,7 @@ module _ (source : Program) (pages calls : ℕ) where
       by kinds.Nullable i thin same is well = absurd (let f : true ≡ false = thin in cc)
       by kinds.NonNull i thin same is well = absurd (let f : true ≡ false = thin in cc)
       by kinds.Int i thin same is well = absurd (not_followed i target shared.tables kinds.Int kinds.Int v.value c.active.slots n k e w (subst (λ x. Is shared.tables x v.value c.active.slots n) same is) well refl)
+      by kinds.Char i thin same is well = absurd (not_followed i target shared.tables kinds.Char kinds.Char v.value c.active.slots n k e w (subst (λ x. Is shared.tables x v.value c.active.slots n) same is) well refl)
       by kinds.Handle i thin same is well = absurd (not_followed i target shared.tables kinds.Handle kinds.Handle v.value c.active.slots n k e w (subst (λ x. Is shared.tables x v.value c.active.slots n) same is) well refl)
       by kinds.Key i thin same is well = absurd (not_followed i target shared.tables kinds.Key kinds.Key v.value c.active.slots n k e w (subst (λ x. Is shared.tables x v.value c.active.slots n) same is) well refl)
 

@@ -222,6 +222,8 @@ widened_is t kind v u slots n narrow gives is = by kind v is gives narrow
     by kinds.NonNull v is gives narrow = thin-to_fat t kinds.NonNull v u slots after n n refl is gives first second third
     by kinds.Fat v is gives narrow = absurd (narrow refl)
     by kinds.Int (Int a) is gives narrow = absurd (let f : Misfits ≡ Gives u = gives in cc)
+    by kinds.Char (Int a) is gives narrow = absurd (let f : Misfits ≡ Gives u = gives in cc)
+    by kinds.Char v is gives narrow = absurd is
     by kinds.Handle (Handle region) is gives narrow = absurd (let f : Misfits ≡ Gives u = gives in cc)
     by kinds.Key (Key region) is gives narrow = absurd (let f : Misfits ≡ Gives u = gives in cc)
     by kind v is gives narrow = absurd is
@@ -251,6 +253,8 @@ null_only t kinds.Nullable (Thin object offset) u w narrow zero gives is = absur
 null_only t kinds.NonNull (Thin object offset) u w narrow zero gives is = absurd (not-null is zero)
 null_only t kinds.Fat v u w narrow zero gives is = absurd (narrow refl)
 null_only t kinds.Int (Int a) u w narrow zero gives is = absurd (let f : Misfits ≡ Gives u = gives in cc)
+null_only t kinds.Char (Int a) u w narrow zero gives is = absurd (let f : Misfits ≡ Gives u = gives in cc)
+null_only t kinds.Char v u w narrow zero gives is = absurd is
 null_only t kinds.Handle (Handle region) u w narrow zero gives is = absurd (let f : Misfits ≡ Gives u = gives in cc)
 null_only t kinds.Key (Key region) u w narrow zero gives is = absurd (let f : Misfits ≡ Gives u = gives in cc)
 null_only t kind v u w narrow zero gives is = absurd is

@@ -252,6 +252,7 @@ as_fat t kind v words p is fat = absurd is
 
 pub int_word : (t : Tables) (kind : Kind) (a : ℕ) (words : Words) (p : ℕ) → Is t kind (Int a) words p → words p ≡ a
 int_word t kinds.Int a words p is = is
+int_word t kinds.Char a words p is = is.0
 int_word t kind a words p is = absurd is
 
 -- what its arithmetic gives

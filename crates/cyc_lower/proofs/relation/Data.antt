@@ -1,5 +1,5 @@
 -- What stays of the data in slots, variables and globals while a step changes some of it.
-use Rattle.std.proofs.Common.{◌≡◌, ◌≢◌, ℕ, zero, suc, ◌+◌, ◌≤◌, ◌<◌, Bool, true, false, List, [], ◌∷◌, ◌++◌, length, reverse, set, Option, None, Some, slice_get, refl, sym, ap, subst, ◌∙◌, arith, inl, inr, length-append}
+use Rattle.std.proofs.Common.{◌≡◌, ◌≢◌, ℕ, zero, suc, ◌+◌, ◌≤◌, ◌<◌, Bool, true, false, List, [], ◌∷◌, ◌++◌, length, reverse, set, Option, None, Some, slice_get, refl, sym, ap, subst, ◌∙◌, arith, inl, inr, length-append, ◌*◌}
 use Rattle.std.specs.Prelude.{◌==◌, if◌then◌else◌}
 use Rattle.std.proofs.lemmas.Bool.{cases_eq, eq-eqb, eqb-true, false_from_ne_true}
 use Rattle.std.proofs.lemmas.List.{reverse-append}
@@ -9,7 +9,7 @@ use Rattle.cyc_types.specs.TypedTrees.{Program}
 use Rattle.cyc_plain.specs.State as plain
 use Rattle.cyc_plain.specs.State.{Words, copied, Frame}
 use Rattle.cyc_plain.specs.Step.{operand_word}
-use Rattle.cyc_plain.specs.declared.limits.TheConstants.{RECORD_WORDS}
+use Rattle.cyc_plain.specs.declared.limits.TheConstants.{RECORD_WORDS, GLOBALS_BASE}
 use Rattle.cyc_plain.proofs.SlotLaws.{copied-inside}
 use Rattle.cyc_types.specs.declared.typed.Kind.{Kind}
 use Rattle.cyc_types.specs.declared.typed.Kind.TheVariants as kinds
@@ -19,16 +19,18 @@ use Rattle.cyc_meaning.specs.FrameCount.{words_of_all}
 use Rattle.cyc_lower.specs.Slots.{starts_of, slot_of, global_of, global_types, Types}
 use Rattle.cyc_lower.specs.ControlCode.{behind_record_in}
 use Rattle.cyc_lower.specs.Lowering.{scopes_of}
-use Rattle.cyc_lower.proofs.slots.Widths.{words_in, HasRoom, HasGlobal, Outside}
+use Rattle.cyc_lower.proofs.slots.Widths.{words_in, HasRoom, HasGlobal, Outside, kind_positive}
 use Rattle.cyc_lower.proofs.slots.Slots.{slot-room, slot-apart, global-room, global-apart, global-inside}
 use Rattle.cyc_plain.specs.declared.instruction.Operand.{Operand as Place}
 use Rattle.cyc_plain.specs.declared.instruction.Operand.TheVariants as operands
-use Rattle.cyc_objects.specs.Tables.{Tables, Grows}
+use Rattle.cyc_objects.specs.Tables.{Tables, Grows, Row, Placed}
 use Rattle.cyc_objects.specs.Words.{Points, Is}
 use Rattle.cyc_objects.proofs.Values.{Is-grows, Is-same as words_same}
-use Rattle.cyc_lower.proofs.relation.Known.{global-row_grows}
-use Rattle.cyc_lower.proofs.relation.HeldValues.{CallSlots, row_of, IsLocalRow, behind_records, scopes_in, IsKept, callers, IsWord, IsIn, Waiting, words_held, height, Holds, HoldsFrom, content_of, contents, LocalsHold, GlobalsHold, left_by}
+use Rattle.cyc_lower.proofs.relation.Known.{global-row_grows, first_word}
+use Rattle.cyc_lower.proofs.relation.HeldValues.{CallSlots, row_of, IsLocalRow, behind_records, scopes_in, IsKept, callers, IsWord, IsIn, Waiting, words_held, height, Holds, HoldsFrom, content_of, contents, LocalsHold, GlobalsHold, left_by, IsCharAt}
 use Rattle.cyc_lower.proofs.relation.Relation.{call_slots, floor, HandlersStand, AreOfVariables, FramesHold, DataAt, types_at, starts_at, base_of}
+use Rattle.cyc_objects.proofs.Chars.{char-small}
+use Rattle.cyc_lower.specs.ValueCode.{variable_bytes}
 
 -- ---- values in slots
 
@@ -100,6 +102,7 @@ local_other locals number other object apart =
 module _ (t : Tables) where
   pub IsWord-is : (kind : Kind) (v : Value) (word : ℕ) (words : Words) (p : ℕ) → words p ≡ word → IsWord t kind v word → Is t kind v words p
   IsWord-is kinds.Int (Int a) word words p same is = same ∙ is
+  IsWord-is kinds.Char (Int a) word words p same is = (same ∙ is.0, is.1)
   IsWord-is kinds.Nullable Null word words p same is = same ∙ is
   IsWord-is kinds.Nullable (Thin object offset) word words p same is = subst (Points t object offset) (sym same) is
   IsWord-is kinds.NonNull (Thin object offset) word words p same is = subst (Points t object offset) (sym same) is
@@ -138,6 +141,7 @@ module _ (t : Tables) where
   -- a value of one word is told by it
   pub one_word : (kind : Kind) (v : Value) (words : Words) (p : ℕ) → words_of_kind kind ≡ 1 → Is t kind v words p → IsWord t kind v (words p)
   one_word kinds.Int (Int a) words p one is = is
+  one_word kinds.Char (Int a) words p one is = is
   one_word kinds.Nullable Null words p one is = is
   one_word kinds.Nullable (Thin object offset) words p one is = is
   one_word kinds.NonNull (Thin object offset) words p one is = is
@@ -209,7 +213,16 @@ module _ (t : Tables) where
     holds = λ number object v at has.
         let inside = hold.within number object at in
         hold.holds number object v at (sym (same object inside.1 inside.2) ∙ has);
+    small = hold.small;
   }
+
+  -- the word of a char, with other slots that are equal where the local has its own
+  small_same : (types : Types) (slots other : Words) (number : ℕ) (kind : Kind) → HasRoom types number kind
+      → ((m : ℕ) → slot_of (starts_of types) number ≤ m → m < slot_of (starts_of types) number + words_in types.locals number → other m ≡ slots m)
+      → slots (slot_of (starts_of types) number) < 256 → other (slot_of (starts_of types) number) < 256
+  small_same types slots other number kind room same low =
+      let slot = slot_of (starts_of types) number in
+      subst (λ (w : ℕ). w < 256) (sym (same slot (omega arith) (omega (arith, room, kind_positive kind)))) low
 
   -- the words of a local's value, with other slots that are equal where the local has its own
   local_same : (types : Types) (slots other : Words) (number : ℕ) (v : Operand) → number < length types.locals → HasRoom types number v.kind
@@ -229,15 +242,19 @@ module _ (t : Tables) where
         let inside = (hold.within number object at).0 in
         let (is, room) = hold.holds number object v at has in
         (local_same types slots other number v inside room (λ m from to. same m (omega (arith, to, slot-room types number inside))) is, room);
+    small = λ number object at char.
+        let inside = (hold.within number object at).0 in
+        let r = hold.rows number object at in
+        small_same types slots other number r.kind r.room (λ m from to. same m (omega (arith, to, slot-room types number inside))) (hold.small number object at char);
   }
 
   -- a local is assigned: the words of its value differ, and no others
   pub locals_assigned : (types : Types) (s : CallSlots) (objects others : List Object) (locals : ℕ → Option ℕ) (low high : ℕ) (slots after : Words) (number object : ℕ) (v : Operand)
       → locals number ≡ Some object → contents others object ≡ Some v → ((o : ℕ) → o ≢ object → contents others o ≡ contents objects o)
-      → HasRoom types number v.kind → Is t v.kind v.value after (slot_of (starts_of types) number)
+      → HasRoom types number v.kind → Is t v.kind v.value after (slot_of (starts_of types) number) → (IsCharAt t object → v.kind ≡ kinds.Char)
       → ((m : ℕ) → Outside (slot_of (starts_of types) number) (words_of_kind v.kind) m → after m ≡ slots m)
       → LocalsHold t types s objects locals low high slots → LocalsHold t types s others locals low high after
-  locals_assigned types s objects others locals low high slots after number object v here now same room is elsewhere hold = record {
+  locals_assigned types s objects others locals low high slots after number object v here now same room is char elsewhere hold = record {
     within = hold.within;
     apart = hold.apart;
     rows = hold.rows;
@@ -255,6 +272,18 @@ module _ (t : Tables) where
             room_u,
           )
     ];
+    small = λ n o at is_char. elim (cases_eq n number) [
+      | inl equal ↦
+          let o_is : o ≡ object = same_Some o object (sym at ∙ ap locals equal ∙ here) in
+          let slot = slot_of (starts_of types) number in
+          subst (λ m. after (slot_of (starts_of types) m) < 256) (sym equal)
+          (char-small t v.value after slot (subst (λ (k : Kind). Is t k v.value after slot) (char (subst (IsCharAt t) o_is is_char)) is))
+      | inr other ↦
+          let inside = (hold.within n o at).0 in
+          let r = hold.rows n o at in
+          small_same types slots after n r.kind r.room
+          (λ m from to. elsewhere m (other_outside types n number (words_of_kind v.kind) m inside (hold.within number object here).0 other room from to)) (hold.small n o at is_char)
+    ];
   }
 
   -- a local is declared, whose object is the one made last, and so many words of it are written
@@ -262,9 +291,10 @@ module _ (t : Tables) where
       → number < length types.locals → many ≤ words_in types.locals number → low ≤ length objects → IsLocalRow t types s number (length objects)
       → ((m : ℕ) → Outside (slot_of (starts_of types) number) many m → other m ≡ slots m)
       → ((v : Operand) → content_of (Some x) ≡ Some v → Is t v.kind v.value other (slot_of (starts_of types) number) × HasRoom types number v.kind)
+      → (IsCharAt t (length objects) → other (slot_of (starts_of types) number) < 256)
       → LocalsHold t types s objects e.locals low (length objects) slots
       → LocalsHold t types s (objects ++ x ∷ []) (with_local e number (length objects)).locals low (length (objects ++ x ∷ [])) other
-  locals_declared types s objects e low slots other number many x below few low_is row same is hold =
+  locals_declared types s objects e low slots other number many x below few low_is row same is low_word hold =
       let locals = e.locals in
       let long : length (objects ++ x ∷ []) ≡ length objects + 1 = length-append objects (x ∷ []) in
       record {
@@ -308,6 +338,16 @@ module _ (t : Tables) where
               let (is_v, room) = hold.holds n o v at_old (sym (contents_made objects x o old.2) ∙ has) in
               (local_same types slots other n v old.0 room (λ m from to. same m (other_outside types n number many m old.0 below apart few from to)) is_v, room)
         ];
+        small = λ n o at is_char. elim (cases_eq n number) [
+          | inl equal ↦
+              let o_is : length objects ≡ o = same_Some (length objects) o (sym (newest_there locals number (length objects)) ∙ ap (with_local e number (length objects)).locals (sym equal) ∙ at) in
+              subst (λ m. other (slot_of (starts_of types) m) < 256) (sym equal) (low_word (subst (IsCharAt t) (sym o_is) is_char))
+          | inr apart ↦
+              let at_old = sym (local_other locals number n (length objects) apart) ∙ at in
+              let old = hold.within n o at_old in
+              let r = hold.rows n o at_old in
+              small_same types slots other n r.kind r.room (λ m from to. same m (other_outside types n number many m old.0 below apart few from to)) (hold.small n o at_old is_char)
+        ];
       }
 
   -- no local is there before the first is declared
@@ -317,6 +357,7 @@ module _ (t : Tables) where
     apart = λ number other object at at_other. absurd (none-some object at);
     rows = λ number object at. absurd (none-some object at);
     holds = λ number object v at has. absurd (none-some object at);
+    small = λ number object at is_char. absurd (none-some object at);
   }
 
   pub locals_raised : (types : Types) (s : CallSlots) (objects : List Object) (locals : ℕ → Option ℕ) (low high higher : ℕ) (slots : Words) → high ≤ higher
@@ -326,6 +367,7 @@ module _ (t : Tables) where
     apart = hold.apart;
     rows = hold.rows;
     holds = hold.holds;
+    small = hold.small;
   }
 
   module _ (source : Program) where
@@ -352,8 +394,8 @@ module _ (t : Tables) where
 
     pub globals_kept : (g : ℕ) (objects others : List Object) (words : Words) → SameBetween 0 global_count objects others → GlobalsHold t (types_at source g) objects words → GlobalsHold t (types_at source g) others words
     globals_kept g objects others words same hold number below =
-        let (row, is) = hold number below in
-        (row, λ v has. is v (sym (same number (omega arith) below) ∙ has))
+        let (row, is, low) = hold number below in
+        (row, (λ v has. is v (sym (same number (omega arith) below) ∙ has)), low)
 
     -- ---- all data
 
@@ -370,17 +412,17 @@ module _ (t : Tables) where
 
     pub data_assigned : (g base : ℕ) (objects others : List Object) (locals : ℕ → Option ℕ) (outer : List Waiting) (slots after globals : Words) (frames : List Frame) (number object : ℕ) (v : Operand)
         → locals number ≡ Some object → contents others object ≡ Some v → ((o : ℕ) → o ≢ object → contents others o ≡ contents objects o) → length others ≡ length objects
-        → HasRoom (types_at source g) number v.kind → Is t v.kind v.value after (slot_of (starts_at source g) number)
+        → HasRoom (types_at source g) number v.kind → Is t v.kind v.value after (slot_of (starts_at source g) number) → (IsCharAt t object → v.kind ≡ kinds.Char)
         → ((m : ℕ) → Outside (slot_of (starts_at source g) number) (words_of_kind v.kind) m → after m ≡ slots m)
         → DataAt source t g base objects locals outer slots globals frames → DataAt source t g base others locals outer after globals frames
-    data_assigned g base objects others locals outer slots after globals frames number object v here now same long room is elsewhere (low, below, hold, waiting, words) =
+    data_assigned g base objects others locals outer slots after globals frames number object v here now same long room is char elsewhere (low, below, hold, waiting, words) =
         let inside = hold.within number object here in
         let above = globals_below objects low frames outer waiting in
         let not : (o : ℕ) → o < low → o ≢ object = λ o less e. absurd (omega (arith, e, less, inside.1)) in (
           low,
           omega (arith, below, long),
           subst (λ high. LocalsHold t (types_at source g) (call_slots source g base) others locals low high after) (sym long)
-              (locals_assigned (types_at source g) (call_slots source g base) objects others locals low (length objects) slots after number object v here now same room is elsewhere hold),
+              (locals_assigned (types_at source g) (call_slots source g base) objects others locals low (length objects) slots after number object v here now same room is char elsewhere hold),
           frames_kept objects others low frames outer (λ o from to. same o (not o to)) waiting,
           globals_kept g objects others globals (λ o from to. same o (not o (omega (arith, to, above)))) words,
         )
@@ -398,12 +440,24 @@ module _ (t : Tables) where
           | inr behind ↦ inr (omega (arith, below, behind, room))
         ])) is
 
+    -- and so its first word
+    global_first_same : (g number other : ℕ) (v : Operand) (kind : Kind) (globals after : Words) → HasGlobal (types_at source g) number v.kind → HasGlobal (types_at source g) other kind → other ≢ number
+        → ((m : ℕ) → Outside (global_of (starts_at source g) number) (words_of_kind v.kind) m → after m ≡ globals m)
+        → after (global_of (starts_at source g) other) ≡ globals (global_of (starts_at source g) other)
+    global_first_same g number other v kind globals after room room_other apart elsewhere =
+        let types = types_at source g in
+        elsewhere (global_of (starts_at source g) other) (
+        elim (global-apart types other number (global-inside types other kind room_other) (global-inside types number v.kind room) apart) [
+          | inl before ↦ inl (omega (arith, before, room_other, kind_positive kind))
+          | inr behind ↦ inr (omega (arith, behind, room))
+        ])
+
     pub data_assigned_global : (g base : ℕ) (objects others : List Object) (locals : ℕ → Option ℕ) (outer : List Waiting) (slots globals after : Words) (frames : List Frame) (number : ℕ) (v : Operand)
         → HasGlobal (types_at source g) number v.kind → contents others number ≡ Some v → ((o : ℕ) → o ≢ number → contents others o ≡ contents objects o) → length others ≡ length objects
-        → Is t v.kind v.value after (global_of (starts_at source g) number)
+        → Is t v.kind v.value after (global_of (starts_at source g) number) → (IsCharAt t number → v.kind ≡ kinds.Char)
         → ((m : ℕ) → Outside (global_of (starts_at source g) number) (words_of_kind v.kind) m → after m ≡ globals m)
         → DataAt source t g base objects locals outer slots globals frames → DataAt source t g base others locals outer slots after frames
-    data_assigned_global g base objects others locals outer slots globals after frames number v room now same long is elsewhere (low, below, hold, waiting, words) =
+    data_assigned_global g base objects others locals outer slots globals after frames number v room now same long is char elsewhere (low, below, hold, waiting, words) =
         let above = globals_below objects low frames outer waiting in
         let few = global-inside (types_at source g) number v.kind room in
         let not : (o : ℕ) → global_count ≤ o → o ≢ number = λ o from e. absurd (omega (arith, e, from, few)) in (
@@ -413,9 +467,9 @@ module _ (t : Tables) where
               (locals_kept (types_at source g) (call_slots source g base) objects others locals low (length objects) slots (λ o from to. same o (not o (omega (arith, above, from)))) hold),
           frames_kept objects others low frames outer (λ o from to. same o (not o from)) waiting,
           λ n less.
-              let (row, held) = words n less in (
+              let (row, held, small) = words n less in (
                 row,
-                λ u has. elim (cases_eq n number) [
+                (λ u has. elim (cases_eq n number) [
                   | inl equal ↦
                       let u_is : v ≡ u = same_Some v u (sym now ∙ sym (ap (contents others) equal) ∙ has) in
                       subst (λ (x : Operand). Is t x.kind x.value after (global_of (starts_at source g) n) × HasGlobal (types_at source g) n x.kind) u_is
@@ -423,6 +477,13 @@ module _ (t : Tables) where
                   | inr other ↦
                       let (is_u, room_u) = held u (sym (same n other) ∙ has) in
                       (global_same g number n v u globals after room room_u other elsewhere is_u, room_u)
+                ]),
+                λ is_char. elim (cases_eq n number) [
+                  | inl equal ↦
+                      let first = global_of (starts_at source g) number in
+                      subst (λ m. after (global_of (starts_at source g) m) < 256) (sym equal)
+                      (char-small t v.value after first (subst (λ (k : Kind). Is t k v.value after first) (char (subst (IsCharAt t) equal is_char)) is))
+                  | inr other ↦ subst (λ (w : ℕ). w < 256) (sym (global_first_same g number n v row.kind globals after room row.room other elsewhere)) (small is_char)
                 ],
               ),
         )
@@ -437,13 +498,14 @@ module _ (t : Tables) where
       hold,
       waiting,
       λ n less.
-          let (row, held) = words n less in (
+          let (row, held, small) = words n less in
+          let first = global_of (starts_at source g) n in
+          let inside = global-room (types_at source g) n less in (
             row,
-            λ v has.
+            (λ v has.
                 let (is, room) = held v has in
-                let first = global_of (starts_at source g) n in
-                let inside = global-room (types_at source g) n less in
-                (words_same t v.kind v.value globals after first first (λ i few. same (first + i) (omega (arith, few, room, inside))) is, room),
+                (words_same t v.kind v.value globals after first first (λ i few. same (first + i) (omega (arith, few, room, inside))) is, room)),
+            λ is_char. subst (λ (w : ℕ). w < 256) (sym (same first (omega (arith, row.room, kind_positive row.kind, inside)))) (small is_char),
           ),
     )
 
@@ -451,12 +513,13 @@ module _ (t : Tables) where
         → number < length (types_at source g).locals → many ≤ words_in (types_at source g).locals number → IsLocalRow t (types_at source g) (call_slots source g base) number (length objects)
         → ((m : ℕ) → Outside (slot_of (starts_at source g) number) many m → other m ≡ slots m)
         → ((v : Operand) → content_of (Some x) ≡ Some v → Is t v.kind v.value other (slot_of (starts_at source g) number) × HasRoom (types_at source g) number v.kind)
+        → (IsCharAt t (length objects) → other (slot_of (starts_at source g) number) < 256)
         → DataAt source t g base objects e.locals outer slots globals frames → DataAt source t g base (objects ++ x ∷ []) (with_local e number (length objects)).locals outer other globals frames
-    data_declared g base objects e outer slots other globals frames number many x inside few row same is (low, below, hold, waiting, words) =
+    data_declared g base objects e outer slots other globals frames number many x inside few row same is low_word (low, below, hold, waiting, words) =
         let above = globals_below objects low frames outer waiting in (
           low,
           omega (arith, below, length-append objects (x ∷ [])),
-          locals_declared (types_at source g) (call_slots source g base) objects e low slots other number many x inside few below row same is hold,
+          locals_declared (types_at source g) (call_slots source g base) objects e low slots other number many x inside few below row same is low_word hold,
           frames_kept objects (objects ++ x ∷ []) low frames outer (λ o from to. contents_made objects x o (omega (arith, to, below))) waiting,
           globals_kept g objects (objects ++ x ∷ []) globals (λ o from to. contents_made objects x o (omega (arith, to, above, below))) words,
         )
@@ -598,6 +661,7 @@ calls_left loop (entry ∷ k) = calls_left loop k
 
 module _ (t u : Tables) (grows : Grows t u) where
   pub IsWord-grows : (kind : Kind) (v : Value) (word : ℕ) → IsWord t kind v word → IsWord u kind v word
+  IsWord-grows kinds.Char v word is = Is-grows grows kinds.Char v (λ (i : ℕ). word) 0 is
   IsWord-grows kinds.Int v word is = Is-grows grows kinds.Int v (λ (i : ℕ). word) 0 is
   IsWord-grows kinds.Nullable v word is = Is-grows grows kinds.Nullable v (λ (i : ℕ). word) 0 is
   IsWord-grows kinds.NonNull v word is = Is-grows grows kinds.NonNull v (λ (i : ℕ). word) 0 is
@@ -618,6 +682,10 @@ module _ (t u : Tables) (grows : Grows t u) where
   HoldsFrom-grows slots first [] holds = tt
   HoldsFrom-grows slots first (v ∷ vs) (is, holds) = (Is-grows grows v.kind v.value slots first is, HoldsFrom-grows slots (first + words_of_kind v.kind) vs holds)
 
+  -- what had a row has that one
+  char_before : (object : ℕ) (row : Row) → slice_get t.rows object ≡ Some row → IsCharAt u object → IsCharAt t object
+  char_before object row there (address, is) = (address, there ∙ (sym (grows.rows object row there) ∙ is))
+
   locals_grow : (types : Types) (s : CallSlots) (objects : List Object) (locals : ℕ → Option ℕ) (low high : ℕ) (slots : Words) → LocalsHold t types s objects locals low high slots
       → LocalsHold u types s objects locals low high slots
   locals_grow types s objects locals low high slots hold = record {
@@ -625,8 +693,11 @@ module _ (t u : Tables) (grows : Grows t u) where
     apart = hold.apart;
     rows = λ number object at.
         let r = hold.rows number object at in
-        record { kind = r.kind; room = r.room; row = grows.rows object (row_of s (slot_of (starts_of types) number) r.kind) r.row };
+        record { kind = r.kind; room = r.room; of_type = r.of_type; row = grows.rows object (row_of s (slot_of (starts_of types) number) r.kind) r.row };
     holds = λ number object v at has. let (is, room) = hold.holds number object v at has in (Is-grows grows v.kind v.value slots (slot_of (starts_of types) number) is, room);
+    small = λ number object at is_char.
+        let r = hold.rows number object at in
+        hold.small number object at (char_before object (row_of s (slot_of (starts_of types) number) r.kind) r.row is_char);
   }
 
   frames_grow : (source : Program) (objects : List Object) (high : ℕ) (frames : List Frame) (outer : List Waiting) → FramesHold source t objects high frames outer → FramesHold source u objects high frames outer
@@ -651,7 +722,12 @@ module _ (t u : Tables) (grows : Grows t u) where
     below,
     locals_grow (types_at source g) (call_slots source g base) objects locals low (length objects) slots hold,
     frames_grow source objects low frames outer waiting,
-    λ number few. let (row, holds) = words number few in (global-row_grows t u grows (global_types source.globals) number row, λ v has. let (is, room) = holds v has in (Is-grows grows v.kind v.value globals (global_of (starts_at source g) number) is, room)),
+    λ number few.
+        let (row, holds, small) = words number few in (
+          global-row_grows t u grows (global_types source.globals) number row,
+          (λ v has. let (is, room) = holds v has in (Is-grows grows v.kind v.value globals (global_of (starts_at source g) number) is, room)),
+          λ is_char. small (char_before number (Placed (GLOBALS_BASE + 4 * first_word (global_types source.globals) number + variable_bytes row.kind) (row.kind ∷ [])) row.row is_char),
+        ),
   )
 
   pub variables_grow : (regions : List ℕ) → AreOfVariables t regions → AreOfVariables u regions

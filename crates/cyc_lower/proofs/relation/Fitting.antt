@@ -32,10 +32,10 @@ use Rattle.cyc_store.specs.declared.range.TheConstants.{MOST_BLOCK_WORDS}
 use Rattle.cyc_meaning.specs.Values.{kind_of, is_thin, words_of_kind}
 use Rattle.cyc_meaning.specs.FrameCount.{result_words, words_of_all, operand_words}
 use Rattle.cyc_lower.specs.Slots.{Types, counted, global_types}
-use Rattle.cyc_lower.specs.ValueCode.{passed_words, all_passed, left_kind, words_behind}
+use Rattle.cyc_lower.specs.ValueCode.{passed_words, all_passed, left_kind, kind_behind}
 use Rattle.cyc_lower.specs.Lowering.{types_of, results_of, scopes_of, is_handle, may_open, scopes_if}
-use Rattle.cyc_lower.proofs.slots.Widths.{kind_of_result, result_kind, called_kind, given, passed_kind, type_words, HasRoom, HasGlobal, chain_kind, HasField, HasVariable}
-use Rattle.cyc_lower.proofs.slots.Slots.{words-there, words_positive}
+use Rattle.cyc_lower.proofs.slots.Widths.{kind_of_result, result_kind, called_kind, given, passed_kind, type_words, HasRoom, HasGlobal, chain_kind, HasField, HasVariable, HasLocal}
+use Rattle.cyc_lower.proofs.slots.Slots.{words-there, words_positive, kind-there}
 use Rattle.cyc_plain.specs.declared.limits.TheConstants.{RECORD_WORDS}
 use Rattle.cyc_plain.proofs.Placed.{below_of_get}
 use Rattle.std.specs.List.{list_any}
@@ -68,6 +68,7 @@ module _ (b : Numbering) where
         (s : Signature) × IsSignature b f s × (argument_count cs ≡ length s.parameters) × (all_passed cs ≡ words_of_all s.parameters)
         × (results_of s.result ≤ result_words t) × FitArguments types cs
     Fits types (NumberOfElements a) = (given b.functions a ≡ kinds.Fat) × Fits types a
+    Fits types (Unary unary.Widen a) = (words_of_kind (given b.functions a) ≡ 1) × Fits types a
     Fits types (Unary o a) = Fits types a
     Fits types (Binary a os t) = Fits types a × FitOperations types (operand_words (type_of a)) t os
     Fits types (Assign l c t) = FitsPlace b types l (passed_kind c) × FitsConverted types c
@@ -134,7 +135,7 @@ module _ (b : Numbering) (types : Types) where
 
   abbrev pub FitsCaught : (number : Option ℕ) → Type 0
   FitsCaught None = Unit {0}
-  FitsCaught (Some n) = (n < b.locals) × HasRoom types n kinds.Int
+  FitsCaught (Some n) = (n < b.locals) × HasLocal types n kinds.Int
 
   abbrev mutual
     pub FitsStatement : (in_loop : Bool) → Statement → Type 0
@@ -154,13 +155,13 @@ module _ (b : Numbering) (types : Types) where
     pub FitItems : Bool → Items → Type 0
     FitItems l NoItems = Unit {0}
     FitItems l (MoreItems (Execute s) js) = FitsStatement l s × FitItems l js
-    FitItems l (MoreItems (Declare n t v) js) = (n < b.locals) × HasRoom types n (kind_of t) × FitsInitial n v × FitItems l js
-    FitItems l (MoreItems (DeclareRegion r n) js) = IsCounting types.scopes × (n < b.locals) × HasRoom types n kinds.Handle × FitItems l js
+    FitItems l (MoreItems (Declare n t v) js) = (n < b.locals) × HasLocal types n (kind_of t) × FitsInitial n v × FitItems l js
+    FitItems l (MoreItems (DeclareRegion r n) js) = IsCounting types.scopes × (n < b.locals) × HasLocal types n kinds.Handle × FitItems l js
     FitItems l (MoreItems (OpenRegion r n w k) js) =
-        (n < b.locals) × HasRoom types n kinds.Handle × (k < b.locals) × HasRoom types k kinds.Handle × FitItems l js
+        (n < b.locals) × HasLocal types n kinds.Handle × (k < b.locals) × HasRoom types k kinds.Handle × FitItems l js
     FitItems l (MoreItems (DeclareAlias r n t w m) js) =
-        (n < b.locals) × HasRoom types n (kind_of t) × (m < b.locals) × HasRoom types m (kind_of t) × FitItems l js
-    FitItems l (MoreItems (DeclareKey r n) js) = (n < b.locals) × HasRoom types n kinds.Key × FitItems l js
+        (n < b.locals) × HasLocal types n (kind_of t) × (m < b.locals) × HasRoom types m (kind_of t) × FitItems l js
+    FitItems l (MoreItems (DeclareKey r n) js) = (n < b.locals) × HasLocal types n kinds.Key × FitItems l js
 
     pub FitClauses : Bool → Clauses → Type 0
     FitClauses l NoClauses = Unit {0}
@@ -181,6 +182,7 @@ pub record IsFitting (p : Program) : Type 0 where
 
 kinds_same : (t : Ty) → kind_of t ≡ tests.kind_of t
 kinds_same type_forms.Int = refl
+kinds_same type_forms.Char = refl
 kinds_same (type_forms.Pointer marks.Nullable t r) = refl
 kinds_same (type_forms.Pointer marks.NonNull t r) = refl
 kinds_same (type_forms.Pointer marks.Fat t r) = refl
@@ -191,6 +193,7 @@ kinds_same (type_forms.Struct n rs) = refl
 -- regions do not change what a type has for words and kind
 kind_substituted : (m : List Region) (t : Ty) → kind_of (substituted_ty m t) ≡ kind_of t
 kind_substituted m type_forms.Int = refl
+kind_substituted m type_forms.Char = refl
 kind_substituted m (type_forms.Pointer k t r) = refl
 kind_substituted m (type_forms.Handle r) = refl
 kind_substituted m (type_forms.Key r) = refl
@@ -199,6 +202,7 @@ kind_substituted m (type_forms.Struct n rs) = refl
 -- nor does one that a pointer gets
 kind_moved : (r : Region) (t : Ty) → kind_of (with_region_of r t) ≡ kind_of t
 kind_moved r type_forms.Int = refl
+kind_moved r type_forms.Char = refl
 kind_moved r (type_forms.Pointer k t s) = refl
 kind_moved r (type_forms.Handle s) = refl
 kind_moved r (type_forms.Key s) = refl
@@ -206,6 +210,7 @@ kind_moved r (type_forms.Struct n rs) = refl
 
 words_substituted : (m : List Region) (t : Ty) → words_of (substituted_ty m t) ≡ words_of t
 words_substituted m type_forms.Int = refl
+words_substituted m type_forms.Char = refl
 words_substituted m (type_forms.Pointer k t r) = refl
 words_substituted m (type_forms.Handle r) = refl
 words_substituted m (type_forms.Key r) = refl
@@ -358,24 +363,29 @@ module _ (b : Numbering) (types : Types) where
   room_in c n t kind suits at same =
       omega (arith, words-there types.locals n t (ap (λ (ts : List Ty). slice_get ts n) (sym suits.variables) ∙ at), type_words t, ap words_of_kind same)
 
+  local_in : (c : Context) (n : ℕ) (t : Ty) → Suits c → slice_get c.variables n ≡ Some t → HasLocal types n (kind_of t)
+  local_in c n t suits at =
+      (room_in c n t (kind_of t) suits at refl, kind-there types.locals n t (ap (λ (ts : List Ty). slice_get ts n) (sym suits.variables) ∙ at))
+
   global_in : (c : Context) (n : ℕ) (t : Ty) (kind : Kind) → Suits c → slice_get c.globals n ≡ Some t → kind ≡ kind_of t → HasGlobal types n kind
   global_in c n t kind suits at same =
       omega (arith, words-there types.globals n t (ap (λ (ts : List Ty). slice_get ts n) (sym suits.globals) ∙ at), type_words t, ap words_of_kind same)
 
-  -- a variable has the words that a pointer to it leads to
-  pointed_words : (mark : PointerKind) (t : Ty) (r : Region) (pointer : Ty) → pointer ≡ type_forms.Pointer mark t r → words_behind pointer ≡ words_of t
-  pointed_words mark type_forms.Int r pointer is = ap words_behind is
-  pointed_words mark (type_forms.Pointer marks.Nullable u s) r pointer is = ap words_behind is
-  pointed_words mark (type_forms.Pointer marks.NonNull u s) r pointer is = ap words_behind is
-  pointed_words mark (type_forms.Pointer marks.Fat u s) r pointer is = ap words_behind is
-  pointed_words mark (type_forms.Handle s) r pointer is = ap words_behind is
-  pointed_words mark (type_forms.Key s) r pointer is = ap words_behind is
-  pointed_words mark (type_forms.Struct n rs) r pointer is = ap words_behind is
+  -- a variable has the kind that a pointer to it leads to
+  pointed_kind : (mark : PointerKind) (t : Ty) (r : Region) (pointer : Ty) → pointer ≡ type_forms.Pointer mark t r → kind_behind pointer ≡ kind_of t
+  pointed_kind mark type_forms.Int r pointer is = ap kind_behind is
+  pointed_kind mark type_forms.Char r pointer is = ap kind_behind is
+  pointed_kind mark (type_forms.Pointer marks.Nullable u s) r pointer is = ap kind_behind is
+  pointed_kind mark (type_forms.Pointer marks.NonNull u s) r pointer is = ap kind_behind is
+  pointed_kind mark (type_forms.Pointer marks.Fat u s) r pointer is = ap kind_behind is
+  pointed_kind mark (type_forms.Handle s) r pointer is = ap kind_behind is
+  pointed_kind mark (type_forms.Key s) r pointer is = ap kind_behind is
+  pointed_kind mark (type_forms.Struct n rs) r pointer is = ap kind_behind is
 
-  address_fits : (l : Lvalue) (c : Context) (pointer t : Ty) (r : Region) → Suits c → IsWithin b l → IsPlace c l t r → words_behind pointer ≡ words_of t → FitsAddress b types l pointer
-  address_fits (Local p n) c pointer t r suits few (m, place, home, there) words =
-      (few, (t, ap (λ (ts : List Ty). slice_get ts n) (sym suits.variables) ∙ there, words))
-  address_fits (Global n) c pointer t r suits few (home, there) words = (t, ap (λ (ts : List Ty). slice_get ts n) (sym suits.globals) ∙ there, words)
+  address_fits : (l : Lvalue) (c : Context) (pointer t : Ty) (r : Region) → Suits c → IsWithin b l → IsPlace c l t r → kind_behind pointer ≡ kind_of t → FitsAddress b types l pointer
+  address_fits (Local p n) c pointer t r suits few (m, place, home, there) kind =
+      (few, (t, ap (λ (ts : List Ty). slice_get ts n) (sym suits.variables) ∙ there, kind))
+  address_fits (Global n) c pointer t r suits few (home, there) kind = (t, ap (λ (ts : List Ty). slice_get ts n) (sym suits.globals) ∙ there, kind)
 
   same_signature : (f : Callee) (c : Context) (s u : Signature) → Suits c → IsCallee c f s → IsSignature b f u → s ≡ u
   same_signature callees.Putchar c s u suits is also = is ∙ sym also
@@ -468,6 +478,10 @@ module _ (b : Numbering) where
     fits types (Unary unary.Not a) c v suits numbered (w, (well, tested), is) = (subst (IsGiven kinds.Int) (sym is) refl, (looked_fits b types a c w suits numbered (λ h. fits types a c w suits numbered h) well).1)
     fits types (Unary unary.Negate a) c v suits numbered (w, (well, int), is) = (subst (IsGiven kinds.Int) (sym is) refl, (fits types a c w suits numbered well).1)
     fits types (Unary unary.Complement a) c v suits numbered (w, (well, int), is) = (subst (IsGiven kinds.Int) (sym is) refl, (fits types a c w suits numbered well).1)
+    fits types (Unary unary.Widen a) c v suits numbered (w, (well, char), is) =
+        let (kind, fitting) = fits types a c w suits numbered well in
+        (subst (IsGiven kinds.Int) (sym is) refl, (ap words_of_kind (subst (IsGiven (given b.functions a)) char kind), fitting))
+    fits types (Unary unary.LowByte a) c v suits numbered (w, (well, int), is) = (subst (IsGiven kinds.Char) (sym is) refl, (fits types a c w suits numbered well).1)
     fits types (Binary a os u) c v suits (numbered, all) (w, left, chain, is) =
         let seen = seen_left os a c w left in
         let (kind, fitting) = looked_fits b types a c w suits numbered (λ h. fits types a c w suits numbered h) seen in (
@@ -484,7 +498,7 @@ module _ (b : Numbering) where
         let (same, fitting) = fits_cell types x c u r suits numbered cell in
         (subst (IsGiven (kind_of (type_of_place x))) (sym (is ∙ ap Value same)) refl, fitting)
     fits types (AddressOf l t) c v suits few (u, r, place, stays, t_is, is) =
-        (pointer_given b types marks.NonNull u r t v refl t_is is, address_fits b types l c t u r suits few place (pointed_words b types marks.NonNull u r t t_is))
+        (pointer_given b types marks.NonNull u r t v refl t_is is, address_fits b types l c t u r suits few place (pointed_kind b types marks.NonNull u r t t_is))
     fits types (AddressOfCell x t) c v suits numbered (u, r, cell, stays, shared, t_is, is) =
         (subst (IsGiven kinds.NonNull) (sym (is ∙ ap Value t_is)) refl, (fits_cell types x c u r suits numbered cell).1)
     fits types (Store x d u) c v suits (place, numbered) (t, r, cell, converted, u_is, is) =
@@ -615,7 +629,7 @@ module _ (b : Numbering) (types : Types) where
 
   fits_caught : (x : Option ℕ) (has : Bool) (c : Context) → Suits b types c → IsLowerableCaught b x → IsCaught c has x → FitsCaught b types x
   fits_caught None has c suits numbered well = tt
-  fits_caught (Some n) true c suits numbered (next, there) = (numbered, room_in b types c n type_forms.Int kinds.Int suits there refl)
+  fits_caught (Some n) true c suits numbered (next, there) = (numbered, local_in b types c n type_forms.Int suits there)
   fits_caught (Some n) false c suits numbered well = absurd well
 
   mutual
@@ -646,33 +660,33 @@ module _ (b : Numbering) (types : Types) where
         (fits_statement s l c suits one well, fit_items js l (behind c s) (suits_behind s c suits) all rest)
     fit_items (MoreItems (Declare n t v) js) l c suits (few, one, all) ((next, there, live), well, rest) = (
       few,
-      room_in b types c n t (kind_of t) suits there refl,
+      local_in b types c n t suits there,
       fits_initial v n t c suits there one well,
       fit_items js l (with_local true t c) (record { functions = suits.functions; structs = suits.structs; variables = suits.variables; globals = suits.globals; counters = suits.counters; result = suits.result; scopes = suits.scopes }) all rest,
     )
     fit_items (MoreItems (DeclareRegion r n) js) l c suits (few, all) (next, (number, there, live), rest) = (
       suits.scopes n (Variable r) there,
       few,
-      room_in b types c n (type_forms.Handle (Variable r)) kinds.Handle suits there refl,
+      local_in b types c n (type_forms.Handle (Variable r)) suits there,
       fit_items js l (with_local false (type_forms.Handle (Variable r)) (with_opened scopes.Lexical c)) (record { functions = suits.functions; structs = suits.structs; variables = suits.variables; globals = suits.globals; counters = suits.counters; result = suits.result; scopes = suits.scopes }) all rest,
     )
     fit_items (MoreItems (OpenRegion r n w k) js) l c suits (few, low, all) (key, (number, there, live), rest) = (
       few,
-      room_in b types c n (type_forms.Handle (Variable r)) kinds.Handle suits there refl,
+      local_in b types c n (type_forms.Handle (Variable r)) suits there,
       low,
       room_in b types c k (type_forms.Key (Variable r)) kinds.Key suits key.1 refl,
       fit_items js l (with_local false (type_forms.Handle (Variable r)) (with_key_opened r c)) (record { functions = suits.functions; structs = suits.structs; variables = suits.variables; globals = suits.globals; counters = suits.counters; result = suits.result; scopes = suits.scopes }) all rest,
     )
     fit_items (MoreItems (DeclareAlias r n t w m) js) l c suits (few, low, all) (next, (u, lent, unique, t_is), (number, there, live), rest) = (
       few,
-      room_in b types c n t (kind_of t) suits there refl,
+      local_in b types c n t suits there,
       low,
       room_in b types c m u (kind_of t) suits lent.1 (ap kind_of t_is ∙ kind_moved (Variable r) u),
       fit_items js l (with_local true t (with_opened scopes.Alias c)) (record { functions = suits.functions; structs = suits.structs; variables = suits.variables; globals = suits.globals; counters = suits.counters; result = suits.result; scopes = suits.scopes }) all rest,
     )
     fit_items (MoreItems (DeclareKey r n) js) l c suits (few, all) (next, (number, there, live), rest) = (
       few,
-      room_in b types c n (type_forms.Key (Variable r)) kinds.Key suits there refl,
+      local_in b types c n (type_forms.Key (Variable r)) suits there,
       fit_items js l (with_local true (type_forms.Key (Variable r)) (with_region c)) (record { functions = suits.functions; structs = suits.structs; variables = suits.variables; globals = suits.globals; counters = suits.counters; result = suits.result; scopes = suits.scopes }) all rest,
     )
 

@@ -13,31 +13,37 @@ use Rattle.cyc_objects.specs.Tables.{Row, Placed, first_tables}
 use Rattle.cyc_objects.specs.Related.{AreGlobals}
 use Rattle.cyc_objects.proofs.NumberLemmas.{slice_get-there, slice_get-below}
 use Rattle.cyc_lower.specs.Slots.{Types, starts_from, global_types}
-use Rattle.cyc_lower.proofs.slots.Widths.{type_words, words_in}
+use Rattle.cyc_lower.proofs.slots.Widths.{type_words, words_in, kind_in}
 use Rattle.cyc_objects.proofs.Places.{begins-first}
 use Rattle.cyc_lower.proofs.slots.CellBytes.{kind_bytes}
 use Rattle.cyc_lower.proofs.slots.Slots.{global-room}
 use Rattle.cyc_lower.proofs.relation.Known.{IsGlobalRow, first_word}
+use Rattle.cyc_lower.specs.ValueCode.{variable_bytes}
 
 -- the rows of globals whose words stand from a word on
 abbrev pub rows_from : (first : ℕ) → List GlobalVariable → List Row
 rows_from first [] = []
-rows_from first (g ∷ globals) = Placed (GLOBALS_BASE + 4 * first) (kind_of g.of_type ∷ []) ∷ rows_from (first + words_of g.of_type) globals
+rows_from first (g ∷ globals) = Placed (GLOBALS_BASE + 4 * first + variable_bytes (kind_of g.of_type)) (kind_of g.of_type ∷ []) ∷ rows_from (first + words_of g.of_type) globals
 
 rows_many : (first : ℕ) (globals : List GlobalVariable) → length (rows_from first globals) ≡ length globals
 rows_many first [] = refl
 rows_many first (g ∷ globals) = ap suc (rows_many (first + words_of g.of_type) globals)
 
 row_there : (first : ℕ) (globals : List GlobalVariable) (number : ℕ) (g : GlobalVariable) → slice_get globals number ≡ Some g
-    → slice_get (rows_from first globals) number ≡ Some (Placed (GLOBALS_BASE + 4 * unwrap_or (slice_get (starts_from first (global_types globals)) number) 0) (kind_of g.of_type ∷ []))
+    → slice_get (rows_from first globals) number ≡ Some (Placed (GLOBALS_BASE + 4 * unwrap_or (slice_get (starts_from first (global_types globals)) number) 0 + variable_bytes (kind_of g.of_type)) (kind_of g.of_type ∷ []))
 row_there first [] number g there = absurd (none-some g there)
-row_there first (h ∷ globals) zero g there = ap (λ (x : GlobalVariable). Some (Placed (GLOBALS_BASE + 4 * first) (kind_of x.of_type ∷ []))) (same_some there)
+row_there first (h ∷ globals) zero g there = ap (λ (x : GlobalVariable). Some (Placed (GLOBALS_BASE + 4 * first + variable_bytes (kind_of x.of_type)) (kind_of x.of_type ∷ []))) (same_some there)
 row_there first (h ∷ globals) (suc number) g there = row_there (first + words_of h.of_type) globals number g there
 
 words_there : (globals : List GlobalVariable) (number : ℕ) (g : GlobalVariable) → slice_get globals number ≡ Some g → words_in (global_types globals) number ≡ words_of g.of_type
 words_there [] number g there = absurd (none-some g there)
 words_there (h ∷ globals) zero g there = ap (λ (x : GlobalVariable). words_of x.of_type) (same_some there)
 words_there (h ∷ globals) (suc number) g there = words_there globals number g there
+
+kind_of_global : (globals : List GlobalVariable) (number : ℕ) (g : GlobalVariable) → slice_get globals number ≡ Some g → kind_in (global_types globals) number ≡ kind_of g.of_type
+kind_of_global [] number g there = absurd (none-some g there)
+kind_of_global (h ∷ globals) zero g there = ap (λ (x : GlobalVariable). kind_of x.of_type) (same_some there)
+kind_of_global (h ∷ globals) (suc number) g there = kind_of_global globals number g there
 
 module _ (source : Program) (few : words_of_all (global_types source.globals) ≤ MOST_GLOBALS) where
   abbrev pub global_rows : List Row
@@ -57,7 +63,7 @@ module _ (source : Program) (few : words_of_all (global_types source.globals) �
   are_globals = record {
     many = rows_many 0 source.globals;
     each = λ o g there. (
-      Placed (GLOBALS_BASE + 4 * first_word (global_types source.globals) o) (kind_of g.of_type ∷ []),
+      Placed (GLOBALS_BASE + 4 * first_word (global_types source.globals) o + variable_bytes (kind_of g.of_type)) (kind_of g.of_type ∷ []),
       row_there 0 source.globals o g there,
       refl,
       inl (omega (arith, before_store o g there, begins-first (kind_of g.of_type), kind_bytes (kind_of g.of_type))),
@@ -71,5 +77,6 @@ module _ (source : Program) (few : words_of_all (global_types source.globals) �
         kind = kind_of g.of_type;
         row = row_there 0 source.globals number g there;
         room = omega (arith, words_there source.globals number g there, type_words g.of_type);
+        of_type = kind_of_global source.globals number g there;
         low = before_store number g there;
       }

@@ -18,8 +18,9 @@ use Rattle.cyc_meaning.specs.Values.{Fat, Value, Null, Handle, Operand as Kinded
 use Rattle.cyc_meaning.specs.State.{Owner, InRegion, Unique, Object, heap_number, ConvertTo, Operate, Chain, Apply, ApplyPointer, Follow, LoadFrom, Decide, Store, Pass, PlaceBy, BesideHandle, MakePlain, MakeFields, MakeArray, FillElement, Initialise, Choose, Test, Return, Entry, Needs, NeedsPlace, Loop, CloseRegion, CloseLexical, Handler, Caller, Main, Focus, Breaking, Continuing, Returning, FollowMember, TakeAddress, StoreTo, StoreCell, FreeObject, CloseByKey, SwapLeft, SwapRight, CountElements, Index, Advance}
 use Rattle.cyc_meaning.specs.Nesting.{lexicals_of}
 use Rattle.cyc_lower.specs.Slots.{Types, starts_of, slot_of, global_of}
+use Rattle.cyc_lower.specs.ValueCode.{variable_bytes}
 use Rattle.cyc_lower.specs.ControlCode.{behind_record_in}
-use Rattle.cyc_lower.proofs.slots.Widths.{HasRoom, HasGlobal}
+use Rattle.cyc_lower.proofs.slots.Widths.{HasRoom, HasGlobal, kind_in}
 use Rattle.cyc_lower.proofs.relation.Known.{IsGlobalRow}
 
 -- ---- values in slots
@@ -194,31 +195,41 @@ pub record CallSlots : Type 0 where
   pub code : List Instruction
   pub base : ℕ
 
--- Where a variable of this kind stands that has its words from a slot on: there, if the code takes its address.
+-- Where a variable of this kind stands that has its words from a slot on: there, if the code takes its address. A char is the last byte of
+-- its word.
 abbrev pub row_of : CallSlots → (slot : ℕ) → Kind → Row
-row_of s slot kind = if is_pinned s.code slot && nat_le slots_base s.base then Placed (s.base + 4 * slot) (kind ∷ []) else Variable
+row_of s slot kind = if is_pinned s.code slot && nat_le slots_base s.base then Placed (s.base + 4 * slot + variable_bytes kind) (kind ∷ []) else Variable
 
--- the row of a local, whose words have room in its slots
+-- the object of this number is a char that has an address
+abbrev pub IsCharAt : Tables → (object : ℕ) → Type 0
+IsCharAt t object = (address : ℕ) × (slice_get t.rows object ≡ Some (Placed address (kinds.Char ∷ [])))
+
+-- the row of a local, which has the kind of its type, and whose words have room in its slots
 pub record IsLocalRow (t : Tables) (types : Types) (s : CallSlots) (number object : ℕ) : Type 0 where
   pub kind : Kind
   pub room : HasRoom types number kind
+  pub of_type : kind_in types.locals number ≡ kind
   pub row : slice_get t.rows object ≡ Some (row_of s (slot_of (starts_of types) number) kind)
 
 -- The locals of a call, which have these types and whose objects are all from `low` on and below `high`: the slots of each have what
--- it holds, there is room for it, and they are its object's words where that has an address.
+-- it holds, there is room for it, and they are its object's words where that has an address. A char with one has a word below 256 also
+-- where it holds nothing yet: a byte that is stored by its address leaves the others of its word.
 pub record LocalsHold (t : Tables) (types : Types) (s : CallSlots) (objects : List Object) (locals : ℕ → Option ℕ) (low high : ℕ) (slots : Words) : Type 0 where
   pub within : (number object : ℕ) → locals number ≡ Some object → (number < length types.locals) × (low ≤ object) × (object < high)
   pub apart : (number other object : ℕ) → locals number ≡ Some object → locals other ≡ Some object → number ≡ other
   pub rows : (number object : ℕ) → locals number ≡ Some object → IsLocalRow t types s number object
   pub holds : (number object : ℕ) (v : Kinded) → locals number ≡ Some object → contents objects object ≡ Some v
       → Is t v.kind v.value slots (slot_of (starts_of types) number) × HasRoom types number v.kind
+  pub small : (number object : ℕ) → locals number ≡ Some object → IsCharAt t object → slots (slot_of (starts_of types) number) < 256
 
--- the words of each global, which has one of these types, have what it holds, and there is room for it; they are its object's
+-- The words of each global, which has one of these types, have what it holds, and there is room for it; they are its object's. That of a
+-- char is below 256.
 abbrev pub GlobalsHold : Tables → Types → List Object → Words → Type 0
 GlobalsHold t types objects words =
     (number : ℕ) → number < length types.globals
     → IsGlobalRow t types.globals number
     × ((v : Kinded) → contents objects number ≡ Some v → Is t v.kind v.value words (global_of (starts_of types) number) × HasGlobal types number v.kind)
+    × (IsCharAt t number → words (global_of (starts_of types) number) < 256)
 
 -- The first temporary of the running call, whose locals end at a slot: what is kept of the handlers that it has open and of its lexical
 -- regions stands between.

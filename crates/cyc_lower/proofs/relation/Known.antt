@@ -20,10 +20,10 @@ use Rattle.cyc_objects.proofs.Pointers.{same-row}
 use Rattle.cyc_objects.proofs.Cells.{variable-alone}
 use Rattle.cyc_plain.specs.Memory.{slots_base}
 use Rattle.cyc_lower.specs.Slots.{starts_from}
-use Rattle.cyc_lower.proofs.slots.Widths.{words_in}
+use Rattle.cyc_lower.proofs.slots.Widths.{words_in, kind_in}
 use Rattle.cyc_lower.proofs.slots.CellBytes.{kind_bytes}
 use Rattle.cyc_words.specs.Word.{add_of, mul_of}
-use Rattle.cyc_lower.specs.ValueCode.{address_of_global}
+use Rattle.cyc_lower.specs.ValueCode.{address_of_global, variable_bytes}
 
 -- the first word of a global, of which all have these types
 abbrev pub first_word : List Ty → (number : ℕ) → ℕ
@@ -32,12 +32,13 @@ first_word globals number = unwrap_or (slice_get (starts_from 0 globals) number)
 -- the row of a global, whose words end before the store begins
 pub record IsGlobalRow (t : Tables) (globals : List Ty) (number : ℕ) : Type 0 where
   pub kind : Kind
-  pub row : slice_get t.rows number ≡ Some (Placed (GLOBALS_BASE + 4 * first_word globals number) (kind ∷ []))
+  pub row : slice_get t.rows number ≡ Some (Placed (GLOBALS_BASE + 4 * first_word globals number + variable_bytes kind) (kind ∷ []))
   pub room : words_of_kind kind ≤ words_in globals number
+  pub of_type : kind_in globals number ≡ kind
   pub low : GLOBALS_BASE + 4 * (first_word globals number + words_of_kind kind) ≤ STORE_BASE
 
 pub global-row_grows : (t u : Tables) → Grows t u → (globals : List Ty) (number : ℕ) → IsGlobalRow t globals number → IsGlobalRow u globals number
-global-row_grows t u grows globals number r = record { kind = r.kind; row = grows.rows number (Placed (GLOBALS_BASE + 4 * first_word globals number) (r.kind ∷ [])) r.row; room = r.room; low = r.low }
+global-row_grows t u grows globals number r = record { kind = r.kind; row = grows.rows number (Placed (GLOBALS_BASE + 4 * first_word globals number + variable_bytes r.kind) (r.kind ∷ [])) r.row; room = r.room; of_type = r.of_type; low = r.low }
 
 -- the row of a variable that stands in a slot, behind the store
 pub record IsSlotRow (t : Tables) (number : ℕ) : Type 0 where
@@ -55,7 +56,7 @@ module _ {t : Tables} {w : World} {s : StoreState} (related : Related t w s) (gl
   pub row-made_there : (number : ℕ) → IsVariableRow t globals number → number < length w.objects
   row-made_there number (inl row) = subst (λ n. number < n) related.rows (slice_get-below t.rows number Variable row)
   row-made_there number (inr (inr r)) = subst (λ n. number < n) related.rows (slice_get-below t.rows number (Placed r.address (r.kind ∷ [])) r.row)
-  row-made_there number (inr (inl r)) = subst (λ n. number < n) related.rows (slice_get-below t.rows number (Placed (GLOBALS_BASE + 4 * first_word globals number) (r.kind ∷ [])) r.row)
+  row-made_there number (inr (inl r)) = subst (λ n. number < n) related.rows (slice_get-below t.rows number (Placed (GLOBALS_BASE + 4 * first_word globals number + variable_bytes r.kind) (r.kind ∷ [])) r.row)
 
   -- and is none of the store's objects
   pub row-away : (number h : ℕ) (x : Object) → IsVariableRow t globals number → Alive t w number h x → ⊥
@@ -75,20 +76,20 @@ module _ {t : Tables} {w : World} {s : StoreState} (related : Related t w s) (gl
       let low : 536870912 ≤ st.address = placed.low in
       let (address, kinds) = same-row r.row st.row in
       let short : 268435456 + 4 * (first_word globals number + words_of_kind r.kind) ≤ 536870912 = r.low in
-      omega (arith, low, address, short, kind-some r.kind)
+      omega (arith, low, address, short, kind_bytes r.kind, bytes-some r.kind)
 
--- a pointer to a global is to its first word
-pub global-first : {t : Tables} (globals : List Ty) (number offset word : ℕ) → IsGlobalRow t globals number → Points t number offset word
-    → (offset ≡ 0) × (word ≡ GLOBALS_BASE + 4 * first_word globals number)
+-- a pointer to a global is to its first word, or to the last byte of a char's
+pub global-first : {t : Tables} (globals : List Ty) (number offset word : ℕ) (r : IsGlobalRow t globals number) → Points t number offset word
+    → (offset ≡ 0) × (word ≡ GLOBALS_BASE + 4 * first_word globals number + variable_bytes r.kind)
 global-first {t} globals number offset word r points =
     let (address, kinds) = same-row points.row r.row in
     let inside : offset < length (r.kind ∷ []) = subst (λ ks. offset < length ks) kinds points.inside in
     let first : offset ≡ 0 = omega (arith, inside) in
     (first, points.at ∙ (ap (λ n. points.address + before n points.kinds) first ∙ omega (arith, address, before-first points.kinds)))
 
-pub global_points : {t : Tables} (globals : List Ty) (number : ℕ) → IsGlobalRow t globals number → Points t number 0 (GLOBALS_BASE + 4 * first_word globals number)
+pub global_points : {t : Tables} (globals : List Ty) (number : ℕ) (r : IsGlobalRow t globals number) → Points t number 0 (GLOBALS_BASE + 4 * first_word globals number + variable_bytes r.kind)
 global_points {t} globals number r = record {
-  address = GLOBALS_BASE + 4 * first_word globals number;
+  address = GLOBALS_BASE + 4 * first_word globals number + variable_bytes r.kind;
   kinds = r.kind ∷ [];
   row = r.row;
   range = record { low = omega arith; high = let short : GLOBALS_BASE + 4 * (first_word globals number + words_of_kind r.kind) ≤ 536870912 = r.low in omega (arith, short, begins-first r.kind, kind_bytes r.kind) };
@@ -97,12 +98,15 @@ global_points {t} globals number r = record {
 }
 
 -- its address, as a word
-pub global_address : {t : Tables} (globals : List Ty) (number : ℕ) → IsGlobalRow t globals number → address_of_global (first_word globals number) ≡ GLOBALS_BASE + 4 * first_word globals number
+pub global_address : {t : Tables} (globals : List Ty) (number : ℕ) (r : IsGlobalRow t globals number)
+    → address_of_global r.kind (first_word globals number) ≡ GLOBALS_BASE + 4 * first_word globals number + variable_bytes r.kind
 global_address {t} globals number r =
     let short : GLOBALS_BASE + 4 * (first_word globals number + words_of_kind r.kind) ≤ 536870912 = r.low in
     let small : first_word globals number % 2 ^ 32 ≡ first_word globals number = omega (arith, short) in
     let product : mul_of (first_word globals number) 4 ≡ first_word globals number * 4 = omega (arith, short) in
-    ap (λ n. add_of GLOBALS_BASE (mul_of n 4)) small ∙ (ap (add_of GLOBALS_BASE) product ∙ omega (arith, short))
+    let first : add_of GLOBALS_BASE (mul_of (first_word globals number % 2 ^ 32) 4) ≡ GLOBALS_BASE + 4 * first_word globals number
+    = ap (λ n. add_of GLOBALS_BASE (mul_of n 4)) small ∙ (ap (add_of GLOBALS_BASE) product ∙ omega (arith, short)) in
+    ap (λ n. add_of n (variable_bytes r.kind)) first ∙ omega (arith, short, kind_bytes r.kind)
 
 -- its kind is that of its cell
 pub global_kind : {t : Tables} {globals : List Ty} {number offset word : ℕ} (r : IsGlobalRow t globals number) (points : Points t number offset word) {kind : Kind} → slice_get points.kinds offset ≡ Some kind → r.kind ≡ kind

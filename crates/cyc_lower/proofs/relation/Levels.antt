@@ -20,6 +20,8 @@ use Rattle.cyc_lower.proofs.slots.Widths.{chain_kind, made_kind}
 use Rattle.cyc_lower.proofs.relation.Relation.{to_slot, to_jump, ValueStack, PlaceStack, ConditionStack, DroppedStack, AheadStack, StatementStack, LandsMade, called_at, top}
 use Rattle.cyc_lower.proofs.relation.HeldValues.{held, height, counters_of, arrays_in}
 use Rattle.cyc_lower.proofs.relation.Matched.{by_lands, by_hands, by_prints}
+use Rattle.cyc_meaning.specs.Operators.{unary_kind}
+use Rattle.cyc_types.specs.declared.typed.UnaryOperator.TheVariants as unary
 
 abbrev AllCount : List Entry → Type 0
 AllCount k = arrays_in k ≡ length (counters_of 0 k)
@@ -32,8 +34,9 @@ module _ (source : Program) where
     value_arrays : (g : ℕ) (locals : ℕ → Option ℕ) (kind : Kind) (o : Operand) (p : ℕ) (frames : List Frame) (k : List Entry) → ValueStack source g locals kind o p frames k → AllCount k
     value_arrays g locals kind o p frames [] stack = absurd stack
     value_arrays g locals kind o p frames (Needs (ConvertTo from to target) ∷ k) (q, at, stack) = value_arrays g locals to o q frames k stack
+    value_arrays g locals kind o p frames (Needs (Operate unary.Widen) ∷ k) stack = value_arrays g locals kinds.Int o p frames k stack
     value_arrays g locals kind o p frames (Needs (Operate u) ∷ k) (to_slot (d, at, lands)) =
-        by_lands source lands (λ stack. value_arrays g locals kinds.Int (operands.Slot d) (p + 1) frames k stack) (λ stack. ahead_arrays g locals kinds.Int d (p + 1) frames k stack)
+        by_lands source lands (λ stack. value_arrays g locals (unary_kind u) (operands.Slot d) (p + 1) frames k stack) (λ stack. ahead_arrays g locals (unary_kind u) d (p + 1) frames k stack)
     value_arrays g locals kind o p frames (Needs (Operate u) ∷ k) (to_jump (is, stack)) = condition_arrays g comparisons.NotEqual o (operands.Word 0) p frames k stack
     value_arrays g locals kind o p frames (Needs (Chain NoOperations) ∷ k) stack = value_arrays g locals kind o p frames k stack
     value_arrays g locals kind o p frames (Needs (Chain os) ∷ k) (to_slot (d, q, at, lands)) =
@@ -72,7 +75,7 @@ module _ (source : Program) where
         by_lands source lands (λ stack. value_arrays g locals kinds.Fat (operands.Slot d) q frames k stack) (λ stack. ahead_arrays g locals kinds.Fat d q frames k stack)
     value_arrays g locals kind o p frames (Needs (FillElement object count index level wanted a) ∷ k) (d, h, s, q, is, inside, few, level_is, at, lands) =
         fill_counts object count index level wanted a k (by_lands source lands (λ stack. value_arrays g locals kinds.Fat (operands.Slot d) q frames k stack) (λ stack. ahead_arrays g locals kinds.Fat d q frames k stack))
-    value_arrays g locals kind o p frames (Needs (Initialise n wanted items) ∷ k) (exits, q, at, below, items_at, stack) = statement_arrays g exits q frames k stack
+    value_arrays g locals kind o p frames (Needs (Initialise n wanted items) ∷ k) (exits, q, at, below, of_type, items_at, stack) = statement_arrays g exits q frames k stack
     value_arrays g locals kind o p frames (Needs (Choose s t) ∷ k) (exits, r, q, at, at_s, jump, at_t, stack) = statement_arrays g exits q frames k stack
     value_arrays g locals kind o p frames (Needs (Test a s) ∷ k) (exits, outer, q, at, r, jump, body, back, stack) = statement_arrays g outer q frames k stack
     value_arrays g locals kind o p frames (Needs Return ∷ k) (exits, q, s, r, is, leave, at, one, stack) = statement_arrays g exits q frames k stack
@@ -118,12 +121,13 @@ module _ (source : Program) where
 
     ahead_arrays : (g : ℕ) (locals : ℕ → Option ℕ) (kind : Kind) (n p : ℕ) (frames : List Frame) (k : List Entry) → AheadStack source g locals kind n p frames k → AllCount k
     ahead_arrays g locals kind n p frames (Needs (ConvertTo from to target) ∷ k) (quiet, wide, stack) = ahead_arrays g locals to n p frames k stack
+    ahead_arrays g locals kind n p frames (Needs (Operate unary.Widen) ∷ k) (one, stack) = ahead_arrays g locals kinds.Int n p frames k stack
     ahead_arrays g locals kind n p frames (Needs (Chain NoOperations) ∷ k) stack = ahead_arrays g locals kind n p frames k stack
     ahead_arrays g locals kind n p frames (Needs (BesideHandle region) ∷ k) stack = ahead_arrays g locals kind n p frames k stack
     ahead_arrays g locals kind n p frames (Needs (Store place) ∷ k) (number, object, is, found, same, room, hands) =
         by_hands source hands (λ stack. dropped_arrays g p frames k stack) (λ stack. value_arrays g locals kind (operands.Slot n) p frames k stack)
         (λ d r lands. by_lands source lands (λ stack. value_arrays g locals kind (operands.Slot d) r frames k stack) (λ stack. ahead_arrays g locals kind d r frames k stack))
-    ahead_arrays g locals kind n p frames (Needs (Initialise number wanted items) ∷ k) (exits, q, is, few, items_at, stack) = statement_arrays g exits q frames k stack
+    ahead_arrays g locals kind n p frames (Needs (Initialise number wanted items) ∷ k) (exits, q, is, few, of_type, items_at, stack) = statement_arrays g exits q frames k stack
     ahead_arrays g locals kind n p frames k stack = absurd stack
 
     statement_arrays : (g : ℕ) (exits : Exits) (p : ℕ) (frames : List Frame) (k : List Entry) → StatementStack source g exits p frames k → arrays_in k ≡ 0

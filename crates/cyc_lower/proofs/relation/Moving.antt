@@ -24,6 +24,8 @@ use Rattle.cyc_lower.proofs.relation.Data.{handlers_same}
 use Rattle.cyc_plain.proofs.MemoryLaws.{with_slot_of}
 use Rattle.cyc_plain.proofs.SlotLaws.{put-other}
 use Rattle.std.proofs.lemmas.Option.{same_Some, none-some}
+use Rattle.cyc_meaning.specs.Operators.{unary_kind}
+use Rattle.cyc_types.specs.declared.typed.UnaryOperator.TheVariants as unary
 
 -- calls that wait, and the same with other words in the slots of their locals
 module _ (source : Program) where
@@ -115,8 +117,9 @@ module _ (source : Program) where
     value_moves g locals kind o p frames others like [] stack = absurd stack
     value_moves g locals kind o p frames others like (Needs (ConvertTo from to target) ∷ k) (q, at, stack) =
         (q, at, value_moves g locals to o q frames others like k stack)
+    value_moves g locals kind o p frames others like (Needs (Operate unary.Widen) ∷ k) stack = value_moves g locals kinds.Int o p frames others like k stack
     value_moves g locals kind o p frames others like (Needs (Operate u) ∷ k) (to_slot (d, at, lands)) =
-        to_slot (d, at, lands_move (λ stack. value_moves g locals kinds.Int (operands.Slot d) (p + 1) frames others like k stack) (λ stack. ahead_moves g locals kinds.Int d (p + 1) frames others like k stack) lands)
+        to_slot (d, at, lands_move (λ stack. value_moves g locals (unary_kind u) (operands.Slot d) (p + 1) frames others like k stack) (λ stack. ahead_moves g locals (unary_kind u) d (p + 1) frames others like k stack) lands)
     value_moves g locals kind o p frames others like (Needs (Operate u) ∷ k) (to_jump (is, stack)) =
         to_jump (is, condition_moves g comparisons.NotEqual o (operands.Word 0) p frames others like k stack)
     value_moves g locals kind o p frames others like (Needs (Chain NoOperations) ∷ k) stack = value_moves g locals kind o p frames others like k stack
@@ -155,8 +158,8 @@ module _ (source : Program) where
         (handle, d, h, r, s, q, owned, is, begun, level_is, at, lands_move (λ stack. value_moves g locals kinds.Fat (operands.Slot d) q frames others like k stack) (λ stack. ahead_moves g locals kinds.Fat d q frames others like k stack) lands)
     value_moves g locals kind o p frames others like (Needs (FillElement object count index level wanted a) ∷ k) (d, h, s, q, is, inside, few, level_is, at, lands) =
         (d, h, s, q, is, inside, few, level_is, at, lands_move (λ stack. value_moves g locals kinds.Fat (operands.Slot d) q frames others like k stack) (λ stack. ahead_moves g locals kinds.Fat d q frames others like k stack) lands)
-    value_moves g locals kind o p frames others like (Needs (Initialise n wanted items) ∷ k) (exits, q, at, below, items_at, stack) =
-        (exits, q, at, below, items_at, statement_moves g exits q frames others like k stack)
+    value_moves g locals kind o p frames others like (Needs (Initialise n wanted items) ∷ k) (exits, q, at, below, of_type, items_at, stack) =
+        (exits, q, at, below, of_type, items_at, statement_moves g exits q frames others like k stack)
     value_moves g locals kind o p frames others like (Needs (Choose s t) ∷ k) (exits, r, q, at, at_s, jump, at_t, stack) =
         (exits, r, q, at, at_s, jump, at_t, statement_moves g exits q frames others like k stack)
     value_moves g locals kind o p frames others like (Needs (Test a s) ∷ k) (exits, outer, q, at, r, jump, body, back, stack) =
@@ -216,12 +219,14 @@ module _ (source : Program) where
     pub ahead_moves : (g : ℕ) (locals : ℕ → Option ℕ) (kind : Kind) (n p : ℕ) (frames others : List Frame) → Like frames others → (k : List Entry) → AheadStack source g locals kind n p frames k → AheadStack source g locals kind n p others k
     ahead_moves g locals kind n p frames others like (Needs (ConvertTo from to target) ∷ k) (quiet, wide, stack) =
         (quiet, wide, ahead_moves g locals to n p frames others like k stack)
+    ahead_moves g locals kind n p frames others like (Needs (Operate unary.Widen) ∷ k) (one, stack) =
+        (one, ahead_moves g locals kinds.Int n p frames others like k stack)
     ahead_moves g locals kind n p frames others like (Needs (Chain NoOperations) ∷ k) stack = ahead_moves g locals kind n p frames others like k stack
     ahead_moves g locals kind n p frames others like (Needs (BesideHandle region) ∷ k) stack = ahead_moves g locals kind n p frames others like k stack
     ahead_moves g locals kind n p frames others like (Needs (Store place) ∷ k) (number, object, is, found, same, room, hands) =
         (number, object, is, found, same, room, hands_move (λ stack. dropped_moves g p frames others like k stack) (λ stack. value_moves g locals kind (operands.Slot n) p frames others like k stack) (λ d r lands. lands_move (λ stack. value_moves g locals kind (operands.Slot d) r frames others like k stack) (λ stack. ahead_moves g locals kind d r frames others like k stack) lands) hands)
-    ahead_moves g locals kind n p frames others like (Needs (Initialise number wanted items) ∷ k) (exits, q, is, few, items_at, stack) =
-        (exits, q, is, few, items_at, statement_moves g exits q frames others like k stack)
+    ahead_moves g locals kind n p frames others like (Needs (Initialise number wanted items) ∷ k) (exits, q, is, few, of_type, items_at, stack) =
+        (exits, q, is, few, of_type, items_at, statement_moves g exits q frames others like k stack)
     ahead_moves g locals kind n p frames others like k stack = absurd stack
 
     pub statement_moves : (g : ℕ) (exits : Exits) (p : ℕ) (frames others : List Frame) → Like frames others → (k : List Entry) → StatementStack source g exits p frames k → StatementStack source g exits p others k

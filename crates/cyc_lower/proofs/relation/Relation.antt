@@ -33,22 +33,22 @@ use Rattle.cyc_plain.specs.State.{Words, Activation, Frame, Configuration}
 use Rattle.cyc_plain.specs.Step.{operand_word, throws}
 use Rattle.cyc_plain.specs.State as plain
 use Rattle.cyc_plain.specs.Straight.{At}
-use Rattle.cyc_meaning.specs.Values.{Fat, Value, Thin, Handle, Operand as Kinded, kinds_of, words_of_kind, bytes_of_kind, is_thin}
+use Rattle.cyc_meaning.specs.Values.{Fat, Value, Thin, Handle, Operand as Kinded, kinds_of, words_of_kind, bytes_of_kind, is_thin, Int, words_for}
 use Rattle.cyc_meaning.specs.Allocation.{writes_from, blanks_of}
 use Rattle.cyc_meaning.specs.State.{Object, World, globals_number, Environment, ConvertTo, Operate, Chain, Apply, ApplyPointer, Follow, LoadFrom, Decide, Store, Pass, PlaceBy, BesideHandle, MakePlain, MakeFields, MakeArray, FillElement, Initialise, Choose, Test, Return, Entry, Needs, NeedsPlace, Discard, Rest, Join, Loop, CloseRegion, CloseLexical, EndLoan, Handler, Caller, Main, calls_in, Focus, Evaluating, Locating, Given, Executing, Proceeding, Calling, Entering, Binding, Writing, Beginning, Repeating, Breaking, Continuing, Returning, Throwing, State, Running, Ended, GivenPlace, FollowMember, TakeAddress, StoreTo, StoreCell, FreeObject, CloseByKey, SwapLeft, SwapRight, Write, Swapping, ThrowWith, Naming, Catching, CountElements, Index, Advance, OpenBy, AliasOf}
 use Rattle.cyc_meaning.specs.Step.{object_of}
-use Rattle.cyc_meaning.specs.Operators.{null_exception, is_zero}
+use Rattle.cyc_meaning.specs.Operators.{null_exception, is_zero, unary_kind}
 use Rattle.cyc_meaning.specs.FrameCount.{words_of_all}
 use Rattle.cyc_lower.specs.declared.statements.Exits.{Exits}
 use Rattle.cyc_lower.specs.declared.statements.Opened.{Opened}
 use Rattle.cyc_meaning.specs.Pointers.{result_kind as operator_kind}
 use Rattle.cyc_lower.specs.Slots.{Types, Starts, starts_of, slot_of, global_of, global_types}
-use Rattle.cyc_lower.specs.ValueCode.{unary_operator, failing_comparison, move_of, low_byte, converts_there, all_passed, kinds_passed, slot_types, followed_operand, reached_operand}
+use Rattle.cyc_lower.specs.ValueCode.{failing_comparison, move_of, low_byte, converts_there, all_passed, kinds_passed, slot_types, followed_operand, reached_operand, unary_instruction}
 use Rattle.cyc_lower.specs.ObjectCode.{right_slot}
 use Rattle.cyc_lower.specs.ControlCode.{compared_of, break_target, continue_target, outside_loops, tag_operand, nothing_opened, with_handler, with_mark, inside_try, inside_region}
 use Rattle.cyc_lower.specs.ExpressionCode.{operand_of}
 use Rattle.cyc_lower.specs.Lowering.{results_of, lower_program, raises_of, globals_of, scopes_of}
-use Rattle.cyc_lower.proofs.slots.Widths.{kind_of_result, given, called_kind, HasRoom, Outside, chain_kind, HasGlobal, made_kind}
+use Rattle.cyc_lower.proofs.slots.Widths.{kind_of_result, given, called_kind, HasRoom, Outside, chain_kind, HasGlobal, made_kind, HasLocal, kind_in}
 use Rattle.cyc_lower.proofs.relation.Stands.{BegunAt, ElementsAt, CheckAt, ConversionAt, PlaceAt, OperatorAt, TruthAt, CopyAt, ExpressionAt, ArgumentsAt, OperationsAt, ValueAt, ConditionAt, FailingAt, ComparesAt, DiscardedAt, StatementAt, ItemsAt, PointerAt, CellsAt, ObjectAt, AddressAt, ConvertedOperandAt, FreedAt, HasSide, SideAt, ReadAt, WriteAt, ExchangeAt, LeaveAt, ClausesAt, CountAt, SavedAt, LoadedAt, FollowedAt, ReachedAt, GlobalAt, ClosedAt, MarksAt, RestoredAt, MadeAt, NamedAt}
 use Rattle.cyc_lower.proofs.relation.HeldValues.{IsIn, IsLow, IsParts, words_held, height, Holds, HoldsFrom, held, kept, counters_of, AreCounted, IsHandleOf, IsObject, contents, CallSlots, LocalsHold, GlobalsHold, behind_records, scopes_in, MayBeOpen, Waiting, callers, Newest, IsIntact, IsKept, left_by, handling, homes}
 
@@ -288,7 +288,7 @@ module _ (source : Program) where
   abbrev pub WritesAt : Tables → (ℕ → Option ℕ) → (g : ℕ) → Words → List Write → (p q : ℕ) → Type 0
   WritesAt t locals g slots [] p q = p ≡ q
   WritesAt t locals g slots (x ∷ writes) p q =
-      (a : Side) × (object : ℕ) × (offset : ℕ) × (s : ℕ) × (v : ℕ) × (r : ℕ) × WriteAt (code_of g) (bounds_at g) (types_at g) a (words_of_kind x.operand.kind) s v p r
+      (a : Side) × (object : ℕ) × (offset : ℕ) × (s : ℕ) × (v : ℕ) × (r : ℕ) × WriteAt (code_of g) (bounds_at g) (types_at g) a x.operand.kind s v p r
       × HasSide (code_of g) (bounds_at g) (types_at g) a x.operand.kind × (base_of g ≤ s) × (base_of g ≤ v)
       × (x.place ≡ Thin object offset) × IsSideAt t locals slots a s object offset × Is t x.operand.kind x.operand.value slots v
       × WritesAt t locals g slots writes r q
@@ -310,9 +310,11 @@ module _ (source : Program) where
     ValueStack g locals kind o p frames [] = ⊥
     ValueStack g locals kind o p frames (Needs (ConvertTo from to target) ∷ k) =
         (q : ℕ) × ConversionAt (code_of g) (bounds_at g) (types_on g k) from to (option_map bytes_of_kind target) o (top g k) p q × ValueStack g locals to o q frames k
+    -- a char that serves as an int stays where it is
+    ValueStack g locals kind o p frames (Needs (Operate unary.Widen) ∷ k) = ValueStack g locals kinds.Int o p frames k
     ValueStack g locals kind o p frames (Needs (Operate operator) ∷ k) =
-        Yields ((d : ℕ) × At (code_of g) p (instructions.Unary (unary_operator operator) d o)
-        × Lands (base_of g) (top g k) d 1 (ValueStack g locals kinds.Int (operands.Slot d) (p + 1) frames k) (AheadStack g locals kinds.Int d (p + 1) frames k))
+        Yields ((d : ℕ) × At (code_of g) p (unary_instruction operator d o)
+        × Lands (base_of g) (top g k) d 1 (ValueStack g locals (unary_kind operator) (operands.Slot d) (p + 1) frames k) (AheadStack g locals (unary_kind operator) d (p + 1) frames k))
         ((operator ≡ unary.Not) × ConditionStack g comparisons.NotEqual o (operands.Word 0) p frames k)
     ValueStack g locals kind o p frames (Needs (Chain NoOperations) ∷ k) = ValueStack g locals kind o p frames k
     ValueStack g locals kind o p frames (Needs (Chain operations) ∷ k) =
@@ -338,7 +340,7 @@ module _ (source : Program) where
         × HandsOn (code_of g) (words_of_kind kind) to q (DroppedStack g q frames k) (ValueStack g locals kind to q frames k)
         (λ d r. Lands (base_of g) (top g k) d (words_of_kind kind) (ValueStack g locals kind (operands.Slot d) r frames k) (AheadStack g locals kind d r frames k))
     ValueStack g locals kind o p frames (Needs (StoreCell peek place) ∷ k) =
-        (q : ℕ) × SavedAt (code_of g) (bounds_at g) (types_on g k) (words_of_kind kind) (top g k) o p q
+        (q : ℕ) × SavedAt (code_of g) (bounds_at g) (types_on g k) kind (top g k) o p q
         × HandsOn (code_of g) (words_of_kind kind) o q (DroppedStack g q frames k) (ValueStack g locals kind o q frames k)
         (λ d r. Lands (base_of g) (top g k) d (words_of_kind kind) (ValueStack g locals kind (operands.Slot d) r frames k) (AheadStack g locals kind d r frames k))
     ValueStack g locals kind o p frames (Needs (Pass callees.Putchar before arguments) ∷ k) =
@@ -369,11 +371,11 @@ module _ (source : Program) where
         × (level ≡ length (counters_of (floor g k) k)) × ElementsAt (code_of g) (bounds_at g) (types_on g k) element wanted (top g k) d h r s q
         × Lands (base_of g) (ground g k) d 3 (ValueStack g locals kinds.Fat (operands.Slot d) q frames k) (AheadStack g locals kinds.Fat d q frames k)
     ValueStack g locals kind o p frames (Needs (FillElement object count index level wanted element) ∷ k) =
-        (d : ℕ) × (h : ℕ) × (s : ℕ) × (q : ℕ) × (o ≡ operands.Slot (top g k + 3)) × (index < count) × (count * words_of_kind wanted ≤ MOST_BLOCK_WORDS)
+        (d : ℕ) × (h : ℕ) × (s : ℕ) × (q : ℕ) × (o ≡ operands.Slot (top g k + 3)) × (index < count) × (words_for (count * bytes_of_kind wanted) ≤ MOST_BLOCK_WORDS)
         × (level ≡ length (counters_of (floor g k) k)) × ElementsAt (code_of g) (bounds_at g) (types_on g k) element wanted (top g k) d h p s q
         × Lands (base_of g) (ground g k) d 3 (ValueStack g locals kinds.Fat (operands.Slot d) q frames k) (AheadStack g locals kinds.Fat d q frames k)
     ValueStack g locals kind o p frames (Needs (Initialise number wanted items) ∷ k) =
-        (exits : Exits) × (q : ℕ) × At (code_of g) p (move_of (words_of_kind kind) (slot_of (starts_at g) number) o) × HasRoom (types_at g) number kind
+        (exits : Exits) × (q : ℕ) × At (code_of g) p (move_of (words_of_kind kind) (slot_of (starts_at g) number) o) × HasRoom (types_at g) number kind × (kind_in (types_at g).locals number ≡ wanted)
         × ItemsAt (code_of g) (bounds_at g) (types_at g) items exits (floor g k) (p + 1) q × StatementStack g exits q frames k
     ValueStack g locals kind o p frames (Needs (Choose first second) ∷ k) =
         ChoosesAt g (floor g k) comparisons.Equal o (operands.Word 0) p first second (λ exits q. StatementStack g exits q frames k)
@@ -422,7 +424,7 @@ module _ (source : Program) where
     -- the same for a place, whose address is the word of an operand and so many bytes more
     pub PlaceStack : (g : ℕ) → (ℕ → Option ℕ) → Operand → (c p : ℕ) → List Frame → List Entry → Type 0
     PlaceStack g locals o c p frames (NeedsPlace (LoadFrom cell) ∷ k) =
-        (d : ℕ) × (q : ℕ) × LoadedAt (code_of g) (words_of_kind cell) o c d (top g k) p q
+        (d : ℕ) × (q : ℕ) × LoadedAt (code_of g) cell o c d (top g k) p q
         × Lands (base_of g) (top g k) d (words_of_kind cell) (ValueStack g locals cell (operands.Slot d) q frames k) (AheadStack g locals cell d q frames k)
     PlaceStack g locals o c p frames (NeedsPlace TakeAddress ∷ k) =
         (d : ℕ) × (q : ℕ) × AddressAt (code_of g) o c d p q
@@ -430,17 +432,17 @@ module _ (source : Program) where
     PlaceStack g locals o c p frames (NeedsPlace (StoreTo peek (Convert from to a)) ∷ k) =
         (x : Operand) × (s : ℕ) × (u : ℕ) × (q : ℕ) × AddressAt (code_of g) o c (top g k) p s
         × ConvertedOperandAt (code_of g) (bounds_at g) (types_on g k) (Convert from to a) (top g k + 1) x s u
-        × SavedAt (code_of g) (bounds_at g) (types_on g k) (words_of_kind to) (top g k) x u q
+        × SavedAt (code_of g) (bounds_at g) (types_on g k) to (top g k) x u q
         × HandsOn (code_of g) (words_of_kind to) x q (DroppedStack g q frames k) (ValueStack g locals to x q frames k)
         (λ d r. Lands (base_of g) (top g k) d (words_of_kind to) (ValueStack g locals to (operands.Slot d) r frames k) (AheadStack g locals to d r frames k))
     PlaceStack g locals o c p frames (NeedsPlace (SwapLeft kind peek right) ∷ k) =
         (exits : Exits) × (x : Dereference) × (m : ℕ) × (r : ℕ) × (q : ℕ) × HasSide (code_of g) (bounds_at g) (types_at g) right kind
         × AddressAt (code_of g) o c (floor g k) p m × SideAt (code_of g) (bounds_at g) (types_at g) right (floor g k + 1) m r
-        × ExchangeAt (code_of g) (bounds_at g) (types_at g) (words_of_kind kind) (CellSide x) right (floor g k) r q × StatementStack g exits q frames k
+        × ExchangeAt (code_of g) (bounds_at g) (types_at g) kind (CellSide x) right (floor g k) r q × StatementStack g exits q frames k
     PlaceStack g locals o c p frames (NeedsPlace (SwapRight kind peek is_cell left) ∷ k) =
         (exits : Exits) × (a : Side) × (y : Dereference) × (m : ℕ) × (q : ℕ) × HasSide (code_of g) (bounds_at g) (types_at g) a kind
         × IsLeft locals is_cell a left × AddressAt (code_of g) o c (right_slot a (floor g k)) p m
-        × ExchangeAt (code_of g) (bounds_at g) (types_at g) (words_of_kind kind) a (CellSide y) (floor g k) m q × StatementStack g exits q frames k
+        × ExchangeAt (code_of g) (bounds_at g) (types_at g) kind a (CellSide y) (floor g k) m q × StatementStack g exits q frames k
     PlaceStack g locals o c p frames k = ⊥
 
     -- the same for a condition, which fails where this comparison holds
@@ -458,6 +460,7 @@ module _ (source : Program) where
     -- the same for a value that stands already in the slot n of a local, which is about to get it
     pub AheadStack : (g : ℕ) → (ℕ → Option ℕ) → Kind → (n p : ℕ) → List Frame → List Entry → Type 0
     AheadStack g locals kind n p frames (Needs (ConvertTo from to target) ∷ k) = (converts_there from to ≡ true) × (words_of_kind kind ≡ words_of_kind to) × AheadStack g locals to n p frames k
+    AheadStack g locals kind n p frames (Needs (Operate unary.Widen) ∷ k) = (words_of_kind kind ≡ 1) × AheadStack g locals kinds.Int n p frames k
     AheadStack g locals kind n p frames (Needs (Chain NoOperations) ∷ k) = AheadStack g locals kind n p frames k
     AheadStack g locals kind n p frames (Needs (BesideHandle region) ∷ k) = AheadStack g locals kind n p frames k
     AheadStack g locals kind n p frames (Needs (Store place) ∷ k) =
@@ -466,7 +469,7 @@ module _ (source : Program) where
         × HandsOn (code_of g) (words_of_kind kind) (operands.Slot n) p (DroppedStack g p frames k) (ValueStack g locals kind (operands.Slot n) p frames k)
         (λ d r. Lands (base_of g) (top g k) d (words_of_kind kind) (ValueStack g locals kind (operands.Slot d) r frames k) (AheadStack g locals kind d r frames k))
     AheadStack g locals kind n p frames (Needs (Initialise number wanted items) ∷ k) =
-        (exits : Exits) × (q : ℕ) × (slot_of (starts_at g) number ≡ n) × HasRoom (types_at g) number kind × ItemsAt (code_of g) (bounds_at g) (types_at g) items exits (floor g k) p q × StatementStack g exits q frames k
+        (exits : Exits) × (q : ℕ) × (slot_of (starts_at g) number ≡ n) × HasRoom (types_at g) number kind × (kind_in (types_at g).locals number ≡ wanted) × ItemsAt (code_of g) (bounds_at g) (types_at g) items exits (floor g k) p q × StatementStack g exits q frames k
     AheadStack g locals kind n p frames k = ⊥
 
     -- the same where no value waits
@@ -533,6 +536,7 @@ module _ (source : Program) where
   RightAt t a locals g p slots frames (Needs (Advance peek target base) ∷ k) =
       (n : ℕ) × (x : Operand) × (q : ℕ) × (operand_of (starts_on g k) a ≡ Some x) × Is t base.kind base.value slots n × (n ≤ top g k) × Holds t slots (floor g k) (held k)
       × AdvancesAt g locals (option_map bytes_of_kind target) n x p q frames k
+  RightAt t a locals g p slots frames (Needs (Operate unary.Widen) ∷ k) = RightAt t a locals g p slots frames k
   RightAt t a locals g p slots frames k = ⊥
 
   -- both operands are there
@@ -547,6 +551,7 @@ module _ (source : Program) where
       (n : ℕ) × (m : ℕ) × (q : ℕ) × (pointer ≡ kinds.Fat) × IsParts t v.value slots n m × (n ≤ top g k) × Holds t slots (floor g k) (held k)
       × ReachedAt (code_of g) (bounds_at g) (types_on g k) (option_map bytes_of_kind target) n m (top g k) p q
       × PlaceStack g locals (reached_operand (option_map bytes_of_kind target) n (top g k)) 0 q frames k
+  ReadyAt t v locals g p slots frames (Needs (Operate unary.Widen) ∷ k) = (a : ℕ) → v.value ≡ Int a → ReadyAt t (record { kind = kinds.Int; value = Int a }) locals g p slots frames k
   ReadyAt t v locals g p slots frames k = ⊥
 
   -- the code of an expression, by where its value is to be
@@ -592,11 +597,11 @@ module _ (source : Program) where
   FocusAt t (Beginning owner count level wanted element) k locals g p slots frames =
       (handle : Operand) × (d : ℕ) × (h : ℕ) × (r : ℕ) × (s : ℕ) × (q : ℕ) × IsHandleOf owner handle (top g k) k
       × At (code_of g) p (instructions.Ask (requests.Allocate (top g k) handle (operands.Slot (top g k + 3)))) × (p + 1 ≡ h)
-      × (count * words_of_kind wanted ≤ MOST_BLOCK_WORDS) × (slots (top g k + 1) ≡ count) × (slots (top g k + 2) ≡ 0) × (slots (top g k + 3) ≡ max 1 (count * words_of_kind wanted))
+      × (words_for (count * bytes_of_kind wanted) ≤ MOST_BLOCK_WORDS) × (slots (top g k + 1) ≡ count) × (slots (top g k + 2) ≡ 0) × (slots (top g k + 3) ≡ max 1 (words_for (count * bytes_of_kind wanted)))
       × (level ≡ length (counters_of (floor g k) k)) × ElementsAt (code_of g) (bounds_at g) (types_on g k) element wanted (top g k) d h r s q
       × Holds t slots (floor g k) (held k) × LandsMade g locals kinds.Fat d q frames k
   FocusAt t (Repeating object count index level wanted element) k locals g p slots frames =
-      (d : ℕ) × (r : ℕ) × (s : ℕ) × (q : ℕ) × Is t kinds.Fat (Fat object 0 count index) slots (top g k) × (index ≤ count) × (count * words_of_kind wanted ≤ MOST_BLOCK_WORDS)
+      (d : ℕ) × (r : ℕ) × (s : ℕ) × (q : ℕ) × Is t kinds.Fat (Fat object 0 count index) slots (top g k) × (index ≤ count) × (words_for (count * bytes_of_kind wanted) ≤ MOST_BLOCK_WORDS)
       × (level ≡ length (counters_of (floor g k) k)) × ElementsAt (code_of g) (bounds_at g) (types_on g k) element wanted (top g k) d p r s q
       × Holds t slots (floor g k) (held k) × LandsMade g locals kinds.Fat d q frames k
   FocusAt t (Writing writes None) k locals g p slots frames =
@@ -604,17 +609,17 @@ module _ (source : Program) where
   FocusAt t (Swapping kind (Thin object offset) (Thin other beside) None) k locals g p slots frames =
       (exits : Exits) × (q : ℕ) × (a : Side) × (b : Side) × HasSide (code_of g) (bounds_at g) (types_at g) a kind × HasSide (code_of g) (bounds_at g) (types_at g) b kind
       × IsSideAt t locals slots a (floor g k) object offset × IsSideAt t locals slots b (right_slot a (floor g k)) other beside
-      × ExchangeAt (code_of g) (bounds_at g) (types_at g) (words_of_kind kind) a b (floor g k) p q × StatementStack g exits q frames k
+      × ExchangeAt (code_of g) (bounds_at g) (types_at g) kind a b (floor g k) p q × StatementStack g exits q frames k
   FocusAt t (Swapping kind (Thin object offset) (Thin other beside) (Some before)) k locals g p slots frames =
       (exits : Exits) × (q : ℕ) × (a : Side) × (b : Side) × HasSide (code_of g) (bounds_at g) (types_at g) a kind × HasSide (code_of g) (bounds_at g) (types_at g) b kind
       × IsSideAt t locals slots a (floor g k) object offset × IsSideAt t locals slots b (right_slot a (floor g k)) other beside
       × (before.kind ≡ kind) × Is t before.kind before.value slots (floor g k + 2)
-      × ((m : ℕ) × (r : ℕ) × ReadAt (code_of g) (bounds_at g) (types_at g) b (words_of_kind kind) (right_slot a (floor g k)) (floor g k + 2 + words_of_kind kind) p m
-      × WriteAt (code_of g) (bounds_at g) (types_at g) a (words_of_kind kind) (floor g k) (floor g k + 2 + words_of_kind kind) m r
-      × WriteAt (code_of g) (bounds_at g) (types_at g) b (words_of_kind kind) (right_slot a (floor g k)) (floor g k + 2) r q) × StatementStack g exits q frames k
+      × ((m : ℕ) × (r : ℕ) × ReadAt (code_of g) (bounds_at g) (types_at g) b kind (right_slot a (floor g k)) (floor g k + 2 + words_of_kind kind) p m
+      × WriteAt (code_of g) (bounds_at g) (types_at g) a kind (floor g k) (floor g k + 2 + words_of_kind kind) m r
+      × WriteAt (code_of g) (bounds_at g) (types_at g) b kind (right_slot a (floor g k)) (floor g k + 2) r q) × StatementStack g exits q frames k
   FocusAt t (Naming number v items) k locals g p slots frames =
       (exits : Exits) × (q : ℕ) × (o : Operand) × At (code_of g) p (move_of (words_of_kind v.kind) (slot_of (starts_at g) number) o) × IsIn t v slots o
-      × (number < length (types_at g).locals) × HasRoom (types_at g) number v.kind
+      × (number < length (types_at g).locals) × HasLocal (types_at g) number v.kind
       × ItemsAt (code_of g) (bounds_at g) (types_at g) items exits (floor g k) (p + 1) q × StatementStack g exits q frames k
   FocusAt t (Catching tag value handler) k locals g p slots frames =
       (exits : Exits) × (out : ℕ) × (q : ℕ) × ClausesAt (code_of g) (bounds_at g) (types_at g) handler out exits (floor g k) p q × At (code_of g) out (instructions.Jump q)

@@ -31,12 +31,13 @@ use Rattle.cyc_meaning.specs.Values.{is_thin, words_of_kind, bytes_of_kind, begi
 use Rattle.cyc_lower.specs.declared.statements.Exits.{Exits}
 use Rattle.cyc_lower.specs.declared.statements.Opened.{Opened}
 use Rattle.cyc_lower.specs.Slots.{counted, Types, starts_of, slot_of, field_of, global_of}
-use Rattle.cyc_lower.specs.ValueCode.{unary_operator, binary_operator, failing_comparison, left_with, next_slot, is_in, move_of, test_jump, are_as_wide, converts_there, passed_words, all_passed, kinds_passed, low_byte, behind_left, pointer_operator, raising, jump_if_zero, span_of, span_in, followed_operand, scale_of, reached_operand, load_word, store_word, address_of_global}
+use Rattle.cyc_lower.specs.ValueCode.{binary_operator, failing_comparison, left_with, next_slot, is_in, move_of, test_jump, converts_there, passed_words, all_passed, kinds_passed, low_byte, behind_left, pointer_operator, raising, jump_if_zero, span_of, span_in, followed_operand, scale_of, reached_operand, load_word, store_word, address_of_global, unary_instruction, keeps_words, kind_passed, load_of, store_of}
 use Rattle.cyc_lower.specs.ObjectCode.{most_elements, slots_of_kinds, right_slot, load_at}
 use Rattle.cyc_lower.specs.ControlCode.{compared_of, break_target, continue_target, inside_loop, inside_try, behind_record_in, tag_operand, other_jump, goes_on, inside_region}
 use Rattle.cyc_lower.specs.ExpressionCode.{operand_of, source_of, source_slot, left_of, value_slot, slot_with, left_slot, pointer_of}
 use Rattle.cyc_lower.specs.Lowering.{results_of}
-use Rattle.cyc_lower.proofs.slots.Widths.{kind_of_result, given, passed_kind, HasRoom, HasField, HasGlobal, words_in}
+use Rattle.cyc_lower.proofs.slots.Widths.{kind_of_result, given, passed_kind, HasRoom, HasField, HasGlobal, words_in, HasLocal}
+use Rattle.cyc_types.specs.declared.typed.UnaryOperator.TheVariants as unary
 
 -- ---- expressions
 
@@ -64,17 +65,27 @@ module _ (code : List Instruction) where
   AddressAt o zero d p q = CopyAt 1 o d p q
   AddressAt o (suc bytes) d p q = At code p (instructions.Binary plain_binary.Add d o (operands.Word (suc bytes))) × (p + 1 ≡ q)
 
--- A cell comes to a slot and those behind it, whose address stands in an operand but for so many bytes. Where it has more words than one,
--- the address comes to slot t.
+-- A cell of a kind comes to a slot and those behind it, whose address stands in an operand but for so many bytes. Where it has more words
+-- than one, the address comes to slot t.
 module _ (code : List Instruction) where
-  abbrev pub LoadedBy : (narrow : Bool) → Operand → (bytes d t p q : ℕ) → Type 0
-  LoadedBy true o bytes d t p q = At code p (instructions.Load d o bytes) × (p + 1 ≡ q)
-  LoadedBy false o bytes d t p q =
+  abbrev pub LoadedBy : (narrow : Bool) → Kind → Operand → (bytes d t p q : ℕ) → Type 0
+  LoadedBy true kind o bytes d t p q = At code p (load_of kind d o bytes) × (p + 1 ≡ q)
+  LoadedBy false kind o bytes d t p q =
       (r : ℕ) × AddressAt code o bytes t p r × At code r (instructions.Load (d + 2) (operands.Slot t) 8) × At code (r + 1) (instructions.Load (d + 1) (operands.Slot t) 4)
       × At code (r + 1 + 1) (instructions.Load d (operands.Slot t) 0) × (r + 1 + 1 + 1 ≡ q)
 
-  abbrev pub LoadedAt : (words : ℕ) → Operand → (bytes d t p q : ℕ) → Type 0
-  LoadedAt words o bytes d t p q = LoadedBy (words == 1) o bytes d t p q
+  abbrev pub LoadedAt : Kind → Operand → (bytes d t p q : ℕ) → Type 0
+  LoadedAt kind o bytes d t p q = LoadedBy (words_of_kind kind == 1) kind o bytes d t p q
+
+  -- an address of a variable's first word becomes that of the variable
+  abbrev pub LastByteAt : Kind → (d p q : ℕ) → Type 0
+  LastByteAt kinds.Char d p q = At code p (instructions.Binary plain_binary.Add d (operands.Slot d) (operands.Word 3)) × (p + 1 ≡ q)
+  LastByteAt kind d p q = p ≡ q
+
+  -- a local of a kind is declared without a value
+  abbrev pub BlankAt : Kind → (slot p q : ℕ) → Type 0
+  BlankAt kinds.Char slot p q = At code p (instructions.Move slot (operands.Word 0)) × (p + 1 ≡ q)
+  BlankAt kind slot p q = p ≡ q
 
 -- In a code of a function with these bounds, whose locals have these types, from p to q stands the code of this, with temporaries from
 -- slot t on.
@@ -143,14 +154,20 @@ module _ (code : List Instruction) (bounds : Numbering) (types : Types) where
   ThinnedAt kinds.Nullable span (operands.Slot n) t p q = (n ≡ t) × ReachedBy (λ x. x ≡ q) span n (n + 2) n p q
   ThinnedAt to span o t p q = ⊥
 
-  abbrev pub ConversionBy : (as_wide : Bool) → (to : Kind) → (span : Option ℕ) → Operand → (t p q : ℕ) → Type 0
+  -- an int that becomes a char is in slot t
+  abbrev pub MaskedAt : Operand → (t p q : ℕ) → Type 0
+  MaskedAt (operands.Slot n) t p q = (n ≡ t) × At code p (low_byte (operands.Slot n) n) × (p + 1 ≡ q)
+  MaskedAt (operands.Word w) t p q = ⊥
+
+  abbrev pub ConversionBy : (same : Bool) → (to : Kind) → (span : Option ℕ) → Operand → (t p q : ℕ) → Type 0
   ConversionBy true to span o t p q = TestedAt to o p q
   ConversionBy false kinds.Fat span o t p q = WidenedAt o t p q
+  ConversionBy false kinds.Char span o t p q = MaskedAt o t p q
   ConversionBy false to span o t p q = ThinnedAt to span o t p q
 
-  -- a value is converted where it is, which is slot t where it changes its number of words
+  -- a value is converted where it is, which is slot t where its words change
   abbrev pub ConversionAt : (from to : Kind) → (span : Option ℕ) → Operand → (t p q : ℕ) → Type 0
-  ConversionAt from to span o t p q = ConversionBy (are_as_wide from to) to span o t p q
+  ConversionAt from to span o t p q = ConversionBy (keeps_words from to) to span o t p q
 
   abbrev pub DivisorAt : Operand → (p q : ℕ) → Type 0
   DivisorAt (operands.Word (suc n)) p q = p ≡ q
@@ -196,28 +213,35 @@ module _ (code : List Instruction) (bounds : Numbering) (types : Types) where
   LoadAt words (Local w n) d p q = At code p (move_of words d (operands.Slot (slot_of (starts_of types) n))) × (p + 1 ≡ q)
   LoadAt words (Global n) d p q = (n < length types.globals) × EachAt code load_word words (global_of (starts_of types) n) d p q
 
-  -- so many words, which stand in slots, come to memory behind an address
-  abbrev pub StoresAt : (many address offset slot p q : ℕ) → Type 0
-  StoresAt zero address offset slot p q = p ≡ q
-  StoresAt (suc many) address offset slot p q =
-      At code p (instructions.Store (operands.Slot address) offset (operands.Slot slot)) × StoresAt many address (offset + 4) (suc slot) (p + 1) q
+  -- so many words of a value of a kind, which stand in slots, come to memory behind an address
+  abbrev pub StoresAt : Kind → (many address offset slot p q : ℕ) → Type 0
+  StoresAt kind zero address offset slot p q = p ≡ q
+  StoresAt kind (suc many) address offset slot p q =
+      At code p (store_of kind (operands.Slot address) offset (operands.Slot slot)) × StoresAt kind many address (offset + 4) (suc slot) (p + 1) q
+
+  -- the number of words of as many elements as slot t counts comes there
+  abbrev pub SizedAt : Kind → (t p q : ℕ) → Type 0
+  SizedAt kinds.Char t p q =
+      At code p (instructions.Binary plain_binary.Add t (operands.Slot t) (operands.Word 3))
+      × At code (p + 1) (instructions.Binary plain_binary.ShiftRight t (operands.Slot t) (operands.Word 2)) × (p + 1 + 1 ≡ q)
+  SizedAt kind t p q = At code p (instructions.Binary plain_binary.Multiply t (operands.Slot t) (operands.Word (words_of_kind kind))) × (p + 1 ≡ q)
 
   -- a new array, whose length is in slot t, begins
   abbrev pub BegunAt : (handle : Operand) → Kind → (t p q : ℕ) → Type 0
   BegunAt handle kind t p q =
-      (m : ℕ) × GuardAt array_size comparisons.GreaterOrEqualUnsigned (operands.Slot t) (operands.Word (most_elements (bytes_of_kind kind) + 1)) p m
+      (m : ℕ) × (r : ℕ) × GuardAt array_size comparisons.GreaterOrEqualUnsigned (operands.Slot t) (operands.Word (most_elements (bytes_of_kind kind) + 1)) p m
       × At code m (instructions.Move (t + 1) (operands.Slot t)) × At code (m + 1) (instructions.Move (t + 2) (operands.Word 0))
-      × At code (m + 1 + 1) (instructions.Binary plain_binary.Multiply t (operands.Slot t) (operands.Word (words_of_kind kind)))
-      × At code (m + 1 + 1 + 1) (instructions.Unary plain_unary.Not (t + 3) (operands.Slot t))
-      × At code (m + 1 + 1 + 1 + 1) (instructions.Binary plain_binary.Add (t + 3) (operands.Slot (t + 3)) (operands.Slot t))
-      × At code (m + 1 + 1 + 1 + 1 + 1) (instructions.Ask (requests.Allocate t handle (operands.Slot (t + 3)))) × (m + 6 ≡ q)
+      × SizedAt kind t (m + 1 + 1) r
+      × At code r (instructions.Unary plain_unary.Not (t + 3) (operands.Slot t))
+      × At code (r + 1) (instructions.Binary plain_binary.Add (t + 3) (operands.Slot (t + 3)) (operands.Slot t))
+      × At code (r + 1 + 1) (instructions.Ask (requests.Allocate t handle (operands.Slot (t + 3)))) × (r + 3 ≡ q)
 
   -- an element is written, and the next one is evaluated
   abbrev pub FilledAt : Kind → (t head p q : ℕ) → Type 0
   FilledAt kind t head p q =
       (m : ℕ) × At code p (scale_of (bytes_of_kind kind) (t + 3 + words_of_kind kind) (t + 2))
       × At code (p + 1) (instructions.Binary plain_binary.Add (t + 3 + words_of_kind kind) (operands.Slot t) (operands.Slot (t + 3 + words_of_kind kind)))
-      × StoresAt (words_of_kind kind) (t + 3 + words_of_kind kind) 0 (t + 3) (p + 1 + 1) m
+      × StoresAt kind (words_of_kind kind) (t + 3 + words_of_kind kind) 0 (t + 3) (p + 1 + 1) m
       × At code m (instructions.Binary plain_binary.Add (t + 2) (operands.Slot (t + 2)) (operands.Word 1))
       × At code (m + 1) (instructions.Jump head) × (m + 2 ≡ q)
 
@@ -232,16 +256,16 @@ module _ (code : List Instruction) (bounds : Numbering) (types : Types) where
   StandsApart words address n =
       (words ≡ 1) ⊎ ((address < n) ⊎ ((number : ℕ) × (number < length types.locals) × (slot_of (starts_of types) number ≡ n) × (words ≤ words_in types.locals number)))
 
-  -- a value of so many words comes to the cell whose address is in a slot
-  abbrev pub SavedAt : (words address : ℕ) → Operand → (p q : ℕ) → Type 0
-  SavedAt words address (operands.Slot n) p q = StoresAt words address 0 n p q × StandsApart words address n
-  SavedAt words address (operands.Word n) p q = At code p (instructions.Store (operands.Slot address) 0 (operands.Word n)) × (p + 1 ≡ q)
+  -- a value of a kind comes to the cell whose address is in a slot
+  abbrev pub SavedAt : Kind → (address : ℕ) → Operand → (p q : ℕ) → Type 0
+  SavedAt kind address (operands.Slot n) p q = StoresAt kind (words_of_kind kind) address 0 n p q × StandsApart (words_of_kind kind) address n
+  SavedAt kind address (operands.Word n) p q = At code p (store_of kind (operands.Slot address) 0 (operands.Word n)) × (p + 1 ≡ q)
 
   -- values of these kinds, which stand in slots from one on, come to cells of the object whose address is in a slot, behind so many bytes
   abbrev pub CellsAt : List Kind → (address at slot p q : ℕ) → Type 0
   CellsAt [] address at slot p q = p ≡ q
   CellsAt (kind ∷ ks) address at slot p q =
-      (r : ℕ) × StoresAt (words_of_kind kind) address (begins kind at) slot p r × CellsAt ks address (behind kind at) (slot + words_of_kind kind) r q
+      (r : ℕ) × StoresAt kind (words_of_kind kind) address (begins kind at) slot p r × CellsAt ks address (behind kind at) (slot + words_of_kind kind) r q
 
   -- An object with cells of these kinds is made, of the values that stand in the slots from t on. Its address comes to slot d.
   abbrev pub ObjectAt : (handle : Operand) → List Kind → (t d p q : ℕ) → Type 0
@@ -274,9 +298,11 @@ module _ (code : List Instruction) (bounds : Numbering) where
     ExpressionAt types (NumberOfElements a) d t p q =
         (r : Operand) × (m : ℕ) × OperandBy code bounds types (operand_of (starts_of types) a) (ExpressionAt types a (value_slot (starts_of types) a t) t p m) (value_slot (starts_of types) a t) r p m
         × CountAt code bounds types r d m q
+    -- a char that serves as an int is its word
+    ExpressionAt types (Unary unary.Widen a) d t p q = (words_of_kind (given bounds.functions a) ≡ 1) × ExpressionAt types a d t p q
     ExpressionAt types (Unary o a) d t p q =
         (r : Operand) × (m : ℕ) × OperandBy code bounds types (operand_of (starts_of types) a) (ExpressionAt types a (value_slot (starts_of types) a t) t p m) (value_slot (starts_of types) a t) r p m
-        × At code m (instructions.Unary (unary_operator o) d r) × (m + 1 ≡ q)
+        × At code m (unary_instruction o d r) × (m + 1 ≡ q)
     ExpressionAt types (Binary a os ty) d t p q =
         (l : Operand) × (m : ℕ) × OperandBy code bounds types (left_of (starts_of types) a os) (ExpressionAt types a (left_slot (starts_of types) a os d t) t p m) (left_slot (starts_of types) a os d t) l p m
         × OperationsAt types os l d t m q
@@ -288,7 +314,7 @@ module _ (code : List Instruction) (bounds : Numbering) where
         × ((r : ℕ) × ConvertedOperandAt types c t o p r × HasGlobal types n (passed_kind c) × GlobalAt code (passed_words c) (global_of (starts_of types) n) o r m)
         × CopyAt code (passed_words c) o d m q
     ExpressionAt types (Load x) d t p q =
-        (o : Operand) × (c : ℕ) × (r : ℕ) × PlaceAt types x o c t p r × LoadedAt code (words_of (type_of_place x)) o c d t r q
+        (o : Operand) × (c : ℕ) × (r : ℕ) × PlaceAt types x o c t p r × LoadedAt code (kind_of (type_of_place x)) o c d t r q
     ExpressionAt types (FreeUnique a) d t p q =
         (o : Operand) × (m : ℕ) × OperandBy code bounds types (operand_of (starts_of types) a) (ExpressionAt types a (value_slot (starts_of types) a t) t p m) (value_slot (starts_of types) a t) o p m × FreedAt code bounds types o m q
     ExpressionAt types (FreeKey a) d t p q =
@@ -299,14 +325,14 @@ module _ (code : List Instruction) (bounds : Numbering) where
     -- the handle stays in slot t
     ExpressionAt types (New (ByHandle a) i ty) d t p q = (m : ℕ) × ExpressionAt types a t t p m × MadeAt types i (operands.Slot t) d (suc t) m q
     ExpressionAt types (AddressOf (Local w n) ty) d t p q =
-        (v : Ty) × (slice_get types.locals n ≡ Some v) × At code p (instructions.AddressOf d (slot_of (starts_of types) n) (words_of v)) × (p + 1 ≡ q)
+        (v : Ty) × (slice_get types.locals n ≡ Some v) × At code p (instructions.AddressOf d (slot_of (starts_of types) n) (words_of v)) × LastByteAt code (kind_of v) d (p + 1) q
     ExpressionAt types (AddressOf (Global n) ty) d t p q =
-        (v : Ty) × (slice_get types.globals n ≡ Some v) × At code p (instructions.Move d (operands.Word (address_of_global (global_of (starts_of types) n)))) × (p + 1 ≡ q)
+        (v : Ty) × (slice_get types.globals n ≡ Some v) × At code p (instructions.Move d (operands.Word (address_of_global (kind_of v) (global_of (starts_of types) n)))) × (p + 1 ≡ q)
     ExpressionAt types (AddressOfCell x ty) d t p q = (o : Operand) × (c : ℕ) × (r : ℕ) × PlaceAt types x o c t p r × AddressAt code o c d r q
     ExpressionAt types (Store x v ty) d t p q =
         (o : Operand) × (m : ℕ)
         × ((a : Operand) × (c : ℕ) × (r : ℕ) × (s : ℕ) × (u : ℕ) × PlaceAt types x a c t p r × AddressAt code a c t r s × ConvertedOperandAt types v (t + 1) o s u
-        × SavedAt code bounds types (passed_words v) t o u m)
+        × SavedAt code bounds types (kind_passed v) t o u m)
         × CopyAt code (passed_words v) o d m q
 
     -- a new object in the region of this handle
@@ -427,7 +453,7 @@ module _ (code : List Instruction) (bounds : Numbering) (types : Types) where
   abbrev pub StoredAt : Dereference → Converted → (t : ℕ) → Operand → (p q : ℕ) → Type 0
   StoredAt x v t o p q =
       (a : Operand) × (c : ℕ) × (r : ℕ) × (s : ℕ) × (u : ℕ) × PlaceAt code bounds types x a c t p r × AddressAt code a c t r s × ConvertedOperandAt code bounds types v (t + 1) o s u
-      × SavedAt code bounds types (passed_words v) t o u q
+      × SavedAt code bounds types (kind_passed v) t o u q
 
   -- ---- swaps
 
@@ -442,27 +468,27 @@ module _ (code : List Instruction) (bounds : Numbering) (types : Types) where
   SideAt (VariableSide l ty) t p q = p ≡ q
   SideAt (CellSide x) t p q = (o : Operand) × (c : ℕ) × (m : ℕ) × PlaceAt code bounds types x o c t p m × AddressAt code o c t m q
 
-  -- the words that a side holds come to slots from d on
-  abbrev pub ReadAt : Side → (words s d p q : ℕ) → Type 0
-  ReadAt (VariableSide l ty) words s d p q = LoadAt code bounds types words l d p q
-  ReadAt (CellSide x) words s d p q = EachAt code (load_at s) words 0 d p q
+  -- the words of a kind that a side holds come to slots from d on
+  abbrev pub ReadAt : Side → Kind → (s d p q : ℕ) → Type 0
+  ReadAt (VariableSide l ty) kind s d p q = LoadAt code bounds types (words_of_kind kind) l d p q
+  ReadAt (CellSide x) kind s d p q = EachAt code (load_at kind s) (words_of_kind kind) 0 d p q
 
   -- the words in slots from v on come to a side
-  abbrev pub WriteAt : Side → (words s v p q : ℕ) → Type 0
-  WriteAt (VariableSide (Local w n) ty) words s v p q = At code p (move_of words (slot_of (starts_of types) n) (operands.Slot v)) × (p + 1 ≡ q)
-  WriteAt (VariableSide (Global n) ty) words s v p q = GlobalAt code words (global_of (starts_of types) n) (operands.Slot v) p q
-  WriteAt (CellSide x) words s v p q = StoresAt code bounds types words s 0 v p q
+  abbrev pub WriteAt : Side → Kind → (s v p q : ℕ) → Type 0
+  WriteAt (VariableSide (Local w n) ty) kind s v p q = At code p (move_of (words_of_kind kind) (slot_of (starts_of types) n) (operands.Slot v)) × (p + 1 ≡ q)
+  WriteAt (VariableSide (Global n) ty) kind s v p q = GlobalAt code (words_of_kind kind) (global_of (starts_of types) n) (operands.Slot v) p q
+  WriteAt (CellSide x) kind s v p q = StoresAt code bounds types kind (words_of_kind kind) s 0 v p q
 
   -- both sides are read, the left one first, and then written
-  abbrev pub ExchangeAt : (words : ℕ) → (left right : Side) → (t p q : ℕ) → Type 0
-  ExchangeAt words a b t p q =
-      (m : ℕ) × (r : ℕ) × (s : ℕ) × ReadAt a words t (t + 2) p m × ReadAt b words (right_slot a t) (t + 2 + words) m r
-      × WriteAt a words t (t + 2 + words) r s × WriteAt b words (right_slot a t) (t + 2) s q
+  abbrev pub ExchangeAt : Kind → (left right : Side) → (t p q : ℕ) → Type 0
+  ExchangeAt kind a b t p q =
+      (m : ℕ) × (r : ℕ) × (s : ℕ) × ReadAt a kind t (t + 2) p m × ReadAt b kind (right_slot a t) (t + 2 + words_of_kind kind) m r
+      × WriteAt a kind t (t + 2 + words_of_kind kind) r s × WriteAt b kind (right_slot a t) (t + 2) s q
 
   abbrev pub SwapAt : (left right : Side) → (t p q : ℕ) → Type 0
   SwapAt a b t p q =
       (m : ℕ) × (r : ℕ) × HasSide a (kind_of (type_of_side a)) × HasSide b (kind_of (type_of_side a))
-      × SideAt a t p m × SideAt b (right_slot a t) m r × ExchangeAt (words_of_kind (kind_of (type_of_side a))) a b t r q
+      × SideAt a t p m × SideAt b (right_slot a t) m r × ExchangeAt (kind_of (type_of_side a)) a b t r q
 
   -- the value of an expression is dropped
   abbrev pub DiscardedAt : Expression → (t p q : ℕ) → Type 0
@@ -505,9 +531,9 @@ module _ (code : List Instruction) (bounds : Numbering) (types : Types) where
       (s : ℕ) × (m : ℕ) × (r : ℕ) × (u : ℕ) × ReturnedAt code bounds types (source_of (starts_of types) (Convert from to a)) (ExpressionAt code bounds types a t t p m) t s p m × ConversionAt code bounds types from to (span_of a) (operands.Slot s) t m r
       × LeaveAt exits.in_function r u × At code u (instructions.Finish s) × (results_of bounds.result ≡ words_of_kind to) × (to ≡ kind_of_result bounds.result)
 
-  abbrev pub DeclarationAt : ℕ → Option Converted → (t p q : ℕ) → Type 0
-  DeclarationAt n None t p q = (n < bounds.locals) × (p ≡ q)
-  DeclarationAt n (Some c) t p q = (n < bounds.locals) × HasRoom types n (passed_kind c) × InitialAt code bounds types c (slot_of (starts_of types) n) t p q
+  abbrev pub DeclarationAt : ℕ → Kind → Option Converted → (t p q : ℕ) → Type 0
+  DeclarationAt n kind None t p q = (n < bounds.locals) × BlankAt code kind (slot_of (starts_of types) n) p q
+  DeclarationAt n kind (Some c) t p q = (n < bounds.locals) × HasRoom types n (passed_kind c) × InitialAt code bounds types c (slot_of (starts_of types) n) t p q
 
   -- what an exception tells is brought to an operand
   abbrev pub ThrownAt : Option Expression → Operand → (t p q : ℕ) → Type 0
@@ -518,12 +544,12 @@ module _ (code : List Instruction) (bounds : Numbering) (types : Types) where
   abbrev pub CaughtAt : (number : Option ℕ) → (t p q : ℕ) → Type 0
   CaughtAt None t p q = p ≡ q
   CaughtAt (Some n) t p q =
-      (n < bounds.locals) × HasRoom types n kinds.Int × At code p (instructions.Move (slot_of (starts_of types) n) (operands.Slot (t + 1))) × (p + 1 ≡ q)
+      (n < bounds.locals) × HasLocal types n kinds.Int × At code p (instructions.Move (slot_of (starts_of types) n) (operands.Slot (t + 1))) × (p + 1 ≡ q)
 
   -- a local that is declared gets a value of a kind, which stands in an operand
   abbrev pub NamedAt : (number : ℕ) → Kind → Operand → (p q : ℕ) → Type 0
   NamedAt n kind o p q =
-      (n < bounds.locals) × HasRoom types n kind × At code p (move_of (words_of_kind kind) (slot_of (starts_of types) n) o) × (p + 1 ≡ q)
+      (n < bounds.locals) × HasLocal types n kind × At code p (move_of (words_of_kind kind) (slot_of (starts_of types) n) o) × (p + 1 ≡ q)
 
   -- a lexical region is opened, as the program may
   abbrev pub OpenedAt : (number t p q : ℕ) → Type 0
@@ -558,7 +584,7 @@ module _ (code : List Instruction) (bounds : Numbering) (types : Types) where
     pub ItemsAt : Items → Exits → (t p q : ℕ) → Type 0
     ItemsAt NoItems exits t p q = p ≡ q
     ItemsAt (MoreItems (Execute s) js) exits t p q = (m : ℕ) × StatementAt s exits t p m × ItemsAt js exits t m q
-    ItemsAt (MoreItems (Declare n ty v) js) exits t p q = (m : ℕ) × HasRoom types n (kind_of ty) × DeclarationAt n v t p m × ItemsAt js exits t m q
+    ItemsAt (MoreItems (Declare n ty v) js) exits t p q = (m : ℕ) × HasLocal types n (kind_of ty) × DeclarationAt n (kind_of ty) v t p m × ItemsAt js exits t m q
     ItemsAt (MoreItems (DeclareRegion r n) js) exits t p q =
         (m : ℕ) × (u : ℕ) × OpenedAt n t p m × ItemsAt js (inside_region exits t) (t + 1) m u × ClosedAt t u q
     ItemsAt (MoreItems (OpenRegion r n w key) js) exits t p q =

@@ -12,10 +12,11 @@ use Rattle.cyc_lower.specs.Slots.{slot_of, global_types}
 use Rattle.cyc_lower.specs.Lowering.{scopes_of}
 use Rattle.cyc_lower.proofs.slots.Widths.{HasRoom, Outside}
 use Rattle.cyc_lower.proofs.slots.Slots.{slot-room}
-use Rattle.cyc_lower.proofs.relation.HeldValues.{Waiting, LocalsHold, Holds, contents, callers}
+use Rattle.cyc_lower.proofs.relation.HeldValues.{Waiting, LocalsHold, Holds, contents, callers, IsCharAt}
 use Rattle.cyc_lower.proofs.relation.Relation.{FramesHold, DataAt, call_slots, types_at, starts_at, base_of}
 use Rattle.cyc_lower.proofs.relation.Data.{locals_assigned, locals_kept, frames_kept, globals_kept, globals_below, Holds-above, behind-least}
 use Rattle.cyc_plain.specs.Memory.{IsBelow, AreBelow}
+use Rattle.cyc_types.specs.declared.typed.Kind.TheVariants as kinds
 
 -- the call with other slots
 abbrev pub with_slots_of : Frame → Words → Frame
@@ -83,7 +84,7 @@ module _ (t : Tables) (source : Program) where
 
   module _ (objects others : List Object) (f : Frame) (x : Waiting) (number object : ℕ) (v : Operand) (after : Words) (here : x.locals number ≡ Some object) (now : contents others object ≡ Some v)
       (same : (o : ℕ) → o ≢ object → contents others o ≡ contents objects o) (room : HasRoom (types_at source f.caller.function) number v.kind)
-      (is : Is t v.kind v.value after (slot_of (starts_at source f.caller.function) number))
+      (is : Is t v.kind v.value after (slot_of (starts_at source f.caller.function) number)) (char : IsCharAt t object → v.kind ≡ kinds.Char)
       (elsewhere : (m : ℕ) → Outside (slot_of (starts_at source f.caller.function) number) (words_of_kind v.kind) m → after m ≡ f.caller.slots m)
       (least : (base : ℕ) → base ≤ x.temporaries (scopes_of source) base) where
     abbrev g : ℕ
@@ -108,7 +109,7 @@ module _ (t : Tables) (source : Program) where
             below,
             (
               subst (λ (z : Waiting). LocalsHold t (types_at source g) (call_slots source g f.caller.base) others z.locals low high after) (sym y_is)
-                  (locals_assigned t (types_at source g) (call_slots source g f.caller.base) objects others x.locals low high f.caller.slots after number object v here now same room is elsewhere hold_is),
+                  (locals_assigned t (types_at source g) (call_slots source g f.caller.base) objects others x.locals low high f.caller.slots after number object v here now same room is char elsewhere hold_is),
               subst (λ (z : Waiting). Holds t after (z.temporaries (scopes_of source) (base_of source g)) z.values) (sym y_is)
                   (Holds-above t f.caller.slots after (x.temporaries (scopes_of source) (base_of source g)) x.values (λ n from. elsewhere n (inr (omega (arith, from, least (base_of source g), slots_room, room)))) values_is),
             ),

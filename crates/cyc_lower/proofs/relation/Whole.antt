@@ -1,5 +1,5 @@
 -- Each run of the plain program is one of the source.
-use Rattle.std.proofs.Common.{◌≡◌, ℕ, zero, suc, ◌≤◌, ◌<◌, Bool, true, false, List, [], ◌∷◌, length, map, Option, None, Some, slice_get, slice_index, refl, sym, ap, subst, ◌∙◌, arith, inl, inr, ◌+◌, ◌-◌}
+use Rattle.std.proofs.Common.{◌≡◌, ℕ, zero, suc, ◌≤◌, ◌<◌, Bool, true, false, List, [], ◌∷◌, length, map, Option, None, Some, slice_get, slice_index, refl, sym, ap, subst, ◌∙◌, arith, inl, inr, ◌+◌, ◌-◌, ◌*◌}
 use Rattle.std.specs.Prelude.{◌==◌, if◌then◌else◌}
 use Rattle.std.proofs.lemmas.Bool.{le-leb, and_from}
 use Rattle.std.proofs.lemmas.Option.{same_Some, none-some}
@@ -39,10 +39,10 @@ use Rattle.cyc_meaning.specs.Nesting.{IsNested}
 use Rattle.cyc_meaning.proofs.Nested.{nests_start}
 use Rattle.cyc_meaning.specs.Variables.{FunctionsRise}
 use Rattle.cyc_meaning.proofs.VariableRuns.{NestsAndNames, both_kept, names_start}
-use Rattle.cyc_objects.specs.Tables.{Tables, first_tables}
+use Rattle.cyc_objects.specs.Tables.{Tables, first_tables, Placed}
 use Rattle.cyc_objects.specs.Related as objects
 use Rattle.cyc_objects.proofs.Start.{start-related}
-use Rattle.cyc_lower.proofs.relation.HeldValues.{IsWord, callers, contents, MayBeOpen}
+use Rattle.cyc_lower.proofs.relation.HeldValues.{IsWord, callers, contents, MayBeOpen, IsCharAt}
 use Rattle.cyc_lower.proofs.relation.Relation.{silent, call_slots, Related, Matches, types_at, starts_at}
 use Rattle.cyc_lower.proofs.relation.Fitting.{IsFitting}
 use Rattle.cyc_lower.proofs.relation.Data.{no_locals_hold, IsWord-is}
@@ -60,14 +60,18 @@ use Rattle.cyc_lower.proofs.handler_steps.ExceptionSteps.{naming, throwing, catc
 use Rattle.cyc_lower.proofs.call_steps.Calls.{FunctionsStand, calling, entering, binding, entered}
 use Rattle.cyc_lower.proofs.emission.Bridge.{functions_stand}
 use Rattle.cyc_lower.specs.Slots.{slot_in, global_of, global_types}
-use Rattle.cyc_lower.proofs.slots.Widths.{words_in, type_words}
+use Rattle.cyc_lower.proofs.slots.Widths.{words_in, type_words, kind_in}
 use Rattle.cyc_lower.proofs.slots.Slots.{words_positive, globals-are}
 use Rattle.std.proofs.lemmas.List.{length-replicate, get_or-append_right}
 use Rattle.cyc_meaning.specs.FrameCount.{words_of_all}
 use Rattle.cyc_lower.proofs.relation.GlobalRows.{global_rows, are_globals, start-rows}
 use Rattle.cyc_lower.proofs.relation.Leads.{AreNamed}
 use Rattle.cyc_lower.proofs.relation.Named.{names_there}
-use Rattle.cyc_plain.specs.declared.limits.TheConstants.{MOST_GLOBALS}
+use Rattle.cyc_plain.specs.declared.limits.TheConstants.{MOST_GLOBALS, GLOBALS_BASE}
+use Rattle.cyc_lower.proofs.relation.Known.{IsGlobalRow, first_word}
+use Rattle.cyc_lower.specs.ValueCode.{variable_bytes}
+use Rattle.cyc_lower.proofs.place_steps.KindWords.{small_word}
+use Rattle.cyc_store.proofs.LookupLemmas.{same_some}
 
 -- ---- the globals at the start
 
@@ -79,19 +83,25 @@ initial_is t g v constant u (inl (int, (n, word))) e =
     = sym (ap (λ (z : Ty). let x : Kinded = record { kind = kind_of z; value = Int n } in x) int) ∙ sym (ap (λ (c : Constant). let x : Kinded = record { kind = kind_of u; value = constant_value c } in x) word)
     ∙ same_Some (record { kind = kind_of u; value = constant_value constant }) v e in
     subst (λ (x : Kinded). IsWord t x.kind x.value (initial_word constant)) v_is (ap initial_word word)
-initial_is t g v constant (types.Pointer marks.Nullable y r) (inr (k, u, s, is, non_null, null)) e =
+initial_is t g v constant u (inr (inl (char, (n, word, small)))) e =
+    let v_is : record { kind = kinds.Char; value = Int n } ≡ v
+    = sym (ap (λ (z : Ty). let x : Kinded = record { kind = kind_of z; value = Int n } in x) char) ∙ sym (ap (λ (c : Constant). let x : Kinded = record { kind = kind_of u; value = constant_value c } in x) word)
+    ∙ same_Some (record { kind = kind_of u; value = constant_value constant }) v e in
+    subst (λ (x : Kinded). IsWord t x.kind x.value (initial_word constant)) v_is (ap initial_word word, small)
+initial_is t g v constant (types.Pointer marks.Nullable y r) (inr (inr (k, u, s, is, non_null, null))) e =
     let v_is : record { kind = kinds.Nullable; value = Null } ≡ v
     = sym (ap (λ (c : Constant). let x : Kinded = record { kind = kinds.Nullable; value = constant_value c } in x) null) ∙ same_Some (record { kind = kinds.Nullable; value = constant_value constant }) v e in
     subst (λ (x : Kinded). IsWord t x.kind x.value (initial_word constant)) v_is (ap initial_word null)
-initial_is t g v constant (types.Pointer marks.Fat y r) (inr (k, u, s, is, non_null, null)) e =
+initial_is t g v constant (types.Pointer marks.Fat y r) (inr (inr (k, u, s, is, non_null, null))) e =
     let v_is : record { kind = kinds.Fat; value = Null } ≡ v
     = sym (ap (λ (c : Constant). let x : Kinded = record { kind = kinds.Fat; value = constant_value c } in x) null) ∙ same_Some (record { kind = kinds.Fat; value = constant_value constant }) v e in
     subst (λ (x : Kinded). IsWord t x.kind x.value (initial_word constant)) v_is (ap initial_word null)
-initial_is t g v constant (types.Pointer marks.NonNull y r) (inr (k, u, s, is, non_null, null)) e = absurd (let f : true ≡ false = non_null in cc)
-initial_is t g v constant types.Int (inr (k, u, s, is, non_null, null)) e = absurd (let f : types.Int ≡ types.Pointer k u s = is in cc)
-initial_is t g v constant (types.Handle r) (inr (k, u, s, is, non_null, null)) e = absurd (let f : types.Handle r ≡ types.Pointer k u s = is in cc)
-initial_is t g v constant (types.Key r) (inr (k, u, s, is, non_null, null)) e = absurd (let f : types.Key r ≡ types.Pointer k u s = is in cc)
-initial_is t g v constant (types.Struct n rs) (inr (k, u, s, is, non_null, null)) e = absurd (let f : types.Struct n rs ≡ types.Pointer k u s = is in cc)
+initial_is t g v constant (types.Pointer marks.NonNull y r) (inr (inr (k, u, s, is, non_null, null))) e = absurd (let f : true ≡ false = non_null in cc)
+initial_is t g v constant types.Int (inr (inr (k, u, s, is, non_null, null))) e = absurd (let f : types.Int ≡ types.Pointer k u s = is in cc)
+initial_is t g v constant types.Char (inr (inr (k, u, s, is, non_null, null))) e = absurd (let f : types.Char ≡ types.Pointer k u s = is in cc)
+initial_is t g v constant (types.Handle r) (inr (inr (k, u, s, is, non_null, null))) e = absurd (let f : types.Handle r ≡ types.Pointer k u s = is in cc)
+initial_is t g v constant (types.Key r) (inr (inr (k, u, s, is, non_null, null))) e = absurd (let f : types.Key r ≡ types.Pointer k u s = is in cc)
+initial_is t g v constant (types.Struct n rs) (inr (inr (k, u, s, is, non_null, null))) e = absurd (let f : types.Struct n rs ≡ types.Pointer k u s = is in cc)
 
 -- so the words of each, which stand behind those of the globals before it, are what it begins with
 globals_start : (t : Tables) (gs : List GlobalVariable) (number : ℕ) (v : Kinded) → AreWellTypedGlobals gs → contents (map global_object gs) number ≡ Some v
@@ -109,6 +119,20 @@ globals_start t (g ∷ gs) (suc number) v (well, rest) has =
     = get_or-append_right (lower_global g) (lower_globals gs) (words_of g.of_type) (words_of g.of_type + behind) 0 long (omega arith)
     ∙ ap (λ (n : ℕ). slice_index (lower_globals gs) n) (let e : words_of g.of_type + behind - words_of g.of_type ≡ behind = omega arith in e) in
     (subst (IsWord t v.kind v.value) (sym next) is, room)
+
+-- each holds something
+global_has : (gs : List GlobalVariable) (number : ℕ) → number < length (global_types gs)
+    → (v : Kinded) × (contents (map global_object gs) number ≡ Some v) × (v.kind ≡ kind_in (global_types gs) number)
+global_has [] number few = absurd (omega (arith, few))
+global_has (g ∷ gs) zero few = (record { kind = kind_of g.of_type; value = constant_value g.value }, refl, refl)
+global_has (g ∷ gs) (suc number) few = global_has gs number (omega (arith, few))
+
+-- one that is a char by its row has that kind
+char_global : (t : Tables) (globals : List Ty) (number : ℕ) (r : IsGlobalRow t globals number) → IsCharAt t number → r.kind ≡ kinds.Char
+char_global t globals number r (address, is) =
+    let start : ℕ = GLOBALS_BASE + 4 * first_word globals number + variable_bytes r.kind in
+    let same : Placed start (r.kind ∷ []) ≡ Placed address (kinds.Char ∷ []) = same_some (sym r.row ∙ is) in
+    cc
 
 none_open : (source : Program) → MayBeOpen (scopes_of source) 0
 none_open source = by (list_any may_open source.functions)
@@ -226,6 +250,14 @@ module _ (source : Program) (pages calls : ℕ) (well_typed : AreWellTypedGlobal
                 let first = global_of (starts_at source source.main) number in
                 let first_is = globals-are (types_at source source.main) number few in
                 (IsWord-is t v.kind v.value (slice_index (lower_globals source.globals) (slot_in (global_types source.globals) number)) words first (ap (slice_index (lower_globals source.globals)) first_is) is, room),
+            λ is_char.
+                let (v, has, kind) = global_has source.globals number few in
+                let (is, room) = globals_start t source.globals number v well_typed has in
+                let row = start-rows source few_globals number few in
+                let char : v.kind ≡ kinds.Char = kind ∙ (row.of_type ∙ char_global t (global_types source.globals) number row is_char) in
+                let first_is = globals-are (types_at source source.main) number few in
+                subst (λ (n : ℕ). n < 256) (sym (ap (slice_index (lower_globals source.globals)) first_is))
+                (small_word t v.kind v.value (slice_index (lower_globals source.globals) (slot_in (global_types source.globals) number)) is char),
           ),
         ),
         (refl, tt),

@@ -3,6 +3,7 @@ use Rattle.std.proofs.Common.{◌≡◌, ℕ, suc, ◌+◌, ◌-◌, ◌≤◌, 
 use Rattle.cyc_types.specs.declared.typed.Kind.{Kind}
 use Rattle.cyc_types.specs.declared.typed.Kind.TheVariants as kinds
 use Rattle.cyc_types.specs.declared.typed.Callee.TheVariants as callees
+use Rattle.cyc_types.specs.declared.typed.UnaryOperator.TheVariants as unary
 use Rattle.cyc_types.specs.Types.{Ty, words_of}
 use Rattle.cyc_types.specs.TypedTrees.{Counter, Load, New, OnHeap, AsUnique, ByHandle, Initial, Plain, Fields, Array, Dereference, Target, type_of_place, Local, Global, Expression, Number, NullPointer, Copy, Call, Unary, Binary, Assign, Converted, Convert, Arguments, NoArguments, MoreArguments, Operations, NoOperations, ThenCompute, ThenTest, ThenPointer, type_of, Signature, Function, Move, Peek, ThenPointerPeek, AddressOfCell, Store, Member, FreeUnique, NumberOfElements, Element, HeapRegion, FreeKey, AddressOf}
 use Rattle.cyc_types.specs.Numbered.{Numbering}
@@ -15,23 +16,23 @@ use Rattle.cyc_plain.specs.WellFormed.{IsOperand}
 use Rattle.std.specs.Prelude.{unwrap_or, ◌==◌}
 use Rattle.cyc_meaning.specs.Operators.{null_exception}
 use Rattle.cyc_store.specs.declared.range.TheConstants.{HEAP, UNIQUE}
-use Rattle.cyc_meaning.specs.Values.{words_of_kind, bytes_of_kind, is_thin}
+use Rattle.cyc_meaning.specs.Values.{words_of_kind, bytes_of_kind, is_thin, kind_of}
 use Rattle.cyc_meaning.specs.FrameCount.{result_words, operand_words, converted_words, argument_words, expression_need, dereference_need, converted_need, arguments_need, operations_need, initial_value_need, place_words}
 use Rattle.cyc_meaning.specs.Pointers.{result_kind as operator_kind}
 use Rattle.cyc_objects.proofs.NumberLemmas.{slice_get-there}
 use Rattle.cyc_lower.specs.Slots.{counted, starts_of, slot_of, Types, global_of}
-use Rattle.cyc_lower.specs.ValueCode.{converts_there, passed_words, all_passed, kinds_passed, unary_operator, operand_or, code_unless, code_unless_slot, next_slot, check_code, conversion_code, operator_code, truth_code, low_byte, test_code, is_in, copy_code, behind_left, pointer_code, count_code, span_of, loaded_code, reached_code, followed_code, span_in, global_code}
+use Rattle.cyc_lower.specs.ValueCode.{converts_there, passed_words, all_passed, kinds_passed, operand_or, code_unless, code_unless_slot, next_slot, check_code, conversion_code, operator_code, truth_code, low_byte, test_code, is_in, copy_code, behind_left, pointer_code, count_code, span_of, loaded_code, reached_code, followed_code, span_in, global_code, unary_instruction, kind_behind}
 use Rattle.cyc_lower.specs.ObjectCode.{begun_code, filled_code, ended_code, elements_code, object_code, free_code}
 use Rattle.cyc_lower.specs.ControlCode.{closing_code}
 use Rattle.cyc_lower.specs.ExpressionCode.{source_of, source_slot, operand_of, left_of, value_slot, left_slot, value_operand, converted_operand, printed_operand, expression_code, arguments_code, converted_code, converted_operand_code, printed_code, initial_code, operations_code, made_code, place_operand, place_offset, place_code, pointer_of, pointer_slot}
 use Rattle.cyc_lower.specs.Lowering.{results_of, store_code}
-use Rattle.cyc_lower.proofs.slots.Widths.{kind_positive, kind_few, result_kind, passed_kind, words_in, chain_kind, made_kind}
+use Rattle.cyc_lower.proofs.slots.Widths.{kind_positive, kind_few, result_kind, passed_kind, words_in, chain_kind, made_kind, type_words}
 use Rattle.cyc_lower.proofs.slots.CellBytes.{passed_slots}
 use Rattle.cyc_lower.proofs.relation.Fitting.{FitsCell, Fits, FitsConverted, FitArguments, FitOperations, FitsObject}
 use Rattle.cyc_lower.proofs.slots.Slots.{words_positive, starts-are, words-there}
 use Rattle.cyc_plain.proofs.Placed.{below_of_get}
 use Rattle.cyc_lower.proofs.sizes.RangeLemmas.{operand_positive, converted_least, passed_is, arguments_words, made_needs, result_least, levels_inside, IsKnown, AreGlobals}
-use Rattle.cyc_lower.proofs.sizes.ValueRanges.{AreIn, append, unless_in, unless_slot_in, kind_at, HasOperand, assigned_kind, operator_few, stored_kind, given_needs, slot_fits, value_room, value_in, source_fits, brought_room, converted_room, printed_value_in, next_in, LeftIn, next_left_in, first_left_in, has_room, left_room, left_slot_in, left_in, free_in, check_in, reached_in, followed_in, conversion_in, operator_in, assigned_in, load_in, copy_in, pointer_copied, count_in, test_in, filled_in, object_in, loaded_in, own_needed, pointer_room, place_operand_in, addressed_in, stored_in, right_in, initial_by}
+use Rattle.cyc_lower.proofs.sizes.ValueRanges.{AreIn, append, unless_in, unless_slot_in, kind_at, HasOperand, assigned_kind, operator_few, stored_kind, given_needs, slot_fits, value_room, value_in, source_fits, brought_room, converted_room, printed_value_in, next_in, LeftIn, next_left_in, first_left_in, has_room, left_room, left_slot_in, left_in, free_in, check_in, reached_in, followed_in, conversion_in, operator_in, assigned_in, load_in, copy_in, pointer_copied, count_in, test_in, filled_in, object_in, loaded_in, own_needed, pointer_room, place_operand_in, addressed_in, stored_in, right_in, initial_by, unary_in, last_byte_in, begun_in}
 
 module _ (program : PlainProgram) (r : Routine) (b : Numbering) (called : (n : ℕ) (s : Signature) → slice_get b.functions n ≡ Some s → IsKnown program n s) (results : r.results ≡ results_of b.result) where
   mutual
@@ -79,14 +80,16 @@ module _ (program : PlainProgram) (r : Routine) (b : Numbering) (called : (n : �
         append program r b types locals levels globals called results behind front back
         (unless_in program r b types locals levels globals called results behind (operand_of (starts_of types) a) inner p (omega (arith, short, length-append front back)) (λ less. expression_in types locals levels globals behind a p slot t numbered (slot_fits program r b types locals levels globals called results behind a t numbered free) (omega (arith, few)) less))
         (count_in program r b types locals levels globals called results behind o (p + length front) d (subst (λ kind. HasOperand program r b types locals levels globals called results behind o (words_of_kind kind)) fat (value_room program r b types locals levels globals called results behind a t numbered free)) (omega (arith, room)) (omega (arith, short, length-append front back)))
+    expression_in types locals levels globals behind (Unary unary.Widen a) p d t (one, numbered) room few short =
+        expression_in types locals levels globals behind a p d t numbered (omega (arith, room, one)) (omega (arith, few)) short
     expression_in types locals levels globals behind (Unary o a) p d t numbered room few short =
         let inner = expression_code (starts_of types) a p (value_slot (starts_of types) a t) t in
         let front = code_unless (operand_of (starts_of types) a) inner in
-        let back = instructions.Unary (unary_operator o) d (value_operand (starts_of types) a t) ∷ [] in
+        let back = unary_instruction o d (value_operand (starts_of types) a t) ∷ [] in
         let free : t + words_of_kind (kind_at program r b types locals levels globals called results behind a) ≤ r.slots = omega (arith, few, given_needs program r b types locals levels globals called results behind a numbered) in
         append program r b types locals levels globals called results behind front back
         (unless_in program r b types locals levels globals called results behind (operand_of (starts_of types) a) inner p (omega (arith, short, length-append front back)) (λ less. expression_in types locals levels globals behind a p (value_slot (starts_of types) a t) t numbered (slot_fits program r b types locals levels globals called results behind a t numbered free) (omega (arith, few)) less))
-        ((omega (arith, room), value_in program r b types locals levels globals called results behind a t numbered free), tt)
+        (unary_in program r b types locals levels globals called results behind o d (value_operand (starts_of types) a t) (omega (arith, room)) (value_in program r b types locals levels globals called results behind a t numbered free), tt)
     expression_in types locals levels globals behind (Binary a os ty) p d t (numbered, rest) room few short =
         let inner = expression_code (starts_of types) a p (left_slot (starts_of types) a os d t) t in
         let front = code_unless (left_of (starts_of types) a os) inner in
@@ -115,13 +118,17 @@ module _ (program : PlainProgram) (r : Routine) (b : Numbering) (called : (n : �
     expression_in types locals levels globals behind (Load x) p d t numbered room few short =
         let own = words_of (type_of_place x) in
         let some = words_positive (type_of_place x) in
-        let load = loaded_code own (place_operand (starts_of types) x t) (place_offset (starts_of types) x) d t in
+        let kind = kind_of (type_of_place x) in
+        let load = loaded_code kind (place_operand (starts_of types) x t) (place_offset (starts_of types) x) d t in
         let needed = own_needed program r b types locals levels globals called results behind x own in
         append program r b types locals levels globals called results behind (place_code (starts_of types) x p t) load
         (place_in types locals levels globals behind x own p t numbered some few (omega (arith, short, length-append (place_code (starts_of types) x p t) load)))
-        (loaded_in program r b types locals levels globals called results behind (type_of_place x) (own == 1) (place_operand (starts_of types) x t) (place_offset (starts_of types) x) d t refl (place_operand_in program r b types locals levels globals called results behind x own t numbered some few) room (omega (arith, few, some, needed)))
-    expression_in types locals levels globals behind (AddressOf (Local w n) ty) p d t (within, (v, there, words)) room few short =
-        ((omega (arith, room), omega (arith, locals n within, words-there types.locals n v there, words), (n, v, there, starts-are types n (below_of_get types.locals n v there), words)), tt)
+        (loaded_in program r b types locals levels globals called results behind kind (words_of_kind kind == 1) (place_operand (starts_of types) x t) (place_offset (starts_of types) x) d t refl (place_operand_in program r b types locals levels globals called results behind x own t numbered some few) room (omega (arith, few, some, needed)))
+    expression_in types locals levels globals behind (AddressOf (Local w n) ty) p d t (within, (v, there, same)) room few short =
+        let count : words_of_kind (kind_behind ty) ≡ words_of v = ap words_of_kind same ∙ type_words v in (
+          (omega (arith, room), omega (arith, locals n within, words-there types.locals n v there, count), (n, v, there, starts-are types n (below_of_get types.locals n v there), count)),
+          last_byte_in program r b types locals levels globals called results behind (kind_behind ty) d (omega (arith, room)),
+        )
     expression_in types locals levels globals behind (AddressOf (Global n) ty) p d t numbered room few short = ((omega (arith, room), tt), tt)
     expression_in types locals levels globals behind (AddressOfCell x ty) p d t numbered room few short =
         addressed_in program r b types locals levels globals called results behind x p d t numbered (omega (arith, room)) (omega (arith, few)) short (λ less. place_in types locals levels globals behind x place_words p t numbered (omega arith) (omega (arith, few)) less)
@@ -186,36 +193,26 @@ module _ (program : PlainProgram) (r : Routine) (b : Numbering) (called : (n : �
         let own = words_of_kind kind in
         let first = expression_code (starts_of types) n p t t in
         let m = p + length first in
-        let h = m + 7 in
         let begun = begun_code (starts_of types) handle kind t in
+        let h = m + length begun in
         let inner = expression_code (starts_of (counted types (t + 2))) a (h + 1) (t + 3) (t + 3) in
         let filled = filled_code kind h t in
         let ended = ended_code d t in
         let elements = elements_code kind inner h d t in
         let long = length-append first (begun ++ elements) in
+        let long_begun = length-append begun elements in
         let long_elements = length-append (inner ++ filled) ended in
         let long_both = length-append inner filled in
         append program r b types locals levels globals called results behind first (begun ++ elements)
         (expression_in types locals levels globals behind n p t t fits_n (omega (arith, few, place, kind_few (kind_at program r b types locals levels globals called results behind n))) (omega (arith, few, place)) (omega (arith, short, long)))
-        (append program r b types locals levels globals called results behind begun elements (
-          (omega (arith, few, place), tt, omega (arith, behind)),
-          (
-            (omega (arith, few, place), omega (arith, few, place)),
-            (
-              (omega (arith, few, place), tt),
-              (
-                (omega (arith, few, place), omega (arith, few, place), tt),
-                ((omega (arith, few, place), omega (arith, few, place)), ((omega (arith, few, place), omega (arith, few, place), omega (arith, few, place)), (record { answer_in_range = omega (arith, few, place); first_in_range = there; second_in_range = omega (arith, few, place) }, tt))),
-              ),
-            ),
-          ),
-        ) (
-          (omega (arith, few, place), omega (arith, few, place), omega (arith, short, long, long_elements, long_both)),
+        (append program r b types locals levels globals called results behind begun elements
+        (begun_in program r b types locals levels globals called results behind handle kind t there (omega (arith, few, place))) (
+          (omega (arith, few, place), omega (arith, few, place), omega (arith, short, long, long_begun, long_elements, long_both)),
           append program r b types locals levels globals called results behind (inner ++ filled) ended
               (append program r b types locals levels globals called results behind inner filled
               (expression_in (counted types (t + 2)) locals (levels_inside r types levels (t + 2) (omega (arith, few, place))) globals behind a (h + 1) (t + 3) (t + 3) (fits_a (t + 2)) (omega (arith, few, place, ap words_of_kind kind_is)) (omega (arith, few, place))
-              (omega (arith, short, long, long_elements, long_both)))
-              (filled_in program r b types locals levels globals called results behind (bytes_of_kind kind == 4) own h t (omega (arith, few, place)) (omega (arith, short, long, long_elements, long_both))))
+              (omega (arith, short, long, long_begun, long_elements, long_both)))
+              (filled_in program r b types locals levels globals called results behind kind h t (omega (arith, few, place)) (omega (arith, short, long, long_begun, long_elements, long_both))))
               ((omega (arith, few, place), tt), pointer_copied program r b types locals levels globals called results behind d t room (omega (arith, few, place))),
         ))
 

@@ -2,8 +2,8 @@
 use Rattle.std.proofs.Common.{ℕ, ◌+◌, ◌*◌, ◌≤◌, List, [], ◌∷◌, Some, None, arith, length}
 use Rattle.cyc_syntax.specs.declared.tree.PointerKind.TheVariants as marks
 use Rattle.cyc_syntax.specs.TokenRule.{max_tokens}
-use Rattle.cyc_types.specs.declared.typed.Kind.TheVariants as kinds
-use Rattle.cyc_types.specs.Types.{Ty, Int, Pointer, Handle, Key, Struct, words_of, ValueType, Void, Null, Value}
+use Rattle.cyc_types.specs.declared.typed.UnaryOperator.TheVariants as unary
+use Rattle.cyc_types.specs.Types.{Ty, Int, Char, Pointer, Handle, Key, Struct, words_of, ValueType, Void, Null, Value}
 use Rattle.cyc_types.specs.TypedTrees.{Expression, Number, NullPointer, HeapRegion, Counter, Copy, Move, Peek, Load, AddressOf, AddressOfCell, NumberOfElements, FreeUnique, FreeKey, Call, Unary, Binary, Assign, Store, New, Dereference, Target, Member, Element, Placement, OnHeap, AsUnique, ByHandle, Initial, Plain, Fields, Array, Converted, Convert, Arguments, NoArguments, MoreArguments, Operations, NoOperations, ThenCompute, ThenTest, ThenPointer, ThenPointerPeek, type_of, type_of_place, Side, VariableSide, CellSide, Statement, Block, Empty, Evaluate, Swap, If, While, Return, Break, Continue, Throw, Try, Items, NoItems, MoreItems, Execute, Declare, DeclareRegion, Clauses, NoClauses, Default, Case, Program}
 use Rattle.cyc_types.specs.Weight.{expression_weight, dereference_weight, placement_weight, initial_weight, converted_weight, arguments_weight, more_arguments_weight, operations_weight, side_weight, statement_weight, items_weight, clauses_weight, function_weight, program_weight}
 use Rattle.cyc_types.specs.typing.WellTyped.{IsWellTypedProgram}
@@ -17,6 +17,7 @@ use Rattle.cyc_lower.proofs.slots.Widths.{kind_few}
 
 words_few : (t : Ty) → (1 ≤ words_of t) × (words_of t ≤ 3)
 words_few Int = (omega arith, omega arith)
+words_few Char = (omega arith, omega arith)
 words_few (Pointer marks.Nullable t r) = (omega arith, omega arith)
 words_few (Pointer marks.NonNull t r) = (omega arith, omega arith)
 words_few (Pointer marks.Fat t r) = (omega arith, omega arith)
@@ -70,6 +71,7 @@ mutual
   expression_light (Number n) = omega arith
   expression_light (Copy l t) = omega (arith, (words_few t).1)
   expression_light (Call f cs t) = omega (arith, arguments_words cs, result_few t, arguments_light cs)
+  expression_light (Unary unary.Widen a) = omega (arith, expression_light a)
   expression_light (Unary o a) = omega (arith, operand_few (type_of a), some_token a, expression_light a)
   expression_light (Binary a os t) = omega (arith, expression_light a, operations_light os t (operand_words (type_of a)) (operand_few (type_of a)))
   expression_light (Assign l c t) = omega (arith, converted_few c, result_few t, converted_token c, converted_light c)

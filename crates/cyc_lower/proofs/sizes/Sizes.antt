@@ -7,6 +7,7 @@ use Rattle.std.proofs.lemmas.List.Sums.{sum_by-append, sum_by-cons}
 use Rattle.cyc_types.specs.declared.typed.Kind.{Kind}
 use Rattle.cyc_types.specs.declared.typed.Kind.TheVariants as kinds
 use Rattle.cyc_types.specs.declared.typed.Callee.TheVariants as callees
+use Rattle.cyc_types.specs.declared.typed.UnaryOperator.{UnaryOperator}
 use Rattle.cyc_types.specs.declared.typed.UnaryOperator.TheVariants as unary
 use Rattle.cyc_types.specs.declared.typed.Operator.{Operator}
 use Rattle.cyc_types.specs.declared.typed.Operator.TheVariants as operators
@@ -21,6 +22,7 @@ use Rattle.cyc_types.specs.Weight.{expression_weight, dereference_weight, initia
 use Rattle.cyc_plain.specs.declared.instruction.Comparison.{Comparison}
 use Rattle.cyc_plain.specs.declared.instruction.Comparison.TheVariants as comparisons
 use Rattle.cyc_plain.specs.declared.instruction.BinaryOperator.TheVariants as plain_binary
+use Rattle.cyc_plain.specs.declared.instruction.UnaryOperator.TheVariants as plain_unary
 use Rattle.cyc_plain.specs.declared.instruction.Operand.{Operand}
 use Rattle.cyc_plain.specs.declared.instruction.Operand.TheVariants as operands
 use Rattle.cyc_plain.specs.declared.instruction.Request.TheVariants as requests
@@ -34,8 +36,8 @@ use Rattle.cyc_store.specs.declared.range.TheConstants.{HEAP, UNIQUE}
 use Rattle.cyc_meaning.specs.Values.{kind_of, words_of_kind, begins, behind, bytes_from, words_for, is_thin}
 use Rattle.cyc_lower.proofs.slots.Widths.{kind_few, type_words}
 use Rattle.cyc_lower.proofs.slots.CellBytes.{passed_slots}
-use Rattle.cyc_lower.specs.ValueCode.{converts_there, passed_words, all_passed, kinds_passed, converted_by, moved_by, move_of, unary_operator, binary_operator, operand_or, code_unless, slot_or, code_unless_slot, next_slot, conversion_code, divisor_code, checked_code, operator_code, truth_code, low_byte, test_code, is_in, copy_code, failing_comparison, left_with, first_temporary, jump_if_zero, jump_if_nonzero, behind_left, pointer_code, pointer_operator, index_of, first_two, pointer_instructions, address_code, blocks, element_by, count_code, span_of, tested_code, widened_code, conversion_by, tested_by, check_code, are_as_wide, loaded_code, bounds_code, stepped_code, bounded_code, past_bounded, thinned_code, reached_code, followed_code, followed_operand, followed_by, span_in, reached_operand, word_by_word, load_word, store_word, global_code}
-use Rattle.cyc_lower.specs.ObjectCode.{begun_code, filled_code, ended_code, elements_code, stores_code, cells_code, slots_of_kinds, object_code, free_code, right_slot, saved_code, load_at}
+use Rattle.cyc_lower.specs.ValueCode.{converts_there, passed_words, all_passed, kinds_passed, converted_by, moved_by, move_of, binary_operator, operand_or, code_unless, slot_or, code_unless_slot, next_slot, conversion_code, divisor_code, checked_code, operator_code, truth_code, low_byte, test_code, is_in, copy_code, failing_comparison, left_with, first_temporary, jump_if_zero, jump_if_nonzero, behind_left, pointer_code, pointer_operator, index_of, first_two, pointer_instructions, address_code, blocks, element_by, count_code, span_of, tested_code, widened_code, conversion_by, tested_by, check_code, loaded_code, bounds_code, stepped_code, bounded_code, past_bounded, thinned_code, reached_code, followed_code, followed_operand, followed_by, span_in, reached_operand, word_by_word, load_word, store_word, global_code, keeps_words, masked_code, load_of, store_of, unary_instruction, last_byte_code, blank_code, kind_behind, kind_passed}
+use Rattle.cyc_lower.specs.ObjectCode.{begun_code, filled_code, ended_code, elements_code, stores_code, cells_code, slots_of_kinds, object_code, free_code, right_slot, saved_code, load_at, measured_code, sized_code}
 use Rattle.cyc_lower.specs.ControlCode.{compared_or, failing_jump, break_target, continue_target, outside_loops, inside_loop, leave_code, tag_operand, other_jump, clause_code, opened_code, closed_code, named_code, dynamic_code, closing_code, handlers_code, marks_code, kept_code, kept_code_in, restored_code, restored_code_in, behind_record, inside_try, inside_region}
 use Rattle.cyc_lower.specs.ExpressionCode.{source_of, source_slot, operand_of, left_of, value_slot, left_slot, value_operand, converted_operand, printed_operand, load_code, expression_code, arguments_code, converted_code, converted_operand_code, printed_code, initial_code, operations_code, slot_with, made_code, place_operand, place_offset, place_code, pointer_of, pointer_slot}
 use Rattle.cyc_lower.specs.Lowering.{assignment_code, discarded_code, first_code, second_code, pair_code, condition_code, condition_of, return_code, declaration_code, statement_code, items_code, lower_function, store_address_code, side_code, read_side, write_side, exchange_code, swap_code, caught_code, clauses_code, starts_with, raises_of}
@@ -74,12 +76,13 @@ widened_size (operands.Word w) = omega arith
 
 stepped_size : (span : Option ℕ) (n m t : ℕ) → code_size (stepped_code span n m t) ≤ 22
 stepped_size None n m t = omega arith
-stepped_size (Some bytes) n m t = by (bytes == 4)
+stepped_size (Some bytes) n m t = by (bytes == 4) (bytes == 1)
   where
-    by : (narrow : Bool)
-        → code_size ((if narrow then instructions.Binary plain_binary.ShiftLeft (t + 2) (operands.Slot m) (operands.Word 2) else instructions.Binary plain_binary.Multiply (t + 2) (operands.Slot m) (operands.Word 12)) ∷ instructions.Binary plain_binary.Add t (operands.Slot n) (operands.Slot (t + 2)) ∷ []) ≤ 22
-    by true = omega arith
-    by false = omega arith
+    by : (narrow one : Bool)
+        → code_size ((if narrow then instructions.Binary plain_binary.ShiftLeft (t + 2) (operands.Slot m) (operands.Word 2) else if one then instructions.Move (t + 2) (operands.Slot m) else instructions.Binary plain_binary.Multiply (t + 2) (operands.Slot m) (operands.Word 12)) ∷ instructions.Binary plain_binary.Add t (operands.Slot n) (operands.Slot (t + 2)) ∷ []) ≤ 22
+    by true one = omega arith
+    by false true = omega arith
+    by false false = omega arith
 
 bounded_size : (starts : Starts) (span : Option ℕ) (n m t : ℕ) → code_size (bounded_code starts span n m t) ≤ 33
 bounded_size starts span n m t = omega (arith, both (bounds_code starts (operands.Slot m) (operands.Slot (n + 1))) (stepped_code span n m t), stepped_size span n m t)
@@ -93,13 +96,18 @@ thinned_size starts kinds.Nullable span (operands.Slot n) p =
     omega (arith, cons (jump_if_zero (operands.Slot n) (p + past_bounded span)) (bounded_code starts span n (n + 2) n), bounded_size starts span n (n + 2) n)
 thinned_size starts to span o p = omega arith
 
+masked_size : (o : Operand) → code_size (masked_code o) ≤ 11
+masked_size (operands.Slot n) = omega arith
+masked_size (operands.Word n) = omega arith
+
 conversion_by_size : (starts : Starts) (wide : Bool) (to : Kind) (span : Option ℕ) (o : Operand) (p : ℕ) → code_size (conversion_by starts wide to span o p) ≤ 44
 conversion_by_size starts true to span o p = omega (arith, tested_size starts to o)
 conversion_by_size starts false kinds.Fat span o p = omega (arith, widened_size o)
+conversion_by_size starts false kinds.Char span o p = omega (arith, masked_size o)
 conversion_by_size starts false to span o p = thinned_size starts to span o p
 
 conversion_size : (starts : Starts) (from to : Kind) (span : Option ℕ) (o : Operand) (p : ℕ) → code_size (conversion_code starts from to span o p) ≤ 44
-conversion_size starts from to span o p = conversion_by_size starts (are_as_wide from to) to span o p
+conversion_size starts from to span o p = conversion_by_size starts (keeps_words from to) to span o p
 
 divisor_size : (starts : Starts) (o : Operand) → code_size (divisor_code starts o) ≤ 18
 divisor_size starts (operands.Word (suc n)) = omega arith
@@ -191,6 +199,13 @@ first_two_size (operands.Slot n) d = by (n == d)
     by true = omega arith
     by false = omega arith
 
+unary_size : (o : UnaryOperator) (d : ℕ) (r : Operand) → instruction_size (unary_instruction o d r) ≤ 11
+unary_size unary.Negate d r = omega arith
+unary_size unary.Not d r = omega arith
+unary_size unary.Complement d r = omega arith
+unary_size unary.Widen d r = omega arith
+unary_size unary.LowByte d r = omega arith
+
 pointer_size : (o : PointerOperator) (l r : Operand) (d : ℕ) → code_size (pointer_instructions o l r d) ≤ 36
 pointer_size pointers.AddFat l r d = omega (arith, cons (instructions.Binary (pointer_operator pointers.AddFat) (d + 2) (index_of l) r) (first_two l d), first_two_size l d)
 pointer_size pointers.SubtractFat l r d = omega (arith, cons (instructions.Binary (pointer_operator pointers.SubtractFat) (d + 2) (index_of l) r) (first_two l d), first_two_size l d)
@@ -231,27 +246,42 @@ test_size : (o : LogicalOperator) (operand : List Instruction) (p d t : ℕ) →
 test_size logical.AndThen operand p d t = omega (arith, both operand (truth_code t d), cons (jump_if_zero (operands.Slot t) (p + 1 + length operand)) (operand ++ truth_code t d))
 test_size logical.OrElse operand p d t = omega (arith, both operand (truth_code t d), cons (jump_if_nonzero (operands.Slot t) (p + 1 + length operand)) (operand ++ truth_code t d))
 
-stores_size : (many address offset slot : ℕ) → code_size (stores_code many address offset slot) ≡ 10 * many
-stores_size zero address offset slot = refl
-stores_size (suc many) address offset slot =
-    omega (arith, cons (instructions.Store (operands.Slot address) offset (operands.Slot slot)) (stores_code many address (offset + 4) (suc slot)), stores_size many address (offset + 4) (suc slot))
+-- a byte is loaded and stored as shortly as a word
+load_of_size : (kind : Kind) (d : ℕ) (address : Operand) (offset : ℕ) → instruction_size (load_of kind d address offset) ≡ 10
+load_of_size kinds.Char d address offset = refl
+load_of_size kind d address offset = refl
 
-saved_size : (words address : ℕ) (o : Operand) → words ≤ 3 → code_size (saved_code words address o) ≤ 30
-saved_size words address (operands.Slot n) few = omega (arith, stores_size words address 0 n, few)
-saved_size words address (operands.Word n) few = omega arith
+store_of_size : (kind : Kind) (address : Operand) (offset : ℕ) (o : Operand) → instruction_size (store_of kind address offset o) ≡ 10
+store_of_size kinds.Char address offset o = refl
+store_of_size kind address offset o = refl
 
-loaded_size : (narrow : Bool) (o : Operand) (bytes d t : ℕ)
-    → code_size (if narrow then instructions.Load d o bytes ∷ [] else address_code o bytes t ++ (instructions.Load (d + 2) (operands.Slot t) 8 ∷ instructions.Load (d + 1) (operands.Slot t) 4 ∷ instructions.Load d (operands.Slot t) 0 ∷ [])) ≤ 41
-loaded_size true o bytes d t = omega arith
-loaded_size false o bytes d t =
+stores_size : (kind : Kind) (many address offset slot : ℕ) → code_size (stores_code kind many address offset slot) ≡ 10 * many
+stores_size kind zero address offset slot = refl
+stores_size kind (suc many) address offset slot =
+    omega (
+      arith,
+      cons (store_of kind (operands.Slot address) offset (operands.Slot slot)) (stores_code kind many address (offset + 4) (suc slot)),
+      store_of_size kind (operands.Slot address) offset (operands.Slot slot),
+      stores_size kind many address (offset + 4) (suc slot),
+    )
+
+saved_size : (kind : Kind) (address : ℕ) (o : Operand) → code_size (saved_code kind address o) ≤ 30
+saved_size kind address (operands.Slot n) = omega (arith, stores_size kind (words_of_kind kind) address 0 n, kind_few kind)
+saved_size kind address (operands.Word n) =
+    omega (arith, cons (store_of kind (operands.Slot address) 0 (operands.Word n)) [], store_of_size kind (operands.Slot address) 0 (operands.Word n))
+
+loaded_size : (narrow : Bool) (kind : Kind) (o : Operand) (bytes d t : ℕ)
+    → code_size (if narrow then load_of kind d o bytes ∷ [] else address_code o bytes t ++ (instructions.Load (d + 2) (operands.Slot t) 8 ∷ instructions.Load (d + 1) (operands.Slot t) 4 ∷ instructions.Load d (operands.Slot t) 0 ∷ [])) ≤ 41
+loaded_size true kind o bytes d t = omega (arith, cons (load_of kind d o bytes) [], load_of_size kind d o bytes)
+loaded_size false kind o bytes d t =
     omega (arith, both (address_code o bytes t) (instructions.Load (d + 2) (operands.Slot t) 8 ∷ instructions.Load (d + 1) (operands.Slot t) 4 ∷ instructions.Load d (operands.Slot t) 0 ∷ []), address_size o bytes t)
 
 cells_size : (ks : List Kind) (address at slot : ℕ) → code_size (cells_code ks address at slot) ≡ 10 * slots_of_kinds ks
 cells_size [] address at slot = refl
 cells_size (kind ∷ ks) address at slot =
-    let first = stores_code (words_of_kind kind) address (begins kind at) slot in
+    let first = stores_code kind (words_of_kind kind) address (begins kind at) slot in
     let others = cells_code ks address (behind kind at) (slot + words_of_kind kind) in
-    omega (arith, both first others, stores_size (words_of_kind kind) address (begins kind at) slot, cells_size ks address (behind kind at) (slot + words_of_kind kind))
+    omega (arith, both first others, stores_size kind (words_of_kind kind) address (begins kind at) slot, cells_size ks address (behind kind at) (slot + words_of_kind kind))
 
 object_size : (handle : Operand) (ks : List Kind) (d t : ℕ) → code_size (object_code handle ks d t) ≡ 17 + 10 * slots_of_kinds ks
 object_size handle ks d t =
@@ -264,9 +294,34 @@ object_size handle ks d t =
       cells_size ks (t + words) 0 t,
     )
 
+-- an array begins
+sized_size : (kind : Kind) (t : ℕ) → code_size (sized_code kind t) ≤ 22
+sized_size kinds.Int t = omega arith
+sized_size kinds.Char t = omega arith
+sized_size kinds.Nullable t = omega arith
+sized_size kinds.NonNull t = omega arith
+sized_size kinds.Fat t = omega arith
+sized_size kinds.Handle t = omega arith
+sized_size kinds.Key t = omega arith
+
+begun_size : (starts : Starts) (handle : Operand) (kind : Kind) (t : ℕ) → code_size (begun_code starts handle kind t) ≤ 80
+begun_size starts handle kind t =
+    let asks = instructions.Unary plain_unary.Not (t + 3) (operands.Slot t) ∷ instructions.Binary plain_binary.Add (t + 3) (operands.Slot (t + 3)) (operands.Slot t) ∷ instructions.Ask (requests.Allocate t handle (operands.Slot (t + 3))) ∷ [] in
+    omega (arith, both (measured_code starts kind (t + 1) (t + 2) t) (sized_code kind t ++ asks), both (sized_code kind t) asks, sized_size kind t)
+
+-- the address of a variable's last byte
+last_byte_size : (kind : Kind) (d : ℕ) → code_size (last_byte_code kind d) ≤ 11
+last_byte_size kinds.Char d = omega arith
+last_byte_size kind d = omega arith
+
+blank_size : (kind : Kind) (slot : ℕ) → code_size (blank_code kind slot) ≤ 6
+blank_size kinds.Char slot = omega arith
+blank_size kind slot = omega arith
+
 -- an element of an array comes to its cell
 filled_size : (kind : Kind) (head t : ℕ) → code_size (filled_code kind head t) ≤ 80
 filled_size kinds.Int head t = omega arith
+filled_size kinds.Char head t = omega arith
 filled_size kinds.Nullable head t = omega arith
 filled_size kinds.NonNull head t = omega arith
 filled_size kinds.Fat head t = omega arith
@@ -357,9 +412,18 @@ mutual
       let front = code_unless (operand_of starts a) inner in
       let count = count_code (value_operand starts a t) (p + length front) d in
       omega (arith, both front count, unless_size (operand_of starts a) inner, expression_size starts a p (value_slot starts a t) t, count_size (value_operand starts a t) (p + length front) d)
+  expression_size starts (Unary unary.Widen a) p d t = omega (arith, expression_size starts a p d t)
   expression_size starts (Unary o a) p d t =
       let inner = expression_code starts a p (value_slot starts a t) t in
-      omega (arith, both (code_unless (operand_of starts a) inner) (instructions.Unary (unary_operator o) d (value_operand starts a t) ∷ []), unless_size (operand_of starts a) inner, expression_size starts a p (value_slot starts a t) t)
+      let r = value_operand starts a t in
+      omega (
+        arith,
+        both (code_unless (operand_of starts a) inner) (unary_instruction o d r ∷ []),
+        cons (unary_instruction o d r) [],
+        unary_size o d r,
+        unless_size (operand_of starts a) inner,
+        expression_size starts a p (value_slot starts a t) t,
+      )
   expression_size starts (Binary a os ty) p d t =
       let inner = expression_code starts a p (left_slot starts a os d t) t in
       let front = code_unless (left_of starts a os) inner in
@@ -375,9 +439,11 @@ mutual
       omega (arith, both (front ++ store) (copy_code (passed_words c) o d), both front store, converted_operand_size starts c p t, global_size starts c (global_of starts n) o, copy_size c o d)
   expression_size starts (Load x) p d t =
       let o = place_operand starts x t in
-      let words = words_of (type_of_place x) in
-      omega (arith, both (place_code starts x p t) (loaded_code words o (place_offset starts x) d t), place_size starts x p t, loaded_size (words == 1) o (place_offset starts x) d t)
-  expression_size starts (AddressOf (Local w n) ty) p d t = omega arith
+      let kind = kind_of (type_of_place x) in
+      omega (arith, both (place_code starts x p t) (loaded_code kind o (place_offset starts x) d t), place_size starts x p t, loaded_size (words_of_kind kind == 1) kind o (place_offset starts x) d t)
+  expression_size starts (AddressOf (Local w n) ty) p d t =
+      let kind = kind_behind ty in
+      omega (arith, cons (instructions.AddressOf d (slot_of starts n) (words_of_kind kind)) (last_byte_code kind d), last_byte_size kind d)
   expression_size starts (AddressOf (Global n) ty) p d t = omega arith
   expression_size starts (AddressOfCell x ty) p d t =
       let address = address_code (place_operand starts x t) (place_offset starts x) d in
@@ -386,13 +452,13 @@ mutual
       let address = store_address_code starts x p t in
       let value = converted_operand_code starts c (p + length address) (t + 1) in
       let o = converted_operand starts c (t + 1) in
-      let write = saved_code (passed_words c) t o in
+      let write = saved_code (kind_passed c) t o in
       omega (
         arith,
         both (address ++ (value ++ write)) (copy_code (passed_words c) o d),
         both address (value ++ write),
         both value write,
-        saved_size (passed_words c) t o (passed_few c),
+        saved_size (kind_passed c) t o,
         store_address_size starts x p t,
         converted_operand_size starts c (p + length address) (t + 1),
         copy_size c o d,
@@ -420,22 +486,25 @@ mutual
   made_size starts (Array w level n kind a) handle p d t =
       let first = expression_code starts n p t t in
       let m = p + length first in
-      let inner = expression_code (with_counter starts (t + 2)) a (m + 7 + 1) (t + 3) (t + 3) in
-      let filled = filled_code kind (m + 7) t in
-      let elements = elements_code kind inner (m + 7) d t in
-      let jump = instructions.Branch comparisons.Equal (operands.Slot (t + 2)) (operands.Slot (t + 1)) (m + 7 + 1 + length (inner ++ filled)) in
+      let begun = begun_code starts handle kind t in
+      let head = m + length begun in
+      let inner = expression_code (with_counter starts (t + 2)) a (head + 1) (t + 3) (t + 3) in
+      let filled = filled_code kind head t in
+      let elements = elements_code kind inner head d t in
+      let jump = instructions.Branch comparisons.Equal (operands.Slot (t + 2)) (operands.Slot (t + 1)) (head + 1 + length (inner ++ filled)) in
       omega (
         arith,
-        both first (begun_code starts handle kind t ++ elements),
-        both (begun_code starts handle kind t) elements,
-        filled_size kind (m + 7) t,
+        both first (begun ++ elements),
+        both begun elements,
+        begun_size starts handle kind t,
+        filled_size kind head t,
         cons jump ((inner ++ filled) ++ ended_code d t),
         both (inner ++ filled) (ended_code d t),
         both inner filled,
         cons (instructions.Move (t + 2) (operands.Word 0)) (copy_code 3 (operands.Slot t) d),
         copied_pointer_size t d,
         expression_size starts n p t t,
-        expression_size (with_counter starts (t + 2)) a (m + 7 + 1) (t + 3) (t + 3),
+        expression_size (with_counter starts (t + 2)) a (head + 1) (t + 3) (t + 3),
       )
 
   place_size : (starts : Starts) → (x : Dereference) (p t : ℕ) → code_size (place_code starts x p t) + 41 ≤ size_per_weight * dereference_weight x
@@ -590,8 +659,8 @@ module _ (starts : Starts) where
   discarded_size (Store x c ty) p t =
       let address = store_address_code starts x p t in
       let value = converted_operand_code starts c (p + length address) (t + 1) in
-      let write = saved_code (passed_words c) t (converted_operand starts c (t + 1)) in
-      omega (arith, both address (value ++ write), both value write, saved_size (passed_words c) t (converted_operand starts c (t + 1)) (passed_few c), store_address_size starts x p t, converted_operand_size starts c (p + length address) (t + 1))
+      let write = saved_code (kind_passed c) t (converted_operand starts c (t + 1)) in
+      omega (arith, both address (value ++ write), both value write, saved_size (kind_passed c) t (converted_operand starts c (t + 1)), store_address_size starts x p t, converted_operand_size starts c (p + length address) (t + 1))
   discarded_size a p t = omega (arith, unless_size (operand_of starts a) (expression_code starts a p t t), expression_size starts a p t t)
 
   -- ---- statements
@@ -666,32 +735,37 @@ module _ (starts : Starts) where
   side_size (VariableSide l ty) p t = omega arith
   side_size (CellSide x) p t = omega (arith, store_address_size starts x p t)
 
-  words_size : (many address index slot : ℕ) → code_size (word_by_word (load_at address) many index slot) ≡ 10 * many
-  words_size zero address index slot = refl
-  words_size (suc many) address index slot =
-      omega (arith, cons (instructions.Load slot (operands.Slot address) (4 * index)) (word_by_word (load_at address) many (suc index) (suc slot)), words_size many address (suc index) (suc slot))
+  words_size : (kind : Kind) (many address index slot : ℕ) → code_size (word_by_word (load_at kind address) many index slot) ≡ 10 * many
+  words_size kind zero address index slot = refl
+  words_size kind (suc many) address index slot =
+      omega (
+        arith,
+        cons (load_at kind address index slot) (word_by_word (load_at kind address) many (suc index) (suc slot)),
+        load_of_size kind slot (operands.Slot address) (4 * index),
+        words_size kind many address (suc index) (suc slot),
+      )
 
-  read_size : (a : Side) (words s d : ℕ) → words ≤ 3 → code_size (read_side starts a words s d) ≤ 30
-  read_size (VariableSide (Local w n) ty) words s d few = omega (arith, move_size words d (operands.Slot (slot_of starts n)) few)
-  read_size (VariableSide (Global n) ty) words s d few = omega (arith, loads_size starts words (global_of starts n) d, few)
-  read_size (CellSide x) words s d few = omega (arith, words_size words s 0 d, few)
+  read_size : (a : Side) (kind : Kind) (s d : ℕ) → code_size (read_side starts a kind s d) ≤ 30
+  read_size (VariableSide (Local w n) ty) kind s d = omega (arith, move_size (words_of_kind kind) d (operands.Slot (slot_of starts n)) (kind_few kind))
+  read_size (VariableSide (Global n) ty) kind s d = omega (arith, loads_size starts (words_of_kind kind) (global_of starts n) d, kind_few kind)
+  read_size (CellSide x) kind s d = omega (arith, words_size kind (words_of_kind kind) s 0 d, kind_few kind)
 
-  write_size : (a : Side) (words s v : ℕ) → words ≤ 3 → code_size (write_side starts a words s v) ≤ 30
-  write_size (VariableSide (Local w n) ty) words s v few = omega (arith, move_size words (slot_of starts n) (operands.Slot v) few)
-  write_size (VariableSide (Global n) ty) words s v few = omega (arith, saves_size starts words (global_of starts n) v, few)
-  write_size (CellSide x) words s v few = omega (arith, stores_size words s 0 v, few)
+  write_size : (a : Side) (kind : Kind) (s v : ℕ) → code_size (write_side starts a kind s v) ≤ 30
+  write_size (VariableSide (Local w n) ty) kind s v = omega (arith, move_size (words_of_kind kind) (slot_of starts n) (operands.Slot v) (kind_few kind))
+  write_size (VariableSide (Global n) ty) kind s v = omega (arith, saves_size starts (words_of_kind kind) (global_of starts n) v, kind_few kind)
+  write_size (CellSide x) kind s v = omega (arith, stores_size kind (words_of_kind kind) s 0 v, kind_few kind)
 
   swap_size : (x y : Side) (p t : ℕ) → code_size (swap_code starts x y p t) ≤ size_per_weight * (2 + side_weight x + side_weight y)
   swap_size x y p t =
-      let words = words_of (type_of_side x) in
-      let few : words ≤ 3 = omega (arith, type_words (type_of_side x), kind_few (kind_of (type_of_side x))) in
+      let kind = kind_of (type_of_side x) in
+      let words = words_of_kind kind in
       let front = side_code starts x p t in
       let middle = side_code starts y (p + length front) (right_slot x t) in
-      let back = exchange_code starts words x y t in
-      let first = read_side starts x words t (t + 2) in
-      let second = read_side starts y words (right_slot x t) (t + 2 + words) in
-      let third = write_side starts x words t (t + 2 + words) in
-      let fourth = write_side starts y words (right_slot x t) (t + 2) in
+      let back = exchange_code starts kind x y t in
+      let first = read_side starts x kind t (t + 2) in
+      let second = read_side starts y kind (right_slot x t) (t + 2 + words) in
+      let third = write_side starts x kind t (t + 2 + words) in
+      let fourth = write_side starts y kind (right_slot x t) (t + 2) in
       omega (
         arith,
         both front (middle ++ back),
@@ -701,10 +775,10 @@ module _ (starts : Starts) where
         both third fourth,
         side_size x p t,
         side_size y (p + length front) (right_slot x t),
-        read_size x words t (t + 2) few,
-        read_size y words (right_slot x t) (t + 2 + words) few,
-        write_size x words t (t + 2 + words) few,
-        write_size y words (right_slot x t) (t + 2) few,
+        read_size x kind t (t + 2),
+        read_size y kind (right_slot x t) (t + 2 + words),
+        write_size x kind t (t + 2 + words),
+        write_size y kind (right_slot x t) (t + 2),
       )
 
   mutual
@@ -782,9 +856,12 @@ module _ (starts : Starts) where
     items_size (MoreItems (Execute s) js) p exits d =
         let q = p + length (statement_code starts s p exits d) in
         omega (arith, both (statement_code starts s p exits d) (items_code starts js q exits d), statement_size s p exits d, items_size js q exits d)
-    items_size (MoreItems (Declare n t None) js) p exits d = omega (arith, items_size js (p + 0) exits d)
+    items_size (MoreItems (Declare n t None) js) p exits d =
+        let front = blank_code (kind_of t) (slot_of starts n) in
+        let q = p + length front in
+        omega (arith, both front (items_code starts js q exits d), blank_size (kind_of t) (slot_of starts n), items_size js q exits d)
     items_size (MoreItems (Declare n t (Some c)) js) p exits d =
-        let front = declaration_code starts n (Some c) p d in
+        let front = declaration_code starts n t (Some c) p d in
         let q = p + length front in
         omega (arith, both front (items_code starts js q exits d), initial_size starts c p (slot_of starts n) d, items_size js q exits d)
     items_size (MoreItems (DeclareRegion r n) js) p exits t =

@@ -1,5 +1,5 @@
 -- The code of statements names what is there.
-use Rattle.std.proofs.Common.{◌≡◌, ℕ, zero, suc, ◌+◌, ◌-◌, ◌≤◌, ◌<◌, Bool, true, false, [], ◌∷◌, ◌++◌, length, Option, None, Some, slice_get, All, refl, sym, ap, subst, ◌∙◌, arith, length-append}
+use Rattle.std.proofs.Common.{◌≡◌, ℕ, zero, suc, ◌+◌, ◌-◌, ◌≤◌, ◌<◌, Bool, true, false, [], ◌∷◌, ◌++◌, length, Option, None, Some, slice_get, All, refl, sym, ap, subst, ◌∙◌, arith, length-append, ◌*◌}
 use Rattle.cyc_types.specs.declared.typed.Kind.{Kind}
 use Rattle.cyc_types.specs.declared.typed.Kind.TheVariants as kinds
 use Rattle.cyc_types.specs.declared.typed.Callee.TheVariants as callees
@@ -20,19 +20,19 @@ use Rattle.cyc_meaning.specs.Values.{kind_of, words_of_kind}
 use Rattle.cyc_meaning.specs.FrameCount.{converted_words, expression_need, converted_need, initial_need, statement_need, items_need, place_words, side_need, kept_by, kept_by_items, clauses_need, kept_by_clauses, thrown_need}
 use Rattle.cyc_lower.specs.declared.statements.Exits.{Exits}
 use Rattle.cyc_lower.specs.Slots.{starts_of, slot_of, Types, global_of}
-use Rattle.cyc_lower.specs.ValueCode.{are_as_wide, passed_words, operand_or, slot_or, code_unless_slot, left_with, conversion_code, failing_comparison, span_of, null_of, word_by_word, global_code}
+use Rattle.cyc_lower.specs.ValueCode.{passed_words, operand_or, slot_or, code_unless_slot, left_with, conversion_code, failing_comparison, span_of, null_of, word_by_word, global_code, keeps_words}
 use Rattle.cyc_lower.specs.ObjectCode.{right_slot, load_at}
 use Rattle.cyc_lower.specs.ControlCode.{compared_or, failing_jump, break_target, continue_target, inside_loop, leave_code, tag_operand, clause_code, opened_code, closed_code, named_code, dynamic_code, handlers_code, marks_code, kept_code, kept_code_in, restored_code, restored_code_in, behind_record, behind_record_in, inside_try, inside_region, outermost}
 use Rattle.cyc_lower.specs.ExpressionCode.{source_of, operand_of, value_slot, slot_with, value_operand, converted_operand, printed_operand, expression_code, converted_operand_code, printed_code}
 use Rattle.cyc_lower.specs.Lowering.{spare_slots, assignment_code, discarded_code, first_operand, first_code, second_code, pair_code, condition_code, condition_of, return_code, declaration_code, statement_code, items_code, results_of, side_code, read_side, write_side, exchange_code, swap_code, thrown_code, thrown_operand, caught_code, clauses_code}
-use Rattle.cyc_lower.proofs.slots.Widths.{kind_positive, kind_few, type_words, passed_kind, words_in, HasRoom}
+use Rattle.cyc_lower.proofs.slots.Widths.{kind_positive, kind_few, type_words, passed_kind, words_in, HasRoom, keeps_wide}
 use Rattle.cyc_lower.proofs.relation.Fitting.{FitsPlace, Fits, FitsConverted, FitsReturn, FitsInitial, FitsStatement, FitItems, FitsSide, FitsThrown, FitsCaught, FitClauses}
 use Rattle.cyc_lower.proofs.sizes.WordLemmas.{no_return}
 use Rattle.cyc_types.specs.typing.Expressions.{type_of_side}
 use Rattle.cyc_lower.proofs.slots.Slots.{words_positive, global-room, global-inside}
 use Rattle.cyc_lower.specs.declared.statements.Opened.{Opened}
 use Rattle.cyc_lower.proofs.sizes.RangeLemmas.{operand_positive, converted_few, results_few, IsKnown, AreGlobals}
-use Rattle.cyc_lower.proofs.sizes.ValueRanges.{AreIn, append, unless_in, unless_slot_in, kind_at, HasOperand, slot_fits, value_room, value_in, converted_room, printed_value_in, move_in, slot_with_in, left_with_in, conversion_in, loads_in, global_in, assigned_in, stores_in, addressed_in, stored_in}
+use Rattle.cyc_lower.proofs.sizes.ValueRanges.{AreIn, append, unless_in, unless_slot_in, kind_at, HasOperand, slot_fits, value_room, value_in, converted_room, printed_value_in, move_in, slot_with_in, left_with_in, conversion_in, loads_in, global_in, assigned_in, stores_in, addressed_in, stored_in, load_of_in, blank_in}
 use Rattle.cyc_lower.proofs.sizes.ExpressionRanges.{expression_in, place_in, initial_in, converted_operand_in, printed_in}
 
 module _ (program : PlainProgram) (r : Routine) (b : Numbering) (types : Types) (locals : (n : ℕ) → n < b.locals → slot_of (starts_of types) n + words_in types.locals n ≤ r.slots) (levels : (l slot : ℕ) → slice_get types.counters l ≡ Some slot → slot < r.slots) (globals : AreGlobals program types.globals) (called : (n : ℕ) (s : Signature) → slice_get b.functions n ≡ Some s → IsKnown program n s) (results : r.results ≡ results_of b.result) (behind : types.raises + 4 < length r.code) (no_return : All (λ i. is_return i ≡ false) r.code) where
@@ -179,7 +179,7 @@ module _ (program : PlainProgram) (r : Routine) (b : Numbering) (types : Types) 
       = length-append ((front ++ conversion) ++ leave) back ∙ ap (λ (n : ℕ). n + 1) (length-append (front ++ conversion) leave) in
       let long_front = length-append front conversion in
       let (words, kind, is) = value_of b.result numbered in
-      let there : s + converted_words c ≤ r.slots = returned_in (are_as_wide from to) kind is refl in
+      let there : s + converted_words c ≤ r.slots = returned_in (keeps_words from to) kind is refl in
       append program r b types locals levels globals called results behind ((front ++ conversion) ++ leave) back
       (append program r b types locals levels globals called results behind (front ++ conversion) leave
       (append program r b types locals levels globals called results behind front conversion (unless_slot_in program r b types locals levels globals called results behind known inner p (omega (arith, short, long, long_front)) (λ less. expression_in program r b called results types locals levels globals behind a p t t is (omega (arith, few, kind_few (kind_at program r b types locals levels globals called results behind a))) (omega (arith, few)) less))
@@ -206,13 +206,15 @@ module _ (program : PlainProgram) (r : Routine) (b : Numbering) (types : Types) 
       null_slot NullPointer = refl
       null_slot x = refl
 
-      returned_in : (same : Bool) → from ≡ kind_at program r b types locals levels globals called results behind a → Fits b types a → are_as_wide from to ≡ same → slot_or (if same then operand_of (starts_of types) a else null_of a) t + converted_words (Convert from to a) ≤ r.slots
-      returned_in true kind is wide = wide_room kind is (eqb-true (words_of_kind from) (words_of_kind to) wide) (operand_of (starts_of types) a) refl
+      returned_in : (same : Bool) → from ≡ kind_at program r b types locals levels globals called results behind a → Fits b types a → keeps_words from to ≡ same → slot_or (if same then operand_of (starts_of types) a else null_of a) t + converted_words (Convert from to a) ≤ r.slots
+      returned_in true kind is wide = wide_room kind is (keeps_wide from to wide) (operand_of (starts_of types) a) refl
       returned_in false kind is wide = omega (arith, few, kind_few from, kind_few to, null_slot a)
 
-  declaration_in : (n : ℕ) (v : Option Converted) (p t : ℕ) → n < b.locals → FitsInitial b types n v → t + initial_need v + spare_slots ≤ r.slots → p + length (declaration_code (starts_of types) n v p t) < length r.code → AreIn program r b types locals levels globals called results behind (declaration_code (starts_of types) n v p t)
-  declaration_in n None p t within numbered few short = tt
-  declaration_in n (Some c) p t within (own, numbered) few short =
+  declaration_in : (n : ℕ) (ty : Ty) (v : Option Converted) (p t : ℕ) → n < b.locals → HasRoom types n (kind_of ty) → FitsInitial b types n v → t + initial_need v + spare_slots ≤ r.slots
+      → p + length (declaration_code (starts_of types) n ty v p t) < length r.code → AreIn program r b types locals levels globals called results behind (declaration_code (starts_of types) n ty v p t)
+  declaration_in n ty None p t within room numbered few short =
+      blank_in program r b types locals levels globals called results behind (kind_of ty) (slot_of (starts_of types) n) (omega (arith, locals n within, room, kind_positive (kind_of ty)))
+  declaration_in n ty (Some c) p t within room (own, numbered) few short =
       initial_in program r b called results types locals levels globals behind c p (slot_of (starts_of types) n) t numbered (omega (arith, locals n within, own)) (omega (arith, few, converted_few c)) (omega (arith, few)) short
 
   -- ---- swaps
@@ -221,37 +223,38 @@ module _ (program : PlainProgram) (r : Routine) (b : Numbering) (types : Types) 
   side_in (VariableSide l ty) kind p t numbered room few short = tt
   side_in (CellSide x) kind p t numbered room few short = addressed_in program r b types locals levels globals called results behind x p t t numbered room few short (λ less. place_in program r b called results types locals levels globals behind x place_words p t numbered (omega arith) few less)
 
-  reads_in : (many address index slot : ℕ) → address < r.slots → slot + many ≤ r.slots → AreIn program r b types locals levels globals called results behind (word_by_word (load_at address) many index slot)
-  reads_in zero address index slot low few = tt
-  reads_in (suc many) address index slot low few = ((omega (arith, few), low), reads_in many address (suc index) (suc slot) low (omega (arith, few)))
+  reads_in : (kind : Kind) (many address index slot : ℕ) → address < r.slots → slot + many ≤ r.slots → AreIn program r b types locals levels globals called results behind (word_by_word (load_at kind address) many index slot)
+  reads_in kind zero address index slot low few = tt
+  reads_in kind (suc many) address index slot low few =
+      (load_of_in program r b types locals levels globals called results behind kind slot (operands.Slot address) (4 * index) (omega (arith, few)) low, reads_in kind many address (suc index) (suc slot) low (omega (arith, few)))
 
-  read_in : (a : Side) (kind : Kind) (s d : ℕ) → FitsSide b types a kind → s < r.slots → d + words_of_kind kind ≤ r.slots → AreIn program r b types locals levels globals called results behind (read_side (starts_of types) a (words_of_kind kind) s d)
+  read_in : (a : Side) (kind : Kind) (s d : ℕ) → FitsSide b types a kind → s < r.slots → d + words_of_kind kind ≤ r.slots → AreIn program r b types locals levels globals called results behind (read_side (starts_of types) a kind s d)
   read_in (VariableSide (Local w n) ty) kind s d (within, own) low room =
       (move_in program r b types locals levels globals called results behind kind d (operands.Slot (slot_of (starts_of types) n)) room (omega (arith, locals n within, own)), tt)
   read_in (VariableSide (Global n) ty) kind s d within low room =
       loads_in program r b types locals levels globals called results behind (words_of_kind kind) (global_of (starts_of types) n) d (omega (arith, within, global-room types n (global-inside types n kind within), globals.room)) room
-  read_in (CellSide x) kind s d numbered low room = reads_in (words_of_kind kind) s 0 d low room
+  read_in (CellSide x) kind s d numbered low room = reads_in kind (words_of_kind kind) s 0 d low room
 
-  write_in : (a : Side) (kind : Kind) (s v : ℕ) → FitsSide b types a kind → s < r.slots → v + words_of_kind kind ≤ r.slots → AreIn program r b types locals levels globals called results behind (write_side (starts_of types) a (words_of_kind kind) s v)
+  write_in : (a : Side) (kind : Kind) (s v : ℕ) → FitsSide b types a kind → s < r.slots → v + words_of_kind kind ≤ r.slots → AreIn program r b types locals levels globals called results behind (write_side (starts_of types) a kind s v)
   write_in (VariableSide (Local w n) ty) kind s v (within, own) low room =
       (move_in program r b types locals levels globals called results behind kind (slot_of (starts_of types) n) (operands.Slot v) (omega (arith, locals n within, own)) room, tt)
   write_in (VariableSide (Global n) ty) kind s v within low room =
       global_in program r b types locals levels globals called results behind (words_of_kind kind) (global_of (starts_of types) n) (operands.Slot v) (kind_positive kind) (omega (arith, within, global-room types n (global-inside types n kind within), globals.room)) room
-  write_in (CellSide x) kind s v numbered low room = stores_in program r b types locals levels globals called results behind (words_of_kind kind) s 0 v low room
+  write_in (CellSide x) kind s v numbered low room = stores_in program r b types locals levels globals called results behind kind (words_of_kind kind) s 0 v low room
 
   right_near : (a : Side) (t : ℕ) → right_slot a t ≤ t + 1
   right_near (VariableSide l ty) t = omega arith
   right_near (CellSide x) t = omega arith
 
-  exchange_in : (x y : Side) (kind : Kind) (t : ℕ) → FitsSide b types x kind → FitsSide b types y kind → t + 8 ≤ r.slots → AreIn program r b types locals levels globals called results behind (exchange_code (starts_of types) (words_of_kind kind) x y t)
+  exchange_in : (x y : Side) (kind : Kind) (t : ℕ) → FitsSide b types x kind → FitsSide b types y kind → t + 8 ≤ r.slots → AreIn program r b types locals levels globals called results behind (exchange_code (starts_of types) kind x y t)
   exchange_in x y kind t fits_x fits_y room =
       let words = words_of_kind kind in
       let few = kind_few kind in
       let near = right_near x t in
-      let first = read_side (starts_of types) x words t (t + 2) in
-      let second = read_side (starts_of types) y words (right_slot x t) (t + 2 + words) in
-      let third = write_side (starts_of types) x words t (t + 2 + words) in
-      let fourth = write_side (starts_of types) y words (right_slot x t) (t + 2) in
+      let first = read_side (starts_of types) x kind t (t + 2) in
+      let second = read_side (starts_of types) y kind (right_slot x t) (t + 2 + words) in
+      let third = write_side (starts_of types) x kind t (t + 2 + words) in
+      let fourth = write_side (starts_of types) y kind (right_slot x t) (t + 2) in
       append program r b types locals levels globals called results behind first (second ++ (third ++ fourth)) (read_in x kind t (t + 2) fits_x (omega (arith, room)) (omega (arith, room, few)))
       (append program r b types locals levels globals called results behind second (third ++ fourth) (read_in y kind (right_slot x t) (t + 2 + words) fits_y (omega (arith, room, near)) (omega (arith, room, few)))
       (append program r b types locals levels globals called results behind third fourth (write_in x kind t (t + 2 + words) fits_x (omega (arith, room)) (omega (arith, room, few)))
@@ -260,17 +263,16 @@ module _ (program : PlainProgram) (r : Routine) (b : Numbering) (types : Types) 
   swap_in : (x y : Side) (p t : ℕ) → FitsSide b types x (kind_of (type_of_side x)) → FitsSide b types y (kind_of (type_of_side x)) → t + statement_need (Swap x y) + spare_slots ≤ r.slots → p + length (swap_code (starts_of types) x y p t) < length r.code → AreIn program r b types locals levels globals called results behind (swap_code (starts_of types) x y p t)
   swap_in x y p t fits_x fits_y few short =
       let kind = kind_of (type_of_side x) in
-      let words = words_of (type_of_side x) in
       let front = side_code (starts_of types) x p t in
       let middle = side_code (starts_of types) y (p + length front) (right_slot x t) in
-      let back = exchange_code (starts_of types) words x y t in
+      let back = exchange_code (starts_of types) kind x y t in
       let slot = right_near x t in
       let long = length-append front (middle ++ back) in
       let long_rest = length-append middle back in
       let room : t + 8 ≤ r.slots = omega (arith, few) in
       append program r b types locals levels globals called results behind front (middle ++ back) (side_in x kind p t fits_x (omega (arith, room)) (omega (arith, few)) (omega (arith, short, long)))
       (append program r b types locals levels globals called results behind middle back (side_in y kind (p + length front) (right_slot x t) fits_y (omega (arith, room, slot)) (omega (arith, few, slot)) (omega (arith, short, long, long_rest)))
-      (subst (λ n. AreIn program r b types locals levels globals called results behind (exchange_code (starts_of types) n x y t)) (type_words (type_of_side x)) (exchange_in x y kind t fits_x fits_y room)))
+      (exchange_in x y kind t fits_x fits_y room))
 
   thrown_in : (v : Option Expression) (p t : ℕ) → FitsThrown b types v → t + thrown_need v + spare_slots ≤ r.slots → p + length (thrown_code (starts_of types) v p t) < length r.code → AreIn program r b types locals levels globals called results behind (thrown_code (starts_of types) v p t)
   thrown_in None p t numbered few short = tt
@@ -389,10 +391,10 @@ module _ (program : PlainProgram) (r : Routine) (b : Numbering) (types : Types) 
         append program r b types locals levels globals called results behind front back (statement_in s in_loop p exits t numbered around outside (omega (arith, few)) (omega (arith, short, long)))
         (items_in js in_loop (p + length front) exits t rest around outside (omega (arith, few)) (omega (arith, short, long)))
     items_in (MoreItems (Declare n ty v) js) in_loop p exits t (within, room, numbered, rest) around outside few short =
-        let front = declaration_code (starts_of types) n v p t in
+        let front = declaration_code (starts_of types) n ty v p t in
         let back = items_code (starts_of types) js (p + length front) exits t in
         let long = length-append front back in
-        append program r b types locals levels globals called results behind front back (declaration_in n v p t within numbered (omega (arith, few)) (omega (arith, short, long)))
+        append program r b types locals levels globals called results behind front back (declaration_in n ty v p t within room.0 numbered (omega (arith, few)) (omega (arith, short, long)))
         (items_in js in_loop (p + length front) exits t rest around outside (omega (arith, few)) (omega (arith, short, long)))
     items_in (MoreItems (DeclareRegion region n) js) in_loop p exits t (counting, within, room, rest) around outside few short =
         let front = opened_code (starts_of types) n t in
@@ -400,22 +402,22 @@ module _ (program : PlainProgram) (r : Routine) (b : Numbering) (types : Types) 
         let back = closed_code t in
         let long = length-append front (inner ++ back) in
         let long_inner = length-append inner back in
-        append program r b types locals levels globals called results behind front (inner ++ back) (opened_in n t within room (omega (arith, few)))
+        append program r b types locals levels globals called results behind front (inner ++ back) (opened_in n t within room.0 (omega (arith, few)))
         (append program r b types locals levels globals called results behind inner back (items_in js in_loop (p + length front) (inside_region exits t) (t + 1) rest around (exits_behind exits t outside (omega (arith, few))) (omega (arith, few)) (omega (arith, short, long, long_inner)))
         (closed_in t (omega (arith, few))))
     items_in (MoreItems (OpenRegion region n w k) js) in_loop p exits t (within, room, key_within, key_room, rest) around outside few short =
         let key = operands.Slot (slot_of (starts_of types) k) in
-        append program r b types locals levels globals called results behind (named_code (starts_of types) 1 n key) (items_code (starts_of types) js (p + 1) exits t) (named_in kinds.Handle n key within room (omega (arith, locals k key_within, key_room)))
+        append program r b types locals levels globals called results behind (named_code (starts_of types) 1 n key) (items_code (starts_of types) js (p + 1) exits t) (named_in kinds.Handle n key within room.0 (omega (arith, locals k key_within, key_room)))
         (items_in js in_loop (p + 1) exits t rest around outside (omega (arith, few)) (omega (arith, short)))
     items_in (MoreItems (DeclareAlias region n ty w m) js) in_loop p exits t (within, room, lent_within, lent_room, rest) around outside few short =
         let lent = operands.Slot (slot_of (starts_of types) m) in
         append program r b types locals levels globals called results behind (named_code (starts_of types) (words_of ty) n lent) (items_code (starts_of types) js (p + 1) exits t)
-        (subst (λ words. AreIn program r b types locals levels globals called results behind (named_code (starts_of types) words n lent)) (type_words ty) (named_in (kind_of ty) n lent within room (omega (arith, locals m lent_within, lent_room))))
+        (subst (λ words. AreIn program r b types locals levels globals called results behind (named_code (starts_of types) words n lent)) (type_words ty) (named_in (kind_of ty) n lent within room.0 (omega (arith, locals m lent_within, lent_room))))
         (items_in js in_loop (p + 1) exits t rest around outside (omega (arith, few)) (omega (arith, short)))
     items_in (MoreItems (DeclareKey region n) js) in_loop p exits t (within, room, rest) around outside few short =
         let front = dynamic_code (starts_of types) n t in
         let back = items_code (starts_of types) js (p + length front) exits t in
-        append program r b types locals levels globals called results behind front back (dynamic_in n t within room (omega (arith, few))) (items_in js in_loop (p + length front) exits t rest around outside (omega (arith, few)) (omega (arith, short, length-append front back)))
+        append program r b types locals levels globals called results behind front back (dynamic_in n t within room.0 (omega (arith, few))) (items_in js in_loop (p + length front) exits t rest around outside (omega (arith, few)) (omega (arith, short, length-append front back)))
 
     clauses_in : (cs : Clauses) (in_loop : Bool) (p out : ℕ) (exits : Exits) (t : ℕ) → FitClauses b types in_loop cs → (in_loop ≡ true → exits.head + 2 < length r.code) → HasExits exits
         → t + kept_by_clauses cs + clauses_need cs + spare_slots ≤ r.slots → out < length r.code → p + length (clauses_code (starts_of types) cs p out exits t) < length r.code → AreIn program r b types locals levels globals called results behind (clauses_code (starts_of types) cs p out exits t)

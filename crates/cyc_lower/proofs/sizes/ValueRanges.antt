@@ -1,5 +1,5 @@
 -- The code of values, pointers, places and objects names what is there.
-use Rattle.std.proofs.Common.{◌≡◌, ℕ, zero, suc, ◌+◌, ◌-◌, ◌≤◌, ◌<◌, Bool, true, false, List, [], ◌∷◌, ◌++◌, length, Option, None, Some, slice_get, refl, sym, ap, subst, ◌∙◌, arith, length-append}
+use Rattle.std.proofs.Common.{◌≡◌, ℕ, zero, suc, ◌+◌, ◌-◌, ◌≤◌, ◌<◌, Bool, true, false, List, [], ◌∷◌, ◌++◌, length, Option, None, Some, slice_get, refl, sym, ap, subst, ◌∙◌, arith, length-append, inl, inr}
 use Rattle.std.specs.List.{AllByRecursion}
 use Rattle.cyc_types.specs.declared.typed.Kind.{Kind}
 use Rattle.cyc_types.specs.declared.typed.Kind.TheVariants as kinds
@@ -8,6 +8,8 @@ use Rattle.cyc_types.specs.declared.typed.Operator.{Operator}
 use Rattle.cyc_types.specs.declared.typed.Operator.TheVariants as operators
 use Rattle.cyc_types.specs.declared.typed.PointerOperator.{PointerOperator}
 use Rattle.cyc_types.specs.declared.typed.PointerOperator.TheVariants as pointers
+use Rattle.cyc_types.specs.declared.typed.UnaryOperator.{UnaryOperator}
+use Rattle.cyc_types.specs.declared.typed.UnaryOperator.TheVariants as unary
 use Rattle.cyc_types.specs.declared.typed.LogicalOperator.{LogicalOperator}
 use Rattle.cyc_types.specs.declared.typed.LogicalOperator.TheVariants as logical
 use Rattle.cyc_types.specs.Types.{Ty, words_of, ValueType}
@@ -23,26 +25,28 @@ use Rattle.cyc_plain.specs.declared.instruction.Instruction.{Instruction}
 use Rattle.cyc_plain.specs.declared.instruction.Instruction.TheVariants as instructions
 use Rattle.cyc_plain.specs.Program.{Routine, Program as PlainProgram}
 use Rattle.cyc_plain.specs.WellFormed.{IsOperand}
-use Rattle.std.specs.Prelude.{◌==◌, max, if◌then◌else◌}
+use Rattle.std.specs.Prelude.{◌==◌, max, if◌then◌else◌, ◌⊎◌}
 use Rattle.std.proofs.lemmas.Bool.{eqb-true}
 use Rattle.cyc_words.proofs.Lists.{all_append}
-use Rattle.cyc_meaning.specs.Operators.{null_exception, division_by_zero, array_bounds}
-use Rattle.cyc_meaning.specs.Values.{kind_of, words_of_kind, begins, behind as cell_end, is_thin, is_kind}
+use Rattle.cyc_meaning.specs.Operators.{null_exception, division_by_zero, array_bounds, array_size}
+use Rattle.cyc_meaning.specs.Values.{kind_of, words_of_kind, begins, behind as cell_end, is_thin, is_kind, bytes_of_kind}
 use Rattle.cyc_meaning.specs.FrameCount.{operand_words, converted_words, argument_words, expression_need, dereference_need, operations_need, place_words}
 use Rattle.cyc_meaning.specs.Pointers.{result_kind as operator_kind}
 use Rattle.cyc_lower.specs.Slots.{starts_of, slot_of, Types, global_of}
-use Rattle.cyc_lower.specs.ValueCode.{are_as_wide, converts_there, passed_words, moved_by, move_of, binary_operator, operand_or, code_unless, slot_or, code_unless_slot, left_with, next_slot, check_code, conversion_code, divisor_code, checked_code, operator_code, truth_code, test_code, copy_code, pointer_operator, left_kind, behind_left, pointer_code, index_code, pointer_instructions, address_code, addressed_by, guard_code, count_code, span_of, null_of, tested_code, widened_code, conversion_by, bounds_code, stepped_code, bounded_code, thinned_code, reached_code, followed_code, followed_operand, span_in, reached_operand, word_by_word, load_word, store_word, global_code}
-use Rattle.cyc_lower.specs.ObjectCode.{stores_code, cells_code, slots_of_kinds, object_code, free_code, saved_code}
+use Rattle.cyc_lower.specs.ValueCode.{converts_there, passed_words, moved_by, move_of, binary_operator, operand_or, code_unless, slot_or, code_unless_slot, left_with, next_slot, check_code, conversion_code, divisor_code, checked_code, operator_code, truth_code, test_code, copy_code, pointer_operator, left_kind, behind_left, pointer_code, index_code, pointer_instructions, address_code, addressed_by, guard_code, count_code, span_of, null_of, tested_code, widened_code, conversion_by, bounds_code, stepped_code, bounded_code, thinned_code, reached_code, followed_code, followed_operand, span_in, reached_operand, word_by_word, load_word, store_word, global_code, keeps_words, masked_code, scale_of, load_of, store_of, kind_passed, unary_instruction, last_byte_code, blank_code}
+use Rattle.cyc_lower.specs.ObjectCode.{stores_code, cells_code, slots_of_kinds, object_code, free_code, saved_code, measured_code, sized_code, asked_code, begun_code, filled_code, most_elements}
 use Rattle.cyc_lower.specs.ControlCode.{counter_operand}
 use Rattle.cyc_lower.specs.ExpressionCode.{source_of, source_slot, operand_of, left_of, value_slot, slot_with, left_slot, value_operand, converted_operand, printed_operand, load_code, expression_code, converted_operand_code, place_operand, place_offset, place_code, pointer_slot}
 use Rattle.cyc_lower.specs.Lowering.{results_of, store_address_code, store_code}
-use Rattle.cyc_lower.proofs.slots.Widths.{kind_positive, kind_few, type_words, result_kind, given, passed_kind, words_in, chain_kind, wide_kind, same_kind, more_words, HasGlobal}
+use Rattle.cyc_lower.proofs.slots.Widths.{kind_positive, kind_few, type_words, result_kind, given, passed_kind, words_in, chain_kind, wide_kind, same_kind, more_words, HasGlobal, keeps_wide, changes_words}
 use Rattle.cyc_lower.proofs.relation.Fitting.{FitsPlace, FitsCell, Fits, FitsConverted, FitArguments, FitOperations}
 use Rattle.cyc_lower.specs.Lowerable.{is_converted, is_pointer}
 use Rattle.cyc_lower.proofs.emission.Lengths.{past_long}
 use Rattle.cyc_lower.proofs.value_steps.ValueWords.{as_wide}
 use Rattle.cyc_lower.proofs.slots.Slots.{words_positive, global-room, global-inside}
-use Rattle.cyc_lower.proofs.sizes.RangeLemmas.{operand_positive, passed_is, result_least, IsKnown, AreGlobals, IsIn}
+use Rattle.cyc_lower.proofs.sizes.RangeLemmas.{operand_positive, passed_is, result_least, IsKnown, AreGlobals, IsIn, unary_word, kind_is}
+use Rattle.cyc_plain.specs.declared.instruction.UnaryOperator.TheVariants as plain_unary
+use Rattle.cyc_plain.specs.declared.instruction.Request.TheVariants as requests
 
 module _ (program : PlainProgram) (r : Routine) (b : Numbering) (types : Types) (locals : (n : ℕ) → n < b.locals → slot_of (starts_of types) n + words_in types.locals n ≤ r.slots) (levels : (l slot : ℕ) → slice_get types.counters l ≡ Some slot → slot < r.slots) (globals : AreGlobals program types.globals) (called : (n : ℕ) (s : Signature) → slice_get b.functions n ≡ Some s → IsKnown program n s) (results : r.results ≡ results_of b.result) (behind : types.raises + 4 < length r.code) where
   abbrev pub AreIn : List Instruction → Type 0
@@ -113,7 +117,7 @@ module _ (program : PlainProgram) (r : Routine) (b : Numbering) (types : Types) 
   given_needs (Call (callees.Function n) cs t) (s, signature, many, passed, result, numbered) =
       omega (arith, ap (λ (o : Option Signature). words_of_kind (result_kind o)) signature, (result_least s.result).1, result)
   given_needs (NumberOfElements a) numbered = omega arith
-  given_needs (Unary o a) numbered = omega arith
+  given_needs (Unary o a) numbered = omega (arith, unary_word o)
   given_needs (Binary a os t) (numbered, rest) = omega (arith, given_needs a numbered, chain_needs os (kind_at a) t (operand_words (type_of a)) rest)
   given_needs (Assign l (Convert from to a) t) numbered = omega arith
   given_needs (Load (Target k a t)) numbered = omega (arith, type_words t)
@@ -137,6 +141,7 @@ module _ (program : PlainProgram) (r : Routine) (b : Numbering) (types : Types) 
 
   pub slot_fits : (a : Expression) (t : ℕ) → Fits b types a → t + words_of_kind (kind_at a) ≤ r.slots → value_slot (starts_of types) a t + words_of_kind (kind_at a) ≤ r.slots
   slot_fits (Assign (Local w n) (Convert from to a) ty) t ((within, room), numbered) few = omega (arith, locals n within, room)
+  slot_fits (Unary unary.Widen a) t (one, numbered) few = omega (arith, one, slot_fits a t numbered (omega (arith, few, one)))
   slot_fits a t numbered few = few
 
   pub value_room : (a : Expression) (t : ℕ) → Fits b types a → t + words_of_kind (kind_at a) ≤ r.slots → HasOperand (value_operand (starts_of types) a t) (words_of_kind (kind_at a))
@@ -152,6 +157,8 @@ module _ (program : PlainProgram) (r : Routine) (b : Numbering) (types : Types) 
       by : (s : Option ℕ) → slice_get types.counters l ≡ s → HasOperand (operand_or (counter_operand s) t) 1
       by (Some n) there = omega (arith, levels l n there)
       by None none = few
+  value_room (Unary unary.Widen a) t (one, numbered) few =
+      subst (HasOperand (value_operand (starts_of types) a t)) one (value_room a t numbered (omega (arith, few, one)))
   value_room a t numbered few = few
 
   pub value_in : (a : Expression) (t : ℕ) → Fits b types a → t + words_of_kind (kind_at a) ≤ r.slots → IsOperand r (value_operand (starts_of types) a t)
@@ -160,7 +167,7 @@ module _ (program : PlainProgram) (r : Routine) (b : Numbering) (types : Types) 
   -- a value that is converted has room before and after
   pub source_fits : (from to : Kind) (a : Expression) (t : ℕ) → FitsConverted b types (Convert from to a) → t + converted_words (Convert from to a) ≤ r.slots
       → source_slot (starts_of types) (Convert from to a) t + words_of_kind (kind_at a) ≤ r.slots
-  source_fits from to a t (kind, wide, numbered) few = by (are_as_wide from to)
+  source_fits from to a t (kind, wide, numbered) few = by (keeps_words from to)
     where
       by : (same : Bool) → (if same then value_slot (starts_of types) a t else t) + words_of_kind (kind_at a) ≤ r.slots
       by true = slot_fits a t numbered (omega (arith, few, ap words_of_kind kind))
@@ -175,13 +182,13 @@ module _ (program : PlainProgram) (r : Routine) (b : Numbering) (types : Types) 
   less_operand (operands.Word w) words fewer less inside = tt
 
   pub brought_room : (c : Converted) (t : ℕ) → FitsConverted b types c → t + converted_words c ≤ r.slots → HasOperand (converted_operand (starts_of types) c t) (converted_words c)
-  brought_room (Convert from to a) t (kind, wide, numbered) few = by (are_as_wide from to) refl
+  brought_room (Convert from to a) t (kind, wide, numbered) few = by (keeps_words from to) refl
     where
-      by : (same : Bool) → are_as_wide from to ≡ same
+      by : (same : Bool) → keeps_words from to ≡ same
           → HasOperand (operand_or (if same then operand_of (starts_of types) a else null_of a) (if same then value_slot (starts_of types) a t else t)) (converted_words (Convert from to a))
       by true wide =
           subst (HasOperand (value_operand (starts_of types) a t))
-          (let same : words_of_kind (kind_at a) ≡ converted_words (Convert from to a) = omega (arith, ap words_of_kind kind, eqb-true (words_of_kind from) (words_of_kind to) wide) in same)
+          (let same : words_of_kind (kind_at a) ≡ converted_words (Convert from to a) = omega (arith, ap words_of_kind kind, keeps_wide from to wide) in same)
           (value_room a t numbered (omega (arith, few, ap words_of_kind kind)))
       by false wide = null_room a t (converted_words (Convert from to a)) few
 
@@ -288,13 +295,18 @@ module _ (program : PlainProgram) (r : Routine) (b : Numbering) (types : Types) 
   bounds_in : (index bound : Operand) → IsOperand r index → IsOperand r bound → AreIn (bounds_code (starts_of types) index bound)
   bounds_in index bound first second = guard_in array_bounds comparisons.GreaterOrEqualUnsigned index bound (omega arith) first second
 
+  scale_in : (bytes d m : ℕ) → d < r.slots → m < r.slots → IsIn program r types.locals (scale_of bytes d m)
+  scale_in bytes d m room index = by (bytes == 4) (bytes == 1)
+    where
+      by : (narrow one : Bool)
+          → IsIn program r types.locals (if narrow then instructions.Binary plain_binary.ShiftLeft d (operands.Slot m) (operands.Word 2) else if one then instructions.Move d (operands.Slot m) else instructions.Binary plain_binary.Multiply d (operands.Slot m) (operands.Word 12))
+      by true one = (room, index, tt)
+      by false true = (room, index)
+      by false false = (room, index, tt)
+
   stepped_in : (span : Option ℕ) (n m t : ℕ) → n < r.slots → m < r.slots → t + 3 ≤ r.slots → AreIn (stepped_code span n m t)
   stepped_in None n m t first index room = tt
-  stepped_in (Some bytes) n m t first index room = (by (bytes == 4), ((omega (arith, room), first, omega (arith, room)), tt))
-    where
-      by : (narrow : Bool) → IsIn program r types.locals (if narrow then instructions.Binary plain_binary.ShiftLeft (t + 2) (operands.Slot m) (operands.Word 2) else instructions.Binary plain_binary.Multiply (t + 2) (operands.Slot m) (operands.Word 12))
-      by true = (omega (arith, room), index, tt)
-      by false = (omega (arith, room), index, tt)
+  stepped_in (Some bytes) n m t first index room = (scale_in bytes (t + 2) m (omega (arith, room)) index, ((omega (arith, room), first, omega (arith, room)), tt))
 
   bounded_in : (span : Option ℕ) (n m t : ℕ) → n + 2 ≤ r.slots → m < r.slots → t + 3 ≤ r.slots → AreIn (bounded_code (starts_of types) span n m t)
   bounded_in span n m t first index room =
@@ -331,14 +343,30 @@ module _ (program : PlainProgram) (r : Routine) (b : Numbering) (types : Types) 
   thinned_in kinds.Nullable span (operands.Slot n) p inside short = ((omega (arith, inside), tt, omega (arith, short, past_long (starts_of types) span n (n + 2) n)), bounded_in span n (n + 2) n (omega (arith, inside)) (omega (arith, inside)) inside)
   thinned_in to span o p inside short = tt
 
-  conversion_by_in : (wide : Bool) (to : Kind) (span : Option ℕ) (o : Operand) (p words : ℕ) → words_of_kind to ≤ words → (wide ≡ false → 3 ≤ words) → HasOperand o words
-      → p + length (conversion_by (starts_of types) wide to span o p) < length r.code → AreIn (conversion_by (starts_of types) wide to span o p)
+  masked_in : (o : Operand) → HasOperand o 1 → AreIn (masked_code o)
+  masked_in (operands.Slot n) inside = ((omega (arith, inside), omega (arith, inside), tt), tt)
+  masked_in (operands.Word w) inside = tt
+
+  -- an int becomes a char in one word, and a fat pointer is converted in three
+  conversion_by_in : (same : Bool) (to : Kind) (span : Option ℕ) (o : Operand) (p words : ℕ) → words_of_kind to ≤ words → (same ≡ false → (to ≡ kinds.Char) ⊎ (3 ≤ words)) → HasOperand o words
+      → p + length (conversion_by (starts_of types) same to span o p) < length r.code → AreIn (conversion_by (starts_of types) same to span o p)
   conversion_by_in true to span o p words least three inside short = tested_in to o (operand_in o to (less_operand o words (words_of_kind to) least inside))
-  conversion_by_in false kinds.Fat span o p words least three inside short = widened_in o (less_operand o words 3 (three refl) inside)
-  conversion_by_in false to span o p words least three inside short = thinned_in to span o p (less_operand o words 3 (three refl) inside) short
+  conversion_by_in false kinds.Char span o p words least three inside short = masked_in o (less_operand o words 1 least inside)
+  conversion_by_in false kinds.Fat span o p words least three inside short = widened_in o (less_operand o words 3 least inside)
+  conversion_by_in false to span o p words least three inside short = elim (three refl) [
+    | inl char ↦ absurd (let f : to ≡ kinds.Char = char in cc)
+    | inr many ↦ thinned_in to span o p (less_operand o words 3 many inside) short
+  ]
 
   pub conversion_in : (from to : Kind) (span : Option ℕ) (o : Operand) (p : ℕ) → HasOperand o (max (words_of_kind from) (words_of_kind to)) → p + length (conversion_code (starts_of types) from to span o p) < length r.code → AreIn (conversion_code (starts_of types) from to span o p)
-  conversion_in from to span o p inside short = conversion_by_in (are_as_wide from to) to span o p (max (words_of_kind from) (words_of_kind to)) (omega arith) (more_words from to) inside short
+  conversion_in from to span o p inside short =
+      conversion_by_in (keeps_words from to) to span o p (max (words_of_kind from) (words_of_kind to)) (omega arith) changed inside short
+    where
+      changed : keeps_words from to ≡ false → (to ≡ kinds.Char) ⊎ (3 ≤ max (words_of_kind from) (words_of_kind to))
+      changed changes = elim (changes_words from to changes) [
+        | inl masked ↦ inl masked.1
+        | inr narrow ↦ inr (more_words from to narrow)
+      ]
 
   divisor_in : (o : Operand) → IsOperand r o → AreIn (divisor_code (starts_of types) o)
   divisor_in (operands.Word (suc n)) inside = tt
@@ -354,6 +382,21 @@ module _ (program : PlainProgram) (r : Routine) (b : Numbering) (types : Types) 
   operator_in operators.Divide l m d few left right = checked_in operators.Divide l m d few left right
   operator_in operators.Remainder l m d few left right = checked_in operators.Remainder l m d few left right
   operator_in o l m d few left right = ((few, left, right), tt)
+
+  pub unary_in : (o : UnaryOperator) (d : ℕ) (m : Operand) → d < r.slots → IsOperand r m → IsIn program r types.locals (unary_instruction o d m)
+  unary_in unary.Negate d m few inside = (few, inside)
+  unary_in unary.Not d m few inside = (few, inside)
+  unary_in unary.Complement d m few inside = (few, inside)
+  unary_in unary.Widen d m few inside = (few, inside)
+  unary_in unary.LowByte d m few inside = (few, inside, tt)
+
+  pub last_byte_in : (kind : Kind) (d : ℕ) → d < r.slots → AreIn (last_byte_code kind d)
+  last_byte_in kinds.Char d few = ((few, few, tt), tt)
+  last_byte_in kind d few = tt
+
+  pub blank_in : (kind : Kind) (slot : ℕ) → slot < r.slots → AreIn (blank_code kind slot)
+  blank_in kinds.Char slot few = ((few, tt), tt)
+  blank_in kind slot few = tt
 
   -- words of globals come to slots, and from slots
   pub loads_in : (words first d : ℕ) → first + words ≤ length program.globals → d + words ≤ r.slots → AreIn (word_by_word load_word words first d)
@@ -427,36 +470,66 @@ module _ (program : PlainProgram) (r : Routine) (b : Numbering) (types : Types) 
       let long = length-append operand (truth_code t d) in
       ((room, tt, omega (arith, short, long)), append operand (truth_code t d) inside ((room, room), ((few, room), tt)))
 
-  pub stores_in : (many address offset slot : ℕ) → address < r.slots → slot + many ≤ r.slots → AreIn (stores_code many address offset slot)
-  stores_in zero address offset slot room few = tt
-  stores_in (suc many) address offset slot room few = ((room, omega (arith, few)), stores_in many address (offset + 4) (suc slot) room (omega (arith, few)))
+  -- a word of a value comes to a cell, and from there
+  store_in : (kind : Kind) (address : Operand) (offset : ℕ) (o : Operand) → IsOperand r address → IsOperand r o → IsIn program r types.locals (store_of kind address offset o)
+  store_in kinds.Char address offset o first second = (first, second)
+  store_in kind address offset o first second = (first, second)
+
+  pub load_of_in : (kind : Kind) (d : ℕ) (address : Operand) (offset : ℕ) → d < r.slots → IsOperand r address → IsIn program r types.locals (load_of kind d address offset)
+  load_of_in kinds.Char d address offset first second = (first, second)
+  load_of_in kind d address offset first second = (first, second)
+
+  pub stores_in : (kind : Kind) (many address offset slot : ℕ) → address < r.slots → slot + many ≤ r.slots → AreIn (stores_code kind many address offset slot)
+  stores_in kind zero address offset slot room few = tt
+  stores_in kind (suc many) address offset slot room few =
+      (store_in kind (operands.Slot address) offset (operands.Slot slot) room (omega (arith, few)), stores_in kind many address (offset + 4) (suc slot) room (omega (arith, few)))
+
+  -- an array begins
+  sized_in : (kind : Kind) (t : ℕ) → t < r.slots → AreIn (sized_code kind t)
+  sized_in kinds.Char t room = ((room, room, tt), ((room, room, tt), tt))
+  sized_in kind t room = ((room, room, tt), tt)
+
+  pub begun_in : (handle : Operand) (kind : Kind) (t : ℕ) → IsOperand r handle → t + 4 ≤ r.slots → AreIn (begun_code (starts_of types) handle kind t)
+  begun_in handle kind t inside room =
+      let asked =
+      instructions.Unary plain_unary.Not (t + 3) (operands.Slot t)
+      ∷ instructions.Binary plain_binary.Add (t + 3) (operands.Slot (t + 3)) (operands.Slot t)
+      ∷ instructions.Ask (requests.Allocate t handle (operands.Slot (t + 3)))
+      ∷ [] in
+      let moves = instructions.Move (t + 1) (operands.Slot t) ∷ instructions.Move (t + 2) (operands.Word 0) ∷ [] in
+      append (measured_code (starts_of types) kind (t + 1) (t + 2) t) (asked_code handle kind (t + 3) t)
+      (append (guard_code (starts_of types) array_size comparisons.GreaterOrEqualUnsigned (operands.Slot t) (operands.Word (most_elements (bytes_of_kind kind) + 1))) moves
+      (guard_in array_size comparisons.GreaterOrEqualUnsigned (operands.Slot t) (operands.Word (most_elements (bytes_of_kind kind) + 1)) (omega arith) (omega (arith, room)) tt)
+      ((omega (arith, room), omega (arith, room)), ((omega (arith, room), tt), tt)))
+      (append (sized_code kind t) asked (sized_in kind t (omega (arith, room))) (
+        (omega (arith, room), omega (arith, room)),
+        (
+          (omega (arith, room), omega (arith, room), omega (arith, room)),
+          (record { answer_in_range = omega (arith, room); first_in_range = inside; second_in_range = omega (arith, room) }, tt),
+        ),
+      ))
 
   -- an element of an array comes to its cell
-  pub filled_in : (narrow : Bool) (words head t : ℕ) → t + 3 + words < r.slots → head < length r.code
-      → AreIn ((if narrow then instructions.Binary plain_binary.ShiftLeft (t + 3 + words) (operands.Slot (t + 2)) (operands.Word 2) else instructions.Binary plain_binary.Multiply (t + 3 + words) (operands.Slot (t + 2)) (operands.Word 12))
-      ∷ instructions.Binary plain_binary.Add (t + 3 + words) (operands.Slot t) (operands.Slot (t + 3 + words))
-      ∷ (stores_code words (t + 3 + words) 0 (t + 3) ++ (instructions.Binary plain_binary.Add (t + 2) (operands.Slot (t + 2)) (operands.Word 1) ∷ instructions.Jump head ∷ [])))
-  filled_in narrow words head t few short = (
-    scaled narrow,
-    (
-      (few, omega (arith, few), few),
-      append (stores_code words (t + 3 + words) 0 (t + 3)) _ (stores_in words (t + 3 + words) 0 (t + 3) few (omega (arith, few))) ((omega (arith, few), omega (arith, few), tt), (short, tt)),
-    ),
-  )
-    where
-      scaled : (narrow : Bool) → IsIn program r types.locals (if narrow then instructions.Binary plain_binary.ShiftLeft (t + 3 + words) (operands.Slot (t + 2)) (operands.Word 2) else instructions.Binary plain_binary.Multiply (t + 3 + words) (operands.Slot (t + 2)) (operands.Word 12))
-      scaled true = (few, omega (arith, few), tt)
-      scaled false = (few, omega (arith, few), tt)
+  pub filled_in : (kind : Kind) (head t : ℕ) → t + 3 + words_of_kind kind < r.slots → head < length r.code → AreIn (filled_code kind head t)
+  filled_in kind head t few short =
+      let z = t + 3 + words_of_kind kind in
+      let stores = stores_code kind (words_of_kind kind) z 0 (t + 3) in (
+        scale_in (bytes_of_kind kind) z (t + 2) few (omega (arith, few)),
+        (
+          (few, omega (arith, few), few),
+          append stores _ (stores_in kind (words_of_kind kind) z 0 (t + 3) few (omega (arith, few))) ((omega (arith, few), omega (arith, few), tt), (short, tt)),
+        ),
+      )
 
-  saved_in : (words address : ℕ) (o : Operand) → address < r.slots → HasOperand o words → AreIn (saved_code words address o)
-  saved_in words address (operands.Slot n) room inside = stores_in words address 0 n room inside
-  saved_in words address (operands.Word n) room inside = ((room, tt), tt)
+  saved_in : (kind : Kind) (address : ℕ) (o : Operand) → address < r.slots → HasOperand o (words_of_kind kind) → AreIn (saved_code kind address o)
+  saved_in kind address (operands.Slot n) room inside = stores_in kind (words_of_kind kind) address 0 n room inside
+  saved_in kind address (operands.Word n) room inside = (store_in kind (operands.Slot address) 0 (operands.Word n) room tt, tt)
 
   cells_in : (ks : List Kind) (address at slot : ℕ) → address < r.slots → slot + slots_of_kinds ks ≤ r.slots → AreIn (cells_code ks address at slot)
   cells_in [] address at slot room few = tt
   cells_in (kind ∷ ks) address at slot room few =
-      append (stores_code (words_of_kind kind) address (begins kind at) slot) (cells_code ks address (cell_end kind at) (slot + words_of_kind kind))
-      (stores_in (words_of_kind kind) address (begins kind at) slot room (omega (arith, few)))
+      append (stores_code kind (words_of_kind kind) address (begins kind at) slot) (cells_code ks address (cell_end kind at) (slot + words_of_kind kind))
+      (stores_in kind (words_of_kind kind) address (begins kind at) slot room (omega (arith, few)))
       (cells_in ks address (cell_end kind at) (slot + words_of_kind kind) room (omega (arith, few)))
 
   pub object_in : (handle : Operand) (ks : List Kind) (d t : ℕ) → IsOperand r handle → d < r.slots → t + slots_of_kinds ks + 1 ≤ r.slots → AreIn (object_code handle ks d t)
@@ -475,11 +548,11 @@ module _ (program : PlainProgram) (r : Routine) (b : Numbering) (types : Types) 
       by true = tt
       by false = ((few, inside), tt)
 
-  pub loaded_in : (ty : Ty) (narrow : Bool) (o : Operand) (bytes d t : ℕ) → (words_of ty == 1) ≡ narrow → IsOperand r o → d + words_of_kind (kind_of ty) ≤ r.slots → t < r.slots
-      → AreIn (if narrow then instructions.Load d o bytes ∷ [] else address_code o bytes t ++ (instructions.Load (d + 2) (operands.Slot t) 8 ∷ instructions.Load (d + 1) (operands.Slot t) 4 ∷ instructions.Load d (operands.Slot t) 0 ∷ []))
-  loaded_in ty true o bytes d t narrow inside room free = ((omega (arith, room, kind_positive (kind_of ty)), inside), tt)
-  loaded_in ty false o bytes d t wide inside room free =
-      let three : words_of_kind (kind_of ty) ≡ 3 = ap words_of_kind (wide_kind (kind_of ty) (ap (λ (n : ℕ). n == 1) (type_words ty) ∙ wide)) in
+  pub loaded_in : (kind : Kind) (narrow : Bool) (o : Operand) (bytes d t : ℕ) → (words_of_kind kind == 1) ≡ narrow → IsOperand r o → d + words_of_kind kind ≤ r.slots → t < r.slots
+      → AreIn (if narrow then load_of kind d o bytes ∷ [] else address_code o bytes t ++ (instructions.Load (d + 2) (operands.Slot t) 8 ∷ instructions.Load (d + 1) (operands.Slot t) 4 ∷ instructions.Load d (operands.Slot t) 0 ∷ []))
+  loaded_in kind true o bytes d t narrow inside room free = (load_of_in kind d o bytes (omega (arith, room, kind_positive kind)) inside, tt)
+  loaded_in kind false o bytes d t wide inside room free =
+      let three : words_of_kind kind ≡ 3 = ap words_of_kind (wide_kind kind wide) in
       append (address_code o bytes t) _ (address_in o bytes t inside free) ((omega (arith, room, three), free), ((omega (arith, room, three), free), ((omega (arith, room, three), free), tt)))
 
   -- a place needs its own words
@@ -532,11 +605,11 @@ module _ (program : PlainProgram) (r : Routine) (b : Numbering) (types : Types) 
       let address = store_address_code (starts_of types) x p t in
       let q = p + length address in
       let value = converted_operand_code (starts_of types) c q (t + 1) in
-      let write = saved_code (passed_words c) t (converted_operand (starts_of types) c (t + 1)) in
+      let write = saved_code (kind_passed c) t (converted_operand (starts_of types) c (t + 1)) in
       let long = length-append address (value ++ write) in
       let behind = length-append value write in
       append address (value ++ write) (address_inside (omega (arith, short, long)))
-      (append value write (value_inside q (omega (arith, short, long, behind))) (saved_in (passed_words c) t (converted_operand (starts_of types) c (t + 1)) (omega (arith, room)) (subst (HasOperand (converted_operand (starts_of types) c (t + 1))) (sym (passed_is c)) (converted_room c (t + 1) numbered room))))
+      (append value write (value_inside q (omega (arith, short, long, behind))) (saved_in (kind_passed c) t (converted_operand (starts_of types) c (t + 1)) (omega (arith, room)) (subst (λ kind. HasOperand (converted_operand (starts_of types) c (t + 1)) (words_of_kind kind)) (sym (kind_is c)) (converted_room c (t + 1) numbered room))))
 
   -- ---- expressions
 

@@ -8,6 +8,7 @@ use Rattle.cyc_words.specs.Word.{IsWord, add_of, mul_of}
 use Rattle.cyc_types.specs.declared.typed.Kind.{Kind}
 use Rattle.cyc_types.specs.declared.typed.Kind.TheVariants as kinds
 use Rattle.cyc_types.specs.declared.typed.Callee.TheVariants as callees
+use Rattle.cyc_types.specs.declared.typed.UnaryOperator.{UnaryOperator}
 use Rattle.cyc_types.specs.declared.typed.UnaryOperator.TheVariants as unary
 use Rattle.cyc_types.specs.declared.typed.Operator.{Operator}
 use Rattle.cyc_types.specs.declared.typed.Operator.TheVariants as operators
@@ -34,8 +35,8 @@ use Rattle.cyc_words.proofs.Lists.{all_append}
 use Rattle.cyc_types.specs.Types.{words_of, Ty}
 use Rattle.cyc_store.specs.declared.range.TheConstants.{HEAP, UNIQUE}
 use Rattle.cyc_meaning.specs.Values.{words_of_kind, bytes_of_kind, begins, behind, bytes_from, words_for, is_thin, kind_of}
-use Rattle.cyc_lower.specs.ValueCode.{are_as_wide, converts_there, passed_words, kinds_passed, converted_by, moved_by, move_of, operand_or, code_unless, slot_or, code_unless_slot, left_with, next_slot, check_code, conversion_code, divisor_code, checked_code, operator_code, truth_code, test_code, is_in, copy_code, failing_comparison, first_temporary, behind_left, pointer_code, index_of, first_two, pointer_instructions, address_code, addressed_by, guard_code, blocks, element_by, count_code, span_of, null_of, tested_code, widened_code, conversion_by, tested_by, bounds_code, stepped_code, bounded_code, thinned_code, reached_code, followed_code, followed_operand, followed_by, span_in, reached_operand, word_by_word, load_word, store_word, global_code}
-use Rattle.cyc_lower.specs.ObjectCode.{begun_code, filled_code, ended_code, elements_code, stores_code, cells_code, slots_of_kinds, object_code, right_slot, saved_code, asked_code, load_at}
+use Rattle.cyc_lower.specs.ValueCode.{converts_there, passed_words, kinds_passed, converted_by, moved_by, move_of, operand_or, code_unless, slot_or, code_unless_slot, left_with, next_slot, check_code, conversion_code, divisor_code, checked_code, operator_code, truth_code, test_code, is_in, copy_code, failing_comparison, first_temporary, behind_left, pointer_code, index_of, first_two, pointer_instructions, address_code, addressed_by, guard_code, blocks, element_by, count_code, span_of, null_of, tested_code, widened_code, conversion_by, tested_by, bounds_code, stepped_code, bounded_code, thinned_code, reached_code, followed_code, followed_operand, followed_by, span_in, reached_operand, word_by_word, load_word, store_word, global_code, keeps_words, masked_code, scale_of, load_of, store_of, unary_instruction, last_byte_code, blank_code, kind_behind, kind_passed, variable_bytes}
+use Rattle.cyc_lower.specs.ObjectCode.{begun_code, filled_code, ended_code, elements_code, stores_code, cells_code, slots_of_kinds, object_code, right_slot, saved_code, asked_code, load_at, measured_code, sized_code, most_elements}
 use Rattle.cyc_lower.specs.ControlCode.{counter_operand, compared_or, compared_of, outside_loops, inside_loop, leave_code, clause_code, opened_code, closed_code, named_code, dynamic_code, handlers_code, marks_code, kept_code, kept_code_in, restored_code, restored_code_in, behind_record, inside_try, inside_region}
 use Rattle.cyc_lower.specs.ExpressionCode.{source_of, source_slot, operand_of, left_of, value_slot, left_slot, value_operand, converted_operand, printed_operand, load_code, expression_code, arguments_code, converted_code, converted_operand_code, printed_code, initial_code, operations_code, slot_with, made_code, place_operand, place_offset, place_code, pointer_of, pointer_slot}
 use Rattle.cyc_lower.specs.Lowering.{assignment_code, discarded_code, first_code, second_code, pair_code, condition_code, condition_of, return_code, declaration_code, statement_code, items_code, initial_word, lower_function, lower_program, store_address_code, store_code, caught_code, clauses_code, function_code, side_code, read_side, write_side, exchange_code, swap_code, globals_of, lower_globals, starts_with, raises_of, scopes_of}
@@ -104,13 +105,18 @@ widened_words (operands.Word w) = tt
 bounds_words : (starts : Starts) (index bound : Operand) → IsOfWord index → IsOfWord bound → HaveWords (bounds_code starts index bound)
 bounds_words starts index bound first second = guard_words starts array_bounds comparisons.GreaterOrEqualUnsigned index bound first second
 
+scale_words : (bytes d m : ℕ) → IsMade (scale_of bytes d m)
+scale_words bytes d m = by (bytes == 4) (bytes == 1)
+  where
+    by : (narrow one : Bool)
+        → IsMade (if narrow then instructions.Binary plain_binary.ShiftLeft d (operands.Slot m) (operands.Word 2) else if one then instructions.Move d (operands.Slot m) else instructions.Binary plain_binary.Multiply d (operands.Slot m) (operands.Word 12))
+    by true one = (tt, omega arith)
+    by false true = tt
+    by false false = (tt, omega arith)
+
 stepped_words : (span : Option ℕ) (n m t : ℕ) → HaveWords (stepped_code span n m t)
 stepped_words None n m t = tt
-stepped_words (Some bytes) n m t = (by (bytes == 4), ((tt, tt), tt))
-  where
-    by : (narrow : Bool) → IsMade (if narrow then instructions.Binary plain_binary.ShiftLeft (t + 2) (operands.Slot m) (operands.Word 2) else instructions.Binary plain_binary.Multiply (t + 2) (operands.Slot m) (operands.Word 12))
-    by true = (tt, omega arith)
-    by false = (tt, omega arith)
+stepped_words (Some bytes) n m t = (scale_words bytes (t + 2) m, ((tt, tt), tt))
 
 bounded_words : (starts : Starts) (span : Option ℕ) (n m t : ℕ) → HaveWords (bounded_code starts span n m t)
 bounded_words starts span n m t =
@@ -125,13 +131,18 @@ thinned_words starts kinds.NonNull span (operands.Slot n) p = reached_words star
 thinned_words starts kinds.Nullable span (operands.Slot n) p = ((tt, omega arith), bounded_words starts span n (n + 2) n)
 thinned_words starts to span o p = tt
 
+masked_words : (o : Operand) → HaveWords (masked_code o)
+masked_words (operands.Slot n) = ((tt, omega arith), tt)
+masked_words (operands.Word n) = tt
+
 conversion_by_words : (starts : Starts) (wide : Bool) (to : Kind) (span : Option ℕ) (o : Operand) (p : ℕ) → IsOfWord o → HaveWords (conversion_by starts wide to span o p)
 conversion_by_words starts true to span o p word = tested_words starts to o word
 conversion_by_words starts false kinds.Fat span o p word = widened_words o
+conversion_by_words starts false kinds.Char span o p word = masked_words o
 conversion_by_words starts false to span o p word = thinned_words starts to span o p
 
 conversion_words : (starts : Starts) (from to : Kind) (span : Option ℕ) (o : Operand) (p : ℕ) → IsOfWord o → HaveWords (conversion_code starts from to span o p)
-conversion_words starts from to span o p word = conversion_by_words starts (are_as_wide from to) to span o p word
+conversion_words starts from to span o p word = conversion_by_words starts (keeps_words from to) to span o p word
 
 divisor_words : (starts : Starts) (o : Operand) → IsOfWord o → HaveWords (divisor_code starts o)
 divisor_words starts (operands.Word (suc n)) word = tt
@@ -166,17 +177,18 @@ address_words : (o : Operand) (bytes d : ℕ) → IsOfWord o → IsWord bytes �
 address_words o zero d word small = copy_words (is_in o d) 1 o d word
 address_words o (suc bytes) d word small = ((word, small), tt)
 
-begins_small : (kind : Kind) (at : ℕ) → IsWord (begins_word kind at)
-begins_small kinds.Int at = omega arith
-begins_small kinds.Nullable at = omega arith
-begins_small kinds.NonNull at = omega arith
-begins_small kinds.Fat at = omega arith
-begins_small kinds.Handle at = omega arith
-begins_small kinds.Key at = omega arith
+begins_small : (kind : Kind) (at : ℕ) → IsWord at → IsWord (begins_word kind at)
+begins_small kinds.Int at small = omega arith
+begins_small kinds.Char at small = small
+begins_small kinds.Nullable at small = omega arith
+begins_small kinds.NonNull at small = omega arith
+begins_small kinds.Fat at small = omega arith
+begins_small kinds.Handle at small = omega arith
+begins_small kinds.Key at small = omega arith
 
 bytes_word : (ts : List Ty) (field bytes : ℕ) → IsWord bytes → IsWord (field_from bytes ts field)
 bytes_word [] field bytes small = small
-bytes_word (t ∷ ts) zero bytes small = begins_small (kind_of t) bytes
+bytes_word (t ∷ ts) zero bytes small = begins_small (kind_of t) bytes small
 bytes_word (t ∷ ts) (suc field) bytes small =
     bytes_word ts field (add_of (begins_word (kind_of t) bytes) (bytes_of_kind (kind_of t))) (IsWord-add_of (begins_word (kind_of t) bytes) (bytes_of_kind (kind_of t)))
 
@@ -222,6 +234,13 @@ initial_by_words starts true known at_once inner from to span o p d all other wo
 initial_by_words starts false known at_once inner from to span o p d all other word =
     append (converted_by starts known inner from to span o p) _ (converted_by_words starts known inner from to span o p other word) (move_words (words_of_kind to) d o word)
 
+unary_words : (o : UnaryOperator) (d : ℕ) (r : Operand) → IsOfWord r → IsMade (unary_instruction o d r)
+unary_words unary.Negate d r word = word
+unary_words unary.Not d r word = word
+unary_words unary.Complement d r word = word
+unary_words unary.Widen d r word = word
+unary_words unary.LowByte d r word = (word, omega arith)
+
 index_word : (l : Operand) → IsOfWord l → IsOfWord (index_of l)
 index_word (operands.Slot n) word = tt
 index_word (operands.Word n) word = word
@@ -247,25 +266,42 @@ test_words : (o : LogicalOperator) (operand : List Instruction) (p d t : ℕ) �
 test_words logical.AndThen operand p d t all = ((tt, omega arith), append operand (truth_code t d) all (tt, (tt, tt)))
 test_words logical.OrElse operand p d t all = ((tt, omega arith), append operand (truth_code t d) all (tt, (tt, tt)))
 
-stores_words : (many address offset slot : ℕ) → offset + 4 * many ≤ 12000 → HaveWords (stores_code many address offset slot)
-stores_words zero address offset slot few = tt
-stores_words (suc many) address offset slot few = ((tt, omega (arith, few), tt), stores_words many address (offset + 4) (suc slot) (omega (arith, few)))
+store_words : (kind : Kind) (address : Operand) (offset : ℕ) (o : Operand) → IsOfWord address → IsWord offset → IsOfWord o → IsMade (store_of kind address offset o)
+store_words kinds.Char address offset o first second third = (first, second, third)
+store_words kind address offset o first second third = (first, second, third)
 
-saved_words : (words address : ℕ) (o : Operand) → words ≤ 3 → IsOfWord o → HaveWords (saved_code words address o)
-saved_words words address (operands.Slot n) few word = stores_words words address 0 n (omega (arith, few))
-saved_words words address (operands.Word n) few word = ((tt, omega arith, word), tt)
+load_word_of : (kind : Kind) (d : ℕ) (address : Operand) (offset : ℕ) → IsOfWord address → IsWord offset → IsMade (load_of kind d address offset)
+load_word_of kinds.Char d address offset first second = (first, second)
+load_word_of kind d address offset first second = (first, second)
 
-loaded_words : (narrow : Bool) (o : Operand) (bytes d t : ℕ) → IsOfWord o → IsWord bytes
-    → HaveWords (if narrow then instructions.Load d o bytes ∷ [] else address_code o bytes t ++ (instructions.Load (d + 2) (operands.Slot t) 8 ∷ instructions.Load (d + 1) (operands.Slot t) 4 ∷ instructions.Load d (operands.Slot t) 0 ∷ []))
-loaded_words true o bytes d t word small = ((word, small), tt)
-loaded_words false o bytes d t word small = append (address_code o bytes t) _ (address_words o bytes t word small) ((tt, omega arith), ((tt, omega arith), ((tt, omega arith), tt)))
+stores_words : (kind : Kind) (many address offset slot : ℕ) → offset + 4 * many ≤ 12000 → HaveWords (stores_code kind many address offset slot)
+stores_words kind zero address offset slot few = tt
+stores_words kind (suc many) address offset slot few =
+    (store_words kind (operands.Slot address) offset (operands.Slot slot) tt (omega (arith, few)) tt, stores_words kind many address (offset + 4) (suc slot) (omega (arith, few)))
+
+saved_words : (kind : Kind) (address : ℕ) (o : Operand) → IsOfWord o → HaveWords (saved_code kind address o)
+saved_words kind address (operands.Slot n) word = stores_words kind (words_of_kind kind) address 0 n (omega (arith, kind_few kind))
+saved_words kind address (operands.Word n) word = (store_words kind (operands.Slot address) 0 (operands.Word n) tt (omega arith) word, tt)
+
+loaded_words : (narrow : Bool) (kind : Kind) (o : Operand) (bytes d t : ℕ) → IsOfWord o → IsWord bytes
+    → HaveWords (if narrow then load_of kind d o bytes ∷ [] else address_code o bytes t ++ (instructions.Load (d + 2) (operands.Slot t) 8 ∷ instructions.Load (d + 1) (operands.Slot t) 4 ∷ instructions.Load d (operands.Slot t) 0 ∷ []))
+loaded_words true kind o bytes d t word small = (load_word_of kind d o bytes word small, tt)
+loaded_words false kind o bytes d t word small = append (address_code o bytes t) _ (address_words o bytes t word small) ((tt, omega arith), ((tt, omega arith), ((tt, omega arith), tt)))
+
+last_byte_words : (kind : Kind) (d : ℕ) → HaveWords (last_byte_code kind d)
+last_byte_words kinds.Char d = ((tt, omega arith), tt)
+last_byte_words kind d = tt
+
+blank_words : (kind : Kind) (slot : ℕ) → HaveWords (blank_code kind slot)
+blank_words kinds.Char slot = (omega arith, tt)
+blank_words kind slot = tt
 
 -- the cells of an object, behind so many words at most
 cells_words : (ks : List Kind) (address at n slot : ℕ) → at ≤ 4 * n → n + slots_of_kinds ks ≤ 3000 → HaveWords (cells_code ks address at slot)
 cells_words [] address at n slot within few = tt
 cells_words (kind ∷ ks) address at n slot within few =
-    let first = stores_code (words_of_kind kind) address (begins kind at) slot in
-    append first (cells_code ks address (behind kind at) (slot + words_of_kind kind)) (stores_words (words_of_kind kind) address (begins kind at) slot (omega (arith, begins_within kind at n within, few)))
+    let first = stores_code kind (words_of_kind kind) address (begins kind at) slot in
+    append first (cells_code ks address (behind kind at) (slot + words_of_kind kind)) (stores_words kind (words_of_kind kind) address (begins kind at) slot (omega (arith, begins_within kind at n within, few)))
     (cells_words ks address (behind kind at) (n + words_of_kind kind) (slot + words_of_kind kind) (behind_within kind at n within) (omega (arith, few)))
 
 -- a block has at most a word's count of words
@@ -279,29 +315,36 @@ object_words handle ks d t word few =
     at_least (suc n) fits = omega (arith, fits)
 
 -- an array begins
-begun_by : (starts : Starts) (handle : Operand) (kind : Kind) (limit t : ℕ) → IsOfWord handle → IsWord (words_of_kind kind) → IsWord limit
-    → HaveWords (instructions.Branch comparisons.GreaterOrEqualUnsigned (operands.Slot t) (operands.Word limit) (starts.raises + array_size)
-    ∷ instructions.Move (t + 1) (operands.Slot t) ∷ instructions.Move (t + 2) (operands.Word 0) ∷ asked_code handle kind (t + 3) t)
-begun_by starts handle kind limit t word some few = ((tt, few), (tt, (omega arith, ((tt, some), (tt, ((tt, tt), ((word, tt), tt)))))))
+sized_words : (kind : Kind) (t : ℕ) → HaveWords (sized_code kind t)
+sized_words kinds.Char t = ((tt, omega arith), ((tt, omega arith), tt))
+sized_words kinds.Int t = ((tt, omega arith), tt)
+sized_words kinds.Nullable t = ((tt, omega arith), tt)
+sized_words kinds.NonNull t = ((tt, omega arith), tt)
+sized_words kinds.Fat t = ((tt, omega arith), tt)
+sized_words kinds.Handle t = ((tt, omega arith), tt)
+sized_words kinds.Key t = ((tt, omega arith), tt)
+
+most_words : (kind : Kind) → IsWord (most_elements (bytes_of_kind kind) + 1)
+most_words kinds.Int = omega arith
+most_words kinds.Char = omega arith
+most_words kinds.Nullable = omega arith
+most_words kinds.NonNull = omega arith
+most_words kinds.Fat = omega arith
+most_words kinds.Handle = omega arith
+most_words kinds.Key = omega arith
 
 begun_words : (starts : Starts) (kind : Kind) (handle : Operand) (t : ℕ) → IsOfWord handle → HaveWords (begun_code starts handle kind t)
-begun_words starts kinds.Int handle t word = begun_by starts handle kinds.Int 1001 t word (omega arith) (omega arith)
-begun_words starts kinds.Nullable handle t word = begun_by starts handle kinds.Nullable 1001 t word (omega arith) (omega arith)
-begun_words starts kinds.NonNull handle t word = begun_by starts handle kinds.NonNull 1001 t word (omega arith) (omega arith)
-begun_words starts kinds.Fat handle t word = begun_by starts handle kinds.Fat 334 t word (omega arith) (omega arith)
-begun_words starts kinds.Handle handle t word = begun_by starts handle kinds.Handle 1001 t word (omega arith) (omega arith)
-begun_words starts kinds.Key handle t word = begun_by starts handle kinds.Key 1001 t word (omega arith) (omega arith)
+begun_words starts kind handle t word =
+    append (measured_code starts kind (t + 1) (t + 2) t) (asked_code handle kind (t + 3) t)
+    ((tt, most_words kind), (tt, (omega arith, tt)))
+    (append (sized_code kind t) _ (sized_words kind t) (tt, ((tt, tt), ((word, tt), tt))))
 
 -- an element comes to its cell
-filled_by : (narrow : Bool) (words head z t : ℕ) → words ≤ 3
-    → HaveWords ((if narrow then instructions.Binary plain_binary.ShiftLeft z (operands.Slot (t + 2)) (operands.Word 2) else instructions.Binary plain_binary.Multiply z (operands.Slot (t + 2)) (operands.Word 12))
-    ∷ instructions.Binary plain_binary.Add z (operands.Slot t) (operands.Slot z)
-    ∷ (stores_code words z 0 (t + 3) ++ (instructions.Binary plain_binary.Add (t + 2) (operands.Slot (t + 2)) (operands.Word 1) ∷ instructions.Jump head ∷ [])))
-filled_by true words head z t few = ((tt, omega arith), ((tt, tt), append (stores_code words z 0 (t + 3)) _ (stores_words words z 0 (t + 3) (omega (arith, few))) ((tt, omega arith), (tt, tt))))
-filled_by false words head z t few = ((tt, omega arith), ((tt, tt), append (stores_code words z 0 (t + 3)) _ (stores_words words z 0 (t + 3) (omega (arith, few))) ((tt, omega arith), (tt, tt))))
-
 filled_words : (kind : Kind) (head t : ℕ) → HaveWords (filled_code kind head t)
-filled_words kind head t = filled_by (bytes_of_kind kind == 4) (words_of_kind kind) head (t + 3 + words_of_kind kind) t (kind_few kind)
+filled_words kind head t =
+    let z = t + 3 + words_of_kind kind in
+    let stores = stores_code kind (words_of_kind kind) z 0 (t + 3) in
+    (scale_words (bytes_of_kind kind) z (t + 2), ((tt, tt), append stores _ (stores_words kind (words_of_kind kind) z 0 (t + 3) (omega (arith, kind_few kind))) ((tt, omega arith), (tt, tt))))
 
 -- ---- locals that have these first slots
 
@@ -318,10 +361,11 @@ module _ (starts : Starts) where
       by : (s : Option ℕ) → IsOfWord (operand_or (counter_operand s) slot)
       by (Some n) = tt
       by None = tt
+  known_word (Unary unary.Widen a) slot words = known_word a slot words
   known_word a slot words = tt
 
   converted_word : (c : Converted) (t : ℕ) → IsOfWordsConverted c → IsOfWord (converted_operand starts c t)
-  converted_word (Convert from to a) t words = by (are_as_wide from to)
+  converted_word (Convert from to a) t words = by (keeps_words from to)
     where
       null_word : (x : Expression) → IsOfWord (operand_or (null_of x) t)
       null_word NullPointer = omega arith
@@ -387,9 +431,11 @@ mutual
       let inner = expression_code starts a p (value_slot starts a t) t in
       let front = code_unless (operand_of starts a) inner in
       append front _ (unless_words (operand_of starts a) inner (expression_words starts a p (value_slot starts a t) t words)) (count_words (value_operand starts a t) (p + length front) d)
+  expression_words starts (Unary unary.Widen a) p d t words = expression_words starts a p d t words
   expression_words starts (Unary o a) p d t words =
       let inner = expression_code starts a p (value_slot starts a t) t in
-      append (code_unless (operand_of starts a) inner) _ (unless_words (operand_of starts a) inner (expression_words starts a p (value_slot starts a t) t words)) (known_word starts a (value_slot starts a t) words, tt)
+      append (code_unless (operand_of starts a) inner) _ (unless_words (operand_of starts a) inner (expression_words starts a p (value_slot starts a t) t words))
+      (unary_words o d (value_operand starts a t) (known_word starts a (value_slot starts a t) words), tt)
   expression_words starts (Binary a os ty) p d t (first, rest) =
       let inner = expression_code starts a p (left_slot starts a os d t) t in
       let front = code_unless (left_of starts a os) inner in
@@ -405,7 +451,7 @@ mutual
       let word = converted_word starts c t words in
       append (front ++ global_code (passed_words c) (global_of starts n) o) (copy_code (passed_words c) o d) (append front _ (converted_operand_words starts c p t words) (global_words starts (passed_words c) (global_of starts n) o word)) (copy_words (is_in o d) (passed_words c) o d word)
   expression_words starts (Load x) p d t words =
-      append (place_code starts x p t) _ (place_words starts x p t words) (loaded_words (words_of (type_of_place x) == 1) (place_operand starts x t) (place_offset starts x) d t (place_word starts x t words) (offset_word starts x))
+      append (place_code starts x p t) _ (place_words starts x p t words) (loaded_words (words_of_kind (kind_of (type_of_place x)) == 1) (kind_of (type_of_place x)) (place_operand starts x t) (place_offset starts x) d t (place_word starts x t words) (offset_word starts x))
   expression_words starts (AddressOfCell x ty) p d t words = address_of_words starts x p d t words
   expression_words starts (Store x c ty) p d t (first, second) =
       let address = store_address_code starts x p t in
@@ -413,7 +459,7 @@ mutual
       let o = converted_operand starts c (t + 1) in
       let word = converted_word starts c (t + 1) second in
       append (store_code starts x c p t) (copy_code (passed_words c) o d)
-      (append address _ (address_of_words starts x p t t first) (append value _ (converted_operand_words starts c (p + length address) (t + 1) second) (saved_words (passed_words c) t o (passed_few c) word)))
+      (append address _ (address_of_words starts x p t t first) (append value _ (converted_operand_words starts c (p + length address) (t + 1) second) (saved_words (kind_passed c) t o word)))
       (copy_words (is_in o d) (passed_words c) o d word)
   expression_words starts (FreeUnique a) p d t words =
       let slot = value_slot starts a t in
@@ -426,8 +472,9 @@ mutual
       let front = expression_code starts h p t t in
       append front _ (expression_words starts h p t t handle) (made_words starts i (operands.Slot t) (p + length front) d (t + 1) tt words)
   expression_words starts HeapRegion p d t words = (omega arith, tt)
-  expression_words starts (AddressOf (Local w n) ty) p d t words = (tt, tt)
-  expression_words starts (AddressOf (Global n) ty) p d t words = (IsWord-add_of GLOBALS_BASE (mul_of (global_of starts n % 2 ^ 32) 4), tt)
+  expression_words starts (AddressOf (Local w n) ty) p d t words = (tt, last_byte_words (kind_behind ty) d)
+  expression_words starts (AddressOf (Global n) ty) p d t words =
+      (IsWord-add_of (add_of GLOBALS_BASE (mul_of (global_of starts n % 2 ^ 32) 4)) (variable_bytes (kind_behind ty)), tt)
   expression_words starts (FreeKey a) p d t words =
       let slot = value_slot starts a t in
       let inner = expression_code starts a p slot t in
@@ -441,12 +488,14 @@ mutual
   made_words starts (Array w level n kind a) handle p d t word (count, element) =
       let first = expression_code starts n p t t in
       let m = p + length first in
-      let inner = expression_code (with_counter starts (t + 2)) a (m + 7 + 1) (t + 3) (t + 3) in
-      let filled = filled_code kind (m + 7) t in
-      append first (begun_code starts handle kind t ++ elements_code kind inner (m + 7) d t) (expression_words starts n p t t count)
-      (append (begun_code starts handle kind t) (elements_code kind inner (m + 7) d t) (begun_words starts kind handle t word) (
+      let begun = begun_code starts handle kind t in
+      let head = m + length begun in
+      let inner = expression_code (with_counter starts (t + 2)) a (head + 1) (t + 3) (t + 3) in
+      let filled = filled_code kind head t in
+      append first (begun ++ elements_code kind inner head d t) (expression_words starts n p t t count)
+      (append begun (elements_code kind inner head d t) (begun_words starts kind handle t word) (
         (tt, tt),
-        append (inner ++ filled) (ended_code d t) (append inner filled (expression_words (with_counter starts (t + 2)) a (m + 7 + 1) (t + 3) (t + 3) element) (filled_words kind (m + 7) t))
+        append (inner ++ filled) (ended_code d t) (append inner filled (expression_words (with_counter starts (t + 2)) a (head + 1) (t + 3) (t + 3) element) (filled_words kind head t))
             (omega arith, copy_words (is_in (operands.Slot t) d) 3 (operands.Slot t) d tt),
       ))
 
@@ -564,7 +613,7 @@ module _ (starts : Starts) where
   discarded_words (Store x c ty) p t (first, second) =
       let address = store_address_code starts x p t in
       let value = converted_operand_code starts c (p + length address) (t + 1) in
-      append address _ (address_of_words starts x p t t first) (append value _ (converted_operand_words starts c (p + length address) (t + 1) second) (saved_words (passed_words c) t (converted_operand starts c (t + 1)) (passed_few c) (converted_word starts c (t + 1) second)))
+      append address _ (address_of_words starts x p t t first) (append value _ (converted_operand_words starts c (p + length address) (t + 1) second) (saved_words (kind_passed c) t (converted_operand starts c (t + 1)) (converted_word starts c (t + 1) second)))
   discarded_words a p t words = unless_words (operand_of starts a) (expression_code starts a p t t) (expression_words starts a p t t words)
 
   -- ---- statements
@@ -648,44 +697,45 @@ module _ (starts : Starts) where
       (append front conversion (unless_slot_words known inner (expression_words starts a p t t words)) (conversion_words starts from to (span_of a) (operands.Slot s) (p + length front) tt)) (leave_words exits.in_function))
       (tt, tt)
 
-  declaration_words : (n : ℕ) (v : Option Converted) (p t : ℕ) → IsOfWordsInitial v → HaveWords (declaration_code starts n v p t)
-  declaration_words n None p t words = tt
-  declaration_words n (Some c) p t words = initial_words starts c p (slot_of starts n) t words
+  declaration_words : (n : ℕ) (ty : Ty) (v : Option Converted) (p t : ℕ) → IsOfWordsInitial v → HaveWords (declaration_code starts n ty v p t)
+  declaration_words n ty None p t words = blank_words (kind_of ty) (slot_of starts n)
+  declaration_words n ty (Some c) p t words = initial_words starts c p (slot_of starts n) t words
 
   side_words : (a : Side) (p t : ℕ) → IsOfWordsSide a → HaveWords (side_code starts a p t)
   side_words (VariableSide l ty) p t words = tt
   side_words (CellSide x) p t words = address_of_words starts x p t t words
 
-  read_words : (a : Side) (words s d : ℕ) → words ≤ 3 → HaveWords (read_side starts a words s d)
-  read_words (VariableSide (Local w n) ty) words s d few = move_words words d (operands.Slot (slot_of starts n)) tt
-  read_words (VariableSide (Global n) ty) words s d few = loads_words starts words (global_of starts n) d
-  read_words (CellSide x) words s d few = words_words words s 0 d (omega (arith, few))
+  read_words : (a : Side) (kind : Kind) (s d : ℕ) → HaveWords (read_side starts a kind s d)
+  read_words (VariableSide (Local w n) ty) kind s d = move_words (words_of_kind kind) d (operands.Slot (slot_of starts n)) tt
+  read_words (VariableSide (Global n) ty) kind s d = loads_words starts (words_of_kind kind) (global_of starts n) d
+  read_words (CellSide x) kind s d = words_words (words_of_kind kind) s 0 d (omega (arith, kind_few kind))
     where
-      words_words : (many address index slot : ℕ) → index + many ≤ 3 → HaveWords (word_by_word (load_at address) many index slot)
+      words_words : (many address index slot : ℕ) → index + many ≤ 3 → HaveWords (word_by_word (load_at kind address) many index slot)
       words_words zero address index slot few = tt
-      words_words (suc many) address index slot few = ((tt, omega (arith, few)), words_words many address (suc index) (suc slot) (omega (arith, few)))
+      words_words (suc many) address index slot few =
+          (load_word_of kind slot (operands.Slot address) (4 * index) tt (omega (arith, few)), words_words many address (suc index) (suc slot) (omega (arith, few)))
 
-  write_words : (a : Side) (words s v : ℕ) → words ≤ 3 → HaveWords (write_side starts a words s v)
-  write_words (VariableSide (Local w n) ty) words s v few = move_words words (slot_of starts n) (operands.Slot v) tt
-  write_words (VariableSide (Global n) ty) words s v few = global_words starts words (global_of starts n) (operands.Slot v) tt
-  write_words (CellSide x) words s v few = stores_words words s 0 v (omega (arith, few))
+  write_words : (a : Side) (kind : Kind) (s v : ℕ) → HaveWords (write_side starts a kind s v)
+  write_words (VariableSide (Local w n) ty) kind s v = move_words (words_of_kind kind) (slot_of starts n) (operands.Slot v) tt
+  write_words (VariableSide (Global n) ty) kind s v = global_words starts (words_of_kind kind) (global_of starts n) (operands.Slot v) tt
+  write_words (CellSide x) kind s v = stores_words kind (words_of_kind kind) s 0 v (omega (arith, kind_few kind))
 
   swap_words : (x y : Side) (p t : ℕ) → IsOfWordsSide x → IsOfWordsSide y → HaveWords (swap_code starts x y p t)
   swap_words x y p t words_x words_y =
-      let words = words_of (type_of_side x) in
-      let few : words ≤ 3 = omega (arith, type_words (type_of_side x), kind_few (kind_of (type_of_side x))) in
+      let kind = kind_of (type_of_side x) in
+      let words = words_of_kind kind in
       let front = side_code starts x p t in
       let middle = side_code starts y (p + length front) (right_slot x t) in
-      let back = exchange_code starts words x y t in
-      let first = read_side starts x words t (t + 2) in
-      let second = read_side starts y words (right_slot x t) (t + 2 + words) in
-      let third = write_side starts x words t (t + 2 + words) in
-      let fourth = write_side starts y words (right_slot x t) (t + 2) in
+      let back = exchange_code starts kind x y t in
+      let first = read_side starts x kind t (t + 2) in
+      let second = read_side starts y kind (right_slot x t) (t + 2 + words) in
+      let third = write_side starts x kind t (t + 2 + words) in
+      let fourth = write_side starts y kind (right_slot x t) (t + 2) in
       append front (middle ++ back) (side_words x p t words_x)
       (append middle back (side_words y (p + length front) (right_slot x t) words_y)
-      (append first (second ++ (third ++ fourth)) (read_words x words t (t + 2) few)
-      (append second (third ++ fourth) (read_words y words (right_slot x t) (t + 2 + words) few)
-      (append third fourth (write_words x words t (t + 2 + words) few) (write_words y words (right_slot x t) (t + 2) few)))))
+      (append first (second ++ (third ++ fourth)) (read_words x kind t (t + 2))
+      (append second (third ++ fourth) (read_words y kind (right_slot x t) (t + 2 + words))
+      (append third fourth (write_words x kind t (t + 2 + words)) (write_words y kind (right_slot x t) (t + 2))))))
 
   -- the number of an exception is less than 2 ^ 32 in an operand, whatever it is
   throw_words : (tag : ℕ) (v : Option Expression) (p : ℕ) (exits : Exits) (t : ℕ) → IsOfWordsThrown v → HaveWords (statement_code starts (Throw tag v) p exits t)
@@ -741,8 +791,8 @@ module _ (starts : Starts) where
         let q = p + length (statement_code starts s p exits t) in
         append (statement_code starts s p exits t) (items_code starts js q exits t) (statement_words s p exits t first) (items_words js q exits t rest)
     items_words (MoreItems (Declare n ty v) js) p exits t (first, rest) =
-        let q = p + length (declaration_code starts n v p t) in
-        append (declaration_code starts n v p t) (items_code starts js q exits t) (declaration_words n v p t first) (items_words js q exits t rest)
+        let q = p + length (declaration_code starts n ty v p t) in
+        append (declaration_code starts n ty v p t) (items_code starts js q exits t) (declaration_words n ty v p t first) (items_words js q exits t rest)
     items_words (MoreItems (DeclareRegion r n) js) p exits t words =
         let front = opened_code starts n t in
         let inner = items_code starts js (p + length front) (inside_region exits t) (t + 1) in

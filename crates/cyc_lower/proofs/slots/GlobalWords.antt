@@ -8,9 +8,7 @@ use Rattle.cyc_types.specs.TypedTrees.{GlobalVariable}
 use Rattle.cyc_types.specs.TypedTreeView.{view_global}
 use Rattle.cyc_meaning.specs.FrameCount.{words_of_all}
 use Rattle.cyc_lower.specs.Slots.{global_types, starts_from}
-use Rattle.cyc_lower.specs.ValueCode.{address_of_global}
 use Rattle.cyc_lower.specs.Lowering.{initial_word, lower_global, lower_globals}
-use Rattle.cyc_plain.specs.declared.limits.TheConstants.{GLOBALS_BASE, MOST_GLOBALS}
 
 -- those from one on
 abbrev behind : List Global → ℕ → List GlobalVariable
@@ -88,9 +86,3 @@ words_more gs i words new x inside at is made =
 
 pub words_end : (gs : List Global) (i : ℕ) (words : List ℕ) → length gs ≤ i → WordsLeft gs i words → words ≡ lower_globals (map view_global gs)
 words_end gs i words done made = sym (append-nil words) ∙ ap (λ (l : List GlobalVariable). words ++ lower_globals l) (sym (none_behind gs i done)) ∙ made
-
--- ---- their addresses
-
--- that of a global is no other number than that of its first word
-pub address-is : (first : ℕ) → first ≤ MOST_GLOBALS → address_of_global first ≡ GLOBALS_BASE + 4 * first
-address-is first few = omega (arith, few)

@@ -15,7 +15,8 @@ use Rattle.cyc_meaning.specs.FrameCount.{words_of_all}
 use Rattle.cyc_lower.specs.Slots.{global_types, slot_in, starts_from, Types, starts_of, slot_of, global_of}
 use Rattle.cyc_lower.specs.ValueCode.{slot_types, first_temporary}
 use Rattle.cyc_lower.specs.Lowering.{lower_global, lower_globals}
-use Rattle.cyc_lower.proofs.slots.Widths.{kind_positive, words_in, HasRoom, HasGlobal}
+use Rattle.cyc_lower.proofs.slots.Widths.{kind_positive, words_in, HasRoom, HasGlobal, kind_in}
+use Rattle.cyc_meaning.specs.Values.{kind_of}
 
 -- ---- words
 
@@ -26,6 +27,7 @@ mark_positive Fat = omega arith
 
 pub words_positive : (t : Ty) → 1 ≤ words_of t
 words_positive types.Int = omega arith
+words_positive types.Char = omega arith
 words_positive (types.Pointer k t r) = mark_positive k
 words_positive (types.Handle r) = omega arith
 words_positive (types.Key r) = omega arith
@@ -116,6 +118,11 @@ words-there [] n t at = absurd (none-some t at)
 words-there (u ∷ ts) zero t at = ap words_of (same_Some u t at)
 words-there (u ∷ ts) (suc n) t at = words-there ts n t at
 
+pub kind-there : (ts : List Ty) (n : ℕ) (t : Ty) → slice_get ts n ≡ Some t → kind_in ts n ≡ kind_of t
+kind-there [] n t at = absurd (none-some t at)
+kind-there (u ∷ ts) zero t at = ap kind_of (same_Some u t at)
+kind-there (u ∷ ts) (suc n) t at = kind-there ts n t at
+
 pub slot-room : (ts : Types) (n : ℕ) → n < length ts.locals → slot_of (starts_of ts) n + words_in ts.locals n ≤ words_of_all ts.locals
 slot-room ts n inside =
     let (t, at) = type-there ts.locals n inside in
@@ -187,6 +194,10 @@ slot-parameter structs raises globals scopes first rest t more =
 pub words-parameter : (first rest : List Ty) (t : Ty) (more : List Ty) → words_in ((first ++ t ∷ rest) ++ more) (length first) ≡ words_of t
 words-parameter [] rest t more = refl
 words-parameter (u ∷ first) rest t more = words-parameter first rest t more
+
+pub kind-parameter : (first rest : List Ty) (t : Ty) (more : List Ty) → kind_in ((first ++ t ∷ rest) ++ more) (length first) ≡ kind_of t
+kind-parameter [] rest t more = refl
+kind-parameter (u ∷ first) rest t more = kind-parameter first rest t more
 
 pub slot_types-many : (h : Function) → length (slot_types h) ≡ length h.parameters + length h.locals
 slot_types-many h = length-append h.parameters h.locals

@@ -1,7 +1,7 @@
 -- The kinds of what expressions give, and the words of locals.
-use Rattle.std.proofs.Common.{◌≡◌, ◌⊎◌, ℕ, zero, suc, ◌+◌, ◌≤◌, ◌<◌, true, false, List, [], ◌∷◌, length, Option, None, Some, slice_get, refl, sym, ap, ◌∙◌, arith, inl, inr}
-use Rattle.std.specs.Prelude.{◌==◌, max}
-use Rattle.std.proofs.lemmas.Bool.{eqb-true, eqb-false, and_parts}
+use Rattle.std.proofs.Common.{◌≡◌, ◌⊎◌, ℕ, zero, suc, ◌+◌, ◌≤◌, ◌<◌, true, false, List, [], ◌∷◌, length, Option, None, Some, slice_get, refl, sym, ap, ◌∙◌, arith, inl, inr, Bool}
+use Rattle.std.specs.Prelude.{◌==◌, max, not, ◌&&◌, if◌then◌else◌}
+use Rattle.std.proofs.lemmas.Bool.{eqb-true, eqb-false, and_parts, cases_Bool}
 use Rattle.cyc_syntax.specs.declared.tree.PointerKind.TheVariants as marks
 use Rattle.cyc_types.specs.declared.typed.Kind.{Kind}
 use Rattle.cyc_types.specs.declared.typed.Kind.TheVariants as kinds
@@ -9,16 +9,19 @@ use Rattle.cyc_types.specs.declared.typed.Callee.{Callee}
 use Rattle.cyc_types.specs.declared.typed.Callee.TheVariants as callees
 use Rattle.cyc_types.specs.Types.{Ty, words_of, words_of_mark}
 use Rattle.cyc_types.specs.Types as types
-use Rattle.cyc_types.specs.TypedTrees.{Load, type_of_place, Expression, NullPointer, HeapRegion, Copy, Move, Peek, Call, Binary, Assign, Converted, Convert, Operations, NoOperations, ThenCompute, ThenTest, ThenPointer, ThenPointerPeek, Signature, New, Initial, Array, AddressOfCell, Store, StructType, AddressOf}
+use Rattle.cyc_types.specs.TypedTrees.{Load, type_of_place, Expression, NullPointer, HeapRegion, Copy, Move, Peek, Call, Unary, Binary, Assign, Converted, Convert, Operations, NoOperations, ThenCompute, ThenTest, ThenPointer, ThenPointerPeek, Signature, New, Initial, Array, AddressOfCell, Store, StructType, AddressOf}
 use Rattle.cyc_meaning.specs.Pointers.{result_kind as operator_kind}
 use Rattle.cyc_meaning.specs.Values.{kind_of, number_of_kind, is_kind, words_of_kind, are_kinds}
 use Rattle.cyc_lower.specs.Slots.{Types}
-use Rattle.cyc_lower.specs.ValueCode.{words_behind}
+use Rattle.cyc_meaning.specs.Operators.{unary_kind}
+use Rattle.cyc_lower.specs.ValueCode.{kind_behind, are_as_wide, keeps_words, masks}
+use Rattle.cyc_lower.specs.Lowerable.{is_converted, is_pointer}
 
 -- ---- kinds and their words
 
 pub kind_positive : (kind : Kind) → 1 ≤ words_of_kind kind
 kind_positive kinds.Int = omega arith
+kind_positive kinds.Char = omega arith
 kind_positive kinds.Nullable = omega arith
 kind_positive kinds.NonNull = omega arith
 kind_positive kinds.Fat = omega arith
@@ -27,6 +30,7 @@ kind_positive kinds.Key = omega arith
 
 pub kind_few : (kind : Kind) → words_of_kind kind ≤ 3
 kind_few kinds.Int = omega arith
+kind_few kinds.Char = omega arith
 kind_few kinds.Nullable = omega arith
 kind_few kinds.NonNull = omega arith
 kind_few kinds.Fat = omega arith
@@ -37,6 +41,7 @@ kind_few kinds.Key = omega arith
 pub wide_kind : (kind : Kind) → (words_of_kind kind == 1) ≡ false → kind ≡ kinds.Fat
 wide_kind kinds.Fat wide = refl
 wide_kind kinds.Int wide = absurd (let f : true ≡ false = wide in cc)
+wide_kind kinds.Char wide = absurd (let f : true ≡ false = wide in cc)
 wide_kind kinds.Nullable wide = absurd (let f : true ≡ false = wide in cc)
 wide_kind kinds.NonNull wide = absurd (let f : true ≡ false = wide in cc)
 wide_kind kinds.Handle wide = absurd (let f : true ≡ false = wide in cc)
@@ -45,6 +50,7 @@ wide_kind kinds.Key wide = absurd (let f : true ≡ false = wide in cc)
 one_or_three : (kind : Kind) → (words_of_kind kind ≡ 1) ⊎ (words_of_kind kind ≡ 3)
 one_or_three kinds.Fat = inr refl
 one_or_three kinds.Int = inl refl
+one_or_three kinds.Char = inl refl
 one_or_three kinds.Nullable = inl refl
 one_or_three kinds.NonNull = inl refl
 one_or_three kinds.Handle = inl refl
@@ -60,9 +66,55 @@ more_words from to apart = elim (one_or_three from) [
   | inr three ↦ omega (arith, three)
 ]
 
+both : (a b : Bool) → (a && b) ≡ true → (a ≡ true) × (b ≡ true)
+both true b is = (refl, is)
+both false b is = absurd (let f : false ≡ true = is in cc)
+
+-- what keeps its words has as many of them
+pub keeps_wide : (from to : Kind) → keeps_words from to ≡ true → words_of_kind from ≡ words_of_kind to
+keeps_wide from to keeps = eqb-true (words_of_kind from) (words_of_kind to) (both (are_as_wide from to) (not (masks from to)) keeps).0
+
+-- and masks nothing
+pub keeps_whole : (from to : Kind) → keeps_words from to ≡ true → masks from to ≡ false
+keeps_whole from to keeps = elim (cases_Bool (masks from to)) [
+  | inl masked ↦ absurd (let f : false ≡ true = sym (ap (λ (b : Bool). not b) masked) ∙ (both (are_as_wide from to) (not (masks from to)) keeps).1 in cc)
+  | inr whole ↦ whole
+]
+
+masks_are : (from to : Kind) → masks from to ≡ true → (from ≡ kinds.Int) × (to ≡ kinds.Char)
+masks_are kinds.Int kinds.Char is = (refl, refl)
+masks_are from to is = absurd (let f : false ≡ true = is in cc)
+
+-- what does not is an int that becomes a char, or has more of them or fewer
+pub changes_words : (from to : Kind) → keeps_words from to ≡ false → ((from ≡ kinds.Int) × (to ≡ kinds.Char)) ⊎ (are_as_wide from to ≡ false)
+changes_words from to changes = elim (cases_Bool (are_as_wide from to)) [
+  | inl wide ↦ elim (cases_Bool (masks from to)) [
+    | inl masked ↦ inl (masks_are from to masked)
+    | inr whole ↦
+        let keeps : keeps_words from to ≡ true = ap (λ (b : Bool). b && not (masks from to)) wide ∙ ap (λ (b : Bool). not b) whole in
+        absurd (let f : true ≡ false = sym keeps ∙ changes in cc)
+  ]
+  | inr narrow ↦ inr narrow
+]
+
+-- what becomes no char has another number of them
+pub changes_wide : (from to : Kind) → is_kind to kinds.Char ≡ false → keeps_words from to ≡ false → are_as_wide from to ≡ false
+changes_wide from to plain changes = elim (changes_words from to changes) [
+  | inl masked ↦ absurd (let f : true ≡ false = sym (ap (λ (k : Kind). is_kind k kinds.Char) masked.1) ∙ plain in cc)
+  | inr narrow ↦ narrow
+]
+
+-- so it is a pointer or a char then
+pub changes : (from to : Kind) → is_converted from to ≡ true → keeps_words from to ≡ false → (to ≡ kinds.Char) ⊎ (is_pointer to ≡ true)
+changes from to known changed = elim (changes_words from to changed) [
+  | inl masked ↦ inl masked.1
+  | inr narrow ↦ inr (sym (ap (λ (b : Bool). if b then true else is_pointer to) narrow) ∙ known)
+]
+
 -- a cell of a type has the words of its kind
 pub type_words : (t : Ty) → words_of_kind (kind_of t) ≡ words_of t
 type_words types.Int = refl
+type_words types.Char = refl
 type_words (types.Pointer marks.Nullable t r) = refl
 type_words (types.Pointer marks.NonNull t r) = refl
 type_words (types.Pointer marks.Fat t r) = refl
@@ -76,10 +128,12 @@ kind_numbered (suc zero) = kinds.Nullable
 kind_numbered (suc (suc zero)) = kinds.NonNull
 kind_numbered (suc (suc (suc zero))) = kinds.Fat
 kind_numbered (suc (suc (suc (suc zero)))) = kinds.Handle
-kind_numbered n = kinds.Key
+kind_numbered (suc (suc (suc (suc (suc zero))))) = kinds.Key
+kind_numbered n = kinds.Char
 
 number_tells : (kind : Kind) → kind_numbered (number_of_kind kind) ≡ kind
 number_tells kinds.Int = refl
+number_tells kinds.Char = refl
 number_tells kinds.Nullable = refl
 number_tells kinds.NonNull = refl
 number_tells kinds.Fat = refl
@@ -141,6 +195,7 @@ module _ (signatures : List Signature) where
   given (AddressOfCell x t) = kinds.NonNull
   given (Assign l (Convert from to a) t) = to
   given (Store x (Convert from to a) t) = to
+  given (Unary o a) = unary_kind o
   given a = kinds.Int
 
 abbrev pub passed_kind : Converted → Kind
@@ -158,13 +213,23 @@ words_in (t ∷ ts) (suc n) = words_in ts n
 abbrev pub HasRoom : Types → ℕ → Kind → Type 0
 HasRoom types n kind = words_of_kind kind ≤ words_in types.locals n
 
+-- the kind of the local, or global, of this number
+abbrev pub kind_in : List Ty → ℕ → Kind
+kind_in [] n = kinds.Int
+kind_in (t ∷ ts) zero = kind_of t
+kind_in (t ∷ ts) (suc n) = kind_in ts n
+
+-- the local of this number has that kind, and room for such a value
+abbrev pub HasLocal : Types → ℕ → Kind → Type 0
+HasLocal types n kind = HasRoom types n kind × (kind_in types.locals n ≡ kind)
+
 -- and in the global of this number
 abbrev pub HasGlobal : Types → ℕ → Kind → Type 0
 HasGlobal types n kind = words_of_kind kind ≤ words_in types.globals n
 
--- the local, or global, of this number has as many words as such a pointer leads to
+-- the local, or global, of this number has the kind that such a pointer leads to
 abbrev pub HasVariable : List Ty → ℕ → (pointer : Ty) → Type 0
-HasVariable ts n pointer = (t : Ty) × (slice_get ts n ≡ Some t) × (words_behind pointer ≡ words_of t)
+HasVariable ts n pointer = (t : Ty) × (slice_get ts n ≡ Some t) × (kind_behind pointer ≡ kind_of t)
 
 -- the struct of this number has a field of that number
 abbrev pub HasField : Types → (number field : ℕ) → Type 0

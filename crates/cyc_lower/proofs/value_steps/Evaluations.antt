@@ -1,5 +1,5 @@
 -- The steps that begin an expression.
-use Rattle.std.proofs.Common.{◌≡◌, ℕ, ◌+◌, ◌≤◌, ◌<◌, Bool, true, false, List, [], ◌∷◌, ◌++◌, map, Option, None, Some, slice_get, refl, sym, ap, subst, ◌∙◌, arith, inl, inr, zero, suc, ◌-◌, ◌*◌}
+use Rattle.std.proofs.Common.{◌≡◌, ℕ, ◌+◌, ◌≤◌, ◌<◌, Bool, true, false, List, [], ◌∷◌, ◌++◌, map, Option, None, Some, slice_get, refl, sym, ap, subst, ◌∙◌, arith, inl, inr, zero, suc, ◌-◌, ◌*◌, add-zero}
 use Rattle.std.specs.Prelude.{if◌then◌else◌, option_map}
 use Rattle.std.proofs.lemmas.Bool.{eq-eqb}
 use Rattle.std.proofs.lemmas.List.{length-map}
@@ -25,7 +25,7 @@ use Rattle.cyc_plain.specs.State.{Words, put, Frame, Configuration}
 use Rattle.cyc_plain.specs.Straight.{At as CodeAt}
 use Rattle.cyc_plain.specs.Step.{Choice, with_slots, advanced, performed, at}
 use Rattle.cyc_plain.proofs.SlotLaws.{put-same}
-use Rattle.cyc_meaning.specs.Values.{Int, Null, Thin, Handle, Operand as Kinded, kind_of, words_of_kind, bytes_of_kind, is_thin}
+use Rattle.cyc_meaning.specs.Values.{Int, Null, Thin, Handle, Operand as Kinded, kind_of, words_of_kind, bytes_of_kind, is_thin, Value}
 use Rattle.cyc_store.specs.declared.range.TheConstants.{HEAP, UNIQUE}
 use Rattle.cyc_meaning.specs.SourceMachine.{status_in}
 use Rattle.cyc_meaning.specs.State.{status_of, InRegion, World, heap_number, Environment, ConvertTo, Operate, Chain, Apply, Store, Pass, PlaceBy, MakePlain, MakeFields, MakeArray, Choose, Test, Follow, LoadFrom, Entry, Needs, NeedsPlace, Discard, Focus, Evaluating, Locating, Given, Running, FollowMember, TakeAddress, StoreTo, Owner, Unique, FreeObject, CloseByKey, CountElements, Index, Advance}
@@ -35,25 +35,25 @@ use Rattle.cyc_meaning.specs.Allocation.{makes}
 use Rattle.cyc_lower.specs.Slots.{slot_of, field_in, global_of, Types, starts_of, global_types}
 use Rattle.cyc_meaning.specs.Places.{locates_member}
 use Rattle.cyc_lower.proofs.place_steps.PlaceWords.{field_bytes, add_is}
-use Rattle.cyc_lower.proofs.slots.Slots.{slot-room, slot-low, words-there, words_positive}
+use Rattle.cyc_lower.proofs.slots.Slots.{slot-room, slot-low, words-there, words_positive, kind-there}
 use Rattle.cyc_lower.proofs.slots.Widths.{kind_positive, type_words, made_kind, HasRoom, Outside}
 use Rattle.cyc_lower.proofs.relation.Moves.{moved_slots, moves, put_elsewhere, moved_elsewhere, moved_is}
-use Rattle.cyc_lower.specs.ValueCode.{failing_comparison, are_as_wide, converts_there, all_passed, kinds_passed, move_of, left_with, null_of, followed_operand, span_in, operand_or, reached_operand, load_word, address_of_global}
+use Rattle.cyc_lower.specs.ValueCode.{failing_comparison, converts_there, all_passed, kinds_passed, move_of, left_with, null_of, followed_operand, span_in, operand_or, reached_operand, load_word, address_of_global, keeps_words, variable_bytes}
 use Rattle.cyc_lower.specs.ControlCode.{counter_operand, compared_or, compared_of}
 use Rattle.cyc_lower.specs.ExpressionCode.{operand_of, value_slot, source_of, source_slot, slot_with, pointer_of}
 use Rattle.cyc_lower.specs.Lowering.{lower_program}
 use Rattle.cyc_lower.proofs.relation.Weights.{weight, stack_weight, expression_weight, arguments_weight, object_weight}
-use Rattle.cyc_lower.proofs.relation.Stands.{CopyBy, CopyAt, OperandBy, InitialBy, ExpressionAt, ArgumentsAt, ObjectAt, MadeAt, ValueAt, PairAt, ConditionAt, AssignmentAt, PrintedAt, DiscardedAt, StoredAt, LoadedAt, ReturnedAt, ReachedAt, EachAt}
+use Rattle.cyc_lower.proofs.relation.Stands.{CopyBy, CopyAt, OperandBy, InitialBy, ExpressionAt, ArgumentsAt, ObjectAt, MadeAt, ValueAt, PairAt, ConditionAt, AssignmentAt, PrintedAt, DiscardedAt, StoredAt, LoadedAt, ReturnedAt, ReachedAt, EachAt, LastByteAt}
 use Rattle.cyc_objects.specs.Tables.{Tables}
 use Rattle.cyc_objects.specs.Words.{Is, Points}
-use Rattle.cyc_lower.proofs.relation.HeldValues.{counters_of, IsIn, words_held, height, Holds, held, kept, contents, IsHandleOf, IsLow, callers}
-use Rattle.cyc_lower.proofs.relation.Relation.{types_on, starts_on, types_at, starts_at, given_at, called_at, in_temporary, in_local, drops, leaves, copies, prints_only, gives_byte, DataIn, SharedAt, CallAt, to_slot, to_jump, ValueStack, PlaceStack, ConditionStack, DroppedStack, AheadStack, LandsStack, LandsMade, HandsOnStack, PrintsStack, RightAt, EvaluatingAt, as_operand, into_slot, for_effect, as_right, as_condition, in_operand, ahead, with_left, Related, Matches, code_of, bounds_at, top, floor}
+use Rattle.cyc_lower.proofs.relation.HeldValues.{counters_of, IsIn, words_held, height, Holds, held, kept, contents, IsHandleOf, IsLow, callers, AreCounted}
+use Rattle.cyc_lower.proofs.relation.Relation.{types_on, starts_on, types_at, starts_at, given_at, called_at, in_temporary, in_local, drops, leaves, copies, prints_only, gives_byte, DataIn, SharedAt, CallAt, to_slot, to_jump, ValueStack, PlaceStack, ConditionStack, DroppedStack, AheadStack, LandsStack, LandsMade, HandsOnStack, PrintsStack, RightAt, EvaluatingAt, as_operand, into_slot, for_effect, as_right, as_condition, in_operand, ahead, with_left, Related, Matches, code_of, bounds_at, top, floor, ReadyAt}
 use Rattle.cyc_lower.proofs.object_steps.Handles.{kept_holds, kept_low}
 use Rattle.cyc_lower.proofs.relation.Data.{height-least, Holds-same, Holds-above, floor-least, data_written}
 use Rattle.cyc_types.specs.Numbered.{Numbering}
 use Rattle.cyc_meaning.specs.FrameCount.{words_of_all}
 use Rattle.cyc_lower.proofs.relation.Accesses.{IsWell, is_loaded}
-use Rattle.cyc_lower.proofs.relation.Matched.{IsMatched, silently, by_one}
+use Rattle.cyc_lower.proofs.relation.Matched.{IsMatched, silently, by_one, by_two}
 use Rattle.cyc_lower.proofs.value_steps.GlobalSteps.{each_put, each-outside, each_is, load_links, load_end, load_path, by_links}
 use Rattle.cyc_lower.proofs.relation.Known.{global_points, global_address, first_word}
 use Rattle.cyc_objects.proofs.NumberLemmas.{slice_get-below}
@@ -62,6 +62,10 @@ use Rattle.cyc_lower.proofs.relation.Leads.{AreNamed}
 use Rattle.cyc_lower.proofs.relation.Rows.{local-points}
 use Rattle.cyc_plain.proofs.MemoryLaws.{pinned-at, pinned-inside, below-low, below-end}
 use Rattle.cyc_words.specs.Word.{add_of}
+use Rattle.cyc_meaning.specs.Operators.{unary_kind}
+use Rattle.cyc_lower.proofs.value_steps.ValueWords.{of_kind, int_of, int_in}
+use Rattle.cyc_objects.proofs.Pointers.{pointer-word}
+use Rattle.cyc_types.specs.declared.typed.UnaryOperator.{UnaryOperator}
 
 -- an object is found in the same way, wherever new variables live
 pub object_of_same : (l : Lvalue) (e : Environment) → object_of (record { locals = e.locals; home = 0; counters = λ level. None }) l ≡ object_of e l
@@ -118,6 +122,15 @@ module _ (source : Program) (pages calls : ℕ) where
       landed (record { kind = kinds.Int; value = Int a }) (put c.active.slots d word) d k e w c q shared (put-same c.active.slots d word ∙ is)
       (λ m out. put_elsewhere c.active.slots d word 1 m (omega arith) out) facts holds end lands
 
+  -- and for a char
+  pub landed_char : (a word d : ℕ) (k : List Entry) (e : Environment) (w : World) (c : Configuration) (q : ℕ) → word ≡ a → a < 256
+      → (shared : SharedAt source pages calls k e w c) → DataIn source shared.tables c.active.slots k e w c → Holds shared.tables c.active.slots (floor source c.active.function k) (held k)
+      → c.active.next + 1 ≡ q → LandsStack source c.active.function e.locals kinds.Char d q c.frames k
+      → Related source pages calls (Given (record { kind = kinds.Char; value = Int a })) k e w (advanced (with_slots c (put c.active.slots d word)))
+  landed_char a word d k e w c q is low shared facts holds end lands =
+      landed (record { kind = kinds.Char; value = Int a }) (put c.active.slots d word) d k e w c q shared (put-same c.active.slots d word ∙ is, low)
+      (λ m out. put_elsewhere c.active.slots d word 1 m (omega arith) out) facts holds end lands
+
   -- a value that is moved from an operand
   pub made_moved : (v : Kinded) (o : Operand) (d : ℕ) (k : List Entry) (e : Environment) (w : World) (c : Configuration) (q : ℕ) (choice : Choice) (shared : SharedAt source pages calls k e w c) → IsIn shared.tables v c.active.slots o
       → DataIn source shared.tables c.active.slots k e w c → Holds shared.tables c.active.slots (floor source c.active.function k) (held k)
@@ -148,6 +161,11 @@ module _ (source : Program) (pages calls : ℕ) where
 
   -- ---- operands without code
 
+  -- an expression that is more than a char that serves as an int
+  abbrev pub IsPlain : Expression → Type 0
+  IsPlain (Unary unary.Widen a) = ⊥
+  IsPlain a = Unit {0}
+
   -- the value of such an expression is found in the operand
   pub record IsRead (t : Tables) (a : Expression) (o : Operand) (k : List Entry) (e : Environment) (w : World) (c : Configuration) : Type 0 where
     pub value : Kinded
@@ -172,9 +190,9 @@ module _ (source : Program) (pages calls : ℕ) where
         some = some;
       }
 
-  pub reads : (tables : Tables) (a : Expression) (o : Operand) (k : List Entry) (e : Environment) (w : World) (c : Configuration) → operand_of (starts_on source c.active.function k) a ≡ Some o → IsWell (step source (Running (Evaluating a) k e w))
+  pub reads : (tables : Tables) (a : Expression) (o : Operand) (k : List Entry) (e : Environment) (w : World) (c : Configuration) → operand_of (starts_on source c.active.function k) a ≡ Some o → IsPlain a → IsWell (step source (Running (Evaluating a) k e w))
       → CountersHold e.counters c.active.slots (floor source c.active.function k) k → DataIn source tables c.active.slots k e w c → slice_get tables.handles heap_number ≡ Some (Some HEAP) → IsRead tables a o k e w c
-  reads tables (Number n) o k e w c known well count facts heap =
+  reads tables (Number n) o k e w c known plain well count facts heap =
       record {
         value = record { kind = kinds.Int; value = Int n };
         gives = refl;
@@ -182,7 +200,7 @@ module _ (source : Program) (pages calls : ℕ) where
         same = refl;
         some = refl;
       }
-  reads tables typed.NullPointer o k e w c known well count facts heap =
+  reads tables typed.NullPointer o k e w c known plain well count facts heap =
       record {
         value = record { kind = kinds.Nullable; value = Null };
         gives = refl;
@@ -190,13 +208,13 @@ module _ (source : Program) (pages calls : ℕ) where
         same = refl;
         some = refl;
       }
-  reads tables typed.HeapRegion o k e w c known well count facts heap =
+  reads tables typed.HeapRegion o k e w c known plain well count facts heap =
       let v : Kinded = record { kind = kinds.Handle; value = Handle heap_number } in
       record { value = v; gives = refl; is = subst (IsIn tables v c.active.slots) (same_Some (operands.Word HEAP) o known) heap; same = refl; some = refl }
-  reads tables (Copy (Local p n) t) o k e w c known well count facts heap = reads_local tables (Copy (Local p n) t) n t o k e w c refl refl refl known well facts
-  reads tables (typed.Move p n t) o k e w c known well count facts heap = reads_local tables (typed.Move p n t) n t o k e w c refl refl refl known well facts
-  reads tables (typed.Peek p n t) o k e w c known well count facts heap = reads_local tables (typed.Peek p n t) n t o k e w c refl refl refl known well facts
-  reads tables (typed.Counter l) o k e w c known well count facts heap = read_counter (slice_get (counters_of (floor source c.active.function k) k) l) refl known
+  reads tables (Copy (Local p n) t) o k e w c known plain well count facts heap = reads_local tables (Copy (Local p n) t) n t o k e w c refl refl refl known well facts
+  reads tables (typed.Move p n t) o k e w c known plain well count facts heap = reads_local tables (typed.Move p n t) n t o k e w c refl refl refl known well facts
+  reads tables (typed.Peek p n t) o k e w c known plain well count facts heap = reads_local tables (typed.Peek p n t) n t o k e w c refl refl refl known well facts
+  reads tables (typed.Counter l) o k e w c known plain well count facts heap = read_counter (slice_get (counters_of (floor source c.active.function k) k) l) refl known
     where
       read_counter : (slot : Option ℕ) → slice_get (counters_of (floor source c.active.function k) k) l ≡ slot → counter_operand slot ≡ Some o → IsRead tables (typed.Counter l) o k e w c
       read_counter None none known = absurd (none-some o known)
@@ -209,7 +227,8 @@ module _ (source : Program) (pages calls : ℕ) where
             same = refl;
             some = refl;
           }
-  reads tables a o k e w c known well count facts heap = absurd (none-some o known)
+  reads tables (Unary unary.Widen a) o k e w c known plain well count facts heap = absurd plain
+  reads tables a o k e w c known plain well count facts heap = absurd (none-some o known)
 
   -- ---- calls
 
@@ -257,10 +276,10 @@ module _ (source : Program) (pages calls : ℕ) where
   abbrev IsBegun : Expression → List Entry → Environment → World → Configuration → Type 0
   IsBegun a k e w c = IsMatched source pages calls (Running (Evaluating a) k e w) (plain.Running c)
 
-  known_operand : (a : Expression) (o : Operand) (k : List Entry) (e : Environment) (w : World) (c : Configuration) (q : ℕ) → operand_of (starts_on source c.active.function k) a ≡ Some o → c.active.next ≡ q → At_step a k e w c
+  known_operand : (a : Expression) (o : Operand) (k : List Entry) (e : Environment) (w : World) (c : Configuration) (q : ℕ) → operand_of (starts_on source c.active.function k) a ≡ Some o → IsPlain a → c.active.next ≡ q → At_step a k e w c
       → ValueStack source c.active.function e.locals (given_at source c.active.function a) o q c.frames k → IsBegun a k e w c
-  known_operand a o k e w c q known end (well, shared, facts, holds, names) stack =
-      let found = reads shared.tables a o k e w c known well (counters_hold shared.tables e.counters c.active.slots (floor source c.active.function k) k shared.counters.0 holds) facts shared.related.heap in
+  known_operand a o k e w c q known simple end (well, shared, facts, holds, names) stack =
+      let found = reads shared.tables a o k e w c known simple well (counters_hold shared.tables e.counters c.active.slots (floor source c.active.function k) k shared.counters.0 holds) facts shared.related.heap in
       silently source pages calls (Running (Evaluating a) k e w) (Running (Given found.value) k e w) (plain.Running c) found.gives (
         shared,
         in_operand o facts found.is (kept_holds _ _ _ k holds)
@@ -287,7 +306,7 @@ module _ (source : Program) (pages calls : ℕ) where
       (source_slot (starts_on source c.active.function k) (Convert from to a) (top source c.active.function k)) o c.active.next m
       → Holds t c.active.slots (floor source c.active.function k) (held k) → ValueStack source c.active.function e.locals (given_at source c.active.function a) o m c.frames k
       → EvaluatingAt source t a e.locals c.active.function c.active.next c.active.slots c.frames k
-  sources t from to a k e w c o m at holds stack = by (are_as_wide from to) at
+  sources t from to a k e w c o m at holds stack = by (keeps_words from to) at
     where
       by : (same : Bool)
           → OperandBy (code_of source c.active.function) (bounds_at source c.active.function) (types_on source c.active.function k) (if same then operand_of (starts_on source c.active.function k) a else null_of a)
@@ -458,6 +477,39 @@ module _ (source : Program) (pages calls : ℕ) where
       (landed v (put c.active.slots d word) d k e w c q shared (subst (Points shared.tables object 0) (sym (put-same c.active.slots d word)) points)
       (λ m out. put_elsewhere c.active.slots d word 1 m (omega arith) out) facts holds end lands))
 
+  -- the same where a char's address is that of its word's last byte
+  addresses_last : (kind : Kind) (object x d : ℕ) (a : Expression) (i : Instruction) (k : List Entry) (e : Environment) (w : World) (c : Configuration) (q : ℕ)
+      → step source (Running (Evaluating a) k e w) ≡ Running (Given (record { kind = kinds.NonNull; value = Thin object 0 })) k e w → CodeAt (code_of source c.active.function) c.active.next i
+      → ((choice : Choice) → performed (lower_program source) choice c i ≡ plain.Running (advanced (with_slots c (put c.active.slots d x))))
+      → (shared : SharedAt source pages calls k e w c) → DataIn source shared.tables c.active.slots k e w c → Holds shared.tables c.active.slots (floor source c.active.function k) (held k)
+      → Points shared.tables object 0 (x + variable_bytes kind) → LastByteAt (code_of source c.active.function) kind d (c.active.next + 1) q → LandsStack source c.active.function e.locals kinds.NonNull d q c.frames k
+      → IsMatched source pages calls (Running (Evaluating a) k e w) (plain.Running c)
+  addresses_last kinds.Char object x d a i k e w c q does here goes shared facts holds points (sum, end) lands =
+      let v : Kinded = record { kind = kinds.NonNull; value = Thin object 0 } in
+      let first = put c.active.slots d x in
+      let after = put first d (add_of (first d) 3) in
+      let word : after d ≡ x + 3 = put-same first d (add_of (first d) 3) ∙ ap (λ y. add_of y 3) (put-same c.active.slots d x) ∙ add_is x 3 (pointer-word points) in
+      by_two source pages calls (advanced (with_slots c first)) does shared shared here goes sum (λ same. omega (arith, same))
+      (λ choice. landed v after d k e w (at c (c.active.next + 1)) q shared (subst (Points shared.tables object 0) (sym word) points)
+      (λ m out. put_elsewhere first d (add_of (first d) 3) 1 m (omega arith) out ∙ put_elsewhere c.active.slots d x 1 m (omega arith) out) facts holds end lands)
+  addresses_last kind object x d a i k e w c q does here goes shared facts holds points end lands =
+      addresses object x d a i k e w c q does here goes shared facts holds (subst (Points shared.tables object 0) (add-zero x) points) end lands
+
+  -- a char that serves as an int comes to the slot of that
+  widened_lands : (g : ℕ) (locals : ℕ → Option ℕ) (kind : Kind) (d q : ℕ) (frames : List Frame) (k : List Entry) → words_of_kind kind ≡ 1 → LandsStack source g locals kinds.Int d q frames k
+      → LandsStack source g locals kind d q frames (Needs (Operate unary.Widen) ∷ k)
+  widened_lands g locals kind d q frames k one (in_temporary least stack) = in_temporary least stack
+  widened_lands g locals kind d q frames k one (in_local below stack) = in_local (omega (arith, below, one)) (one, stack)
+
+  -- the operand of an operator is evaluated
+  computes : (u : UnaryOperator) (a : Expression) (k : List Entry) (e : Environment) (w : World) (c : Configuration) (o : Operand) (m : ℕ) → At_step (Unary u a) k e w c
+      → ValueAt (code_of source c.active.function) (bounds_at source c.active.function) (types_on source c.active.function k) a (top source c.active.function k) o c.active.next m
+      → ValueStack source c.active.function e.locals (given_at source c.active.function a) o m c.frames (Needs (Operate u) ∷ k) → IsBegun (Unary u a) k e w c
+  computes u a k e w c o m (well, shared, facts, holds, names) at_a stack =
+      silently source pages calls (Running (Evaluating (Unary u a)) k e w) (Running (Evaluating a) (Needs (Operate u) ∷ k) e w) (plain.Running c) refl
+      (shared, facts, as_operand o m at_a holds stack)
+      (omega arith)
+
   comes : (a : Expression) (k : List Entry) (e : Environment) (w : World) (c : Configuration) (d q : ℕ) → At_step a k e w c
       → ExpressionAt (code_of source c.active.function) (bounds_at source c.active.function) (types_on source c.active.function k) a d (top source c.active.function k) c.active.next q
       → LandsStack source c.active.function e.locals (given_at source c.active.function a) d q c.frames k → IsBegun a k e w c
@@ -490,10 +542,18 @@ module _ (source : Program) (pages calls : ℕ) where
       silently source pages calls (Running (Evaluating (typed.NumberOfElements a)) k e w) (Running (Evaluating a) (Needs CountElements ∷ k) e w) (plain.Running c) refl
       (shared, facts, as_operand r m at_a holds (d, q, at, lands))
       (omega arith)
-  comes (Unary o a) k e w c d q (well, shared, facts, holds, names) (r, m, at_a, at, end) lands =
-      silently source pages calls (Running (Evaluating (Unary o a)) k e w) (Running (Evaluating a) (Needs (Operate o) ∷ k) e w) (plain.Running c) refl
-      (shared, facts, as_operand r m at_a holds (to_slot (d, at, lands_at c.active.function e.locals kinds.Int d (m + 1) q c.frames k end lands)))
+  comes (Unary unary.Widen a) k e w c d q (well, shared, facts, holds, names) (one, at_a) lands =
+      silently source pages calls (Running (Evaluating (Unary unary.Widen a)) k e w) (Running (Evaluating a) (Needs (Operate unary.Widen) ∷ k) e w) (plain.Running c) refl
+      (shared, facts, into_slot d q at_a holds (widened_lands c.active.function e.locals (given_at source c.active.function a) d q c.frames k one lands))
       (omega arith)
+  comes (Unary unary.Negate a) k e w c d q known (r, m, at_a, at, end) lands =
+      computes unary.Negate a k e w c r m known at_a (to_slot (d, at, lands_at c.active.function e.locals (unary_kind unary.Negate) d (m + 1) q c.frames k end lands))
+  comes (Unary unary.Not a) k e w c d q known (r, m, at_a, at, end) lands =
+      computes unary.Not a k e w c r m known at_a (to_slot (d, at, lands_at c.active.function e.locals (unary_kind unary.Not) d (m + 1) q c.frames k end lands))
+  comes (Unary unary.Complement a) k e w c d q known (r, m, at_a, at, end) lands =
+      computes unary.Complement a k e w c r m known at_a (to_slot (d, at, lands_at c.active.function e.locals (unary_kind unary.Complement) d (m + 1) q c.frames k end lands))
+  comes (Unary unary.LowByte a) k e w c d q known (r, m, at_a, at, end) lands =
+      computes unary.LowByte a k e w c r m known at_a (to_slot (d, at, lands_at c.active.function e.locals (unary_kind unary.LowByte) d (m + 1) q c.frames k end lands))
   comes (Binary a NoOperations t) k e w c d q (well, shared, facts, holds, names) (l, m, (is, at_a), (is_there, end)) lands =
       silently source pages calls (Running (Evaluating (Binary a NoOperations t)) k e w) (Running (Evaluating a) (Needs (Chain NoOperations) ∷ k) e w) (plain.Running c) refl
       (shared, facts, into_slot d m at_a holds (lands_at c.active.function e.locals (given_at source c.active.function a) d m q c.frames k end lands))
@@ -508,12 +568,11 @@ module _ (source : Program) (pages calls : ℕ) where
   comes (Assign (Local p n) (Convert from to a) t) k e w c d q known (o, m, at, copy) lands = assigns (Local p n) from to a t k e w c (object_of e (Local p n)) o m refl known at (copies d q copy lands)
   comes (Assign (Global n) (Convert from to a) t) k e w c d q known (o, m, at, copy) lands = assigns (Global n) from to a t k e w c (object_of e (Global n)) o m refl known at (copies d q copy lands)
   comes (typed.Load x) k e w c d q (well, shared, facts, holds, names) (o, offset, r, at, load) lands =
-      let g = c.active.function in
       let kind = kind_of (type_of_place x) in
       silently source pages calls (Running (Evaluating (typed.Load x)) k e w) (Running (Locating x) (NeedsPlace (LoadFrom kind) ∷ k) e w) (plain.Running c) refl
-      (shared, facts, (o, offset, r, at, holds, (d, q, subst (λ n. LoadedAt (code_of source g) n o offset d (top source g k) r q) (sym (type_words (type_of_place x))) load, lands)))
+      (shared, facts, (o, offset, r, at, holds, (d, q, load, lands)))
       (omega arith)
-  comes (typed.AddressOf (Local p n) t) k e w c d q (well, shared, facts, holds, names) (v, there, at, end) lands = local_there (e.locals n) refl
+  comes (typed.AddressOf (Local p n) t) k e w c d q (well, shared, facts, holds, names) (v, there, at, last) lands = local_there (e.locals n) refl
     where
       g : ℕ
       g = c.active.function
@@ -529,20 +588,23 @@ module _ (source : Program) (pages calls : ℕ) where
           let wide = words-there (types_at source g).locals n v there in
           let some = words_positive v in
           let pinned = pinned-at (code_of source g) c.active.next d slot (words_of v) slot at (omega arith) (omega (arith, some)) in
-          let last = pinned-at (code_of source g) c.active.next d slot (words_of v) (slot + (words_of v - 1)) at (omega arith) (omega (arith, some)) in
+          let far = pinned-at (code_of source g) c.active.next d slot (words_of v) (slot + (words_of v - 1)) at (omega arith) (omega (arith, some)) in
           let low = below-low (lower_program source) g c.active.base c.frames names.lie in
           let end_of_slots = below-end (lower_program source) g c.active.base c.frames names.lie in
-          let bound = pinned-inside (lower_program source) names.well g (slot + (words_of v - 1)) last in
+          let bound = pinned-inside (lower_program source) names.well g (slot + (words_of v - 1)) far in
           let points = local-points r pinned low (omega (arith, end_of_slots, bound, r.room, wide, some)) in
           let word = add_of c.active.base (4 * slot) in
           let word_is : word ≡ c.active.base + 4 * slot = add_is c.active.base (4 * slot) (omega (arith, end_of_slots, bound)) in
-          addresses object word d (typed.AddressOf (Local p n) t) (instructions.AddressOf d slot (words_of v)) k e w c q (ap (λ (o : Option ℕ). addressed o k e w) here) at (λ choice. refl) shared facts holds
-          (subst (Points shared.tables object 0) (sym word_is) points) end lands
+          let kind : r.kind ≡ kind_of v = sym r.of_type ∙ kind-there (types_at source g).locals n v there in
+          addresses_last (kind_of v) object word d (typed.AddressOf (Local p n) t) (instructions.AddressOf d slot (words_of v)) k e w c q (ap (λ (o : Option ℕ). addressed o k e w) here) at (λ choice. refl) shared facts holds
+          (subst (λ x. Points shared.tables object 0 (x + variable_bytes (kind_of v))) (sym word_is) (subst (λ (i : Kind). Points shared.tables object 0 (c.active.base + 4 * slot + variable_bytes i)) kind points)) last lands
   comes (typed.AddressOf (Global n) t) k e w c d q (well, shared, facts, holds, names) (v, there, at, end) lands =
       let row = (facts.0.4 n (slice_get-below (global_types source.globals) n v there)).0 in
-      let word = address_of_global (first_word (global_types source.globals) n) in
+      let first = first_word (global_types source.globals) n in
+      let kind : row.kind ≡ kind_of v = sym row.of_type ∙ kind-there (global_types source.globals) n v there in
+      let word = address_of_global (kind_of v) first in
       addresses n word d (typed.AddressOf (Global n) t) (instructions.Move d (operands.Word word)) k e w c q refl at (λ choice. refl) shared facts holds
-      (subst (Points shared.tables n 0) (sym (global_address (global_types source.globals) n row)) (global_points (global_types source.globals) n row)) end lands
+      (subst (λ (i : Kind). Points shared.tables n 0 (address_of_global i first)) kind (subst (Points shared.tables n 0) (sym (global_address (global_types source.globals) n row)) (global_points (global_types source.globals) n row))) end lands
   comes (typed.AddressOfCell x t) k e w c d q (well, shared, facts, holds, names) (o, offset, r, at, address) lands =
       silently source pages calls (Running (Evaluating (typed.AddressOfCell x t)) k e w) (Running (Locating x) (NeedsPlace TakeAddress ∷ k) e w) (plain.Running c) refl
       (shared, facts, (o, offset, r, at, holds, (d, q, address, lands)))
@@ -576,10 +638,16 @@ module _ (source : Program) (pages calls : ℕ) where
   in_top a k e w c o q known (is, at) stack =
       comes a k e w c (top source c.active.function k) q known at (in_temporary (omega arith) (subst (λ x. ValueStack source c.active.function e.locals (given_at source c.active.function a) x q c.frames k) is stack))
 
+  -- what stands where a char does that serves as an int
+  unwidened : (code : List Instruction) (b : Numbering) (types : Types) (known : Option Operand) (one computed : Type 0) (slot : ℕ) (o : Operand) (p q : ℕ)
+      → OperandBy code b types known (one × computed) slot o p q → OperandBy code b types known computed slot o p q
+  unwidened code b types (Some x) one computed slot o p q at = at
+  unwidened code b types None one computed slot o p q (is, (it, at)) = (is, at)
+
   operand : (a : Expression) (k : List Entry) (e : Environment) (w : World) (c : Configuration) (o : Operand) (q : ℕ) → At_step a k e w c
       → ValueAt (code_of source c.active.function) (bounds_at source c.active.function) (types_on source c.active.function k) a (top source c.active.function k) o c.active.next q
       → ValueStack source c.active.function e.locals (given_at source c.active.function a) o q c.frames k → IsBegun a k e w c
-  operand (Number n) k e w c o q known (is, end) stack = known_operand (Number n) o k e w c q (ap Some (sym is)) end known stack
+  operand (Number n) k e w c o q known (is, end) stack = known_operand (Number n) o k e w c q (ap Some (sym is)) tt end known stack
   operand (typed.Counter l) k e w c o q known at stack = in_counter (slice_get (counters_of (floor source c.active.function k) k) l) refl at
     where
       in_counter : (slot : Option ℕ) → slice_get (counters_of (floor source c.active.function k) k) l ≡ slot
@@ -588,15 +656,19 @@ module _ (source : Program) (pages calls : ℕ) where
           (top source c.active.function k) o c.active.next q
           → IsBegun (typed.Counter l) k e w c
       in_counter None none at = in_top (typed.Counter l) k e w c o q known at stack
-      in_counter (Some slot) there (is, end) = known_operand (typed.Counter l) o k e w c q (ap counter_operand there ∙ ap Some (sym is)) end known stack
-  operand typed.NullPointer k e w c o q known (is, end) stack = known_operand typed.NullPointer o k e w c q (ap Some (sym is)) end known stack
-  operand typed.HeapRegion k e w c o q known (is, end) stack = known_operand typed.HeapRegion o k e w c q (ap Some (sym is)) end known stack
-  operand (Copy (Local p n) t) k e w c o q known (is, end) stack = known_operand (Copy (Local p n) t) o k e w c q (ap Some (sym is)) end known stack
-  operand (typed.Move p n t) k e w c o q known (is, end) stack = known_operand (typed.Move p n t) o k e w c q (ap Some (sym is)) end known stack
-  operand (typed.Peek p n t) k e w c o q known (is, end) stack = known_operand (typed.Peek p n t) o k e w c q (ap Some (sym is)) end known stack
+      in_counter (Some slot) there (is, end) = known_operand (typed.Counter l) o k e w c q (ap counter_operand there ∙ ap Some (sym is)) tt end known stack
+  operand typed.NullPointer k e w c o q known (is, end) stack = known_operand typed.NullPointer o k e w c q (ap Some (sym is)) tt end known stack
+  operand typed.HeapRegion k e w c o q known (is, end) stack = known_operand typed.HeapRegion o k e w c q (ap Some (sym is)) tt end known stack
+  operand (Copy (Local p n) t) k e w c o q known (is, end) stack = known_operand (Copy (Local p n) t) o k e w c q (ap Some (sym is)) tt end known stack
+  operand (typed.Move p n t) k e w c o q known (is, end) stack = known_operand (typed.Move p n t) o k e w c q (ap Some (sym is)) tt end known stack
+  operand (typed.Peek p n t) k e w c o q known (is, end) stack = known_operand (typed.Peek p n t) o k e w c q (ap Some (sym is)) tt end known stack
   operand (Copy (Global n) t) k e w c o q known at stack = in_top (Copy (Global n) t) k e w c o q known at stack
   operand (Call f cs t) k e w c o q known at stack = in_top (Call f cs t) k e w c o q known at stack
   operand (typed.NumberOfElements a) k e w c o q known at stack = in_top (typed.NumberOfElements a) k e w c o q known at stack
+  operand (Unary unary.Widen a) k e w c o q (well, shared, facts, holds, names) at stack =
+      silently source pages calls (Running (Evaluating (Unary unary.Widen a)) k e w) (Running (Evaluating a) (Needs (Operate unary.Widen) ∷ k) e w) (plain.Running c) refl
+      (shared, facts, as_operand o q (unwidened (code_of source c.active.function) (bounds_at source c.active.function) (types_on source c.active.function k) (operand_of (starts_on source c.active.function k) a) _ _ _ o c.active.next q at) holds stack)
+      (omega arith)
   operand (Unary u a) k e w c o q known at stack = in_top (Unary u a) k e w c o q known at stack
   operand (Binary a os t) k e w c o q known at stack = in_top (Binary a os t) k e w c o q known at stack
   operand (Assign (Local p n) (Convert from to a) t) k e w c o q known (is, (there, m, (is_there, room, at), copy)) stack =
@@ -614,6 +686,19 @@ module _ (source : Program) (pages calls : ℕ) where
   operand (typed.AddressOfCell x t) k e w c o q known at stack = in_top (typed.AddressOfCell x t) k e w c o q known at stack
   operand (typed.Store x v t) k e w c o q known at stack = in_top (typed.Store x v t) k e w c o q known at stack
 
+  widened_effect : (t : Tables) (a : Expression) (k : List Entry) (e : Environment) (w : World) (c : Configuration) (o : Operand) (q : ℕ) (known : Option Operand) → operand_of (starts_on source c.active.function k) a ≡ known
+      → Holds t c.active.slots (floor source c.active.function k) (held k)
+      → OperandBy (code_of source c.active.function) (bounds_at source c.active.function) (types_on source c.active.function k) known
+      ((words_of_kind (given_at source c.active.function a) ≡ 1)
+      × ExpressionAt (code_of source c.active.function) (bounds_at source c.active.function) (types_on source c.active.function k) a (top source c.active.function k) (top source c.active.function k) c.active.next q)
+      (top source c.active.function k) o c.active.next q
+      → ValueStack source c.active.function e.locals kinds.Int o q c.frames k → EvaluatingAt source t a e.locals c.active.function c.active.next c.active.slots c.frames (Needs (Operate unary.Widen) ∷ k)
+  widened_effect t a k e w c o q (Some x) known holds at stack =
+      let g = c.active.function in
+      as_operand o q (subst (λ (y : Option Operand). OperandBy (code_of source g) (bounds_at source g) (types_on source g k) y (ExpressionAt (code_of source g) (bounds_at source g) (types_on source g k) a (value_slot (starts_on source g k) a (top source g k)) (top source g k) c.active.next q) (value_slot (starts_on source g k) a (top source g k)) o c.active.next q) (sym known) at) holds stack
+  widened_effect t a k e w c o q None known holds (is, (one, at)) stack =
+      into_slot (top source c.active.function k) q at holds (in_temporary (omega arith) (subst (λ (x : Operand). ValueStack source c.active.function e.locals kinds.Int x q c.frames k) is stack))
+
   for_its_effect : (a : Expression) (k : List Entry) (e : Environment) (w : World) (c : Configuration) (q : ℕ) → At_step a k e w c
       → DiscardedAt (code_of source c.active.function) (bounds_at source c.active.function) (types_on source c.active.function k) a (top source c.active.function k) c.active.next q
       → DroppedStack source c.active.function q c.frames k → IsBegun a k e w c
@@ -625,6 +710,11 @@ module _ (source : Program) (pages calls : ℕ) where
   for_its_effect (Copy (Global n) t) k e w c q known (o, at) stack = in_top (Copy (Global n) t) k e w c o q known at (dropped_value c.active.function e.locals (given_at source c.active.function (Copy (Global n) t)) o q c.frames k stack)
   for_its_effect (Call callees.Getchar cs t) k e w c q known (o, at) stack = in_top (Call callees.Getchar cs t) k e w c o q known at (dropped_value c.active.function e.locals (given_at source c.active.function (Call callees.Getchar cs t)) o q c.frames k stack)
   for_its_effect (Call (callees.Function n) cs t) k e w c q known (o, at) stack = in_top (Call (callees.Function n) cs t) k e w c o q known at (dropped_value c.active.function e.locals (given_at source c.active.function (Call (callees.Function n) cs t)) o q c.frames k stack)
+  for_its_effect (Unary unary.Widen a) k e w c q (well, shared, facts, holds, names) (o, at) stack =
+      let g = c.active.function in
+      silently source pages calls (Running (Evaluating (Unary unary.Widen a)) k e w) (Running (Evaluating a) (Needs (Operate unary.Widen) ∷ k) e w) (plain.Running c) refl
+      (shared, facts, widened_effect shared.tables a k e w c o q (operand_of (starts_on source g k) a) refl holds at (dropped_value g e.locals kinds.Int o q c.frames k stack))
+      (omega arith)
   for_its_effect (Unary u a) k e w c q known (o, at) stack = in_top (Unary u a) k e w c o q known at (dropped_value c.active.function e.locals (given_at source c.active.function (Unary u a)) o q c.frames k stack)
   for_its_effect (Binary a os t) k e w c q known (o, at) stack = in_top (Binary a os t) k e w c o q known at (dropped_value c.active.function e.locals (given_at source c.active.function (Binary a os t)) o q c.frames k stack)
   for_its_effect typed.NullPointer k e w c q known (o, at) stack = operand typed.NullPointer k e w c o q known at (dropped_value c.active.function e.locals (given_at source c.active.function typed.NullPointer) o q c.frames k stack)
@@ -641,20 +731,39 @@ module _ (source : Program) (pages calls : ℕ) where
   for_its_effect (typed.Store x (Convert from to a) t) k e w c q known (o, at) stack = cell_begins x from to a t k e w c o q known at (drops stack)
   for_its_effect (typed.New x i t) k e w c q known (o, at) stack = in_top (typed.New x i t) k e w c o q known at (dropped_value c.active.function e.locals (given_at source c.active.function (typed.New x i t)) o q c.frames k stack)
 
+  -- a right operand that is a char, which serves as an int
+  widened_right : (t : Tables) (a : Expression) (locals : ℕ → Option ℕ) (g p : ℕ) (slots : Words) (frames : List Frame) (k : List Entry) → RightAt source t (Unary unary.Widen a) locals g p slots frames k
+      → RightAt source t a locals g p slots frames k
+  widened_right t a locals g p slots frames (Needs (Apply u left) ∷ k) right = right
+  widened_right t a locals g p slots frames (Needs (Advance peek target base) ∷ k) right = right
+  widened_right t a locals g p slots frames (Needs (Operate unary.Widen) ∷ k) right = widened_right t a locals g p slots frames k right
+  widened_right t a locals g p slots frames k right = absurd right
+
+  -- where its value is in the operand, both are there
+  ready_by : (t : Tables) (a : Expression) (k : List Entry) (e : Environment) (g p : ℕ) (slots : Words) (frames : List Frame) → AreCounted e.counters k → RightAt source t a e.locals g p slots frames k
+      → (r : Operand) × (operand_of (starts_on source g k) a ≡ Some r) × CountersHold e.counters slots (floor source g k) k × ((v : Kinded) → IsIn t v slots r → ReadyAt source t v e.locals g p slots frames k)
+  ready_by t a (Needs (Apply u left) ∷ k) e g p slots frames counted (l, r, known, is_left, holds, applied) =
+      (r, known, counters_hold t e.counters slots (floor source g k) k counted holds, λ v is. (l, r, is_left, is, holds, applied))
+  ready_by t a (Needs (Advance peek target base) ∷ k) e g p slots frames counted (n, x, q, known, is_base, low, holds, advances) =
+      (x, known, counters_hold t e.counters slots (floor source g k) k counted holds, λ v is. (n, x, q, is, is_base, low, holds, advances))
+  ready_by t a (Needs (Operate unary.Widen) ∷ k) e g p slots frames counted right =
+      let (r, known, counters, ready) = ready_by t a k e g p slots frames counted right in
+      (r, known, counters, λ v is b int. ready (int_of b) (int_in t v.kind b slots r (subst (λ (u : Value). IsIn t (of_kind v.kind u) slots r) int is)))
+  ready_by t a k e g p slots frames counted right = absurd right
+
   -- a right operand without code, with the left one beside it
   beside_left : (a : Expression) (k : List Entry) (e : Environment) (w : World) (c : Configuration) → IsWell (step source (Running (Evaluating a) k e w)) → (shared : SharedAt source pages calls k e w c) → DataIn source shared.tables c.active.slots k e w c
       → RightAt source shared.tables a e.locals c.active.function c.active.next c.active.slots c.frames k → IsBegun a k e w c
-  beside_left a (Needs (Apply u left) ∷ k) e w c well shared facts (l, r, known, is_left, holds, applied) =
-      let found = reads shared.tables a r (Needs (Apply u left) ∷ k) e w c known well (counters_hold shared.tables e.counters c.active.slots (floor source c.active.function k) k shared.counters.0 holds) facts shared.related.heap in
-      silently source pages calls (Running (Evaluating a) (Needs (Apply u left) ∷ k) e w) (Running (Given found.value) (Needs (Apply u left) ∷ k) e w) (plain.Running c) found.gives
-      (shared, with_left facts (l, r, is_left, found.is, holds, applied))
+  beside_left (Unary unary.Widen a) k e w c well shared facts right =
+      silently source pages calls (Running (Evaluating (Unary unary.Widen a)) k e w) (Running (Evaluating a) (Needs (Operate unary.Widen) ∷ k) e w) (plain.Running c) refl
+      (shared, facts, as_right (widened_right shared.tables a e.locals c.active.function c.active.next c.active.slots c.frames k right))
+      (omega arith)
+  beside_left a k e w c well shared facts right =
+      let (r, known, counters, ready) = ready_by shared.tables a k e c.active.function c.active.next c.active.slots c.frames shared.counters.0 right in
+      let found = reads shared.tables a r k e w c known tt well counters facts shared.related.heap in
+      silently source pages calls (Running (Evaluating a) k e w) (Running (Given found.value) k e w) (plain.Running c) found.gives
+      (shared, with_left facts (ready found.value found.is))
       (omega (arith, found.some))
-  beside_left a (Needs (Advance peek target base) ∷ k) e w c well shared facts (n, x, q, known, is_base, low, holds, advances) =
-      let found = reads shared.tables a x (Needs (Advance peek target base) ∷ k) e w c known well (counters_hold shared.tables e.counters c.active.slots (floor source c.active.function k) k shared.counters.0 holds) facts shared.related.heap in
-      silently source pages calls (Running (Evaluating a) (Needs (Advance peek target base) ∷ k) e w) (Running (Given found.value) (Needs (Advance peek target base) ∷ k) e w) (plain.Running c) found.gives
-      (shared, with_left facts (n, x, q, found.is, is_base, low, holds, advances))
-      (omega (arith, found.some))
-  beside_left a k e w c well shared facts right = absurd right
 
   -- a value that is tested
   tested_value : (g : ℕ) (locals : ℕ → Option ℕ) (kind : Kind) (o : Operand) (p : ℕ) (frames : List Frame) (k : List Entry) → ConditionStack source g comparisons.Equal o (operands.Word 0) p frames k → ValueStack source g locals kind o p frames k
@@ -721,6 +830,7 @@ module _ (source : Program) (pages calls : ℕ) where
       by (typed.Peek p n ty) = local_low n
       by (typed.Counter l) = counter_low (slice_get types.counters l) (counters l)
       by (Assign (Local p n) c ty) = local_low n
+      by (Unary unary.Widen x) = by x
       by x = omega arith
 
   -- a fat pointer whose index is evaluated behind it: it comes to temporaries, or stays in its local

@@ -1,5 +1,5 @@
 -- What a value says of its words, and what operators do to these.
-use Rattle.std.proofs.Common.{◌≡◌, ◌≢◌, ℕ, zero, ◌+◌, ◌<◌, Bool, true, false, not, List, None, Some, slice_get, refl, sym, ap, ◌∙◌, arith, inl, inr, ◌≤◌}
+use Rattle.std.proofs.Common.{◌≡◌, ◌≢◌, ℕ, zero, ◌+◌, ◌<◌, Bool, true, false, not, List, None, Some, slice_get, refl, sym, ap, ◌∙◌, arith, inl, inr, ◌≤◌, ◌%◌, bit_and}
 use Rattle.std.specs.Prelude.{ℤ, nat_lt, ◌==◌, ◌<ℤ◌, ◌≤ℤ◌, int_le, int_lt, if◌then◌else◌}
 use Rattle.std.proofs.lemmas.Int.{ints}
 use Rattle.std.proofs.lemmas.Bool.{eqb-true, false_from_ne_true}
@@ -29,10 +29,12 @@ use Rattle.cyc_meaning.specs.Step.{wrong}
 use Rattle.cyc_lower.specs.ValueCode.{failing_comparison, converts_there}
 use Rattle.cyc_objects.specs.Tables.{Tables}
 use Rattle.cyc_objects.specs.Words.{Is}
-use Rattle.cyc_objects.proofs.Pointers.{not-null, part-not-null}
+use Rattle.cyc_objects.proofs.Pointers.{not-null, part-not-null, same_value}
 use Rattle.cyc_lower.proofs.relation.HeldValues.{IsWord, IsIn}
 use Rattle.cyc_lower.proofs.relation.Data.{in_words, IsWord-is, one_word, points_in, null_at, points_at}
 use Rattle.cyc_lower.proofs.relation.Accesses.{IsWell}
+use Rattle.cyc_lower.proofs.slots.Widths.{keeps_wide}
+use Rattle.std.proofs.lemmas.Grind.{and_numeral}
 
 -- an operand of a kind, and an int
 abbrev pub of_kind : Kind → Value → Kinded
@@ -51,6 +53,7 @@ module _ (t : Tables) where
   -- whether a value is zero is told by its first word
   zero_at : (kind : Kind) (v : Value) (words : Words) (p : ℕ) → (is_zero v ≡ None → ⊥) → Is t kind v words p → is_zero v ≡ Some (words p == 0)
   zero_at kinds.Int (Int a) words p some is = ap (λ y. Some (y == 0)) (sym is)
+  zero_at kinds.Char (Int a) words p some is = ap (λ y. Some (y == 0)) (sym is.0)
   zero_at kinds.Nullable Null words p some is = ap (λ y. Some (y == 0)) (sym is)
   zero_at kinds.Nullable (Thin object offset) words p some is = ap Some (sym (false_from_ne_true (words p == 0) (λ h. not-null is (eqb-true (words p) 0 h))))
   zero_at kinds.NonNull (Thin object offset) words p some is = ap Some (sym (false_from_ne_true (words p == 0) (λ h. not-null is (eqb-true (words p) 0 h))))
@@ -68,12 +71,29 @@ module _ (t : Tables) where
   -- an int is its word, and null is 0
   pub int_at : (kind : Kind) (a : ℕ) (words : Words) (p : ℕ) → Is t kind (Int a) words p → words p ≡ a
   int_at kinds.Int a words p is = is
+  int_at kinds.Char a words p is = is.0
   int_at kind a words p is = absurd is
 
   pub int_is : (kind : Kind) (a : ℕ) (slots : Words) (o : Operand) → IsIn t (of_kind kind (Int a)) slots o → operand_word slots o ≡ a
   int_is kind a slots o is =
       let (words, p, same, is_it) = in_words t (of_kind kind (Int a)) slots o is in
       sym same ∙ int_at kind a words p is_it
+
+  -- so a char that serves as an int stays where it is
+  pub int_in : (kind : Kind) (a : ℕ) (slots : Words) (o : Operand) → IsIn t (of_kind kind (Int a)) slots o → IsIn t (int_of a) slots o
+  int_in kind a slots (operands.Slot n) is = int_at kind a slots n is
+  int_in kind a slots (operands.Word w) is = int_is kind a slots (operands.Word w) is
+
+  -- it has one word, and as a char it is below 256
+  pub int_words : (kind : Kind) (a : ℕ) (words : Words) (p : ℕ) → Is t kind (Int a) words p → words_of_kind kind ≡ 1
+  int_words kinds.Int a words p is = refl
+  int_words kinds.Char a words p is = refl
+  int_words kind a words p is = absurd is
+
+  pub char_low : (a : ℕ) (slots : Words) (o : Operand) → IsIn t (of_kind kinds.Char (Int a)) slots o → a % 256 ≡ a
+  char_low a slots o is =
+      let (words, p, same, is_it) = in_words t (of_kind kinds.Char (Int a)) slots o is in
+      omega (arith, is_it.1)
 
   -- a value of one word is told by it
   pub first_word : (v : Kinded) (slots : Words) (o : Operand) → words_of_kind v.kind ≡ 1 → IsIn t v slots o → IsWord t v.kind v.value (operand_word slots o)
@@ -129,6 +149,10 @@ module _ (t : Tables) where
   -- a value that is converted without a change keeps its words
   pub kept_at : (from to : Kind) (v : Value) (words : Words) (p : ℕ) → conversion to v ≡ Gives v → Is t from v words p → Is t to v words p
   kept_at from kinds.Int (Int a) words p gives is = int_at from a words p is
+  kept_at from kinds.Char (Int a) words p gives is =
+      let same : Int (a % 256) ≡ Int a = same_value gives in
+      let low : a % 256 ≡ a = cc in
+      (int_at from a words p is, omega (arith, low))
   kept_at from kinds.Nullable Null words p gives is = null_at t from words p is
   kept_at from kinds.Fat Null words p gives is = null_at t from words p is
   kept_at from kinds.NonNull Null words p gives is = absurd (let f : Raises 1 ≡ Gives Null = gives in cc)
@@ -146,6 +170,7 @@ module _ (t : Tables) where
   kept_word from kinds.Fat Null w gives is = kept_at from kinds.Fat Null (λ (i : ℕ). w) 0 gives (IsWord-is t from Null w (λ (i : ℕ). w) 0 refl is)
   kept_word kinds.Fat kinds.Fat (Fat object start many index) w gives is = absurd is
   kept_word from kinds.Fat v w gives is = absurd (no_fat from v w gives is (λ same. let f : v ≡ Null = same in cc))
+  kept_word from kinds.Char v w gives is = kept_at from kinds.Char v (λ (i : ℕ). w) 0 gives (IsWord-is t from v w (λ (i : ℕ). w) 0 refl is)
   kept_word from kinds.Int v w gives is = kept_at from kinds.Int v (λ (i : ℕ). w) 0 gives (IsWord-is t from v w (λ (i : ℕ). w) 0 refl is)
   kept_word from kinds.Nullable v w gives is = kept_at from kinds.Nullable v (λ (i : ℕ). w) 0 gives (IsWord-is t from v w (λ (i : ℕ). w) 0 refl is)
   kept_word from kinds.NonNull v w gives is = kept_at from kinds.NonNull v (λ (i : ℕ). w) 0 gives (IsWord-is t from v w (λ (i : ℕ). w) 0 refl is)
@@ -159,11 +184,16 @@ module _ (t : Tables) where
 -- a value that is converted where it is to be has as many words before
 pub as_wide : (from to : Kind) → converts_there from to ≡ true → words_of_kind from ≡ words_of_kind to
 as_wide from kinds.NonNull quiet = absurd (let f : false ≡ true = quiet in cc)
-as_wide from kinds.Int quiet = eqb-true _ _ quiet
-as_wide from kinds.Nullable quiet = eqb-true _ _ quiet
-as_wide from kinds.Fat quiet = eqb-true _ _ quiet
-as_wide from kinds.Handle quiet = eqb-true _ _ quiet
-as_wide from kinds.Key quiet = eqb-true _ _ quiet
+as_wide from kinds.Int quiet = keeps_wide from kinds.Int quiet
+as_wide from kinds.Char quiet = keeps_wide from kinds.Char quiet
+as_wide from kinds.Nullable quiet = keeps_wide from kinds.Nullable quiet
+as_wide from kinds.Fat quiet = keeps_wide from kinds.Fat quiet
+as_wide from kinds.Handle quiet = keeps_wide from kinds.Handle quiet
+as_wide from kinds.Key quiet = keeps_wide from kinds.Key quiet
+
+-- what is left of a word by its low 8 bits
+pub low_byte_of : (a : ℕ) → bit_and a 255 ≡ a % 256
+low_byte_of a = and_numeral a 254 refl
 
 pub goes_wrong : (fits : Bool) (w : World) → IsWell (if fits then wrong w else wrong w) → ⊥
 goes_wrong true w well = well refl

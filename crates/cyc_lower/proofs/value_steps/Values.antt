@@ -1,5 +1,5 @@
 -- The steps that hand a value on.
-use Rattle.std.proofs.Common.{◌≡◌, ◌≢◌, ℕ, zero, suc, ◌+◌, ◌<◌, Bool, true, false, not, List, [], ◌∷◌, Option, None, Some, slice_get, refl, sym, ap, subst, ◌∙◌, arith, inl, inr, length, ◌*◌, ◌++◌, ◌≤◌}
+use Rattle.std.proofs.Common.{◌≡◌, ◌≢◌, ℕ, zero, suc, ◌+◌, ◌<◌, Bool, true, false, not, List, [], ◌∷◌, Option, None, Some, slice_get, refl, sym, ap, subst, ◌∙◌, arith, inl, inr, length, ◌*◌, ◌++◌, ◌≤◌, bit_and}
 use Rattle.std.specs.Prelude.{◌==◌, ◌&&◌, if◌then◌else◌, ◌%◌, ◌^◌, option_map}
 use Rattle.std.proofs.lemmas.Bool.{eqb-true, false_from_ne_true, eqb-false, and_parts}
 use Rattle.std.proofs.lemmas.Option.{same_Some, none-some}
@@ -37,7 +37,7 @@ use Rattle.cyc_plain.proofs.Steps.{function_known}
 use Rattle.cyc_plain.proofs.SlotLaws.{put-same}
 use Rattle.cyc_plain.specs.Straight.{At}
 use Rattle.cyc_meaning.specs.Values.{Value, Int, Null, Thin, Fat, Handle, Key, Operand as Kinded, is_kind, is_thin, words_of_kind, bytes_of_kind}
-use Rattle.cyc_meaning.specs.Operators.{Gives, Raises, has_no_result, binary_word, is_zero, unary_result, truth_result, truth_of, division_by_zero, null_exception}
+use Rattle.cyc_meaning.specs.Operators.{Gives, Raises, has_no_result, binary_word, is_zero, unary_result, truth_result, truth_of, division_by_zero, null_exception, unary_kind}
 use Rattle.cyc_meaning.specs.Pointers.{takes_kind, followed, result_kind as operator_kind}
 use Rattle.cyc_meaning.specs.Places.{arrives, member_of}
 use Rattle.cyc_meaning.specs.Conversion.{conversion}
@@ -50,20 +50,20 @@ use Rattle.cyc_meaning.specs.SourceMachine.{status_in}
 use Rattle.cyc_lower.specs.declared.statements.Exits.{Exits}
 use Rattle.cyc_lower.specs.Slots.{slot_of, Types, global_of, global_types}
 use Rattle.cyc_lower.proofs.slots.Slots.{slot-room, room-inside, global-inside}
-use Rattle.cyc_lower.proofs.slots.Widths.{kind_positive, same_kind, HasRoom, Outside, chain_kind, wide_kind, made_kind}
+use Rattle.cyc_lower.proofs.slots.Widths.{kind_positive, same_kind, HasRoom, Outside, chain_kind, wide_kind, made_kind, keeps_wide, keeps_whole, changes_wide, kind_in}
 use Rattle.cyc_lower.proofs.relation.Moves.{moved_slots, moves, put_elsewhere, moved_elsewhere, moved_is}
-use Rattle.cyc_lower.specs.ValueCode.{unary_operator, binary_operator, failing_comparison, next_slot, is_in, jump_if_zero, jump_if_nonzero, move_of, converts_there, are_as_wide, followed_operand}
+use Rattle.cyc_lower.specs.ValueCode.{binary_operator, failing_comparison, next_slot, is_in, jump_if_zero, jump_if_nonzero, move_of, converts_there, followed_operand, unary_instruction, keeps_words, masks, store_of}
 use Rattle.cyc_lower.specs.ControlCode.{break_target, tag_operand}
 use Rattle.cyc_lower.specs.ExpressionCode.{operand_of, value_slot}
 use Rattle.cyc_lower.specs.Lowering.{lower_program}
-use Rattle.cyc_lower.proofs.relation.Stands.{OperandBy, CopyBy, CopyAt, CheckAt, CheckedAt, OperatorAt, TruthAt, ExpressionAt, OperationsAt, GuardAt, TestedAt, ConversionBy, StoresAt, FollowedAt, MadeAt}
+use Rattle.cyc_lower.proofs.relation.Stands.{OperandBy, CopyBy, CopyAt, CheckAt, CheckedAt, OperatorAt, TruthAt, ExpressionAt, OperationsAt, GuardAt, TestedAt, ConversionBy, StoresAt, FollowedAt, MadeAt, MaskedAt}
 use Rattle.cyc_objects.specs.Tables.{Tables}
 use Rattle.cyc_objects.specs.Words.{Points, Is}
 use Rattle.cyc_objects.proofs.Pointers.{pointer-word}
 use Rattle.cyc_objects.specs.Tables.{with_row}
 use Rattle.cyc_objects.proofs.Values.{Grows-row, Is-grows}
 use Rattle.cyc_lower.proofs.relation.Sharing.{shared_declared, row_declared, shared_written, shared_beside}
-use Rattle.cyc_lower.proofs.relation.HeldValues.{IsWord, IsIn, with_kind, Holds, held, kept, contents, callers, row_of}
+use Rattle.cyc_lower.proofs.relation.HeldValues.{IsWord, IsIn, with_kind, Holds, held, kept, contents, callers, row_of, IsCharAt}
 use Rattle.cyc_lower.proofs.relation.Relation.{types_on, starts_on, types_at, starts_at, in_place, by_jump, in_temporary, in_local, drops, leaves, copies, DataIn, SharedAt, StoreAt, to_slot, to_jump, ValueStack, ConditionStack, DroppedStack, AheadStack, LandsStack, HandsOnStack, AppliedStack, ReadyAt, as_operand, into_slot, as_right, in_operand, nowhere, ahead, compared, with_left, behind_statement, Related, Matches, code_of, bounds_at, top, floor, PlaceStack, call_slots, base_of}
 use Rattle.cyc_lower.proofs.object_steps.Handles.{kept_holds}
 use Rattle.cyc_lower.proofs.relation.Data.{in_words, IsWord-is, one_word, height-least, Holds-same, Holds-above, data_assigned, data_assigned_global, data_declared, data_grows, null_is, points_in, floor-least, handlers_beside, data_written, Is-same}
@@ -84,15 +84,17 @@ use Rattle.cyc_lower.proofs.relation.Paths.{Link, IsPath, end_of, by_path}
 use Rattle.cyc_lower.proofs.place_steps.WideCells.{store_links, stored, store_path, all_path, store_last, shared_stored, data_stored, IsStanding, above_stored, frames_stored, value_stays}
 use Rattle.cyc_lower.proofs.object_steps.Allocations.{plain_made, fields_made}
 use Rattle.cyc_lower.proofs.object_steps.Arrays.{array_sized, array_filled}
-use Rattle.cyc_lower.proofs.value_steps.Evaluations.{IsStep, landed_word, landed_moved, lands_at, passes_related, passes_weight, object_of_same, made_of, lands_made}
+use Rattle.cyc_lower.proofs.value_steps.Evaluations.{IsStep, landed_word, landed_moved, lands_at, passes_related, passes_weight, object_of_same, made_of, lands_made, landed_char}
 use Rattle.cyc_lower.proofs.relation.Paths.{Link, IsPath, end_of, by_path}
 use Rattle.cyc_lower.proofs.value_steps.GlobalSteps.{stored_globals, stored_elsewhere, stored_is, global_links, is_stored_by, by_links}
 use Rattle.cyc_lower.proofs.region_steps.RegionSteps.{opened_given, aliased_given}
 use Rattle.cyc_lower.proofs.relation.Known.{IsGlobalRow}
-use Rattle.cyc_lower.proofs.relation.Rows.{row-fits, row-variable, local-row}
+use Rattle.cyc_lower.proofs.relation.Rows.{row-fits, row-variable, local-row, declared_low, char_cell}
 use Rattle.cyc_lower.proofs.relation.Leads.{AreNamed}
 use Rattle.cyc_lower.proofs.relation.Moving.{hands_moves}
-use Rattle.cyc_lower.proofs.value_steps.ValueWords.{of_kind, int_of, as_wide, goes_wrong, untrue, fails_by, other_place, zero_is, int_is, not_zero, not_widened, not_narrowed, not_fat, kept_at, kept_in}
+use Rattle.cyc_lower.proofs.value_steps.ValueWords.{of_kind, int_of, as_wide, goes_wrong, untrue, fails_by, other_place, zero_is, int_is, not_zero, not_widened, not_narrowed, not_fat, kept_at, kept_in, char_low, low_byte_of, int_at, int_in}
+use Rattle.cyc_plain.specs.declared.instruction.UnaryOperator.{UnaryOperator as PlainUnary}
+use Rattle.cyc_lower.proofs.place_steps.KindWords.{saved_at, saves_by}
 
 module _ (source : Program) (pages calls : ℕ) where
   -- a branch that is taken, and one that is not
@@ -155,78 +157,115 @@ module _ (source : Program) (pages calls : ℕ) where
       same_kind v.kind from
       (and_left (is_kind v.kind from) (leads_to w target (followed v.value)) (is_fitting (is_kind v.kind from && leads_to w target (followed v.value)) (computed to (conversion to v.value) k e w) w well))
 
+  -- a char stays a char
+  kept_char : (from : Kind) (target : Option Kind) (a : ℕ) (o : Operand) (k : List Entry) (e : Environment) (w : World) (c : Configuration)
+      → step source (Running (Given (of_kind kinds.Char (Int a))) (Needs (ConvertTo from kinds.Char target) ∷ k) e w) ≡ Running (Given (of_kind kinds.Char (Int (a % 256)))) k e w
+      → Stands (of_kind kinds.Char (Int a)) o k e w c
+      → (q : ℕ) × (c.active.next ≡ q) × ValueStack source c.active.function e.locals kinds.Char o q c.frames k → GoesBehind (of_kind kinds.Char (Int a)) (Needs (ConvertTo from kinds.Char target) ∷ k) e w c
+  kept_char from target a o k e w c does (shared, facts, is, holds) (q, end, stack) =
+      let low = char_low shared.tables a c.active.slots o is in
+      kept_value from kinds.Char target kinds.Char (Int a) o k e w c q (ap (λ n. Gives (Int n)) low) (does ∙ ap (λ n. Running (Given (of_kind kinds.Char (Int n))) k e w) low) (shared, facts, is, holds) end stack
+
   converted : (from to : Kind) (target : Option Kind) (i : Kind) (v : Value) (o : Operand) (k : List Entry) (e : Environment) (w : World) (c : Configuration) → IsWell (computed to (conversion to v) k e w)
-      → step source (Running (Given (of_kind i v)) (Needs (ConvertTo from to target) ∷ k) e w) ≡ computed to (conversion to v) k e w → words_of_kind i ≡ words_of_kind to → Stands (of_kind i v) o k e w c
+      → step source (Running (Given (of_kind i v)) (Needs (ConvertTo from to target) ∷ k) e w) ≡ computed to (conversion to v) k e w → masks i to ≡ false → words_of_kind i ≡ words_of_kind to → Stands (of_kind i v) o k e w c
       → (q : ℕ) × TestedAt (code_of source c.active.function) (bounds_at source c.active.function) (types_on source c.active.function k) to o c.active.next q × ValueStack source c.active.function e.locals to o q c.frames k → GoesBehind (of_kind i v) (Needs (ConvertTo from to target) ∷ k) e w c
-  converted from kinds.Int target i (Int a) o k e w c well does wide stands (q, end, stack) = kept_value from kinds.Int target i (Int a) o k e w c q refl does stands end stack
-  converted from kinds.Nullable target i Null o k e w c well does wide stands (q, end, stack) = kept_value from kinds.Nullable target i Null o k e w c q refl does stands end stack
-  converted from kinds.Fat target i Null o k e w c well does wide stands (q, end, stack) = kept_value from kinds.Fat target i Null o k e w c q refl does stands end stack
-  converted from kinds.NonNull target i Null o k e w c well does wide (shared, facts, is, holds) (q, check, stack) =
+  converted from kinds.Char target kinds.Char (Int a) o k e w c well does whole wide stands stack = kept_char from target a o k e w c does stands stack
+  converted from kinds.Char target kinds.Int (Int a) o k e w c well does whole wide stands stack = absurd (let f : true ≡ false = whole in cc)
+  converted from kinds.Char target i (Int a) o k e w c well does whole wide (shared, facts, is, holds) stack =
+      let (words, p, same, is_it) = in_words shared.tables (of_kind i (Int a)) c.active.slots o is in
+      absurd is_it
+  converted from kinds.Int target i (Int a) o k e w c well does whole wide stands (q, end, stack) = kept_value from kinds.Int target i (Int a) o k e w c q refl does stands end stack
+  converted from kinds.Nullable target i Null o k e w c well does whole wide stands (q, end, stack) = kept_value from kinds.Nullable target i Null o k e w c q refl does stands end stack
+  converted from kinds.Fat target i Null o k e w c well does whole wide stands (q, end, stack) = kept_value from kinds.Fat target i Null o k e w c q refl does stands end stack
+  converted from kinds.NonNull target i Null o k e w c well does whole wide (shared, facts, is, holds) (q, check, stack) =
       guard_fails null_exception comparisons.Equal o (operands.Word 0) k e w c q does shared shared
       (omega arith) facts check
       (ap (λ x. x == 0) (null_is shared.tables i c.active.slots o is))
-  converted from kinds.Nullable target i (Thin object offset) o k e w c well does wide stands (q, end, stack) = kept_value from kinds.Nullable target i (Thin object offset) o k e w c q refl does stands end stack
-  converted from kinds.NonNull target i (Thin object offset) o k e w c well does wide (shared, facts, is, holds) (q, check, stack) =
+  converted from kinds.Nullable target i (Thin object offset) o k e w c well does whole wide stands (q, end, stack) = kept_value from kinds.Nullable target i (Thin object offset) o k e w c q refl does stands end stack
+  converted from kinds.NonNull target i (Thin object offset) o k e w c well does whole wide (shared, facts, is, holds) (q, check, stack) =
       guard_passes (Running (Given (of_kind kinds.NonNull (Thin object offset))) k e w) null_exception comparisons.Equal o (operands.Word 0) e w c q does shared check
       (not_zero shared.tables i object offset c.active.slots o is)
       (shared, in_operand o facts (kept_in shared.tables i kinds.NonNull (Thin object offset) c.active.slots o refl is) (kept_holds _ _ _ k holds) stack)
-  converted from kinds.Fat target i (Thin object offset) o k e w c well does wide (shared, facts, is, holds) stack =
+  converted from kinds.Fat target i (Thin object offset) o k e w c well does whole wide (shared, facts, is, holds) stack =
       let (words, p, same, is_it) = in_words shared.tables (of_kind i (Thin object offset)) c.active.slots o is in
       absurd (not_widened shared.tables i object offset words p is_it wide)
-  converted from kinds.Fat target i (Fat object start many index) o k e w c well does wide stands (q, end, stack) =
+  converted from kinds.Fat target i (Fat object start many index) o k e w c well does whole wide stands (q, end, stack) =
       kept_value from kinds.Fat target i (Fat object start many index) o k e w c q refl does stands end stack
-  converted from kinds.Nullable target i (Fat object start many index) o k e w c well does wide (shared, facts, is, holds) stack =
+  converted from kinds.Nullable target i (Fat object start many index) o k e w c well does whole wide (shared, facts, is, holds) stack =
       let (words, p, same, is_it) = in_words shared.tables (of_kind i (Fat object start many index)) c.active.slots o is in
       absurd (not_narrowed shared.tables i object start many index words p is_it wide)
-  converted from kinds.NonNull target i (Fat object start many index) o k e w c well does wide (shared, facts, is, holds) stack =
+  converted from kinds.NonNull target i (Fat object start many index) o k e w c well does whole wide (shared, facts, is, holds) stack =
       let (words, p, same, is_it) = in_words shared.tables (of_kind i (Fat object start many index)) c.active.slots o is in
       absurd (not_narrowed shared.tables i object start many index words p is_it wide)
-  converted from kinds.Handle target i (Handle region) o k e w c well does wide stands (q, end, stack) = kept_value from kinds.Handle target i (Handle region) o k e w c q refl does stands end stack
-  converted from kinds.Key target i (Key region) o k e w c well does wide stands (q, end, stack) = kept_value from kinds.Key target i (Key region) o k e w c q refl does stands end stack
-  converted from to target i v o k e w c well does wide stands stack = absurd (well refl)
+  converted from kinds.Handle target i (Handle region) o k e w c well does whole wide stands (q, end, stack) = kept_value from kinds.Handle target i (Handle region) o k e w c q refl does stands end stack
+  converted from kinds.Key target i (Key region) o k e w c well does whole wide stands (q, end, stack) = kept_value from kinds.Key target i (Key region) o k e w c q refl does stands end stack
+  converted from to target i v o k e w c well does whole wide stands stack = absurd (well refl)
 
   converted_leads : (from to : Kind) (target : Option Kind) (v : Kinded) (k : List Entry) (e : Environment) (w : World) → IsWell (step source (Running (Given v) (Needs (ConvertTo from to target) ∷ k) e w)) → leads_to w target (followed v.value) ≡ true
   converted_leads from to target v k e w well =
       (and_parts (is_kind v.kind from) (leads_to w target (followed v.value)) (is_fitting (is_kind v.kind from && leads_to w target (followed v.value)) (computed to (conversion to v.value) k e w) w well)).1
 
-  -- where it keeps its number of words, or gets more, or fewer
-  converts_by : (wide : Bool) (from to : Kind) (target : Option Kind) (v : Kinded) (o : Operand) (q : ℕ) (k : List Entry) (e : Environment) (w : World) (c : Configuration) → are_as_wide from to ≡ wide
+  -- an int that becomes a char keeps its low byte
+  masked : (from : Kind) (target : Option Kind) (i : Kind) (v : Value) (o : Operand) (q : ℕ) (k : List Entry) (e : Environment) (w : World) (c : Configuration)
+      → step source (Running (Given (of_kind i v)) (Needs (ConvertTo from kinds.Char target) ∷ k) e w) ≡ computed kinds.Char (conversion kinds.Char v) k e w → IsWell (computed kinds.Char (conversion kinds.Char v) k e w)
+      → Stands (of_kind i v) o k e w c
+      → MaskedAt (code_of source c.active.function) (bounds_at source c.active.function) (types_on source c.active.function k) o (top source c.active.function k) c.active.next q
+      → ValueStack source c.active.function e.locals kinds.Char o q c.frames k → GoesBehind (of_kind i v) (Needs (ConvertTo from kinds.Char target) ∷ k) e w c
+  masked from target i (Int a) (operands.Slot n) q k e w c does well (shared, facts, is, holds) (there, here, end) stack =
+      let word = bit_and (c.active.slots n) 255 in
+      let same : word ≡ a % 256 = low_byte_of (c.active.slots n) ∙ ap (λ x. x % 256) (int_at shared.tables i a c.active.slots n is) in
+      by_one source pages calls does shared here
+      (λ choice. landed_char source pages calls (a % 256) word n k e w c q same (omega arith) shared facts holds end (in_temporary (omega (arith, there)) stack))
+  masked from target i (Int a) (operands.Word x) q k e w c does well stands at stack = absurd at
+  masked from target i v o q k e w c does well stands at stack = absurd (well refl)
+
+  -- where it keeps its words, or gets more, or fewer
+  converts_by : (same : Bool) (from to : Kind) (target : Option Kind) (v : Kinded) (o : Operand) (q : ℕ) (k : List Entry) (e : Environment) (w : World) (c : Configuration) → keeps_words from to ≡ same
       → step source (Running (Given v) (Needs (ConvertTo from to target) ∷ k) e w) ≡ computed to (conversion to v.value) k e w → leads_to w target (followed v.value) ≡ true → v.kind ≡ from → IsWell (computed to (conversion to v.value) k e w)
       → Stands v o k e w c
-      → ConversionBy (code_of source c.active.function) (bounds_at source c.active.function) (types_on source c.active.function k) wide to (option_map bytes_of_kind target) o (top source c.active.function k) c.active.next q
+      → ConversionBy (code_of source c.active.function) (bounds_at source c.active.function) (types_on source c.active.function k) same to (option_map bytes_of_kind target) o (top source c.active.function k) c.active.next q
       → ValueStack source c.active.function e.locals to o q c.frames k → GoesBehind v (Needs (ConvertTo from to target) ∷ k) e w c
-  converts_by true from to target v o q k e w c wide does leads kind well stands at stack =
-      converted from to target v.kind v.value o k e w c well does (ap words_of_kind kind ∙ eqb-true (words_of_kind from) (words_of_kind to) wide) stands (q, at, stack)
-  converts_by false from kinds.Fat target v o q k e w c narrow does leads kind well (shared, facts, is, holds) at stack =
+  converts_by true from to target v o q k e w c keeps does leads kind well stands at stack =
+      converted from to target v.kind v.value o k e w c well does (ap (λ i. masks i to) kind ∙ keeps_whole from to keeps) (ap words_of_kind kind ∙ keeps_wide from to keeps) stands (q, at, stack)
+  converts_by false from kinds.Fat target v o q k e w c changes does leads kind well (shared, facts, is, holds) at stack =
+      let narrow = changes_wide from kinds.Fat refl changes in
       widens source pages calls from target v o q k e w c does well (λ three. eqb-false (words_of_kind from) 3 narrow (ap words_of_kind (sym kind) ∙ three)) shared facts is holds at stack
-  converts_by false from kinds.NonNull target v o q k e w c narrow does leads kind well (shared, facts, is, holds) at stack =
-      narrows source pages calls from kinds.NonNull target v o q k e w c does leads (kind ∙ wide_kind from narrow) shared facts is holds at stack
-  converts_by false from kinds.Nullable target v o q k e w c narrow does leads kind well (shared, facts, is, holds) at stack =
-      narrows source pages calls from kinds.Nullable target v o q k e w c does leads (kind ∙ wide_kind from narrow) shared facts is holds at stack
-  converts_by false from to target v o q k e w c narrow does leads kind well stands at stack = absurd at
+  converts_by false from kinds.Char target v o q k e w c changes does leads kind well stands at stack = masked from target v.kind v.value o q k e w c does well stands at stack
+  converts_by false from kinds.NonNull target v o q k e w c changes does leads kind well (shared, facts, is, holds) at stack =
+      narrows source pages calls from kinds.NonNull target v o q k e w c does leads (kind ∙ wide_kind from (changes_wide from kinds.NonNull refl changes)) shared facts is holds at stack
+  converts_by false from kinds.Nullable target v o q k e w c changes does leads kind well (shared, facts, is, holds) at stack =
+      narrows source pages calls from kinds.Nullable target v o q k e w c does leads (kind ∙ wide_kind from (changes_wide from kinds.Nullable refl changes)) shared facts is holds at stack
+  converts_by false from to target v o q k e w c changes does leads kind well stands at stack = absurd at
 
   converts : (from to : Kind) (target : Option Kind) (v : Kinded) (o : Operand) (k : List Entry) (e : Environment) (w : World) (c : Configuration)
       → IsWell (step source (Running (Given v) (Needs (ConvertTo from to target) ∷ k) e w)) → Stands v o k e w c
       → ValueStack source c.active.function e.locals v.kind o c.active.next c.frames (Needs (ConvertTo from to target) ∷ k) → GoesBehind v (Needs (ConvertTo from to target) ∷ k) e w c
   converts from to target v o k e w c well stands (q, at, stack) =
-      converts_by (are_as_wide from to) from to target v o q k e w c refl (converts_kind from to target v k e w well) (converted_leads from to target v k e w well) (converted_from from to target v k e w well)
+      converts_by (keeps_words from to) from to target v o q k e w c refl (converts_kind from to target v k e w well) (converted_leads from to target v k e w well) (converted_from from to target v k e w well)
       (subst IsWell (converts_kind from to target v k e w well) well) stands at stack
 
   -- a conversion that raises nothing, of a value in the slots of a local that is about to get it
   converted_ahead : (t : Tables) (from to i : Kind) (v : Value) (words : Words) (n : ℕ) (k : List Entry) (e : Environment) (w : World)
-      → IsWell (computed to (conversion to v) k e w) → converts_there from to ≡ true → words_of_kind i ≡ words_of_kind to → Is t i v words n
+      → IsWell (computed to (conversion to v) k e w) → converts_there from to ≡ true → i ≡ from → words_of_kind i ≡ words_of_kind to → Is t i v words n
       → (computed to (conversion to v) k e w ≡ Running (Given (of_kind to v)) k e w) × Is t to v words n
-  converted_ahead t from kinds.NonNull i v words n k e w well quiet wide is = absurd (let f : false ≡ true = quiet in cc)
-  converted_ahead t from kinds.Int i (Int a) words n k e w well quiet wide is = (refl, kept_at t i kinds.Int (Int a) words n refl is)
-  converted_ahead t from kinds.Nullable i Null words n k e w well quiet wide is = (refl, kept_at t i kinds.Nullable Null words n refl is)
-  converted_ahead t from kinds.Fat i Null words n k e w well quiet wide is = (refl, kept_at t i kinds.Fat Null words n refl is)
-  converted_ahead t from kinds.Nullable i (Thin object offset) words n k e w well quiet wide is = (refl, kept_at t i kinds.Nullable (Thin object offset) words n refl is)
-  converted_ahead t from kinds.Fat i (Thin object offset) words n k e w well quiet wide is = absurd (not_widened t i object offset words n is wide)
-  converted_ahead t from kinds.Nullable i (Fat object start many index) words n k e w well quiet wide is = absurd (not_narrowed t i object start many index words n is wide)
-  converted_ahead t from kinds.Fat i (Fat object start many index) words n k e w well quiet wide is = (refl, kept_at t i kinds.Fat (Fat object start many index) words n refl is)
-  converted_ahead t from kinds.Handle i (Handle region) words n k e w well quiet wide is = (refl, kept_at t i kinds.Handle (Handle region) words n refl is)
-  converted_ahead t from kinds.Key i (Key region) words n k e w well quiet wide is = (refl, kept_at t i kinds.Key (Key region) words n refl is)
-  converted_ahead t from to i v words n k e w well quiet wide is = absurd (well refl)
+  converted_ahead t from kinds.Char kinds.Char (Int a) words n k e w well quiet kind wide is =
+      let low : a % 256 ≡ a = omega (arith, is.1) in
+      (ap (λ x. Running (Given (of_kind kinds.Char (Int x))) k e w) low, is)
+  converted_ahead t from kinds.Char kinds.Int (Int a) words n k e w well quiet kind wide is =
+      let masking : converts_there kinds.Int kinds.Char ≡ true = ap (λ (x : Kind). converts_there x kinds.Char) kind ∙ quiet in
+      absurd (let f : false ≡ true = masking in cc)
+  converted_ahead t from kinds.Char i (Int a) words n k e w well quiet kind wide is = absurd is
+  converted_ahead t from kinds.NonNull i v words n k e w well quiet kind wide is = absurd (let f : false ≡ true = quiet in cc)
+  converted_ahead t from kinds.Int i (Int a) words n k e w well quiet kind wide is = (refl, kept_at t i kinds.Int (Int a) words n refl is)
+  converted_ahead t from kinds.Nullable i Null words n k e w well quiet kind wide is = (refl, kept_at t i kinds.Nullable Null words n refl is)
+  converted_ahead t from kinds.Fat i Null words n k e w well quiet kind wide is = (refl, kept_at t i kinds.Fat Null words n refl is)
+  converted_ahead t from kinds.Nullable i (Thin object offset) words n k e w well quiet kind wide is = (refl, kept_at t i kinds.Nullable (Thin object offset) words n refl is)
+  converted_ahead t from kinds.Fat i (Thin object offset) words n k e w well quiet kind wide is = absurd (not_widened t i object offset words n is wide)
+  converted_ahead t from kinds.Nullable i (Fat object start many index) words n k e w well quiet kind wide is = absurd (not_narrowed t i object start many index words n is wide)
+  converted_ahead t from kinds.Fat i (Fat object start many index) words n k e w well quiet kind wide is = (refl, kept_at t i kinds.Fat (Fat object start many index) words n refl is)
+  converted_ahead t from kinds.Handle i (Handle region) words n k e w well quiet kind wide is = (refl, kept_at t i kinds.Handle (Handle region) words n refl is)
+  converted_ahead t from kinds.Key i (Key region) words n k e w well quiet kind wide is = (refl, kept_at t i kinds.Key (Key region) words n refl is)
+  converted_ahead t from to i v words n k e w well quiet kind wide is = absurd (well refl)
 
   -- its kind is the one that it is converted from, and it has as many words behind
   converts_ahead : (t : Tables) (from to : Kind) (target : Option Kind) (v : Kinded) (n : ℕ) (k : List Entry) (e : Environment) (w : World) (c : Configuration)
@@ -236,24 +275,25 @@ module _ (source : Program) (pages calls : ℕ) where
   converts_ahead t from to target v n k e w c well quiet is =
       let does = converts_kind from to target v k e w well in
       let wide = ap words_of_kind (converted_from from to target v k e w well) ∙ as_wide from to quiet in
-      let (goes, now) = converted_ahead t from to v.kind v.value c.active.slots n k e w (subst IsWell does well) quiet wide is in
+      let (goes, now) = converted_ahead t from to v.kind v.value c.active.slots n k e w (subst IsWell does well) quiet (converted_from from to target v k e w well) wide is in
       (does ∙ goes, now, wide)
 
   -- ---- operators
 
   -- the operator stands here, and what it gives comes to a slot
   abbrev OperatesAt : UnaryOperator → Operand → List Entry → Environment → Configuration → Type 0
-  OperatesAt u o k e c = (d : ℕ) × At (code_of source c.active.function) c.active.next (instructions.Unary (unary_operator u) d o)
-      × LandsStack source c.active.function e.locals kinds.Int d (c.active.next + 1) c.frames k
+  OperatesAt u o k e c = (d : ℕ) × At (code_of source c.active.function) c.active.next (unary_instruction u d o)
+      × LandsStack source c.active.function e.locals (unary_kind u) d (c.active.next + 1) c.frames k
 
-  operates_word : (u : UnaryOperator) (i : Kind) (a : ℕ) (o : Operand) (k : List Entry) (e : Environment) (w : World) (c : Configuration)
-      → unary_result u (Int a) ≡ Gives (Int (plain_operators.unary_result (unary_operator u) a)) → Stands (of_kind i (Int a)) o k e w c
-      → OperatesAt u o k e c → GoesBehind (of_kind i (Int a)) (Needs (Operate u) ∷ k) e w c
-  operates_word u i a o k e w c result (shared, facts, is, holds) (d, here, lands) =
+  operates_word : (u : UnaryOperator) (operator : PlainUnary) (i : Kind) (a : ℕ) (o : Operand) (d : ℕ) (k : List Entry) (e : Environment) (w : World) (c : Configuration)
+      → unary_kind u ≡ kinds.Int → unary_result u (Int a) ≡ Gives (Int (plain_operators.unary_result operator a)) → Stands (of_kind i (Int a)) o k e w c
+      → At (code_of source c.active.function) c.active.next (instructions.Unary operator d o) → LandsStack source c.active.function e.locals kinds.Int d (c.active.next + 1) c.frames k
+      → GoesBehind (of_kind i (Int a)) (Needs (Operate u) ∷ k) e w c
+  operates_word u operator i a o d k e w c int result (shared, facts, is, holds) here lands =
       let x = operand_word c.active.slots o in
-      by_one source pages calls (ap (λ r. computed kinds.Int r k e w) result) shared here
-      (λ choice. landed_word source pages calls (plain_operators.unary_result (unary_operator u) a) (plain_operators.unary_result (unary_operator u) x) d k e w c (c.active.next + 1)
-      (ap (plain_operators.unary_result (unary_operator u)) (int_is shared.tables i a c.active.slots o is)) shared facts holds refl lands)
+      by_one source pages calls (ap (λ r. computed (unary_kind u) r k e w) result ∙ ap (λ j. Running (Given (of_kind j (Int (plain_operators.unary_result operator a)))) k e w) int) shared here
+      (λ choice. landed_word source pages calls (plain_operators.unary_result operator a) (plain_operators.unary_result operator x) d k e w c (c.active.next + 1)
+      (ap (plain_operators.unary_result operator) (int_is shared.tables i a c.active.slots o is)) shared facts holds refl lands)
 
   operates_value : (u : UnaryOperator) (i : Kind) (v : Value) (o : Operand) (k : List Entry) (e : Environment) (w : World) (c : Configuration)
       → IsWell (step source (Running (Given (of_kind i v)) (Needs (Operate u) ∷ k) e w)) → Stands (of_kind i v) o k e w c
@@ -263,9 +303,26 @@ module _ (source : Program) (pages calls : ℕ) where
       by_one source pages calls
       (ap (λ z. computed kinds.Int (truth_result z) k e w) (zero_is shared.tables (of_kind i v) c.active.slots o (λ none. well (ap (λ z. status_in (status_of (computed kinds.Int (truth_result z) k e w))) none)) is)) shared here
       (λ choice. landed_word source pages calls (truth (x == 0)) (truth (x == 0)) d k e w c (c.active.next + 1) refl shared facts holds refl lands)
-  operates_value unary.Negate i (Int a) o k e w c well stands stack = operates_word unary.Negate i a o k e w c refl stands stack
-  operates_value unary.Complement i (Int a) o k e w c well stands stack = operates_word unary.Complement i a o k e w c refl stands stack
+  operates_value unary.Negate i (Int a) o k e w c well stands (d, here, lands) = operates_word unary.Negate plain_unary.Negate i a o d k e w c refl refl stands here lands
+  operates_value unary.Complement i (Int a) o k e w c well stands (d, here, lands) = operates_word unary.Complement plain_unary.Complement i a o d k e w c refl refl stands here lands
+  operates_value unary.Widen i (Int a) o k e w c well (shared, facts, is, holds) (d, here, lands) =
+      by_one source pages calls refl shared here
+      (λ choice. landed_word source pages calls a (operand_word c.active.slots o) d k e w c (c.active.next + 1) (int_is shared.tables i a c.active.slots o is) shared facts holds refl lands)
+  operates_value unary.LowByte i (Int a) o k e w c well (shared, facts, is, holds) (d, here, lands) =
+      let word = bit_and (operand_word c.active.slots o) 255 in
+      let same : word ≡ a % 256 = low_byte_of (operand_word c.active.slots o) ∙ ap (λ x. x % 256) (int_is shared.tables i a c.active.slots o is) in
+      by_one source pages calls refl shared here
+      (λ choice. landed_char source pages calls (a % 256) word d k e w c (c.active.next + 1) same (omega arith) shared facts holds refl lands)
   operates_value u i v o k e w c well stands stack = absurd (well refl)
+
+  -- a char that serves as an int stays where it is
+  widened : (i : Kind) (v : Value) (o : Operand) (k : List Entry) (e : Environment) (w : World) (c : Configuration) → IsWell (step source (Running (Given (of_kind i v)) (Needs (Operate unary.Widen) ∷ k) e w))
+      → Stands (of_kind i v) o k e w c → ValueStack source c.active.function e.locals kinds.Int o c.active.next c.frames k → GoesBehind (of_kind i v) (Needs (Operate unary.Widen) ∷ k) e w c
+  widened i (Int a) o k e w c well (shared, facts, is, holds) stack =
+      silently source pages calls (Running (Given (of_kind i (Int a))) (Needs (Operate unary.Widen) ∷ k) e w) (Running (Given (int_of a)) k e w) (plain.Running c) refl
+      (shared, in_operand o facts (int_in shared.tables i a c.active.slots o is) (kept_holds _ _ _ k holds) stack)
+      (omega arith)
+  widened i v o k e w c well stands stack = absurd (well refl)
 
   -- a condition that is negated is not computed
   negates : (v : Kinded) (o : Operand) (k : List Entry) (e : Environment) (w : World) (c : Configuration) → IsWell (step source (Running (Given v) (Needs (Operate unary.Not) ∷ k) e w)) → Stands v o k e w c
@@ -280,6 +337,7 @@ module _ (source : Program) (pages calls : ℕ) where
   operates : (u : UnaryOperator) (v : Kinded) (o : Operand) (k : List Entry) (e : Environment) (w : World) (c : Configuration)
       → IsWell (step source (Running (Given v) (Needs (Operate u) ∷ k) e w)) → Stands v o k e w c
       → ValueStack source c.active.function e.locals v.kind o c.active.next c.frames (Needs (Operate u) ∷ k) → GoesBehind v (Needs (Operate u) ∷ k) e w c
+  operates unary.Widen v o k e w c well stands stack = widened v.kind v.value o k e w c well stands stack
   operates u v o k e w c well stands (to_slot here) = operates_value u v.kind v.value o k e w c well stands here
   operates u v o k e w c well stands (to_jump (is, stack)) = subst (λ x. GoesBehind v (Needs (Operate x) ∷ k) e w c) (sym is) (negates v o k e w c (subst (λ x. IsWell (step source (Running (Given v) (Needs (Operate x) ∷ k) e w))) is well) stands stack)
 
@@ -682,7 +740,8 @@ module _ (source : Program) (pages calls : ℕ) where
         (
           data_assigned shared.tables source g c.active.base w.objects next.objects e.locals (callers k) c.active.slots slots c.globals c.frames n object v found
               (written_here w object stored.at v.value stored.object_there stored.cell_there v.kind stored.same) (written_elsewhere w object stored.at v.value stored.object_there stored.cell_there)
-              (written_length w object stored.at v.value stored.object_there stored.cell_there) room moved elsewhere facts.0,
+              (written_length w object stored.at v.value stored.object_there stored.cell_there) room moved
+              (λ is_char. sym stored.same ∙ char_cell shared.related object stored.at.object stored.at.cell stored.object_there stored.cell_there is_char) elsewhere facts.0,
           handlers_beside source g c.active.slots slots c.active.handlers c.frames k slot words (omega (arith, inside, room)) elsewhere facts.1,
         ),
         subst (IsIn shared.tables v slots) (sym there) moved,
@@ -709,6 +768,7 @@ module _ (source : Program) (pages calls : ℕ) where
               (ap (contents next.objects) same ∙ written_here w object stored.at v.value stored.object_there stored.cell_there v.kind stored.same)
               (λ i other. written_elsewhere w object stored.at v.value stored.object_there stored.cell_there i (λ equal. other (equal ∙ sym same)))
               (written_length w object stored.at v.value stored.object_there stored.cell_there) (stored_is shared.tables v c.active.slots c.globals first o is)
+              (λ is_char. sym stored.same ∙ char_cell shared.related object stored.at.object stored.at.cell stored.object_there stored.cell_there (subst (IsCharAt shared.tables) same is_char))
               (λ m out. stored_elsewhere c.active.slots c.globals words first o m (kind_positive v.kind) out) facts.0,
           facts.1,
         ),
@@ -724,14 +784,19 @@ module _ (source : Program) (pages calls : ℕ) where
       (stores object v l o to k e w c q (sym (object_of_same l e) ∙ found) (subst (λ p. IsWell (stored_at p v (Given v) k e w)) place_is well) stands here hands)
 
   -- a word that an instruction stores is one
-  stored_word : (c : Configuration) → HasWords (lower_program source) → plain.HoldsWords (plain.Running c) → (p : ℕ) (address : Operand) (bytes : ℕ) (o : Operand) → At (code_of source c.active.function) p (instructions.Store address bytes o)
-      → IsMachineWord (operand_word c.active.slots o)
-  stored_word c of_words words p address bytes (operands.Slot n) here = words.0 n
-  stored_word c of_words words p address bytes (operands.Word n) here =
+  stored_has : (kind : Kind) (address : Operand) (bytes n : ℕ) → HasWord (store_of kind address bytes (operands.Word n)) → IsMachineWord n
+  stored_has kinds.Char address bytes n has = has.2
+  stored_has kind address bytes n has = has.2
+
+  stored_word : (c : Configuration) → HasWords (lower_program source) → plain.HoldsWords (plain.Running c) → (kind : Kind) (p : ℕ) (address : Operand) (bytes : ℕ) (o : Operand)
+      → At (code_of source c.active.function) p (store_of kind address bytes o) → IsMachineWord (operand_word c.active.slots o)
+  stored_word c of_words words kind p address bytes (operands.Slot n) here = words.0 n
+  stored_word c of_words words kind p address bytes (operands.Word n) here =
       let g = c.active.function in
       let place : CodePlace = record { function = g; index = p } in
-      (holds_at HasWord (code_of source g) p (instructions.Store address bytes (operands.Word n))
-      (of_words.functions g no_routine (function_known (lower_program source) place (instructions.Store address bytes (operands.Word n)) here)) here).2
+      stored_has kind address bytes n
+      (holds_at HasWord (code_of source g) p (store_of kind address bytes (operands.Word n))
+      (of_words.functions g no_routine (function_known (lower_program source) place (store_of kind address bytes (operands.Word n)) here)) here)
 
   -- what an operand of one word holds, it holds also where that word is written
   stays_in : (t : Tables) (v : Kinded) (o : Operand) (slots other : Words) → ((n : ℕ) → slots n ≡ operand_word slots o → other n ≡ operand_word slots o) → IsWord t v.kind v.value (operand_word slots o) → IsIn t v slots o → IsIn t v other o
@@ -741,7 +806,7 @@ module _ (source : Program) (pages calls : ℕ) where
   -- a value is stored in a cell by the word that tells it, where its address waits in a temporary, and then it is handed on
   stores_word : (peek : Option ℕ) (object offset : ℕ) (v : Kinded) (o : Operand) (q : ℕ) (k : List Entry) (e : Environment) (w : World) (c : Configuration) → HasWords (lower_program source) → plain.HoldsWords (plain.Running c) → AreNamed source e.locals (callers k) w c.active.function c.active.base c.frames c.store
       → IsWell (step source (Running (Given v) (Needs (StoreCell peek (Thin object offset)) ∷ k) e w)) → Stands v o (Needs (StoreCell peek (Thin object offset)) ∷ k) e w c
-      → IsWordNow c v o → At (code_of source c.active.function) c.active.next (instructions.Store (operands.Slot (top source c.active.function k)) 0 o) → c.active.next + 1 ≡ q
+      → IsWordNow c v o → At (code_of source c.active.function) c.active.next (store_of v.kind (operands.Slot (top source c.active.function k)) 0 o) → c.active.next + 1 ≡ q
       → HandsOnStack source c.active.function e.locals v.kind o q c.frames k → GoesBehind v (Needs (StoreCell peek (Thin object offset)) ∷ k) e w c
   stores_word peek object offset v o q k e w c of_words words names well (shared, facts, is, (is_place, holds)) tells here end hands =
       let g = c.active.function in
@@ -751,13 +816,15 @@ module _ (source : Program) (pages calls : ℕ) where
       let points : Points shared.tables object offset address = stays is_place in
       let (at, found, same, gives) = cell_is_there (cell_at w object offset) object offset v (Given v) k e w well in
       let is_word = subst (λ i. IsWord shared.tables i v.value word) (sym same) (tells shared.tables is) in
-      let fits = stored_word c of_words words c.active.next (operands.Slot free) 0 o here in
+      let fits = stored_word c of_words words v.kind c.active.next (operands.Slot free) 0 o here in
       let after : Configuration = advanced (with_word source pages calls k e w c shared names facts object offset address word at v.value found points is_word fits) in
       let next = written w object offset at v.value in
-      let saved = saves_there source pages calls k e w c shared names facts object offset address word at v.value found points is_word fits in
+      let saves_it = saves_there source pages calls k e w c shared names facts object offset address word at v.value found points is_word fits in
+      let saved : (choice : Choice) → performed (lower_program source) choice c (store_of v.kind (operands.Slot free) 0 o) ≡ plain.Running after
+      = λ choice. saves_by (lower_program source) choice c v.kind (operands.Slot free) 0 o ∙ ap (λ (i : Kind). saved_at (lower_program source) i c address word) (sym same) ∙ saves_it in
       let kept : SharedAt source pages calls k e next after = shared_saved source pages calls k e w c shared names facts object offset address word at v.value found points is_word fits in
       let facts_kept : DataIn source shared.tables after.active.slots k e next after = data_saved source pages calls k e w c shared names facts object offset address word at v.value found points is_word fits in
-      hands_saved v (Needs (StoreCell peek (Thin object offset)) ∷ k) k e w next c after gives shared (shared_within source pages calls k e next after kept) shared.same_output here (λ choice. saved)
+      hands_saved v (Needs (StoreCell peek (Thin object offset)) ∷ k) k e w next c after gives shared (shared_within source pages calls k e next after kept) shared.same_output here saved
       (λ equal. omega (arith, equal))
       (handed v o k e next after q end (
         kept,
@@ -769,7 +836,7 @@ module _ (source : Program) (pages calls : ℕ) where
   -- the same by three words
   stores_words : (peek : Option ℕ) (object offset : ℕ) (v : Kinded) (n q : ℕ) (k : List Entry) (e : Environment) (w : World) (c : Configuration) → plain.HoldsWords (plain.Running c) → AreNamed source e.locals (callers k) w c.active.function c.active.base c.frames c.store
       → IsWell (step source (Running (Given v) (Needs (StoreCell peek (Thin object offset)) ∷ k) e w)) → Stands v (operands.Slot n) (Needs (StoreCell peek (Thin object offset)) ∷ k) e w c
-      → IsStanding source c.active.function n → v.kind ≡ kinds.Fat → StoresAt (code_of source c.active.function) (bounds_at source c.active.function) (types_on source c.active.function k) 3 (top source c.active.function k) 0 n c.active.next q
+      → IsStanding source c.active.function n → v.kind ≡ kinds.Fat → StoresAt (code_of source c.active.function) (bounds_at source c.active.function) (types_on source c.active.function k) kinds.Fat 3 (top source c.active.function k) 0 n c.active.next q
       → HandsOnStack source c.active.function e.locals v.kind (operands.Slot n) q c.frames k → GoesBehind v (Needs (StoreCell peek (Thin object offset)) ∷ k) e w c
   stores_words peek object offset v n q k e w c words names well (shared, facts, is, (is_place, holds)) standing fat (at_first, (at_second, (at_third, end))) hands =
       let g = c.active.function in
@@ -821,13 +888,13 @@ module _ (source : Program) (pages calls : ℕ) where
       by true narrow =
           let g = c.active.function in
           let one = eqb-true (words_of_kind v.kind) 1 narrow in
-          let (store, end) = subst (λ m. StoresAt (code_of source g) (bounds_at source g) (types_on source g k) m (top source g k) 0 n c.active.next q) one here in
+          let (store, end) = subst (λ m. StoresAt (code_of source g) (bounds_at source g) (types_on source g k) v.kind m (top source g k) 0 n c.active.next q) one here in
           stores_word peek object offset v (operands.Slot n) q k e w c of_words words names well stands (λ t is. one_word t v.kind v.value c.active.slots n one is) store end hands
       by false wide =
           let g = c.active.function in
           let fat = wide_kind v.kind wide in
           stores_words peek object offset v n q k e w c words names well stands (stands_where fat) fat
-          (subst (λ i. StoresAt (code_of source g) (bounds_at source g) (types_on source g k) (words_of_kind i) (top source g k) 0 n c.active.next q) fat here) hands
+          (subst (λ i. StoresAt (code_of source g) (bounds_at source g) (types_on source g k) i (words_of_kind i) (top source g k) 0 n c.active.next q) fat here) hands
   stores_cell peek place v o k e w c of_words words names well stands stack = absurd (well refl)
 
   -- the local has the value already
@@ -848,7 +915,8 @@ module _ (source : Program) (pages calls : ℕ) where
         (
           data_assigned shared.tables source g c.active.base w.objects next.objects e.locals (callers k) old c.active.slots c.globals c.frames n object v found
               (written_here w object stored.at v.value stored.object_there stored.cell_there v.kind stored.same) (written_elsewhere w object stored.at v.value stored.object_there stored.cell_there)
-              (written_length w object stored.at v.value stored.object_there stored.cell_there) room is (λ m out. sym (same m out)) facts.0,
+              (written_length w object stored.at v.value stored.object_there stored.cell_there) room is
+              (λ is_char. sym stored.same ∙ char_cell shared.related object stored.at.object stored.at.cell stored.object_there stored.cell_there is_char) (λ m out. sym (same m out)) facts.0,
           handlers_beside source g old c.active.slots c.active.handlers c.frames k (slot_of (starts_on source g k) n) (words_of_kind v.kind) (omega (arith, inside, room)) (λ m out. sym (same m out)) facts.1,
         ),
         is,
@@ -914,7 +982,7 @@ module _ (source : Program) (pages calls : ℕ) where
   initialises : (n : ℕ) (kind : Kind) (js : Items) (v : Kinded) (o : Operand) (k : List Entry) (e : Environment) (w : World) (c : Configuration)
       → IsWell (step source (Running (Given v) (Needs (Initialise n kind js) ∷ k) e w)) → Stands v o (Needs (Initialise n kind js) ∷ k) e w c
       → ValueStack source c.active.function e.locals v.kind o c.active.next c.frames (Needs (Initialise n kind js) ∷ k) → GoesBehind v (Needs (Initialise n kind js) ∷ k) e w c
-  initialises n kind js v o k e w c well (shared, facts, is, holds) (exits, q, here, room, items, stack) =
+  initialises n kind js v o k e w c well (shared, facts, is, holds) (exits, q, here, room, of_type, items, stack) =
       let g = c.active.function in
       let words = words_of_kind v.kind in
       let slot = slot_of (starts_on source g k) n in
@@ -929,8 +997,9 @@ module _ (source : Program) (pages calls : ℕ) where
       (λ choice. subst (Matches source pages calls (Running Proceeding (Rest js ∷ k) (with_local e n (length w.objects)) (made w (variable e.home kind (Some v.value))))) (sym (moves (lower_program source) choice c words slot o)) (
         shared_declared source pages calls k e w (advanced (with_slots c slots)) shared n r kind (Some v.value) row home (row-fits (call_slots source g c.active.base) (slot_of (starts_at source g) n) kind e.home (Some v.value)) (row-variable (call_slots source g c.active.base) (slot_of (starts_at source g) n) kind),
         behind_statement exits (
-          data_declared grown source g c.active.base w.objects e (callers k) c.active.slots slots c.globals c.frames n words (variable e.home kind (Some v.value)) local room (record { kind = kind; room = subst (HasRoom (types_at source g) n) (local_kind n kind js v k e w well) room; row = row_declared source pages calls k e w c shared row }) elsewhere
+          data_declared grown source g c.active.base w.objects e (callers k) c.active.slots slots c.globals c.frames n words (variable e.home kind (Some v.value)) local room (record { kind = kind; room = subst (HasRoom (types_at source g) n) (local_kind n kind js v k e w well) room; of_type = of_type; row = row_declared source pages calls k e w c shared row }) elsewhere
               (made_value grown n kind js v k e w slots slot (types_at source g) well room (Is-grows grows v.kind v.value slots slot (moved_is shared.tables v c.active.slots slot o is)))
+              (λ is_char. declared_low grown (call_slots source g c.active.base) slot kind (length w.objects) v slots (row_declared source pages calls k e w c shared row) (local_kind n kind js v k e w well) (Is-grows grows v.kind v.value slots slot (moved_is shared.tables v c.active.slots slot o is)) is_char)
               (data_grows shared.tables grown grows source g c.active.base w.objects e.locals (callers k) c.active.slots c.globals c.frames facts.0),
           handlers_beside source g c.active.slots slots c.active.handlers c.frames k slot words (omega (arith, slot-room (types_on source g k) n local, room)) elsewhere facts.1,
         )
@@ -941,9 +1010,9 @@ module _ (source : Program) (pages calls : ℕ) where
       → IsWell (step source (Running (Given v) (Needs (Initialise n kind js) ∷ k) e w))
       → ((m : ℕ) → Outside (slot_of (starts_on source c.active.function k) n) (words_of_kind v.kind) m → old m ≡ c.active.slots m)
       → DataIn source shared.tables old (Needs (Initialise n kind js) ∷ k) e w c
-      → HasRoom (types_at source c.active.function) n v.kind → Is shared.tables v.kind v.value c.active.slots (slot_of (starts_at source c.active.function) n)
+      → HasRoom (types_at source c.active.function) n v.kind → kind_in (types_at source c.active.function).locals n ≡ kind → Is shared.tables v.kind v.value c.active.slots (slot_of (starts_at source c.active.function) n)
       → StatementStack source c.active.function exits c.active.next c.frames (Rest js ∷ k) → GoesBehind v (Needs (Initialise n kind js) ∷ k) e w c
-  initialises_ahead n old kind js v k e w c exits shared well same facts room is stack =
+  initialises_ahead n old kind js v k e w c exits shared well same facts room of_type is stack =
       let g = c.active.function in
       let (r, home) = makes_home n kind js v k e w well in
       let row = row_of (call_slots source g c.active.base) (slot_of (starts_at source g) n) kind in
@@ -956,8 +1025,9 @@ module _ (source : Program) (pages calls : ℕ) where
       (makes_local n kind js v k e w well) (
         shared_declared source pages calls k e w c shared n r kind (Some v.value) row home (row-fits (call_slots source g c.active.base) (slot_of (starts_at source g) n) kind e.home (Some v.value)) (row-variable (call_slots source g c.active.base) (slot_of (starts_at source g) n) kind),
         behind_statement exits (
-          data_declared grown source g c.active.base w.objects e (callers k) old c.active.slots c.globals c.frames n (words_of_kind v.kind) (variable e.home kind (Some v.value)) local room (record { kind = kind; room = subst (HasRoom (types_at source g) n) (local_kind n kind js v k e w well) room; row = row_declared source pages calls k e w c shared row })
+          data_declared grown source g c.active.base w.objects e (callers k) old c.active.slots c.globals c.frames n (words_of_kind v.kind) (variable e.home kind (Some v.value)) local room (record { kind = kind; room = subst (HasRoom (types_at source g) n) (local_kind n kind js v k e w well) room; of_type = of_type; row = row_declared source pages calls k e w c shared row })
               (λ m out. sym (same m out)) (made_value grown n kind js v k e w c.active.slots slot (types_at source g) well room (Is-grows grows v.kind v.value c.active.slots slot is))
+              (λ is_char. declared_low grown (call_slots source g c.active.base) slot kind (length w.objects) v c.active.slots (row_declared source pages calls k e w c shared row) (local_kind n kind js v k e w well) (Is-grows grows v.kind v.value c.active.slots slot is) is_char)
               (data_grows shared.tables grown grows source g c.active.base w.objects e.locals (callers k) old c.globals c.frames facts.0),
           handlers_beside source g old c.active.slots c.active.handlers c.frames k slot (words_of_kind v.kind) (omega (arith, slot-room (types_on source g k) n local, room)) (λ m out. sym (same m out)) facts.1,
         )
@@ -1163,6 +1233,15 @@ module _ (source : Program) (pages calls : ℕ) where
       silently source pages calls (Running (Given v) (Needs (ConvertTo from to target) ∷ k) e w) (Running (Given (of_kind to v.value)) k e w) (plain.Running c) does
       (shared, ahead n (old, subst (λ many. (m : ℕ) → Outside n many m → old m ≡ c.active.slots m) wide same, facts) now (kept_holds _ _ _ k holds) stack)
       (omega arith)
+  ahead_given v n old (Needs (Operate unary.Widen) ∷ k) e w c well shared same facts is holds (one, stack) = by v.kind v.value well same is one
+    where
+      by : (i : Kind) (u : Value) → IsWell (step source (Running (Given (of_kind i u)) (Needs (Operate unary.Widen) ∷ k) e w)) → ((m : ℕ) → Outside n (words_of_kind i) m → old m ≡ c.active.slots m)
+          → Is shared.tables i u c.active.slots n → words_of_kind i ≡ 1 → GoesBehind (of_kind i u) (Needs (Operate unary.Widen) ∷ k) e w c
+      by i (Int a) well same is one =
+          silently source pages calls (Running (Given (of_kind i (Int a))) (Needs (Operate unary.Widen) ∷ k) e w) (Running (Given (int_of a)) k e w) (plain.Running c) refl
+          (shared, ahead n (old, subst (λ many. (m : ℕ) → Outside n many m → old m ≡ c.active.slots m) one same, facts) (int_at shared.tables i a c.active.slots n is) (kept_holds _ _ _ k holds) stack)
+          (omega arith)
+      by i u well same is one = absurd (well refl)
   ahead_given v n old (Needs (Chain NoOperations) ∷ k) e w c well shared same facts is holds stack =
       silently source pages calls (Running (Given v) (Needs (Chain NoOperations) ∷ k) e w) (Running (Given v) k e w) (plain.Running c) refl
       (shared, ahead n (old, same, facts) is (kept_holds _ _ _ k holds) stack)
@@ -1177,10 +1256,10 @@ module _ (source : Program) (pages calls : ℕ) where
       (subst (λ x. (m : ℕ) → Outside x (words_of_kind v.kind) m → old m ≡ c.active.slots m) (sym there) same) facts room
       (subst (Is shared.tables v.kind v.value c.active.slots) (sym there) is) holds
       (subst (λ x. HandsOnStack source c.active.function e.locals v.kind (operands.Slot x) c.active.next c.frames k) (sym there) hands))
-  ahead_given v n old (Needs (Initialise number kind js) ∷ k) e w c well shared same facts is holds (exits, q, there, room, items, stack) =
+  ahead_given v n old (Needs (Initialise number kind js) ∷ k) e w c well shared same facts is holds (exits, q, there, room, of_type, items, stack) =
       initialises_ahead number old kind js v k e w c exits shared well
       (subst (λ x. (m : ℕ) → Outside x (words_of_kind v.kind) m → old m ≡ c.active.slots m) (sym there) same) facts
-      room (subst (Is shared.tables v.kind v.value c.active.slots) (sym there) is) (q, items, stack)
+      room of_type (subst (Is shared.tables v.kind v.value c.active.slots) (sym there) is) (q, items, stack)
   ahead_given v n old k e w c well shared same facts is holds stack = absurd stack
 
   compared_given : (v : Kinded) (failing : Comparison) (l r : Operand) (k : List Entry) (e : Environment) (w : World) (c : Configuration) → (shared : SharedAt source pages calls k e w c) → DataIn source shared.tables c.active.slots k e w c
@@ -1201,6 +1280,15 @@ module _ (source : Program) (pages calls : ℕ) where
   left_given v (Needs (Follow pointer target) ∷ k) e w c well shared facts (n, m, q, fat, is, low, holds, here, place) =
       subst (λ (j : Kind). IsWell (step source (Running (Given v) (Needs (Follow j target) ∷ k) e w)) → GoesBehind v (Needs (Follow j target) ∷ k) e w c) (sym fat)
       (λ wells. follows_parts source pages calls v.kind target n m q k e w c v.value wells shared facts is holds low here place) well
+  left_given v (Needs (Operate unary.Widen) ∷ k) e w c well shared facts ready = by v.kind v.value well ready
+    where
+      by : (i : Kind) (u : Value) → IsWell (step source (Running (Given (of_kind i u)) (Needs (Operate unary.Widen) ∷ k) e w))
+          → ((a : ℕ) → u ≡ Int a → ReadyAt source shared.tables (int_of a) e.locals c.active.function c.active.next c.active.slots c.frames k) → GoesBehind (of_kind i u) (Needs (Operate unary.Widen) ∷ k) e w c
+      by i (Int a) well ready =
+          silently source pages calls (Running (Given (of_kind i (Int a))) (Needs (Operate unary.Widen) ∷ k) e w) (Running (Given (int_of a)) k e w) (plain.Running c) refl
+          (shared, with_left facts (ready a refl))
+          (omega arith)
+      by i u well ready = absurd (well refl)
   left_given v k e w c well shared facts ready = absurd ready
 
   pub given : (v : Kinded) (k : List Entry) (e : Environment) (w : World) (c : Configuration) → HasWords (lower_program source) → plain.HoldsWords (plain.Running c) → AreNamed source e.locals (callers k) w c.active.function c.active.base c.frames c.store → IsStep source pages calls (Given v) k e w c

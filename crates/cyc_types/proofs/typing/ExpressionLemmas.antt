@@ -11,11 +11,12 @@ use Rattle.cyc_syntax.specs.declared.tree.PrefixOperator.TheVariants as prefixes
 use Rattle.cyc_syntax.specs.declared.tree.BinaryOperator.{BinaryOperator}
 use Rattle.cyc_syntax.specs.declared.tree.BinaryOperator.TheVariants as operators
 use Rattle.cyc_syntax.specs.Symbols.{Place}
-use Rattle.cyc_syntax.specs.Trees.{Named, Expression, Number, Character, Null, HeapRegion, UniqueRegion, Variable, Call, Bracketed, NumberOfElements, FreeUnique, FreeKey, Chained, Prefixed, New, RegionNew, Binary, Assign, Initial, Plain, Fields, Array, Expressions, NoExpressions, MoreExpressions, Postfixes, NoPostfixes, ThenIndex, ThenField, Operations, NoOperations, ThenOperation, place_of}
+use Rattle.cyc_syntax.specs.Trees.{Named, Expression, Number, Character, Null, HeapRegion, UniqueRegion, Variable, Call, Bracketed, NumberOfElements, LowByteOf, FreeUnique, FreeKey, Chained, Prefixed, New, RegionNew, Binary, Assign, Initial, Plain, Fields, Array, Expressions, NoExpressions, MoreExpressions, Postfixes, NoPostfixes, ThenIndex, ThenField, Operations, NoOperations, ThenOperation, place_of}
 use Rattle.cyc_types.specs.declared.region.Region.{Region}
 use Rattle.cyc_types.specs.declared.region.Region.TheVariants as regions
 use Rattle.cyc_types.specs.declared.typed.Callee.{Callee}
 use Rattle.cyc_types.specs.declared.typed.Callee.TheVariants as callees
+use Rattle.cyc_types.specs.declared.typed.UnaryOperator.TheVariants as unary
 use Rattle.cyc_types.specs.declared.typed.Operator.{Operator}
 use Rattle.cyc_types.specs.declared.typed.Operator.TheVariants as binary
 use Rattle.cyc_types.specs.declared.typed.LogicalOperator.{LogicalOperator}
@@ -23,7 +24,7 @@ use Rattle.cyc_types.specs.declared.typed.LogicalOperator.TheVariants as logical
 use Rattle.cyc_types.specs.declared.typed.PointerOperator.{PointerOperator}
 use Rattle.cyc_types.specs.declared.typed.PointerOperator.TheVariants as pointers
 use Rattle.cyc_types.specs.Regions.{region_eq}
-use Rattle.cyc_types.specs.Types.{Ty, Int, Pointer, Handle, Key, Struct, ValueType, Void, Value, substituted_ty}
+use Rattle.cyc_types.specs.Types.{Ty, Int, Char, Pointer, Handle, Key, Struct, ValueType, Void, Value, substituted_ty}
 use Rattle.cyc_types.specs.Types as types
 use Rattle.cyc_types.specs.Outlives.{OutlivesIn, live_regions, names_no_unique}
 use Rattle.cyc_types.specs.Closure.{is_outliving, names_no_unique_scope}
@@ -32,16 +33,16 @@ use Rattle.cyc_types.specs.TypedTrees as typed
 use Rattle.cyc_types.specs.Rules.{AllKept, Rule, Derives}
 use Rattle.cyc_types.specs.typing.Scopes.{signature_of_ints, RegionName, StructName, Field, Sort, Ordinary, OfRegion, OfLoop, Meaning, Unknown, Fixed, Counter, Routine, Declared, LocalVariable, Scope, is_live, local_meaning, meaning_in, meaning_among, meaning_of, with_counter}
 use Rattle.cyc_types.specs.typing.Scopes as scopes
-use Rattle.cyc_types.specs.typing.Tests.{ty_eq, is_thin_mark, is_pointer, is_non_null, is_unique, is_key, is_struct, is_moved, is_int, is_value, is_fat, is_handle, value_of, target_of, region_of, struct_of, arguments_of, kind_of, kind_of_value}
+use Rattle.cyc_types.specs.typing.Tests.{ty_eq, is_thin_mark, is_pointer, is_non_null, is_unique, is_key, is_struct, is_moved, is_int, is_char, is_value, is_fat, is_handle, value_of, target_of, region_of, struct_of, arguments_of, kind_of, kind_of_value}
 use Rattle.cyc_types.specs.typing.Formation.{struct_number, parameters_among, arguments_or, is_count, names_demanded, struct_demanded}
 use Rattle.cyc_types.specs.typing.Formation as formation
-use Rattle.cyc_types.specs.typing.Expressions.{is_alike, is_null_allowed, is_outlived, conversion, converted, passed, passed_demanded, is_any, is_readable, variable_read, read, looked, rule_looked, Found, type_of_side, place_meant, Reached, pointed, indexed, has_members, fields_of, field_number, field_among, field_type, selected, content_demanded, loaded, reached, address_of, addressed, place_inside, assignment, assigned, is_looking, is_looking_first, operand, Joined, peeked_local, is_movable, ints_joined, tests_joined, sums_joined, equality_joined, then_pointer, then_added, are_compared, is_compared_live, null_test, null_tested, thin_test, then_compared, joined, paired_argument, paired_arguments, first_place, first_places, instance_of, instantiated, is_unique_for_variable, variables_demanded, constraints_demanded, effect_demanded, called, freed, key_freed, Placed, Made, on_heap, by_handle, rule_placement, plain_made, array_made, field_types, arguments_written, fields_known, fields_made, created, rule, rule_all, rule_chain, rule_place, rule_postfixed, rule_further, rule_made}
+use Rattle.cyc_types.specs.typing.Expressions.{is_alike, is_null_allowed, is_outlived, conversion, converted, passed, passed_demanded, as_int, is_any, is_readable, variable_read, read, looked, rule_looked, Found, type_of_side, place_meant, Reached, pointed, indexed, has_members, fields_of, field_number, field_among, field_type, selected, content_demanded, loaded, reached, address_of, addressed, place_inside, assignment, assigned, is_looking, is_looking_first, operand, Joined, peeked_local, is_movable, ints_joined, tests_joined, sums_joined, equality_joined, then_pointer, then_added, are_compared, is_compared_live, null_test, null_tested, thin_test, then_compared, joined, paired_argument, paired_arguments, first_place, first_places, instance_of, instantiated, is_unique_for_variable, variables_demanded, constraints_demanded, effect_demanded, called, freed, key_freed, Placed, Made, on_heap, by_handle, rule_placement, plain_made, array_made, field_types, arguments_written, fields_known, fields_made, created, rule, rule_all, rule_chain, rule_place, rule_postfixed, rule_further, rule_made}
 use Rattle.cyc_types.specs.typing.Statements.{exception_number, exception_among}
 use Rattle.cyc_types.specs.typing.WellTyped.{LocalInScope, Context, IsLive, AreLive, AreOutliving, HasLocal, HasPlace, IsVariable, IsPlace, IsCallee, AreNotUnique, Converts, IsPeek, IsPeekOf, PointerOperation, adds, subtracts, equals, differs, thin_null, thin_there, fat_null, fat_there, null_is, null_is_not, IsLeft, WellTyped, IsConverted, ArePassed, IsCell, IsPlacement, IsMade, IsChain, signature_of}
 use Rattle.cyc_types.specs.typing.WellTyped as judgement
 use Rattle.cyc_types.proofs.RegionLemmas.{region_eq-true}
 use Rattle.cyc_types.proofs.ClosureLemmas.{any-true, outliving-sound}
-use Rattle.cyc_types.proofs.typing.TestLemmas.{kept_append, ty_eq-true, int_of, unique_of, fat_of, not_moved, other_region}
+use Rattle.cyc_types.proofs.typing.TestLemmas.{kept_append, ty_eq-true, int_of, char_of, unique_of, fat_of, not_moved, other_region}
 
 -- ---- lists
 
@@ -262,6 +263,25 @@ module _ (p : typed.Program) (h : typed.Function) where
     pub int_well : (a : typed.Expression) → IsWell a → is_int (type_of a) ≡ true → WellTyped here a (Value Int)
     int_well a w i = subst (WellTyped here a) (int_of (type_of a) i) w
 
+    -- ---- a char that serves as an int
+
+    by_char : (a : typed.Expression) (b : Bool) → is_char (type_of a) ≡ b → IsWell a → IsWell (cond b (typed.Unary unary.Widen a) a)
+    by_char a true e w = (Value Char, (subst (WellTyped here a) (char_of (type_of a) e) w, refl), refl)
+    by_char a false e w = w
+
+    pub int_served : (a : typed.Expression) → IsWell a → IsWell (as_int a)
+    int_served a w = by_char a (is_char (type_of a)) refl w
+
+    -- a peek is that of a unique pointer, and stays as it is
+    peek_served : (q : Place) (n : ℕ) (t : Ty) → IsVariable here (typed.Local q n) t → is_unique t ≡ true → IsSeen (as_int (typed.Peek q n t)) (type_of (as_int (typed.Peek q n t)))
+    peek_served q n (Pointer k t r) v u = inr (v, u, refl)
+    peek_served q n t v u = absurd (cc)
+
+    pub seen_served : (a : typed.Expression) → IsSeen a (type_of a) → IsSeen (as_int a) (type_of (as_int a))
+    seen_served a (inl w) = inl (int_served a w)
+    seen_served (typed.Peek q n t) (inr (v, u, e)) = peek_served q n t v u
+    seen_served a (inr k) = absurd k
+
     -- ---- conversion
 
     converts_of : (v : ValueType) (t : Ty) → is_alike v t ≡ true → is_null_allowed v t ≡ true → is_outlived g.regions v t ≡ true → Converts here v t
@@ -269,6 +289,9 @@ module _ (p : typed.Program) (h : typed.Function) where
     converts_of types.Null (Pointer k u r) a n o = not-true (is_non_null (Pointer k u r)) n
     converts_of types.Null t a n o = absurd (cc)
     converts_of (Value Int) Int a n o = tt
+    converts_of (Value Int) Char a n o = tt
+    converts_of (Value Char) Int a n o = tt
+    converts_of (Value Char) Char a n o = tt
     converts_of (Value (Pointer k t r)) (Pointer l u s) a n o = (ty_eq-true t u a, outlived_of r s o)
     converts_of (Value (Handle r)) (Handle s) a n o = region_eq-true r s a
     converts_of (Value (Key r)) (Key s) a n o = region_eq-true r s a
@@ -433,6 +456,10 @@ module _ (p : typed.Program) (h : typed.Function) where
     operand_of true e b w d = seen_well e (rule g e) b w d
     operand_of false e b w d = w b d
 
+    operand_served : (c : Bool) (a : typed.Expression) → IsOperand c a → IsOperand c (as_int a)
+    operand_served true a w = seen_served a w
+    operand_served false a w = int_served a w
+
     -- what an operation puts in front of a chain goes on from a left operand of this type
     abbrev IsJoined : ValueType → Joined → Type 0
     IsJoined left j = (os : typed.Operations) (u : Ty) → IsChain here (Value j.1) os u → IsChain here left (j.0 os) u
@@ -592,7 +619,7 @@ module _ (p : typed.Program) (h : typed.Function) where
         → IsLeft (IsWell a) here a (type_of a) bs.0
     first_well q a NoOperations bs w (kept, eq) = subst (λ (z : typed.Operations × Ty). IsLeft (IsWell a) here a (type_of a) z.0) (sym eq) w
     first_well q a (ThenOperation op o e os) bs w (put, (b, kb, d), (cs, ks, (u, eq))) =
-        subst (λ (z : typed.Operations × Ty). IsLeft (IsWell a) here a (type_of a) z.0) (sym eq) (joined_first q (place_of e) a b op put w d cs.0)
+        subst (λ (z : typed.Operations × Ty). IsLeft (IsWell a) here a (type_of a) z.0) (sym eq) (joined_first q (place_of e) a (as_int b) op put w d cs.0)
 
     value_there : (v : ValueType) → is_value is_any v ≡ true → v ≡ Value (value_of v)
     value_there (Value t) i = refl
@@ -765,13 +792,18 @@ module _ (p : typed.Program) (h : typed.Function) where
     well g fits (Bracketed q e) a d = well g fits e a d
     well g fits (NumberOfElements q e) a (b, kb, ((i, u), eq)) =
         subst (IsWell g fits) (sym eq) (counted_by g fits b (type_of b) (seen_well g fits e (rule g e) b (λ c k. well g fits e c k) kb) i)
+    well g fits (LowByteOf q e) a (b, kb, ((i, u), eq)) =
+        subst (IsWell g fits) (sym eq) (Value Int, (int_well g fits (as_int b) (int_served g fits b (well g fits e b kb)) i, refl), refl)
     well g fits (FreeUnique q e) a (b, kb, d) = freed_well g fits (place_of e) b a (well g fits e b kb) d
     well g fits (FreeKey q x) a d = key_freed_well g fits (meaning_of g x) x.place a (meant g fits x) d
     well g fits (Chained e ps) a (w, kw, d) =
         loaded_well g fits (place_of e) w a (postfixed_well g fits (place_of e) e ps w (λ b k. seen_well g fits e (rule g e) b (λ c j. well g fits e c j) k) kw) d
-    well g fits (Prefixed q prefixes.Negate e) a (b, kb, ((i, u), eq)) = subst (IsWell g fits) (sym eq) (Value Int, (int_well g fits b (well g fits e b kb) i, refl), refl)
-    well g fits (Prefixed q prefixes.Not e) a (b, kb, ((i, u), eq)) = subst (IsWell g fits) (sym eq) (type_of b, (seen_well g fits e (rule g e) b (λ c k. well g fits e c k) kb, i), refl)
-    well g fits (Prefixed q prefixes.Complement e) a (b, kb, ((i, u), eq)) = subst (IsWell g fits) (sym eq) (Value Int, (int_well g fits b (well g fits e b kb) i, refl), refl)
+    well g fits (Prefixed q prefixes.Negate e) a (b, kb, ((i, u), eq)) =
+        subst (IsWell g fits) (sym eq) (Value Int, (int_well g fits (as_int b) (int_served g fits b (well g fits e b kb)) i, refl), refl)
+    well g fits (Prefixed q prefixes.Not e) a (b, kb, ((i, u), eq)) =
+        subst (IsWell g fits) (sym eq) (type_of (as_int b), (seen_served g fits b (seen_well g fits e (rule g e) b (λ c k. well g fits e c k) kb), i), refl)
+    well g fits (Prefixed q prefixes.Complement e) a (b, kb, ((i, u), eq)) =
+        subst (IsWell g fits) (sym eq) (Value Int, (int_well g fits (as_int b) (int_served g fits b (well g fits e b kb)) i, refl), refl)
     well g fits (Prefixed q prefixes.Dereference e) a (b, kb, d) =
         loaded_well g fits q (pointed g (place_of e) b) a (pointed_well g fits (place_of e) b (seen_well g fits e (rule g e) b (λ c k. well g fits e c k) kb)) d
     well g fits (Prefixed q prefixes.AddressOf e) a (x, kx, d) = addressed_well g fits (place_inside e) x a (found_well g fits (place_of e) e x kx) d
@@ -779,8 +811,9 @@ module _ (p : typed.Program) (h : typed.Function) where
     well g fits (RegionNew q e i) a (w, kw, (m, km, d)) =
         created_well g fits w m a (placement_well g fits (place_of e) e (rule g e) w (λ b k. well g fits e b k) kw) (made_well g fits i m km) d
     well g fits (Binary e os) a (b, kb, (bs, ks, (u, eq))) =
-        let first : IsOperand g fits (is_looking_first os) b = operand_of g fits (is_looking_first os) e b (λ c k. well g fits e c k) kb in
-        subst (IsWell g fits) (sym eq) (type_of b, first_well g fits (place_of e) b os bs first ks, chain_well g fits (place_of e) (peeked_local b) (type_of b) os bs ks, refl)
+        let c : typed.Expression = as_int b in
+        let first : IsOperand g fits (is_looking_first os) c = operand_served g fits (is_looking_first os) b (operand_of g fits (is_looking_first os) e b (λ d k. well g fits e d k) kb) in
+        subst (IsWell g fits) (sym eq) (type_of c, first_well g fits (place_of e) c os bs first ks, chain_well g fits (place_of e) (peeked_local c) (type_of c) os bs ks, refl)
     well g fits (Assign e v) a (x, kx, (b, kb, d)) = assigned_well g fits x (place_of v) b a (found_well g fits (place_of e) e x kx) (well g fits v b kb) d
 
     all_well : (g : Scope) (fits : Fits g) (es : Expressions) (as' : List typed.Expression) → Derives (rule_all g es) as' → AreWell g fits as'
@@ -791,7 +824,7 @@ module _ (p : typed.Program) (h : typed.Function) where
     chain_well g fits q k left NoOperations bs ((i, u), eq) = subst (λ (z : typed.Operations × Ty). IsChain (at g) left z.0 z.1) (sym eq) (value_there g fits left i)
     chain_well g fits q k left (ThenOperation op o e os) bs (put, (b, kb, d), (cs, ks, (u, eq))) =
         subst (λ (z : typed.Operations × Ty). IsChain (at g) left z.0 z.1) (sym eq)
-        (joined_well g fits q (place_of e) k left b op put (operand_of g fits (is_looking op) e b (λ c j. well g fits e c j) kb) d cs.0 cs.1 (chain_well g fits q None (Value put.1) os cs ks))
+        (joined_well g fits q (place_of e) k left (as_int b) op put (operand_served g fits (is_looking op) b (operand_of g fits (is_looking op) e b (λ c j. well g fits e c j) kb)) d cs.0 cs.1 (chain_well g fits q None (Value put.1) os cs ks))
 
     pub found_well : (g : Scope) (fits : Fits g) (q : Place) (e : Expression) (x : Found) → Derives (rule_place g q e (rule g e)) x → IsFound g fits x
     found_well g fits q (Variable y) x d = place_well g fits (meaning_of g y) y.place q x (meant g fits y) d
@@ -810,13 +843,13 @@ module _ (p : typed.Program) (h : typed.Function) where
         → ((a : typed.Expression) → Derives (rule_looked g e (rule g e)) a → IsSeen g fits a (type_of a)) → Derives (rule_postfixed g q (rule_looked g e (rule g e)) ps) w → IsReached g fits w
     postfixed_well g fits q e NoPostfixes w first d = absurd d
     postfixed_well g fits q e (ThenIndex i ps) w first (a, ka, (b, kb, d)) =
-        further_well g fits q (indexed g q a (place_of i) b) ps w (indexed_well g fits q (place_of i) a b (first a ka) (well g fits i b kb)) d
+        further_well g fits q (indexed g q a (place_of i) (as_int b)) ps w (indexed_well g fits q (place_of i) a (as_int b) (first a ka) (int_served g fits b (well g fits i b kb))) d
     postfixed_well g fits q e (ThenField f ps) w first (a, ka, d) = further_well g fits q (selected g q a f) ps w (selected_well g fits q a f (first a ka)) d
 
     further_well : (g : Scope) (fits : Fits g) (q : Place) (v : Reached) (ps : Postfixes) (w : Reached) → IsReached g fits v → Derives (rule_further g q v ps) w → IsReached g fits w
     further_well g fits q v NoPostfixes w r (u, eq) = subst (IsReached g fits) (sym eq) r
     further_well g fits q v (ThenIndex i ps) w r (a, ka, (b, kb, d)) =
-        further_well g fits q (indexed g q a (place_of i) b) ps w (indexed_well g fits q (place_of i) a b (inl (loaded_well g fits q v a r ka)) (well g fits i b kb)) d
+        further_well g fits q (indexed g q a (place_of i) (as_int b)) ps w (indexed_well g fits q (place_of i) a (as_int b) (inl (loaded_well g fits q v a r ka)) (int_served g fits b (well g fits i b kb))) d
     further_well g fits q v (ThenField f ps) w r (a, ka, d) =
         further_well g fits q (selected g q a f) ps w (selected_well g fits q a f (inl (loaded_well g fits q v a r ka))) d
 
@@ -827,5 +860,5 @@ module _ (p : typed.Program) (h : typed.Function) where
     made_well g fits (Fields s rs es) m (as', ks, (u, eq)) = subst (IsMadeOf g fits) (sym eq) (fields_well g fits s rs es as' (aligned g es as' ks) (all_well g fits es as' ks))
     made_well g fits (Array q x n e) m (a, ka, (b, kb, (u, eq))) =
         subst (IsMadeOf g fits) (sym eq)
-        (λ (kept : AllKept (array_made g.counters q (place_of n) a (place_of e) b).asked).
-        array_by g fits (at g) q a b (type_of b) (int_well g fits a (well g fits n a ka) kept.0) (well (with_counter x g) (counting g x fits) e b kb) (kept.1).0 (not-true (is_value is_key (type_of b)) ((kept.1).1).0))
+        (λ (kept : AllKept (array_made g.counters q (place_of n) (as_int a) (place_of e) b).asked).
+        array_by g fits (at g) q (as_int a) b (type_of b) (int_well g fits (as_int a) (int_served g fits a (well g fits n a ka)) kept.0) (well (with_counter x g) (counting g x fits) e b kb) (kept.1).0 (not-true (is_value is_key (type_of b)) ((kept.1).1).0))

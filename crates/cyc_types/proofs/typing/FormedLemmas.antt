@@ -7,21 +7,22 @@ use Rattle.cyc_syntax.specs.declared.tree.PrefixOperator.TheVariants as prefixes
 use Rattle.cyc_syntax.specs.declared.tree.BinaryOperator.{BinaryOperator}
 use Rattle.cyc_syntax.specs.declared.tree.BinaryOperator.TheVariants as operators
 use Rattle.cyc_syntax.specs.Symbols.{Place}
-use Rattle.cyc_syntax.specs.Trees.{Named, Pointer as Mark, BaseType, WrittenType, Expression, Number, Character, Null, HeapRegion, UniqueRegion, Variable, Call, Bracketed, NumberOfElements, FreeUnique, FreeKey, Chained, Prefixed, New, RegionNew, Binary, Assign, Initial, Plain, Fields, Array, Expressions, NoExpressions, MoreExpressions, Postfixes, NoPostfixes, ThenIndex, ThenField, Operations, NoOperations, ThenOperation, place_of}
+use Rattle.cyc_syntax.specs.Trees.{Named, Pointer as Mark, BaseType, WrittenType, Expression, Number, Character, Null, HeapRegion, UniqueRegion, Variable, Call, Bracketed, NumberOfElements, LowByteOf, FreeUnique, FreeKey, Chained, Prefixed, New, RegionNew, Binary, Assign, Initial, Plain, Fields, Array, Expressions, NoExpressions, MoreExpressions, Postfixes, NoPostfixes, ThenIndex, ThenField, Operations, NoOperations, ThenOperation, place_of}
 use Rattle.cyc_syntax.specs.Trees as written
 use Rattle.cyc_types.specs.declared.region.Region.{Region}
 use Rattle.cyc_types.specs.declared.region.Region.TheVariants as regions
+use Rattle.cyc_types.specs.declared.typed.UnaryOperator.TheVariants as unary
 use Rattle.cyc_types.specs.Regions.{region_eq, substituted_region}
-use Rattle.cyc_types.specs.Types.{Ty, Int, Pointer, Handle, Key, Struct, ValueType, Void, Value, result_type, substituted_ty}
+use Rattle.cyc_types.specs.Types.{Ty, Int, Char, Pointer, Handle, Key, Struct, ValueType, Void, Value, result_type, substituted_ty}
 use Rattle.cyc_types.specs.TypedTrees.{Lvalue, Side, VariableSide, CellSide, Signature, type_of, type_of_place}
 use Rattle.cyc_types.specs.TypedTrees as typed
 use Rattle.cyc_types.specs.Rules.{AllKept, Rule, Derives}
 use Rattle.cyc_types.specs.typing.Scopes.{RegionName, StructName, Field, Sort, Ordinary, OfRegion, OfLoop, Meaning, Unknown, Fixed, Counter, Routine, Declared, LocalVariable, Scope, region_among, local_meaning, meaning_in, meaning_among, meaning_of, with_counter}
 use Rattle.cyc_types.specs.typing.Scopes as scopes
-use Rattle.cyc_types.specs.typing.Tests.{is_thin_mark, is_unique, is_struct, is_moved, is_value, value_of, target_of, region_of, arguments_of}
+use Rattle.cyc_types.specs.typing.Tests.{is_thin_mark, is_unique, is_struct, is_moved, is_char, is_value, value_of, target_of, region_of, arguments_of}
 use Rattle.cyc_types.specs.typing.Formation.{struct_number, parameters_among, region_or, left_out_at, arguments_or, base_written, pointers_written, type_written, is_count, names_demanded, struct_demanded, base_demanded, marks_demanded, type_demanded}
 use Rattle.cyc_types.specs.typing.Formation as formation
-use Rattle.cyc_types.specs.typing.Expressions.{variable_read, variable_looked, read, looked, rule_looked, Found, type_of_side, place_meant, Reached, pointed, indexed, has_members, fields_of, field_among, field_type, selected, place_inside, loaded, reached, address_of, addressed, assigned_type, assignment, assigned, is_looking_first, operand, Joined, peeked_local, joined, all_paired, paired, paired_argument, paired_arguments, first_place, first_places, instance_of, called, key_freed, Placed, Made, on_heap, rule_placement, fields_made, created, rule, rule_all, rule_chain, rule_place, rule_postfixed, rule_further, rule_made}
+use Rattle.cyc_types.specs.typing.Expressions.{as_int, variable_read, variable_looked, read, looked, rule_looked, Found, type_of_side, place_meant, Reached, pointed, indexed, has_members, fields_of, field_among, field_type, selected, place_inside, loaded, reached, address_of, addressed, assigned_type, assignment, assigned, is_looking_first, operand, Joined, peeked_local, joined, all_paired, paired, paired_argument, paired_arguments, first_place, first_places, instance_of, called, key_freed, Placed, Made, on_heap, rule_placement, fields_made, created, rule, rule_all, rule_chain, rule_place, rule_postfixed, rule_further, rule_made}
 use Rattle.cyc_types.specs.typing.Formed.{AllOf, AllIn, IsKnown}
 use Rattle.cyc_types.proofs.typing.TestLemmas.{kept_append}
 
@@ -38,6 +39,7 @@ all_more n m (r ∷ rs) l (k, ks) = (known_more n m r l k, all_more n m rs l ks)
 
 pub type_more : (n m : ℕ) (t : Ty) → n ≤ m → AllIn (IsKnown n) t → AllIn (IsKnown m) t
 type_more n m Int l k = tt
+type_more n m Char l k = tt
 type_more n m (Pointer q t r) l (k, j) = (type_more n m t l k, known_more n m r l j)
 type_more n m (Handle r) l k = known_more n m r l k
 type_more n m (Key r) l k = known_more n m r l k
@@ -64,6 +66,7 @@ all_substituted n m rs (s ∷ ss) ks l (k, j) = (region_substituted n m rs s ks 
 
 type_substituted : (n m : ℕ) (rs : List Region) (t : Ty) → AllOf (IsKnown n) rs → m ≤ length rs → AllIn (IsKnown m) t → AllIn (IsKnown n) (substituted_ty rs t)
 type_substituted n m rs Int ks l k = tt
+type_substituted n m rs Char ks l k = tt
 type_substituted n m rs (Pointer q t r) ks l (k, j) = (type_substituted n m rs t ks l k, region_substituted n m rs r ks l j)
 type_substituted n m rs (Handle r) ks l k = region_substituted n m rs r ks l k
 type_substituted n m rs (Key r) ks l k = region_substituted n m rs r ks l k
@@ -79,6 +82,7 @@ IsCounted structs t = Unit {0}
 
 counted_substituted : (structs : List StructName) (rs : List Region) (t : Ty) → IsCounted structs t → IsCounted structs (substituted_ty rs t)
 counted_substituted structs rs Int c = tt
+counted_substituted structs rs Char c = tt
 counted_substituted structs rs (Pointer k t r) c = counted_substituted structs rs t c
 counted_substituted structs rs (Handle r) c = tt
 counted_substituted structs rs (Key r) c = tt
@@ -157,6 +161,7 @@ module _ (structs : List StructName) (names : List RegionName) (n : ℕ) (known 
 
   base_formed : (own : Option ℕ) (q : Place) (b : BaseType) → AllKept (base_demanded structs names own q b) → IsFormed structs n (base_written structs names b)
   base_formed own q written.Int kept = (tt, tt)
+  base_formed own q written.Char kept = (tt, tt)
   base_formed own q (written.Struct s rs) (there, (count, more)) = (arguments_known (unwrap_or (parameters_among structs s.name) 0) rs, arguments_counted structs names s.name rs count)
   base_formed own q (written.Handle r) kept = (name_known r, tt)
   base_formed own q (written.Key r) kept = (name_known r, tt)
@@ -273,6 +278,14 @@ module _ (g : Scope) (formed : IsFormedScope g) where
   seen_formed (Variable x) walked a k d = looked_formed (meaning_of g x) x.place a (meant_formed x) d
   seen_formed (Bracketed p e) walked a k d = seen_formed e walked a k d
   seen_formed e walked a k d = k a d
+
+  -- a char that serves as an int
+  int_served : (a : typed.Expression) → IsFormedHere a → IsFormedHere (as_int a)
+  int_served a f = go (is_char (type_of a))
+    where
+      go : (b : Bool) → IsFormedHere (cond b (typed.Unary unary.Widen a) a)
+      go true = (tt, tt)
+      go false = f
 
   -- ---- places
 
@@ -482,6 +495,7 @@ mutual
   formed_well g formed (Call x es) a (bs, hs, d) = called_formed g formed (meaning_of g x) x.place es bs a (meant_formed g formed x) (all_formed g formed es bs hs) d
   formed_well g formed (Bracketed q e) a d = formed_well g formed e a d
   formed_well g formed (NumberOfElements q e) a (b, kb, (k, eq)) = subst (IsFormedHere g formed) (sym eq) (tt, tt)
+  formed_well g formed (LowByteOf q e) a (b, kb, (k, eq)) = subst (IsFormedHere g formed) (sym eq) (tt, tt)
   formed_well g formed (FreeUnique q e) a (b, kb, (k, eq)) = subst (IsFormedHere g formed) (sym eq) tt
   formed_well g formed (FreeKey q x) a d = key_freed_formed g formed (meaning_of g x) x.place a d
   formed_well g formed (Chained e ps) a (w, kw, d) =
@@ -497,7 +511,8 @@ mutual
       created_formed g formed w m a (placement_formed g formed (place_of e) e (rule g e) w (λ b k. formed_well g formed e b k) kw) (made_formed g formed i m km) d
   formed_well g formed (Binary e os) a (b, kb, (bs, ks, (u, eq))) =
       subst (IsFormedHere g formed) (sym eq)
-      (chain_formed g formed (place_of e) (peeked_local b) (type_of b) os bs (operand_formed g formed (is_looking_first os) e b (λ c k. formed_well g formed e c k) kb) ks)
+      (chain_formed g formed (place_of e) (peeked_local (as_int b)) (type_of (as_int b)) os bs
+      (int_served g formed b (operand_formed g formed (is_looking_first os) e b (λ c k. formed_well g formed e c k) kb)) ks)
   formed_well g formed (Assign e v) a (x, kx, (b, kb, d)) = assigned_here g formed x (place_of v) b a (found_formed g formed (place_of e) e x kx) d
 
   all_formed : (g : Scope) (formed : IsFormedScope g) (es : Expressions) (as' : List typed.Expression) → Derives (rule_all g es) as' → AreFormedHere g formed as'
@@ -509,7 +524,7 @@ mutual
   chain_formed g formed q k left NoOperations bs f (kept, eq) = subst (λ (z : typed.Operations × Ty). IsFormed g.structs g.next_region z.1) (sym eq) (value_formed g.structs g.next_region left f)
   chain_formed g formed q k left (ThenOperation op o e os) bs f (put, (b, kb, d), (cs, ks, (u, eq))) =
       subst (λ (z : typed.Operations × Ty). IsFormed g.structs g.next_region z.1) (sym eq)
-      (chain_formed g formed q None (Value put.1) os cs (joined_formed g formed q (place_of e) k left op b put f d) ks)
+      (chain_formed g formed q None (Value put.1) os cs (joined_formed g formed q (place_of e) k left op (as_int b) put f d) ks)
 
   pub found_formed : (g : Scope) (formed : IsFormedScope g) (q : Place) (e : Expression) (x : Found) → Derives (rule_place g q e (rule g e)) x → IsFormedFound g formed x
   found_formed g formed q (Variable y) x d = place_formed g formed (meaning_of g y) y.place q x (meant_formed g formed y) d
@@ -527,13 +542,14 @@ mutual
   postfixed_formed : (g : Scope) (formed : IsFormedScope g) (q : Place) (e : Expression) (ps : Postfixes) (w : Reached) → ((a : typed.Expression) → Derives (rule_looked g e (rule g e)) a → IsFormedHere g formed a)
       → Derives (rule_postfixed g q (rule_looked g e (rule g e)) ps) w → IsFormedReached g formed w
   postfixed_formed g formed q e NoPostfixes w first d = absurd d
-  postfixed_formed g formed q e (ThenIndex i ps) w first (a, ka, (b, kb, d)) = further_formed g formed q (indexed g q a (place_of i) b) ps w (indexed_formed g formed q (place_of i) a b (first a ka)) d
+  postfixed_formed g formed q e (ThenIndex i ps) w first (a, ka, (b, kb, d)) =
+      further_formed g formed q (indexed g q a (place_of i) (as_int b)) ps w (indexed_formed g formed q (place_of i) a (as_int b) (first a ka)) d
   postfixed_formed g formed q e (ThenField f ps) w first (a, ka, d) = further_formed g formed q (selected g q a f) ps w (selected_formed g formed q a f (first a ka)) d
 
   further_formed : (g : Scope) (formed : IsFormedScope g) (q : Place) (v : Reached) (ps : Postfixes) (w : Reached) → IsFormedReached g formed v → Derives (rule_further g q v ps) w → IsFormedReached g formed w
   further_formed g formed q v NoPostfixes w r (u, eq) = subst (IsFormedReached g formed) (sym eq) r
   further_formed g formed q v (ThenIndex i ps) w r (a, ka, (b, kb, d)) =
-      further_formed g formed q (indexed g q a (place_of i) b) ps w (indexed_formed g formed q (place_of i) a b (loaded_formed g formed q v a r ka)) d
+      further_formed g formed q (indexed g q a (place_of i) (as_int b)) ps w (indexed_formed g formed q (place_of i) a (as_int b) (loaded_formed g formed q v a r ka)) d
   further_formed g formed q v (ThenField f ps) w r (a, ka, d) = further_formed g formed q (selected g q a f) ps w (selected_formed g formed q a f (loaded_formed g formed q v a r ka)) d
 
   made_formed : (g : Scope) (formed : IsFormedScope g) (i : Initial) (m : Made) → Derives (rule_made g i) m → IsFormedMade g formed m

@@ -10,7 +10,7 @@ use Rattle.cyc_syntax.specs.Trees as written
 use Rattle.cyc_types.specs.declared.region.Region.{Region as RegionCode}
 use Rattle.cyc_types.specs.declared.region.Region.TheVariants as regions
 use Rattle.cyc_types.specs.declared.typed.Callee.TheVariants as callees
-use Rattle.cyc_types.specs.Types.{Ty, Int, Handle, Key, ValueType, Value}
+use Rattle.cyc_types.specs.Types.{Ty, Int, Char, Handle, Key, ValueType, Value}
 use Rattle.cyc_types.specs.Types as types
 use Rattle.cyc_types.specs.TypedTrees.{Lvalue, Converted, Signature, type_of}
 use Rattle.cyc_types.specs.TypedTrees as typed
@@ -240,6 +240,7 @@ no_key_behind names d t m (n ∷ ms) = no_key_behind names d (types.Pointer m.ki
 
 no_key_written : (structs : List StructName) (names : List RegionName) (d : RegionCode) (b : BaseType) (ms : List Mark) → is_key_base b ≡ false → is_key (pointers_written names d (base_written structs names b) ms) ≡ false
 no_key_written structs names d written.Int [] k = refl
+no_key_written structs names d written.Char [] k = refl
 no_key_written structs names d (written.Struct s rs) [] k = refl
 no_key_written structs names d (written.Handle r) [] k = refl
 no_key_written structs names d (written.Key r) [] k = absurd (true≢false k)
@@ -260,6 +261,7 @@ parameter_counted structs names own n w kept = marked (after_base n w.base) (bas
 
     base : (b : BaseType) → AllKept (base_demanded structs names own w.place b) → IsCounted structs (base_for structs n b)
     base written.Int k = tt
+    base written.Char k = tt
     base (written.Struct s []) (there, (count, more)) = arguments_counted structs names s.name [] count
     base (written.Struct s (r ∷ rs)) (there, (count, more)) = λ s' at. regions-length n (r ∷ rs) ∙ (sym (length-map (r ∷ rs) (formation.region_of names)) ∙ arguments_counted structs names s.name (r ∷ rs) count s' at)
     base (written.Handle r) k = tt
@@ -276,6 +278,7 @@ all_known k (r ∷ rs) (one, n) = (region_known k r one, all_known k rs n)
 
 type_known : (k : ℕ) (t : Ty) → IsNamedIn k t → AllIn (IsKnown (suc k)) t
 type_known k Int n = tt
+type_known k Char n = tt
 type_known k (types.Pointer m t r) (n, j) = (type_known k t n, region_known k r j)
 type_known k (Handle r) n = region_known k r n
 type_known k (Key r) n = region_known k r n

@@ -82,6 +82,7 @@ module _ (base : List RegionName) (is_base : IsBase base) where
 
   after_base_numbered : (n : Naming) (b : BaseType) → IsNumbered n → IsNumbered (after_base n b)
   after_base_numbered n written.Int i = i
+  after_base_numbered n written.Char i = i
   after_base_numbered n (Struct s rs) i = after_regions_numbered n rs i
   after_base_numbered n (written.Handle r) i = after_region_numbered n r i
   after_base_numbered n (written.Key r) i = after_region_numbered n r i
@@ -123,6 +124,7 @@ module _ (base : List RegionName) (is_base : IsBase base) where
 
   base_grows : (n : Naming) (b : BaseType) → n.next ≤ (after_base n b).next
   base_grows n written.Int = omega arith
+  base_grows n written.Char = omega arith
   base_grows n (Struct s rs) = regions_grow n rs
   base_grows n (written.Handle r) = region_grows n r
   base_grows n (written.Key r) = region_grows n r
@@ -160,6 +162,7 @@ module _ (base : List RegionName) (is_base : IsBase base) where
 
   base_named : (structs : List StructName) (k : ℕ) (n : Naming) (b : BaseType) → IsNumbered n → (after_base n b).next ≤ suc k → IsNamedIn k (base_for structs n b)
   base_named structs k n written.Int i l = tt
+  base_named structs k n written.Char i l = tt
   base_named structs k n (Struct s []) i l = heaps_named k _
   base_named structs k n (Struct s (r ∷ rs)) i l = regions_named k n (r ∷ rs) i l
   base_named structs k n (written.Handle r) i l = region_named k n r i l
@@ -195,6 +198,7 @@ module _ (base : List RegionName) (is_base : IsBase base) where
 
   written_base_named : (structs : List StructName) (k : ℕ) (n : Naming) (b : BaseType) → IsNumbered n → n.next ≤ suc k → IsNamedIn k (base_written structs n.names b)
   written_base_named structs k n written.Int i l = tt
+  written_base_named structs k n written.Char i l = tt
   written_base_named structs k n (Struct s []) i l = heaps_named k _
   written_base_named structs k n (Struct s (r ∷ rs)) i l = all_known_named k n (r ∷ rs) i l
   written_base_named structs k n (written.Handle r) i l = known_named k n r i l
@@ -326,6 +330,7 @@ module _ (base : List RegionName) (is_base : IsBase base) where
     where
       go : (b : BaseType) (ms : List Pointer) → AllKept (base_demanded structs base (Some own) w.place b) → IsKeyOfVariable (pointers_for (after_base n b) (base_for structs n b) ms)
       go written.Int [] k = tt
+      go written.Char [] k = tt
       go (Struct s rs) [] k = tt
       go (written.Handle r) [] k = tt
       go (written.Key r) [] (new, (unique, (heap, u))) = key_for n r i unique heap

@@ -1,5 +1,5 @@
 -- A program that the typing rules derive is well typed.
-use Rattle.std.proofs.Common.{◌≡◌, ◌⊎◌, ℕ, zero, suc, pred, ◌+◌, ◌^◌, ◌%◌, ◌-◌, ◌≤◌, Bool, true, false, cond, if◌then◌else◌, not, nat_eq, ◌&&◌, ◌||◌, List, [], ◌∷◌, ◌++◌, Option, Some, None, map, length, slice_get, inl, inr, refl, sym, ap, subst, ◌∙◌, arith}
+use Rattle.std.proofs.Common.{◌≡◌, ◌⊎◌, ℕ, zero, suc, pred, ◌+◌, ◌^◌, ◌%◌, ◌-◌, ◌<◌, ◌≤◌, Bool, true, false, cond, if◌then◌else◌, not, nat_eq, ◌&&◌, ◌||◌, List, [], ◌∷◌, ◌++◌, Option, Some, None, map, length, slice_get, inl, inr, refl, sym, ap, subst, ◌∙◌, arith}
 use Rattle.std.specs.Prelude.{codes as bytes}
 use Rattle.std.proofs.lemmas.Bool.{and_parts, true≢false, not-true}
 use Rattle.cyc_syntax.specs.Names.{number_of}
@@ -9,7 +9,7 @@ use Rattle.cyc_syntax.specs.Trees as written
 use Rattle.cyc_types.specs.declared.region.Region.{Region}
 use Rattle.cyc_types.specs.declared.region.Region.TheVariants as regions
 use Rattle.cyc_types.specs.declared.typed.Callee.TheVariants as callees
-use Rattle.cyc_types.specs.Types.{Ty, Int, Value}
+use Rattle.cyc_types.specs.Types.{Ty, Int, Char}
 use Rattle.cyc_types.specs.Types as types
 use Rattle.cyc_types.specs.Outlives.{live_regions}
 use Rattle.cyc_types.specs.Declarations.{item_types}
@@ -18,11 +18,11 @@ use Rattle.cyc_types.specs.TypedTrees as typed
 use Rattle.cyc_types.specs.Rules.{AllKept, Derives}
 use Rattle.cyc_types.specs.typing.Scopes.{signature_of_ints, RegionName, StructName, Field, Exception, Routine, Declared, Ordinary, LocalVariable, Scope, meaning_in, item_regions}
 use Rattle.cyc_types.specs.typing.Scopes as scopes
-use Rattle.cyc_types.specs.typing.Tests.{is_empty, is_left_out, is_key, is_pointer, is_non_null, is_int}
+use Rattle.cyc_types.specs.typing.Tests.{is_empty, is_left_out, is_key, is_number, is_pointer, is_non_null}
 use Rattle.cyc_types.specs.typing.Formation.{Naming, region_or, left_out_at, base_written, pointers_written, type_written, types_for, after_type, parameters_among, struct_number, type_demanded, is_global_shape, global_demanded}
 use Rattle.cyc_types.specs.typing.Statements.{exception_number, exception_among, rule_items}
 use Rattle.cyc_types.specs.typing.Heads.{Known, members_of, structs_of, fields_of, exceptions_of, parameter_naming, and_result, signature_of, declared_from, value_demanded, is_int_written, is_main_head, rule_function_head, Before, after_head, rule_heads, declares}
-use Rattle.cyc_types.specs.typing.Programs.{regions_before, exceptions_before, declared_before, known_of, before_all, Program, program_known, parameter_locals, body_scope, function_of, rule_functions, global_of, globals_of, struct_types, function_number, program_of, IsTypedProgram}
+use Rattle.cyc_types.specs.typing.Programs.{regions_before, exceptions_before, declared_before, known_of, before_all, Program, program_known, parameter_locals, body_scope, function_of, rule_functions, word_of, global_of, globals_of, struct_types, function_number, program_of, IsTypedProgram}
 use Rattle.cyc_types.specs.typing.WellTyped.{LocalInScope, WellTypedItems, parameters_in_scope, body_context, IsWellTypedFunction, AreWellTypedFunctions, IsWellTypedGlobal, AreWellTypedGlobals, IsWellTypedProgram}
 use Rattle.cyc_types.specs.typing.WellTyped as judgement
 use Rattle.cyc_types.proofs.ClosureLemmas.{Contains-head}
@@ -103,7 +103,7 @@ exceptions_fit p h texts es same x has e = let (m, is, there) = exception_there 
 -- ---- globals
 
 abbrev IsGlobalType : Ty → Type 0
-IsGlobalType t = (t ≡ Int) ⊎ ((k : _) × (u : Ty) × (r : Region) × (t ≡ types.Pointer k u r))
+IsGlobalType t = (t ≡ Int) ⊎ (t ≡ Char) ⊎ ((k : _) × (u : Ty) × (r : Region) × (t ≡ types.Pointer k u r))
 
 pointer_written : (names : List RegionName) (d : Region) (t : Ty) (m : Pointer) (ms : List Pointer) → (k : _) × (u : Ty) × (r : Region) × (pointers_written names d t (m ∷ ms) ≡ types.Pointer k u r)
 pointer_written names d t m [] = (m.kind, t, region_or names d m.region, refl)
@@ -114,22 +114,32 @@ global_formed k w kept = go w.base w.marks ((kept_append (type_demanded k.struct
   where
     go : (b : BaseType) (ms : List Pointer) → is_global_shape b ms ≡ true → IsGlobalType (pointers_written k.regions regions.Heap (base_written k.structs k.regions b) ms)
     go written.Int [] e = inl refl
+    go written.Char [] e = inr (inl refl)
     go (Struct s rs) [] e = absurd (cc)
     go (written.Handle r) [] e = absurd (cc)
     go (written.Key r) [] e = absurd (cc)
-    go b (m ∷ ms) e = inr (pointer_written k.regions regions.Heap (base_written k.structs k.regions b) m ms)
+    go b (m ∷ ms) e = inr (inr (pointer_written k.regions regions.Heap (base_written k.structs k.regions b) m ms))
+
+-- a char keeps the low byte of what is written
+byte_kept : (t : Ty) (n : ℕ) → t ≡ Char → word_of t n < 256
+byte_kept t n e = subst (λ s. word_of s n < 256) (sym e) (let l : n % 256 < 256 = omega arith in l)
 
 global_well : (t : Ty) (q : Place) (x : Named) (v : Option GlobalValue) → IsGlobalType t → AllKept (value_demanded t q v) → IsWellTypedGlobal (global_of x v t)
 global_well t q x None (inl e) kept = inl (e, (0, ap (λ s. if is_pointer s then typed.Null else typed.Word 0) e))
-global_well t q x (Some (Positive o n)) (inl e) kept = inl (e, (n, refl))
-global_well t q x (Some (Negative o n)) (inl e) kept = inl (e, ((2 ^ 32 - n) % 2 ^ 32, refl))
-global_well t q x (Some (Byte o n)) (inl e) kept = inl (e, (n, refl))
+global_well t q x (Some (Positive o n)) (inl e) kept = inl (e, (word_of t n, refl))
+global_well t q x (Some (Negative o n)) (inl e) kept = inl (e, (word_of t ((2 ^ 32 - n) % 2 ^ 32), refl))
+global_well t q x (Some (Byte o n)) (inl e) kept = inl (e, (word_of t n, refl))
 global_well t q x (Some (NullPointer o)) (inl e) (i, (n, z)) = absurd (true≢false (sym i ∙ ap is_pointer e))
-global_well t q x None (inr (k, u, r, e)) (n, z) = inr (k, u, r, e, not-true (is_non_null t) n, ap (λ s. if is_pointer s then typed.Null else typed.Word 0) e)
-global_well t q x (Some (Positive o n)) (inr (k, u, r, e)) (i, z) = absurd (true≢false (sym i ∙ ap (λ s. is_int (Value s)) e))
-global_well t q x (Some (Negative o n)) (inr (k, u, r, e)) (i, z) = absurd (true≢false (sym i ∙ ap (λ s. is_int (Value s)) e))
-global_well t q x (Some (Byte o n)) (inr (k, u, r, e)) (i, z) = absurd (true≢false (sym i ∙ ap (λ s. is_int (Value s)) e))
-global_well t q x (Some (NullPointer o)) (inr (k, u, r, e)) (i, (n, z)) = inr (k, u, r, e, not-true (is_non_null t) n, refl)
+global_well t q x None (inr (inl e)) kept = inr (inl (e, (0, ap (λ s. if is_pointer s then typed.Null else typed.Word 0) e, (omega arith))))
+global_well t q x (Some (Positive o n)) (inr (inl e)) kept = inr (inl (e, (word_of t n, refl, byte_kept t n e)))
+global_well t q x (Some (Negative o n)) (inr (inl e)) kept = inr (inl (e, (word_of t ((2 ^ 32 - n) % 2 ^ 32), refl, byte_kept t ((2 ^ 32 - n) % 2 ^ 32) e)))
+global_well t q x (Some (Byte o n)) (inr (inl e)) kept = inr (inl (e, (word_of t n, refl, byte_kept t n e)))
+global_well t q x (Some (NullPointer o)) (inr (inl e)) (i, (n, z)) = absurd (true≢false (sym i ∙ ap is_pointer e))
+global_well t q x None (inr (inr (k, u, r, e))) (n, z) = inr (inr (k, u, r, e, not-true (is_non_null t) n, ap (λ s. if is_pointer s then typed.Null else typed.Word 0) e))
+global_well t q x (Some (Positive o n)) (inr (inr (k, u, r, e))) (i, z) = absurd (true≢false (sym i ∙ ap is_number e))
+global_well t q x (Some (Negative o n)) (inr (inr (k, u, r, e))) (i, z) = absurd (true≢false (sym i ∙ ap is_number e))
+global_well t q x (Some (Byte o n)) (inr (inr (k, u, r, e))) (i, z) = absurd (true≢false (sym i ∙ ap is_number e))
+global_well t q x (Some (NullPointer o)) (inr (inr (k, u, r, e))) (i, (n, z)) = inr (inr (k, u, r, e, not-true (is_non_null t) n, refl))
 
 globals_well : (k : Known) (b : Before) (tree : List Declaration) → Derives (rule_heads k b tree) tt → AreWellTypedGlobals (globals_of k tree)
 globals_well k b [] d = tt
@@ -141,7 +151,8 @@ globals_well k b (Function r x ps c ∷ ds) (u, hd, d) = globals_well k (after_h
 
 global_no_key : (g : typed.GlobalVariable) → IsWellTypedGlobal g → is_key g.of_type ≡ false
 global_no_key g (inl (e, v)) = ap is_key e
-global_no_key g (inr (k, u, r, e, n, v)) = ap is_key e
+global_no_key g (inr (inl (e, v))) = ap is_key e
+global_no_key g (inr (inr (k, u, r, e, n, v))) = ap is_key e
 
 -- ---- what the heads declare
 

@@ -22,7 +22,7 @@ use Rattle.cyc_types.specs.typing.Scopes as scopes
 use Rattle.cyc_types.specs.typing.Tests.{is_left_out, ty_eq, is_unique, is_key, is_struct, region_of}
 use Rattle.cyc_types.specs.typing.Formation.{left_out_at, region_or, pointers_written, base_written, type_written, is_known, is_name_of, names_demanded, struct_demanded, base_demanded, marks_demanded, is_shape, type_demanded}
 use Rattle.cyc_types.specs.typing.Formation as formation
-use Rattle.cyc_types.specs.typing.Expressions.{Found, type_of_side, rule, rule_place}
+use Rattle.cyc_types.specs.typing.Expressions.{as_int, Found, type_of_side, rule, rule_place}
 use Rattle.cyc_types.specs.typing.Statements.{rule_condition, returned, rule_returned, swapped, exception_among, rule_thrown, thrown_demanded, is_given, thrown, caught, behind_clause, local_type, rule_initial, number_of_region, opened, with_region_of, alias_type, aliased, behind_item, rule_statement, rule_body, rule_items, rule_clauses}
 use Rattle.cyc_types.specs.typing.WellTyped.{Context, IsLive, IsVariable, IsPlace, WellTyped, IsPeek, IsConverted, IsCell, IsCondition, IsInitial, IsReturned, IsSide, IsException, IsThrown, IsCaught, IsDeclared, IsNextRegion, WellTypedStatement, WellTypedItems, WellTypedClauses}
 use Rattle.cyc_types.specs.typing.WellTyped as judgement
@@ -30,7 +30,7 @@ use Rattle.cyc_types.proofs.ClosureLemmas.{Contains-head, Contains-tail}
 use Rattle.cyc_types.proofs.RegionLemmas.{region_eq-true}
 use Rattle.cyc_types.proofs.typing.ListLemmas.{Holds, front_of, back_of}
 use Rattle.cyc_types.proofs.typing.TestLemmas.{kept_append, ty_eq-true}
-use Rattle.cyc_types.proofs.typing.ExpressionLemmas.{IsKeyOfVariable, in_scope, all_variables, at, IsMeant, Fits, meant, converted_well, int_well, place_of_variable, variable_of_place, seen_well, IsFoundIn, well, found_well}
+use Rattle.cyc_types.proofs.typing.ExpressionLemmas.{IsKeyOfVariable, in_scope, all_variables, at, IsMeant, Fits, meant, converted_well, int_well, int_served, seen_served, place_of_variable, variable_of_place, seen_well, IsFoundIn, well, found_well}
 use Rattle.cyc_types.proofs.typing.CountLemmas.{AreCounted, statement_counted, items_counted}
 
 -- ---- keys in types as they are written
@@ -59,6 +59,7 @@ formed_key structs names d w kept = go w.base w.marks (kept_append (base_demande
   where
     go : (b : BaseType) (ms : List Pointer) → AllKept (base_demanded structs names None w.place b) → IsKeyOfVariable (pointers_written names d (base_written structs names b) ms)
     go written.Int [] k = tt
+    go written.Char [] k = tt
     go (Struct s rs) [] k = tt
     go (written.Handle r) [] k = tt
     go (written.Key r) [] (known, (unique, (heap, u))) = variable_named names r known unique heap
@@ -183,7 +184,7 @@ module _ (p : typed.Program) (h : typed.Function) where
 
   condition_well : (g : Scope) (fits : Fits p h g) (e : Expression) (a : typed.Expression) → Derives (rule_condition g e) a → IsCondition (at p h g) a
   condition_well g fits e a (b, kb, ((i, u), eq)) =
-      subst (IsCondition (at p h g)) (sym eq) (type_of b, seen_well p h g fits e (rule g e) b (λ c k. well p h g fits e c k) kb, i)
+      subst (IsCondition (at p h g)) (sym eq) (type_of (as_int b), seen_served p h g fits b (seen_well p h g fits e (rule g e) b (λ c k. well p h g fits e c k) kb), i)
 
   value_well : (g : Scope) (fits : Fits p h g) (o : Option Ty) (q s : Place) (a : typed.Expression) (c : Option Converted) → WellTyped (at p h g) a (type_of a) → Derives (returned g o q s a) c → IsReturned (at p h g) o c
   value_well g fits None q s a c w d = absurd d
@@ -219,10 +220,10 @@ module _ (p : typed.Program) (h : typed.Function) where
   int_thrown g fits None a (u, eq) true q (k, none) = absurd (cc)
   int_thrown g fits None a (u, eq) false q kept = subst (IsThrown (at p h g) false) (sym eq) tt
   int_thrown g fits (Some e) a (b, kb, (u, eq)) false q kept =
-      let known : AllKept (thrown_demanded false q (Some e) (Some b)) = subst (λ z. AllKept (thrown_demanded false q (Some e) z)) eq kept in absurd (true≢false (sym known.0))
+      let known : AllKept (thrown_demanded false q (Some e) (Some (as_int b))) = subst (λ z. AllKept (thrown_demanded false q (Some e) z)) eq kept in absurd (true≢false (sym known.0))
   int_thrown g fits (Some e) a (b, kb, (u, eq)) true q kept =
-      let known : AllKept (thrown_demanded true q (Some e) (Some b)) = subst (λ z. AllKept (thrown_demanded true q (Some e) z)) eq kept in
-      subst (IsThrown (at p h g) true) (sym eq) (int_well p h g fits b (well p h g fits e b kb) (known.1).0)
+      let known : AllKept (thrown_demanded true q (Some e) (Some (as_int b))) = subst (λ z. AllKept (thrown_demanded true q (Some e) z)) eq kept in
+      subst (IsThrown (at p h g) true) (sym eq) (int_well p h g fits (as_int b) (int_served p h g fits b (well p h g fits e b kb)) (known.1).0)
 
   thrown_well : (g : Scope) (fits : Fits p h g) (x : Named) (v : Option Expression) (a : Option typed.Expression) → Derives (rule_thrown g v) a → (o : Option Bool) → exception_among g.exceptions x.name ≡ o → (t : typed.Statement)
       → Derives (thrown g o x v a) t → WellTypedStatement (at p h g) t

@@ -1,14 +1,14 @@
 -- What the tests on types decide.
-use Rattle.std.proofs.Common.{◌≡◌, ◌≢◌, nat_eq, Bool, true, false, not, ◌&&◌, ◌||◌, List, [], ◌∷◌, ◌++◌, refl, sym, ap, subst, ◌∙◌}
+use Rattle.std.proofs.Common.{◌≡◌, ◌≢◌, nat_eq, true, false, not, ◌&&◌, ◌||◌, List, [], ◌∷◌, ◌++◌, refl, sym, ap, subst, ◌∙◌}
 use Rattle.std.proofs.lemmas.Bool.{and_parts, eqb-true, true≢false, not-true}
 use Rattle.cyc_syntax.specs.declared.tree.PointerKind.{PointerKind}
 use Rattle.cyc_syntax.specs.declared.tree.PointerKind.TheVariants.{Nullable, NonNull, Fat}
 use Rattle.cyc_types.specs.declared.region.Region.{Region}
 use Rattle.cyc_types.specs.declared.region.Region.TheVariants as regions
-use Rattle.cyc_types.specs.Types.{Ty, Int, Pointer, Handle, Key, Struct, ValueType, Value}
+use Rattle.cyc_types.specs.Types.{Ty, Int, Char, Pointer, Handle, Key, Struct, ValueType, Value}
 use Rattle.cyc_types.specs.Regions.{region_eq}
 use Rattle.cyc_types.specs.Rules.{Demand, AllKept}
-use Rattle.cyc_types.specs.typing.Tests.{mark_eq, regions_eq, ty_eq, is_thin_mark, is_unique, is_key, is_moved, is_int, is_value, is_handle}
+use Rattle.cyc_types.specs.typing.Tests.{mark_eq, regions_eq, ty_eq, is_thin_mark, is_unique, is_key, is_moved, is_int, is_char, is_value, is_handle}
 use Rattle.cyc_types.specs.typing.Expressions.{is_any}
 use Rattle.cyc_types.proofs.RegionLemmas.{region_eq-refl, region_eq-true}
 
@@ -34,6 +34,7 @@ regions_eq-true rs ss h = absurd (cc)
 
 pub ty_eq-true : (t u : Ty) → ty_eq t u ≡ true → t ≡ u
 ty_eq-true Int Int h = refl
+ty_eq-true Char Char h = refl
 ty_eq-true (Pointer k t r) (Pointer l u s) h =
     let (e, es) = and_parts (mark_eq k l) (ty_eq t u && region_eq r s) h in
     let (f, g) = and_parts (ty_eq t u) (region_eq r s) es in
@@ -49,6 +50,10 @@ ty_eq-true t u h = absurd (cc)
 pub int_of : (v : ValueType) → is_int v ≡ true → v ≡ Value Int
 int_of (Value Int) h = refl
 int_of v h = absurd (cc)
+
+pub char_of : (v : ValueType) → is_char v ≡ true → v ≡ Value Char
+char_of (Value Char) h = refl
+char_of v h = absurd (cc)
 
 pub value_of : (v : ValueType) → is_value is_any v ≡ true → (t : Ty) × (v ≡ Value t)
 value_of (Value t) h = (t, refl)

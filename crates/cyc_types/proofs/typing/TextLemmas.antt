@@ -11,13 +11,14 @@ use Rattle.cyc_syntax.specs.declared.tree.PrefixOperator.TheVariants as prefixes
 use Rattle.cyc_syntax.specs.declared.tree.BinaryOperator.{BinaryOperator}
 use Rattle.cyc_syntax.specs.declared.tree.BinaryOperator.TheVariants as operators
 use Rattle.cyc_syntax.specs.Symbols.{Place, Symbol}
-use Rattle.cyc_syntax.specs.Trees.{Named, WrittenType, Expression, Number, Character, Null, HeapRegion, UniqueRegion, Variable, Call, Bracketed, NumberOfElements, FreeUnique, FreeKey, Chained, Prefixed, New, RegionNew, Binary, Assign, Initial, Plain, Fields, Array, Expressions, NoExpressions, MoreExpressions, Postfixes, NoPostfixes, ThenIndex, ThenField, Operations, NoOperations, ThenOperation, Statement, Block, Labelled, Empty, Evaluate, Swap, If, IfElse, While, Return, Break, Continue, Throw, Try, Body, Braces, Items, NoItems, MoreItems, Execute, Local, Region, Alias, DynamicRegion, Clauses, NoClauses, Default, Case, Member, Constructor, Declaration, StructType, Exceptions, Global, Function, place_of}
+use Rattle.cyc_syntax.specs.Trees.{Named, WrittenType, Expression, Number, Character, Null, HeapRegion, UniqueRegion, Variable, Call, Bracketed, NumberOfElements, LowByteOf, FreeUnique, FreeKey, Chained, Prefixed, New, RegionNew, Binary, Assign, Initial, Plain, Fields, Array, Expressions, NoExpressions, MoreExpressions, Postfixes, NoPostfixes, ThenIndex, ThenField, Operations, NoOperations, ThenOperation, Statement, Block, Labelled, Empty, Evaluate, Swap, If, IfElse, While, Return, Break, Continue, Throw, Try, Body, Braces, Items, NoItems, MoreItems, Execute, Local, Region, Alias, DynamicRegion, Clauses, NoClauses, Default, Case, Member, Constructor, Declaration, StructType, Exceptions, Global, Function, place_of}
 use Rattle.cyc_syntax.specs.Yields.{Leaf, Yield}
 use Rattle.cyc_syntax.specs.Yields as yields
 use Rattle.cyc_syntax.specs.Weight.{sum_of, constructor_weight, tree_weight}
 use Rattle.cyc_syntax.specs.Grammar.{level, binary_level, unary_level, assignment_level, IsExpression, IsInitial, AreExpressions, ArePostfixes, AreOperations, IsExpressionOrNone, IsStatement, IsBody, AreItems, AreClauses, AreDeclarations, HasTree, max_items, IsWithin, IsWithinLimits}
 use Rattle.cyc_syntax.specs.TokenRule.{max_tokens}
 use Rattle.cyc_syntax.proofs.WeightLemmas.{tree_weight-length}
+use Rattle.cyc_types.specs.declared.typed.UnaryOperator.TheVariants as unary
 use Rattle.cyc_types.specs.declared.typed.Operator.{Operator}
 use Rattle.cyc_types.specs.declared.typed.LogicalOperator.{LogicalOperator}
 use Rattle.cyc_types.specs.declared.typed.PointerOperator.{PointerOperator}
@@ -30,9 +31,9 @@ use Rattle.cyc_types.specs.Numbered.{argument_count}
 use Rattle.cyc_types.specs.Rules.{Rule, Derives, AllKept}
 use Rattle.cyc_types.specs.typing.Scopes.{Field, Exception, Meaning, Unknown, Fixed, Counter, Routine, Scope, meaning_of, counted, behind, in_block, in_labelled, in_body, with_counter}
 use Rattle.cyc_types.specs.typing.Scopes as scopes
-use Rattle.cyc_types.specs.typing.Tests.{is_unique, is_moved, is_thin_mark, is_int, is_value, value_of}
+use Rattle.cyc_types.specs.typing.Tests.{is_unique, is_moved, is_thin_mark, is_int, is_char, is_value, value_of}
 use Rattle.cyc_types.specs.typing.Formation.{struct_demanded}
-use Rattle.cyc_types.specs.typing.Expressions.{passed, passed_demanded, variable_read, variable_looked, read, looked, rule_looked, Found, place_meant, Reached, pointed, indexed, selected, loaded, pointer_to, address_of, assignment, is_looking, is_looking_first, operand, Joined, peeked_local, then_pointer, is_movable, then_added, ints_joined, tests_joined, sums_joined, null_test, then_compared, equality_joined, joined, instance_of, instantiated, called, key_freed, Placed, Made, on_heap, rule_placement, field_types, arguments_written, fields_known, fields_made, plain_made, array_made, created, rule, rule_all, rule_chain, rule_place, rule_postfixed, rule_further, rule_made}
+use Rattle.cyc_types.specs.typing.Expressions.{passed, passed_demanded, as_int, variable_read, variable_looked, read, looked, rule_looked, Found, place_meant, Reached, pointed, indexed, selected, loaded, pointer_to, address_of, assignment, is_looking, is_looking_first, operand, Joined, peeked_local, then_pointer, is_movable, then_added, ints_joined, tests_joined, sums_joined, null_test, then_compared, equality_joined, joined, instance_of, instantiated, called, key_freed, Placed, Made, on_heap, rule_placement, field_types, arguments_written, fields_known, fields_made, plain_made, array_made, created, rule, rule_all, rule_chain, rule_place, rule_postfixed, rule_further, rule_made}
 use Rattle.cyc_types.specs.typing.Statements.{rule_condition, returned, rule_returned, exception_number, exception_among, thrown, caught, rule_initial, behind_item, rule_statement, rule_body, rule_items, rule_thrown, rule_clauses, with_caught, behind_clause}
 use Rattle.cyc_types.specs.typing.Heads.{Known, fields_of, exceptions_of, signature_of}
 use Rattle.cyc_types.specs.typing.Programs.{Program, exceptions_before, program_known, body_scope, rule_functions, IsTypedProgram}
@@ -104,6 +105,9 @@ seen_text : (g : Scope) (e : Expression) (walked : Rule typed.Expression) → Gi
 seen_text g (Variable x) walked w a d = looked_text (meaning_of g x) x.place a d
 seen_text g (Bracketed p e) walked w a d = seen_text g e walked w a d
 seen_text g e walked w a d = w a d
+
+served_text : (a : typed.Expression) → IsOfText a → IsOfText (as_int a)
+served_text a w = either_text (is_char (type_of a)) (typed.Unary unary.Widen a) a w w
 
 operand_text : (g : Scope) (seen : Bool) (e : Expression) → GivesText (rule g e) → GivesText (operand seen (rule g e) (rule_looked g e (rule g e)))
 operand_text g true e w a d = seen_text g e (rule g e) w a d
@@ -184,7 +188,7 @@ sums_chain : (g : Scope) (p : Place) (k : Option ℕ) (left : ValueType) (os : O
     → are_sums bs.0 ≡ true
 sums_chain g p k left NoOperations w other bs (kept, eq) = ap (λ (z : typed.Operations × Ty). are_sums z.0) eq
 sums_chain g p k left (ThenOperation o q e os) (two, w, ws) other bs (put, (b, kb, d), (cs, ks, (u, eq))) =
-    let (next, sums) = level_of_sums g p k left (place_of e) b other o put two d in
+    let (next, sums) = level_of_sums g p k left (place_of e) (as_int b) other o put two d in
     ap (λ (z : typed.Operations × Ty). are_sums z.0) eq ∙ sums cs.0 (sums_chain g p None (Value put.1) os ws next cs ks)
 
 -- what stands behind an operator on the left operand, if it may be arithmetic on a pointer
@@ -308,13 +312,15 @@ mutual
   expression_text g few most (Call x es) w a (bs, hs, d) = called_text g (meaning_of g x) x.place es bs (expressions_text g few es w bs hs) a d
   expression_text g few most (Bracketed p e) w a d = expression_text g few assignment_level e w a d
   expression_text g few most (NumberOfElements p e) w a (b, kb, (k, eq)) = subst IsOfText (sym eq) (seen_text g e (rule g e) (λ c h. expression_text g few assignment_level e w c h) b kb)
+  expression_text g few most (LowByteOf p e) w a (b, kb, (k, eq)) = subst IsOfText (sym eq) (served_text b (expression_text g few assignment_level e w b kb))
   expression_text g few most (FreeUnique p e) w a (b, kb, (k, eq)) = subst IsOfText (sym eq) (expression_text g few assignment_level e w b kb)
   expression_text g few most (FreeKey p x) w a d = key_text (meaning_of g x) x.place a d
   expression_text g few most (Chained e ps) (primary, w, some, ws) a (v, kv, d) =
       loaded_text (place_of e) v (postfixed_text g few (place_of e) e ps (seen_text g e (rule g e) (λ c h. expression_text g few unary_level e w c h)) ws v kv) a d
-  expression_text g few most (Prefixed p prefixes.Negate e) w a (b, kb, (k, eq)) = subst IsOfText (sym eq) (expression_text g few unary_level e w b kb)
-  expression_text g few most (Prefixed p prefixes.Not e) w a (b, kb, (k, eq)) = subst IsOfText (sym eq) (seen_text g e (rule g e) (λ c h. expression_text g few unary_level e w c h) b kb)
-  expression_text g few most (Prefixed p prefixes.Complement e) w a (b, kb, (k, eq)) = subst IsOfText (sym eq) (expression_text g few unary_level e w b kb)
+  expression_text g few most (Prefixed p prefixes.Negate e) w a (b, kb, (k, eq)) = subst IsOfText (sym eq) (served_text b (expression_text g few unary_level e w b kb))
+  expression_text g few most (Prefixed p prefixes.Not e) w a (b, kb, (k, eq)) =
+      subst IsOfText (sym eq) (served_text b (seen_text g e (rule g e) (λ c h. expression_text g few unary_level e w c h) b kb))
+  expression_text g few most (Prefixed p prefixes.Complement e) w a (b, kb, (k, eq)) = subst IsOfText (sym eq) (served_text b (expression_text g few unary_level e w b kb))
   expression_text g few most (Prefixed p prefixes.Dereference e) w a (b, kb, d) =
       loaded_text p (pointed g (place_of e) b) (seen_text g e (rule g e) (λ c h. expression_text g few unary_level e w c h) b kb) a d
   expression_text g few most (Prefixed p prefixes.AddressOf e) w a (x, kx, (k, eq)) = subst IsOfText (sym eq) (address_text x.side (pointer_to x) (found_text g few unary_level (place_of e) e w x kx))
@@ -322,8 +328,9 @@ mutual
   expression_text g few most (RegionNew p e i) (w, ws) a (v, kv, (m, km, d)) =
       created_text v m (placement_text g (place_of e) e (rule g e) v (λ c h. expression_text g few assignment_level e w c h) kv) (made_text g few i ws m km) a d
   expression_text g few most (Binary e os) (below, tighter, chain, w, some, ws) a (b, kb, (bs, ks, (u, eq))) =
+      let c : typed.Expression = as_int b in
       subst IsOfText (sym eq)
-      (operand_text g (is_looking_first os) e (λ c h. expression_text g few below e w c h) b kb, chain_text g few below (place_of e) (peeked_local b) (type_of b) os ws bs ks)
+      (served_text b (operand_text g (is_looking_first os) e (λ d h. expression_text g few below e w d h) b kb), chain_text g few below (place_of e) (peeked_local c) (type_of c) os ws bs ks)
   expression_text g few most (Assign e v) (last, w, ws) a (x, kx, (b, kb, (k, eq))) =
       subst IsOfText (sym eq) (assignment_text x.side b (found_text g few binary_level (place_of e) e w x kx) (expression_text g few assignment_level v ws b kb))
 
@@ -336,7 +343,8 @@ mutual
   chain_text g few below p k left NoOperations w bs (kept, eq) = subst (λ (z : typed.Operations × Ty). AreOfTextOperations z.0) (sym eq) tt
   chain_text g few below p k left (ThenOperation o q e os) (same, w, ws) bs (put, (b, kb, d), (cs, ks, (u, eq))) =
       subst (λ (z : typed.Operations × Ty). AreOfTextOperations z.0) (sym eq)
-      (joined_text g p k left (place_of e) b o put cs.0 (alone_behind g p k left (place_of e) b below o os put cs same ws d ks) d (operand_text g (is_looking o) e (λ c h. expression_text g few below e w c h) b kb)
+      (joined_text g p k left (place_of e) (as_int b) o put cs.0 (alone_behind g p k left (place_of e) (as_int b) below o os put cs same ws d ks) d
+      (served_text b (operand_text g (is_looking o) e (λ c h. expression_text g few below e w c h) b kb))
       (chain_text g few below p None (Value put.1) os ws cs ks))
 
   found_text : (g : Scope) → KnowsFew g → (most : ℕ) (p : Place) (e : Expression) → IsExpression most e → (x : Found) → Derives (rule_place g p e (rule g e)) x → IsOfTextSide x.side
@@ -356,13 +364,13 @@ mutual
       → GivesCell (rule_postfixed g p (rule_looked g e (rule g e)) ps)
   postfixed_text g few p e NoPostfixes h w v d = absurd d
   postfixed_text g few p e (ThenIndex i ps) h (w, ws) v (a, ka, (b, kb, d)) =
-      further_text g few p (indexed g p a (place_of i) b) ps (h a ka, expression_text g few assignment_level i w b kb) ws v d
+      further_text g few p (indexed g p a (place_of i) (as_int b)) ps (h a ka, served_text b (expression_text g few assignment_level i w b kb)) ws v d
   postfixed_text g few p e (ThenField f ps) h w v (a, ka, d) = further_text g few p (selected g p a f) ps (h a ka) w v d
 
   further_text : (g : Scope) → KnowsFew g → (p : Place) (r : Reached) (ps : Postfixes) → IsOfTextCell r.cell → ArePostfixes ps → GivesCell (rule_further g p r ps)
   further_text g few p r NoPostfixes h w v (k, eq) = subst (λ (z : Reached). IsOfTextCell z.cell) (sym eq) h
   further_text g few p r (ThenIndex i ps) h (w, ws) v (a, ka, (b, kb, d)) =
-      further_text g few p (indexed g p a (place_of i) b) ps (loaded_text p r h a ka, expression_text g few assignment_level i w b kb) ws v d
+      further_text g few p (indexed g p a (place_of i) (as_int b)) ps (loaded_text p r h a ka, served_text b (expression_text g few assignment_level i w b kb)) ws v d
   further_text g few p r (ThenField f ps) h w v (a, ka, d) = further_text g few p (selected g p a f) ps (loaded_text p r h a ka) w v d
 
   made_text : (g : Scope) → KnowsFew g → (i : Initial) → IsInitial i → (m : Made) → Derives (rule_made g i) m → IsTextObject m
@@ -374,7 +382,7 @@ mutual
       (subst AreOfText (sym is) (expression_text g few assignment_level e w a ka, expressions_text g few es ws bs ks)))
   made_text g few (Array p x n e) (w, ws) m (a, ka, (b, kb, (k, eq))) =
       subst IsTextObject (sym eq)
-      (λ (kept : AllKept (array_made g.counters p (place_of n) a (place_of e) b).asked). (expression_text g few binary_level n w a ka, expression_text (with_counter x g) few assignment_level e ws b kb))
+      (λ (kept : AllKept (array_made g.counters p (place_of n) (as_int a) (place_of e) b).asked). (served_text a (expression_text g few binary_level n w a ka), expression_text (with_counter x g) few assignment_level e ws b kb))
 
 -- ---- statements
 
@@ -393,7 +401,7 @@ module _ (g : Scope) (few : KnowsFew g) where
 
   given_text : (v : Option Expression) (a : Option typed.Expression) → IsExpressionOrNone v → Derives (rule_thrown g v) a → IsOfTextThrown a
   given_text None a w (k, eq) = subst IsOfTextThrown (sym eq) tt
-  given_text (Some e) a w (b, h, (k, eq)) = subst IsOfTextThrown (sym eq) (expression_text g few assignment_level e w b h)
+  given_text (Some e) a w (b, h, (k, eq)) = subst IsOfTextThrown (sym eq) (served_text b (expression_text g few assignment_level e w b h))
 
   thrown_text : (o : Option Bool) (x : Named) (v : Option Expression) (a : Option typed.Expression) (t : typed.Statement) → IsOfTextThrown a → Derives (thrown g o x v a) t → IsOfTextStatement t
   thrown_text None x v a t w d = absurd d
@@ -404,7 +412,7 @@ module _ (g : Scope) (few : KnowsFew g) where
   caught_text (Some has) before x v n (kept, eq) = subst IsWord (sym eq) (tag_word g x.name few)
 
   condition_text : (e : Expression) → IsExpression assignment_level e → GivesText (rule_condition g e)
-  condition_text e w a (b, h, (k, eq)) = subst IsOfText (sym eq) (seen_text g e (rule g e) (λ c d. expression_text g few assignment_level e w c d) b h)
+  condition_text e w a (b, h, (k, eq)) = subst IsOfText (sym eq) (served_text b (seen_text g e (rule g e) (λ c d. expression_text g few assignment_level e w c d) b h))
 
 -- a clause's int is a local
 caught_few : (v : Option Named) (g : Scope) → KnowsFew g → KnowsFew (with_caught v g)

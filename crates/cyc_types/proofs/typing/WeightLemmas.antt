@@ -6,10 +6,11 @@ use Rattle.cyc_syntax.specs.declared.tree.PrefixOperator.TheVariants as prefixes
 use Rattle.cyc_syntax.specs.declared.tree.BinaryOperator.{BinaryOperator}
 use Rattle.cyc_syntax.specs.declared.tree.BinaryOperator.TheVariants as operators
 use Rattle.cyc_syntax.specs.Symbols.{Place}
-use Rattle.cyc_syntax.specs.Trees.{Named, Expression, Number, Character, Null, HeapRegion, UniqueRegion, Variable, Call, Bracketed, NumberOfElements, FreeUnique, FreeKey, Chained, Prefixed, New, RegionNew, Binary, Assign, Initial, Plain, Fields, Array, Expressions, NoExpressions, MoreExpressions, Postfixes, NoPostfixes, ThenIndex, ThenField, Operations, NoOperations, ThenOperation, Statement, Block, Labelled, Empty, Evaluate, Swap, If, IfElse, While, Return, Break, Continue, Throw, Try, Body, Braces, WrittenType, Items, NoItems, MoreItems, Execute, Local, Region, Alias, DynamicRegion, Clauses, NoClauses, Default, Case, Member, GlobalValue, Positive, Negative, Byte, NullPointer, ParameterList, Void, Listed, Declaration, StructType, Exceptions, Global, Function, place_of}
+use Rattle.cyc_syntax.specs.Trees.{Named, Expression, Number, Character, Null, HeapRegion, UniqueRegion, Variable, Call, Bracketed, NumberOfElements, LowByteOf, FreeUnique, FreeKey, Chained, Prefixed, New, RegionNew, Binary, Assign, Initial, Plain, Fields, Array, Expressions, NoExpressions, MoreExpressions, Postfixes, NoPostfixes, ThenIndex, ThenField, Operations, NoOperations, ThenOperation, Statement, Block, Labelled, Empty, Evaluate, Swap, If, IfElse, While, Return, Break, Continue, Throw, Try, Body, Braces, WrittenType, Items, NoItems, MoreItems, Execute, Local, Region, Alias, DynamicRegion, Clauses, NoClauses, Default, Case, Member, GlobalValue, Positive, Negative, Byte, NullPointer, ParameterList, Void, Listed, Declaration, StructType, Exceptions, Global, Function, place_of}
 use Rattle.cyc_syntax.specs.Weight.{sum_of, separated_weight, optional_weight, region_list_weight, type_weight, member_weight, value_weight, parameter_list_weight, result_weight, tree_weight}
 use Rattle.cyc_syntax.specs.Weight as written
 use Rattle.cyc_types.specs.declared.region.Region.TheVariants as regions
+use Rattle.cyc_types.specs.declared.typed.UnaryOperator.TheVariants as unary
 use Rattle.cyc_types.specs.declared.typed.Operator.{Operator}
 use Rattle.cyc_types.specs.declared.typed.LogicalOperator.{LogicalOperator}
 use Rattle.cyc_types.specs.declared.typed.PointerOperator.{PointerOperator}
@@ -20,9 +21,9 @@ use Rattle.cyc_types.specs.TypedTrees as typed
 use Rattle.cyc_types.specs.Rules.{Rule, Derives}
 use Rattle.cyc_types.specs.typing.Scopes.{Meaning, Unknown, Fixed, Counter, Routine, Scope, meaning_of, counted, behind, in_block, in_labelled, in_body, with_counter}
 use Rattle.cyc_types.specs.typing.Scopes as scopes
-use Rattle.cyc_types.specs.typing.Tests.{is_unique, is_moved}
+use Rattle.cyc_types.specs.typing.Tests.{is_unique, is_moved, is_char}
 use Rattle.cyc_types.specs.typing.Formation.{Naming, type_written, types_for, after_type}
-use Rattle.cyc_types.specs.typing.Expressions.{passed, variable_read, variable_looked, read, looked, rule_looked, Found, place_meant, Reached, pointed, indexed, selected, loaded, reached, address_of, addressed, place_inside, assignment, is_looking, is_looking_first, operand, Joined, peeked_local, then_pointer, then_added, ints_joined, tests_joined, sums_joined, then_compared, equality_joined, joined, instance_of, instantiated, called, key_freed, Placed, Made, on_heap, rule_placement, field_types, arguments_written, fields_known, created, rule, rule_all, rule_chain, rule_place, rule_postfixed, rule_further, rule_made}
+use Rattle.cyc_types.specs.typing.Expressions.{passed, as_int, variable_read, variable_looked, read, looked, rule_looked, Found, place_meant, Reached, pointed, indexed, selected, loaded, reached, address_of, addressed, place_inside, assignment, is_looking, is_looking_first, operand, Joined, peeked_local, then_pointer, then_added, ints_joined, tests_joined, sums_joined, then_compared, equality_joined, joined, instance_of, instantiated, called, key_freed, Placed, Made, on_heap, rule_placement, field_types, arguments_written, fields_known, created, rule, rule_all, rule_chain, rule_place, rule_postfixed, rule_further, rule_made}
 use Rattle.cyc_types.specs.typing.Statements.{rule_condition, returned, rule_returned, exception_among, rule_thrown, with_caught, behind_clause, rule_initial, behind_item, rule_statement, rule_body, rule_items, rule_clauses}
 use Rattle.cyc_types.specs.typing.Heads.{members_of, parameter_types, signature_of}
 use Rattle.cyc_types.specs.typing.Programs.{Program, program_known, body_scope, rule_functions, constant_of, globals_of, IsTypedProgram}
@@ -69,6 +70,14 @@ seen_lighter : (g : Scope) (n : ℕ) (e : Expression) (walked : Rule typed.Expre
 seen_lighter g n (Variable x) walked few w a d = omega (arith, few, looked_lighter (meaning_of g x) x.place a d)
 seen_lighter g n (Bracketed p e) walked few w a d = seen_lighter g n e walked (omega (arith, few)) w a d
 seen_lighter g n e walked few w a d = w a d
+
+-- a char that serves as an int is no heavier
+either_served : (b : Bool) (a : typed.Expression) → expression_weight (cond b (typed.Unary unary.Widen a) a) ≤ expression_weight a
+either_served true a = omega arith
+either_served false a = omega arith
+
+served_lighter : (a : typed.Expression) → expression_weight (as_int a) ≤ expression_weight a
+served_lighter a = either_served (is_char (type_of a)) a
 
 operand_lighter : (g : Scope) (seen : Bool) (e : Expression) → IsLight (rule g e) (written.expression_weight e) → IsLight (operand seen (rule g e) (rule_looked g e (rule g e))) (written.expression_weight e)
 operand_lighter g true e w a d = seen_lighter g (written.expression_weight e) e (rule g e) (omega arith) w a d
@@ -204,16 +213,20 @@ mutual
   expression_lighter g (NumberOfElements p e) a (b, kb, (k, eq)) =
       subst (λ z. expression_weight z ≤ written.expression_weight (NumberOfElements p e)) (sym eq)
       (omega (arith, seen_lighter g (written.expression_weight e) e (rule g e) (omega arith) (λ c j. expression_lighter g e c j) b kb))
+  expression_lighter g (LowByteOf p e) a (b, kb, (k, eq)) =
+      subst (λ z. expression_weight z ≤ written.expression_weight (LowByteOf p e)) (sym eq) (omega (arith, served_lighter b, expression_lighter g e b kb))
   expression_lighter g (FreeUnique p e) a (b, kb, (k, eq)) =
       subst (λ z. expression_weight z ≤ written.expression_weight (FreeUnique p e)) (sym eq) (omega (arith, expression_lighter g e b kb))
   expression_lighter g (FreeKey p x) a d = key_freed_lighter (meaning_of g x) x.place a d
   expression_lighter g (Chained e ps) a (w, kw, d) =
       omega (arith, loaded_lighter (place_of e) w a d, postfixed_lighter g (place_of e) e ps w (λ b k. seen_lighter g (written.expression_weight e) e (rule g e) (omega arith) (λ c j. expression_lighter g e c j) b k) kw)
-  expression_lighter g (Prefixed p prefixes.Negate e) a (b, kb, (k, eq)) = subst (λ z. expression_weight z ≤ 1 + written.expression_weight e) (sym eq) (omega (arith, expression_lighter g e b kb))
+  expression_lighter g (Prefixed p prefixes.Negate e) a (b, kb, (k, eq)) =
+      subst (λ z. expression_weight z ≤ 1 + written.expression_weight e) (sym eq) (omega (arith, served_lighter b, expression_lighter g e b kb))
   expression_lighter g (Prefixed p prefixes.Not e) a (b, kb, (k, eq)) =
       subst (λ z. expression_weight z ≤ 1 + written.expression_weight e) (sym eq)
-      (omega (arith, seen_lighter g (written.expression_weight e) e (rule g e) (omega arith) (λ c j. expression_lighter g e c j) b kb))
-  expression_lighter g (Prefixed p prefixes.Complement e) a (b, kb, (k, eq)) = subst (λ z. expression_weight z ≤ 1 + written.expression_weight e) (sym eq) (omega (arith, expression_lighter g e b kb))
+      (omega (arith, served_lighter b, seen_lighter g (written.expression_weight e) e (rule g e) (omega arith) (λ c j. expression_lighter g e c j) b kb))
+  expression_lighter g (Prefixed p prefixes.Complement e) a (b, kb, (k, eq)) =
+      subst (λ z. expression_weight z ≤ 1 + written.expression_weight e) (sym eq) (omega (arith, served_lighter b, expression_lighter g e b kb))
   expression_lighter g (Prefixed p prefixes.Dereference e) a (b, kb, d) =
       omega (arith, loaded_lighter p (pointed g (place_of e) b) a d, seen_lighter g (written.expression_weight e) e (rule g e) (omega arith) (λ c j. expression_lighter g e c j) b kb)
   expression_lighter g (Prefixed p prefixes.AddressOf e) a (x, kx, d) = omega (arith, addressed_lighter (place_inside e) x a d, found_lighter g (place_of e) e x kx)
@@ -222,7 +235,7 @@ mutual
       omega (arith, created_lighter w m a d, made_lighter g i m km, placement_lighter g (written.expression_weight e) (place_of e) e (rule g e) w (omega arith) (λ c j. expression_lighter g e c j) kw)
   expression_lighter g (Binary e os) a (b, kb, (bs, ks, (u, eq))) =
       subst (λ z. expression_weight z ≤ written.expression_weight (Binary e os)) (sym eq)
-      (omega (arith, operand_lighter g (is_looking_first os) e (λ c j. expression_lighter g e c j) b kb, chain_lighter g (place_of e) (peeked_local b) (type_of b) os bs ks))
+      (omega (arith, served_lighter b, operand_lighter g (is_looking_first os) e (λ c j. expression_lighter g e c j) b kb, chain_lighter g (place_of e) (peeked_local (as_int b)) (type_of (as_int b)) os bs ks))
   expression_lighter g (Assign e v) a (x, kx, (b, kb, (k, eq))) =
       subst (λ z. expression_weight z ≤ written.expression_weight (Assign e v)) (sym eq)
       (omega (arith, assignment_weight x.side b, found_lighter g (place_of e) e x kx, expression_lighter g v b kb))
@@ -242,7 +255,7 @@ mutual
   chain_lighter g p k left NoOperations bs (kept, eq) = subst (λ (z : typed.Operations × Ty). operations_weight z.0 ≤ 0) (sym eq) (omega arith)
   chain_lighter g p k left (ThenOperation o q e os) bs (put, (a, ka, d), (cs, ks, (u, eq))) =
       subst (λ (z : typed.Operations × Ty). operations_weight z.0 ≤ written.operations_weight (ThenOperation o q e os)) (sym eq)
-      (omega (arith, joined_added g p k left (place_of e) a o put d cs.0, operand_lighter g (is_looking o) e (λ c j. expression_lighter g e c j) a ka, chain_lighter g p None (Value put.1) os cs ks))
+      (omega (arith, joined_added g p k left (place_of e) (as_int a) o put d cs.0, served_lighter a, operand_lighter g (is_looking o) e (λ c j. expression_lighter g e c j) a ka, chain_lighter g p None (Value put.1) os cs ks))
 
   found_lighter : (g : Scope) (p : Place) (e : Expression) (x : Found) → Derives (rule_place g p e (rule g e)) x → side_weight x.side ≤ written.expression_weight e
   found_lighter g p (Variable y) x d = place_token (meaning_of g y) y.place p x d
@@ -261,13 +274,13 @@ mutual
       → Derives (rule_postfixed g p (rule_looked g e (rule g e)) ps) w → dereference_weight w.cell ≤ written.expression_weight e + written.postfixes_weight ps
   postfixed_lighter g p e NoPostfixes w first d = absurd d
   postfixed_lighter g p e (ThenIndex i ps) w first (a, ka, (b, kb, d)) =
-      omega (arith, first a ka, expression_lighter g i b kb, further_lighter g p (indexed g p a (place_of i) b) ps w d)
+      omega (arith, first a ka, served_lighter b, expression_lighter g i b kb, further_lighter g p (indexed g p a (place_of i) (as_int b)) ps w d)
   postfixed_lighter g p e (ThenField f ps) w first (a, ka, d) = omega (arith, first a ka, further_lighter g p (selected g p a f) ps w d)
 
   further_lighter : (g : Scope) (p : Place) (v : Reached) (ps : Postfixes) (w : Reached) → Derives (rule_further g p v ps) w → dereference_weight w.cell ≤ dereference_weight v.cell + written.postfixes_weight ps
   further_lighter g p v NoPostfixes w (u, eq) = subst (λ (z : Reached). dereference_weight z.cell ≤ dereference_weight v.cell + 0) (sym eq) (omega arith)
   further_lighter g p v (ThenIndex i ps) w (a, ka, (b, kb, d)) =
-      omega (arith, loaded_lighter p v a ka, expression_lighter g i b kb, further_lighter g p (indexed g p a (place_of i) b) ps w d)
+      omega (arith, loaded_lighter p v a ka, served_lighter b, expression_lighter g i b kb, further_lighter g p (indexed g p a (place_of i) (as_int b)) ps w d)
   further_lighter g p v (ThenField f ps) w (a, ka, d) = omega (arith, loaded_lighter p v a ka, further_lighter g p (selected g p a f) ps w d)
 
   made_lighter : (g : Scope) (i : Initial) (m : Made) → Derives (rule_made g i) m → initial_weight m.initial ≤ written.initial_weight i
@@ -275,7 +288,7 @@ mutual
   made_lighter g (Fields s rs es) m (as', ks, (u, eq)) =
       subst (λ (z : Made). initial_weight z.initial ≤ written.initial_weight (Fields s rs es)) (sym eq) (omega (arith, (passed_lighter as' (field_types (arguments_written g s rs) (fields_known g s))).0, (expressions_lighter g es as' ks).0))
   made_lighter g (Array p x n e) m (a, ka, (b, kb, (u, eq))) =
-      subst (λ (z : Made). initial_weight z.initial ≤ written.initial_weight (Array p x n e)) (sym eq) (omega (arith, expression_lighter g n a ka, expression_lighter (with_counter x g) e b kb))
+      subst (λ (z : Made). initial_weight z.initial ≤ written.initial_weight (Array p x n e)) (sym eq) (omega (arith, served_lighter a, expression_lighter g n a ka, expression_lighter (with_counter x g) e b kb))
 
 -- ---- statements
 
@@ -296,11 +309,12 @@ returned_lighter g p (Some e) c (a, h, k) = omega (arith, expression_lighter g e
 
 condition_lighter : (g : Scope) (e : Expression) (a : typed.Expression) → Derives (rule_condition g e) a → expression_weight a ≤ written.expression_weight e
 condition_lighter g e a (b, h, (k, eq)) =
-    subst (λ z. expression_weight z ≤ written.expression_weight e) (sym eq) (seen_lighter g (written.expression_weight e) e (rule g e) (omega arith) (λ c j. expression_lighter g e c j) b h)
+    subst (λ z. expression_weight z ≤ written.expression_weight e) (sym eq)
+    (omega (arith, served_lighter b, seen_lighter g (written.expression_weight e) e (rule g e) (omega arith) (λ c j. expression_lighter g e c j) b h))
 
 thrown_lighter : (g : Scope) (v : Option Expression) (a : Option typed.Expression) → Derives (rule_thrown g v) a → thrown_weight a ≤ optional_weight (λ e. 2 + written.expression_weight e) v
 thrown_lighter g None a (u, eq) = subst (λ z. thrown_weight z ≤ 0) (sym eq) (omega arith)
-thrown_lighter g (Some e) a (b, h, (u, eq)) = subst (λ z. thrown_weight z ≤ 2 + written.expression_weight e) (sym eq) (omega (arith, expression_lighter g e b h))
+thrown_lighter g (Some e) a (b, h, (u, eq)) = subst (λ z. thrown_weight z ≤ 2 + written.expression_weight e) (sym eq) (omega (arith, served_lighter b, expression_lighter g e b h))
 
 caught_lighter : (v : Option Named) (n : ℕ) → caught_weight (option_map (λ (y : Named). n) v) ≤ optional_weight (λ _. 3) v
 caught_lighter None n = omega arith
@@ -374,9 +388,9 @@ either_word false = omega arith
 
 constant_lighter : (t : Ty) (v : Option GlobalValue) → constant_weight (constant_of t v) ≤ optional_weight value_weight v
 constant_lighter t None = either_word _
-constant_lighter t (Some (Positive p n)) = word_lighter n
+constant_lighter t (Some (Positive p n)) = word_lighter _
 constant_lighter t (Some (Negative p n)) = let two : constant_weight (constant_of t (Some (Negative p n))) ≤ 2 = word_lighter _ in omega arith
-constant_lighter t (Some (Byte p c)) = word_lighter c
+constant_lighter t (Some (Byte p c)) = word_lighter _
 constant_lighter t (Some (NullPointer p)) = omega arith
 
 members_lighter : (structs : List scopes.StructName) (n : Naming) (ms : List Member)

@@ -13,7 +13,7 @@ use Rattle.cyc_syntax.specs.declared.tree.PrefixOperator.TheVariants as prefixes
 use Rattle.cyc_syntax.specs.declared.tree.BinaryOperator.{BinaryOperator}
 use Rattle.cyc_syntax.specs.declared.tree.BinaryOperator.TheVariants as operators
 use Rattle.cyc_syntax.specs.Symbols.{Place}
-use Rattle.cyc_syntax.specs.Trees.{Named, Expression, Number, Character, Null, HeapRegion, UniqueRegion, Variable, Call, Bracketed, NumberOfElements, FreeUnique, FreeKey, Chained, Prefixed, New, RegionNew, Binary, Assign, Initial, Plain, Fields, Array, Expressions, NoExpressions, MoreExpressions, Postfixes, NoPostfixes, ThenIndex, ThenField, Operations, NoOperations, ThenOperation, place_of}
+use Rattle.cyc_syntax.specs.Trees.{Named, Expression, Number, Character, Null, HeapRegion, UniqueRegion, Variable, Call, Bracketed, NumberOfElements, LowByteOf, FreeUnique, FreeKey, Chained, Prefixed, New, RegionNew, Binary, Assign, Initial, Plain, Fields, Array, Expressions, NoExpressions, MoreExpressions, Postfixes, NoPostfixes, ThenIndex, ThenField, Operations, NoOperations, ThenOperation, place_of}
 use Rattle.cyc_types.specs.declared.region.Region.{Region}
 use Rattle.cyc_types.specs.declared.region.Region.TheVariants as regions
 use Rattle.cyc_types.specs.declared.typed.Callee.{Callee}
@@ -25,7 +25,7 @@ use Rattle.cyc_types.specs.declared.typed.LogicalOperator.TheVariants as logical
 use Rattle.cyc_types.specs.declared.typed.PointerOperator.{PointerOperator}
 use Rattle.cyc_types.specs.declared.typed.PointerOperator.TheVariants as pointers
 use Rattle.cyc_types.specs.Regions.{region_eq, substituted_region}
-use Rattle.cyc_types.specs.Types.{Ty, Int, Pointer, Handle, Key, Struct, ValueType, Void, Value, result_type, substituted_ty}
+use Rattle.cyc_types.specs.Types.{Ty, Int, Char, Pointer, Handle, Key, Struct, ValueType, Void, Value, result_type, substituted_ty}
 use Rattle.cyc_types.specs.Types as types
 use Rattle.cyc_types.specs.Outlives.{RegionContext}
 use Rattle.cyc_types.specs.Closure.{is_outliving}
@@ -34,7 +34,7 @@ use Rattle.cyc_types.specs.TypedTrees as typed
 use Rattle.cyc_types.specs.Rules.{fault_at, Demand, demand, Rule, Refused, Own, Part, gives}
 use Rattle.cyc_types.specs.typing.Scopes.{Field, Meaning, Unknown, Fixed, Counter, Routine, Scope, is_live, meaning_of, with_counter}
 use Rattle.cyc_types.specs.typing.Scopes as scopes
-use Rattle.cyc_types.specs.typing.Tests.{ty_eq, is_thin_mark, is_pointer, is_non_null, is_unique, is_key, is_struct, is_moved, is_void, is_int, is_value, is_fat, is_handle, is_tested, value_of, target_of, region_of, struct_of, arguments_of, kind_of, kind_of_value}
+use Rattle.cyc_types.specs.typing.Tests.{ty_eq, is_thin_mark, is_pointer, is_non_null, is_unique, is_key, is_struct, is_moved, is_void, is_int, is_char, is_value, is_fat, is_handle, is_tested, value_of, target_of, region_of, struct_of, arguments_of, kind_of, kind_of_value}
 use Rattle.cyc_types.specs.typing.Formation.{struct_number, parameters_among, arguments_or, struct_demanded}
 
 -- ---- conversion
@@ -42,6 +42,10 @@ use Rattle.cyc_types.specs.typing.Formation.{struct_number, parameters_among, ar
 -- a value of the first type may be converted to the second, regions of outermost marks aside
 abbrev pub is_convertible : Ty → Ty → Bool
 is_convertible Int Int = true
+-- an int by its low byte, a char by its value
+is_convertible Int Char = true
+is_convertible Char Int = true
+is_convertible Char Char = true
 is_convertible (Pointer k t r) (Pointer l u s) = ty_eq t u
 is_convertible (Handle r) (Handle s) = region_eq r s
 is_convertible (Key r) (Key s) = region_eq r s
@@ -78,6 +82,10 @@ passed_demanded c (MoreExpressions e es) (a ∷ as') (t ∷ ts) = conversion c (
 passed_demanded c es as' ts = []
 
 -- ---- what is wanted of an operand at this place
+
+-- an int is asked for: a char serves, by its value
+abbrev pub as_int : typed.Expression → typed.Expression
+as_int a = if is_char (type_of a) then typed.Unary unary.Widen a else a
 
 abbrev pub int_wanted : ValueType → Place → Demand
 int_wanted t p = demand codes.TypeMismatch p (is_int t)
@@ -255,9 +263,9 @@ assigned c x p b = Own (conversion c (type_of b) (type_of_side x.side) p) (assig
 -- The operator stands at the first place and its operand at the second. The operand has a rule as a value that is used, as one that
 -- is only looked at, and as a place.
 abbrev pub prefixed : Scope → PrefixOperator → Place → Place → (inside : Place) → (used seen : Rule typed.Expression) → Rule Found → Rule typed.Expression
-prefixed g prefixes.Negate p q inside used seen place = Part used (λ a. Own (int_wanted (type_of a) q ∷ []) (typed.Unary unary.Negate a))
-prefixed g prefixes.Not p q inside used seen place = Part seen (λ a. Own (test_wanted (type_of a) q ∷ []) (typed.Unary unary.Not a))
-prefixed g prefixes.Complement p q inside used seen place = Part used (λ a. Own (int_wanted (type_of a) q ∷ []) (typed.Unary unary.Complement a))
+prefixed g prefixes.Negate p q inside used seen place = Part used (λ a. Own (int_wanted (type_of (as_int a)) q ∷ []) (typed.Unary unary.Negate (as_int a)))
+prefixed g prefixes.Not p q inside used seen place = Part seen (λ a. Own (test_wanted (type_of (as_int a)) q ∷ []) (typed.Unary unary.Not (as_int a)))
+prefixed g prefixes.Complement p q inside used seen place = Part used (λ a. Own (int_wanted (type_of (as_int a)) q ∷ []) (typed.Unary unary.Complement (as_int a)))
 prefixed g prefixes.Dereference p q inside used seen place = Part seen (λ a. loaded p (pointed g q a))
 prefixed g prefixes.AddressOf p q inside used seen place = Part place (λ x. addressed inside x)
 
@@ -587,6 +595,7 @@ abbrev mutual
   rule g (Bracketed p e) = rule g e
   rule g (NumberOfElements p e) =
       Part (rule_looked g e (rule g e)) (λ a. Own (demand codes.TypeMismatch (place_of e) (is_value is_fat (type_of a)) ∷ []) (typed.NumberOfElements a))
+  rule g (LowByteOf p e) = Part (rule g e) (λ a. Own (int_wanted (type_of (as_int a)) (place_of e) ∷ []) (typed.Unary unary.LowByte (as_int a)))
   rule g (FreeUnique p e) = Part (rule g e) (λ a. freed (place_of e) a)
   rule g (FreeKey p k) = key_freed (meaning_of g k) k.place
   rule g (Chained e ps) = Part (rule_postfixed g (place_of e) (rule_looked g e (rule g e)) ps) (λ w. loaded (place_of e) w)
@@ -595,7 +604,7 @@ abbrev mutual
   rule g (RegionNew p h i) = Part (rule_placement g (place_of h) h (rule g h)) (λ w. Part (rule_made g i) (λ m. created w m))
   rule g (Binary e os) =
       Part (operand (is_looking_first os) (rule g e) (rule_looked g e (rule g e)))
-      (λ a. Part (rule_chain g (place_of e) (peeked_local a) (type_of a) os) (λ bs. gives (typed.Binary a bs.0 bs.1)))
+      (λ a. Part (rule_chain g (place_of e) (peeked_local (as_int a)) (type_of (as_int a)) os) (λ bs. gives (typed.Binary (as_int a) bs.0 bs.1)))
   rule g (Assign e v) = Part (rule_place g (place_of e) e (rule g e)) (λ x. Part (rule g v) (λ b. assigned g.regions x (place_of v) b))
 
   pub rule_all : Scope → Expressions → Rule (List typed.Expression)
@@ -607,7 +616,7 @@ abbrev mutual
   pub rule_chain : Scope → Place → Option ℕ → ValueType → Operations → Rule (typed.Operations × Ty)
   rule_chain g p k left NoOperations = Own (value_wanted left p ∷ []) (typed.NoOperations, value_of left)
   rule_chain g p k left (ThenOperation o q e os) =
-      Part (Part (operand (is_looking o) (rule g e) (rule_looked g e (rule g e))) (λ a. joined g p k left o (place_of e) a))
+      Part (Part (operand (is_looking o) (rule g e) (rule_looked g e (rule g e))) (λ a. joined g p k left o (place_of e) (as_int a)))
       (λ put. Part (rule_chain g p None (Value put.1) os) (λ bs. gives (put.0 bs.0, bs.1)))
 
   -- An expression as a place, which begins at this one. What is no place is walked by its rule as an expression before it is found to be
@@ -623,13 +632,13 @@ abbrev mutual
   -- chain without one.)
   pub rule_postfixed : Scope → Place → (first : Rule typed.Expression) → Postfixes → Rule Reached
   rule_postfixed g p first NoPostfixes = Refused (fault_at codes.NotAPlace p)
-  rule_postfixed g p first (ThenIndex i ps) = Part first (λ a. Part (rule g i) (λ b. rule_further g p (indexed g p a (place_of i) b) ps))
+  rule_postfixed g p first (ThenIndex i ps) = Part first (λ a. Part (rule g i) (λ b. rule_further g p (indexed g p a (place_of i) (as_int b)) ps))
   rule_postfixed g p first (ThenField f ps) = Part first (λ a. rule_further g p (selected g p a f) ps)
 
   -- and those behind a cell, which is read where there are any
   pub rule_further : Scope → Place → Reached → Postfixes → Rule Reached
   rule_further g p w NoPostfixes = gives w
-  rule_further g p w (ThenIndex i ps) = Part (loaded p w) (λ a. Part (rule g i) (λ b. rule_further g p (indexed g p a (place_of i) b) ps))
+  rule_further g p w (ThenIndex i ps) = Part (loaded p w) (λ a. Part (rule g i) (λ b. rule_further g p (indexed g p a (place_of i) (as_int b)) ps))
   rule_further g p w (ThenField f ps) = Part (loaded p w) (λ a. rule_further g p (selected g p a f) ps)
 
   -- what a new object is made of
@@ -637,4 +646,4 @@ abbrev mutual
   rule_made g (Plain e) = Part (rule g e) (λ a. gives (plain_made (place_of e) a))
   rule_made g (Fields s rs es) = Part (rule_all g es) (λ as'. gives (fields_made g s rs es as'))
   rule_made g (Array p x n e) =
-      Part (rule g n) (λ a. Part (rule (with_counter x g) e) (λ b. gives (array_made g.counters p (place_of n) a (place_of e) b)))
+      Part (rule g n) (λ a. Part (rule (with_counter x g) e) (λ b. gives (array_made g.counters p (place_of n) (as_int a) (place_of e) b)))

@@ -5,7 +5,7 @@ use Rattle.cyc_words.specs.declared.fault.Code.TheVariants as codes
 use Rattle.cyc_syntax.specs.declared.tree.PointerKind.{PointerKind}
 use Rattle.cyc_syntax.specs.declared.tree.PointerKind.TheVariants as marks
 use Rattle.cyc_syntax.specs.Symbols.{Place}
-use Rattle.cyc_syntax.specs.Trees.{Named, Pointer, BaseType, Int, Struct, Handle, Key, WrittenType, Member}
+use Rattle.cyc_syntax.specs.Trees.{Named, Pointer, BaseType, Int, Char, Struct, Handle, Key, WrittenType, Member}
 use Rattle.cyc_types.specs.declared.region.Region.{Region}
 use Rattle.cyc_types.specs.declared.region.Region.TheVariants.{Heap, Unique, Variable}
 use Rattle.cyc_types.specs.Regions.{region_eq}
@@ -47,6 +47,7 @@ struct_written structs names s rs = types.Struct (struct_number structs s.name) 
 
 abbrev pub base_written : List StructName → List RegionName → BaseType → Ty
 base_written structs names Int = types.Int
+base_written structs names Char = types.Char
 base_written structs names (Struct s rs) = struct_written structs names s rs
 base_written structs names (Handle r) = types.Handle (region_of names r)
 base_written structs names (Key r) = types.Key (region_of names r)
@@ -106,12 +107,14 @@ arguments_for n k (r ∷ rs) = regions_for n (r ∷ rs)
 
 abbrev pub base_for : List StructName → Naming → BaseType → Ty
 base_for structs n Int = types.Int
+base_for structs n Char = types.Char
 base_for structs n (Struct s rs) = types.Struct (struct_number structs s.name) (arguments_for n (unwrap_or (parameters_among structs s.name) 0) rs)
 base_for structs n (Handle r) = types.Handle (region_for n r)
 base_for structs n (Key r) = types.Key (region_for n r)
 
 abbrev pub after_base : Naming → BaseType → Naming
 after_base n Int = n
+after_base n Char = n
 after_base n (Struct s rs) = after_regions n rs
 after_base n (Handle r) = after_region n r
 after_base n (Key r) = after_region n r
@@ -182,6 +185,7 @@ struct_demanded structs names own p s rs =
 
 abbrev pub base_demanded : List StructName → List RegionName → (own : Option ℕ) → Place → BaseType → List Demand
 base_demanded structs names own p Int = []
+base_demanded structs names own p Char = []
 base_demanded structs names own p (Struct s rs) = struct_demanded structs names own p s rs
 base_demanded structs names own p (Handle r) = name_demanded names own r ∷ no_unique_demanded names r ∷ []
 base_demanded structs names own p (Key r) = name_demanded names own r ∷ no_unique_demanded names r ∷ no_heap_demanded names r ∷ []
@@ -202,6 +206,7 @@ is_fat_mark marks.Fat = true
 -- a struct is the target of a pointer that is not fat, and a key is that of none
 abbrev pub is_shape : BaseType → List Pointer → Bool
 is_shape Int ms = true
+is_shape Char ms = true
 is_shape (Struct s rs) [] = false
 is_shape (Struct s rs) (m ∷ ms) = not (is_fat_mark m.kind)
 is_shape (Handle r) ms = true
@@ -219,9 +224,10 @@ is_key_base b = false
 abbrev pub field_demanded : List StructName → List RegionName → WrittenType → List Demand
 field_demanded structs names w = type_demanded structs names None w ++ demand codes.RegionOrKeyMisused w.place (not (is_key_base w.base)) ∷ []
 
--- a global is an int or a pointer
+-- a global is an int, a char or a pointer
 abbrev pub is_global_shape : BaseType → List Pointer → Bool
 is_global_shape Int ms = true
+is_global_shape Char ms = true
 is_global_shape b ms = not (is_empty ms)
 
 abbrev pub global_demanded : List StructName → List RegionName → WrittenType → List Demand

@@ -9,13 +9,13 @@ use Rattle.cyc_syntax.specs.Trees as written
 use Rattle.cyc_types.specs.declared.region.Region.{Region}
 use Rattle.cyc_types.specs.declared.region.Region.TheVariants.{Heap, Unique, Variable}
 use Rattle.cyc_types.specs.declared.typed.Callee.TheVariants as callees
-use Rattle.cyc_types.specs.Types.{Ty, Value}
+use Rattle.cyc_types.specs.Types.{Ty}
 use Rattle.cyc_types.specs.TypedTrees.{Signature}
 use Rattle.cyc_types.specs.TypedTrees as typed
 use Rattle.cyc_types.specs.Rules.{Demand, demand, Rule, Part, gives, demands}
 use Rattle.cyc_types.specs.typing.Scopes.{RegionName, StructName, Field, Exception, Routine, Declared}
 use Rattle.cyc_types.specs.typing.Scopes as scopes
-use Rattle.cyc_types.specs.typing.Tests.{is_empty, is_left_out, is_pointer, is_non_null, is_int}
+use Rattle.cyc_types.specs.typing.Tests.{is_empty, is_left_out, is_number, is_pointer, is_non_null}
 use Rattle.cyc_types.specs.typing.Formation.{Naming, region_of, type_written, types_for, after_members, is_name_of, no_unique_demanded, name_demanded, type_demanded, field_demanded, global_demanded, is_key_of}
 
 -- ---- what the heads declare
@@ -141,12 +141,12 @@ rule_struct k before s rs ms =
 abbrev pub constructor_names : List Constructor → List Named
 constructor_names cs = map (λ (c : Constructor). c.name) cs
 
--- An int has a number or a character, a pointer `NULL`; a global without a value, whose type is at this place, is 0 or null.
+-- An int or a char has a number or a character, a pointer `NULL`; a global without a value, whose type is at this place, is 0 or null.
 abbrev pub value_demanded : Ty → Place → Option GlobalValue → List Demand
 value_demanded t q None = demand codes.NullForNonNull q (not (is_non_null t)) ∷ []
-value_demanded t q (Some (Positive p n)) = demand codes.TypeMismatch p (is_int (Value t)) ∷ []
-value_demanded t q (Some (Negative p n)) = demand codes.TypeMismatch p (is_int (Value t)) ∷ []
-value_demanded t q (Some (Byte p c)) = demand codes.TypeMismatch p (is_int (Value t)) ∷ []
+value_demanded t q (Some (Positive p n)) = demand codes.TypeMismatch p (is_number t) ∷ []
+value_demanded t q (Some (Negative p n)) = demand codes.TypeMismatch p (is_number t) ∷ []
+value_demanded t q (Some (Byte p c)) = demand codes.TypeMismatch p (is_number t) ∷ []
 value_demanded t q (Some (NullPointer p)) = demand codes.TypeMismatch p (is_pointer t) ∷ demand codes.NullForNonNull p (not (is_non_null t)) ∷ []
 
 -- a name at this place is new, and is not that of `main` where `main` may not stand

@@ -9,7 +9,7 @@ use Rattle.cyc_syntax.specs.Trees.{Named, Body, Braces, Items, Member, GlobalVal
 use Rattle.cyc_types.specs.declared.region.Region.TheVariants as regions
 use Rattle.cyc_types.specs.declared.scope.Kind.TheVariants as kinds
 use Rattle.cyc_types.specs.declared.typed.Callee.TheVariants as callees
-use Rattle.cyc_types.specs.Types.{Ty, Int}
+use Rattle.cyc_types.specs.Types.{Ty, Int, Char}
 use Rattle.cyc_types.specs.Outlives.{RegionContext}
 use Rattle.cyc_types.specs.TypedTrees.{Signature}
 use Rattle.cyc_types.specs.TypedTrees as typed
@@ -129,12 +129,17 @@ rule_functions p (Function r x ps b ∷ tree) =
 
 -- ---- programs
 
+-- the word of a global whose value is written as this one: a char keeps its low byte
+abbrev pub word_of : Ty → ℕ → ℕ
+word_of Char n = n % 256
+word_of t n = n
+
 -- a global without a value is 0 or null
 abbrev pub constant_of : Ty → Option GlobalValue → typed.Constant
 constant_of t None = if is_pointer t then typed.Null else typed.Word 0
-constant_of t (Some (Positive p n)) = typed.Word n
-constant_of t (Some (Negative p n)) = typed.Word ((2 ^ 32 - n) % 2 ^ 32)
-constant_of t (Some (Byte p c)) = typed.Word c
+constant_of t (Some (Positive p n)) = typed.Word (word_of t n)
+constant_of t (Some (Negative p n)) = typed.Word (word_of t ((2 ^ 32 - n) % 2 ^ 32))
+constant_of t (Some (Byte p c)) = typed.Word (word_of t c)
 constant_of t (Some (NullPointer p)) = typed.Null
 
 abbrev pub global_of : Named → Option GlobalValue → Ty → typed.GlobalVariable

@@ -18,10 +18,10 @@ use Rattle.cyc_types.specs.typing.Scopes as scopes
 use Rattle.cyc_types.specs.typing.Tests.{is_left_out, ty_eq, is_unique, is_key, is_struct, is_int, region_of}
 use Rattle.cyc_types.specs.typing.Formation.{is_known, type_written, type_demanded}
 use Rattle.cyc_types.specs.typing.Formation as formation
-use Rattle.cyc_types.specs.typing.Expressions.{conversion, converted, test_wanted, rule_looked, Found, type_of_side, rule, rule_place}
+use Rattle.cyc_types.specs.typing.Expressions.{conversion, converted, as_int, test_wanted, rule_looked, Found, type_of_side, rule, rule_place}
 
 abbrev pub rule_condition : Scope → Expression → Rule typed.Expression
-rule_condition g e = Part (rule_looked g e (rule g e)) (λ a. Own (test_wanted (type_of a) (place_of e) ∷ []) a)
+rule_condition g e = Part (rule_looked g e (rule g e)) (λ a. Own (test_wanted (type_of (as_int a)) (place_of e) ∷ []) (as_int a))
 
 -- A value is returned by a function with a result, and by no other. `return` stands at the first place, the value at the second.
 abbrev pub returned : Scope → Option Ty → Place → Place → typed.Expression → Rule (Option Converted)
@@ -58,7 +58,7 @@ is_given declared given = if declared then given else not given
 
 abbrev pub rule_thrown : Scope → Option Expression → Rule (Option typed.Expression)
 rule_thrown g None = gives None
-rule_thrown g (Some e) = Part (rule g e) (λ a. gives (Some a))
+rule_thrown g (Some e) = Part (rule g e) (λ a. gives (Some (as_int a)))
 
 -- an int stands in brackets where one is declared, and else nothing does
 abbrev pub thrown_demanded : (has_int : Bool) → Place → Option Expression → Option typed.Expression → List Demand

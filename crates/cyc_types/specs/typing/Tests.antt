@@ -7,7 +7,7 @@ use Rattle.cyc_types.specs.declared.region.Region.TheVariants as regions
 use Rattle.cyc_types.specs.declared.typed.Kind.{Kind}
 use Rattle.cyc_types.specs.declared.typed.Kind.TheVariants as kinds
 use Rattle.cyc_types.specs.Regions.{region_eq}
-use Rattle.cyc_types.specs.Types.{Ty, Int, Pointer, Handle, Key, Struct, ValueType, Void, Null, Value}
+use Rattle.cyc_types.specs.Types.{Ty, Int, Char, Pointer, Handle, Key, Struct, ValueType, Void, Null, Value}
 
 -- ---- lists, and what may be left out
 
@@ -34,6 +34,7 @@ regions_eq rs ss = false
 
 abbrev pub ty_eq : Ty → Ty → Bool
 ty_eq Int Int = true
+ty_eq Char Char = true
 ty_eq (Pointer k t r) (Pointer l u s) = mark_eq k l && (ty_eq t u && region_eq r s)
 ty_eq (Handle r) (Handle s) = region_eq r s
 ty_eq (Key r) (Key s) = region_eq r s
@@ -65,6 +66,12 @@ abbrev pub is_struct : Ty → Bool
 is_struct (Struct n rs) = true
 is_struct t = false
 
+-- an int or a char: its value is written as a number
+abbrev pub is_number : Ty → Bool
+is_number Int = true
+is_number Char = true
+is_number t = false
+
 -- a variable of this type is empty once its value is used
 abbrev pub is_moved : Ty → Bool
 is_moved t = is_unique t || is_key t
@@ -82,6 +89,10 @@ is_null t = false
 abbrev pub is_int : ValueType → Bool
 is_int (Value Int) = true
 is_int t = false
+
+abbrev pub is_char : ValueType → Bool
+is_char (Value Char) = true
+is_char t = false
 
 -- a value of a type that is tested so
 abbrev pub is_value : (Ty → Bool) → ValueType → Bool
@@ -145,6 +156,7 @@ kind_of_mark Fat = kinds.Fat
 -- no cell has a struct for its type
 abbrev pub kind_of : Ty → Kind
 kind_of Int = kinds.Int
+kind_of Char = kinds.Char
 kind_of (Pointer k t r) = kind_of_mark k
 kind_of (Handle r) = kinds.Handle
 kind_of (Key r) = kinds.Key

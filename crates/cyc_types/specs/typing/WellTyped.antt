@@ -15,10 +15,10 @@ use Rattle.cyc_types.specs.declared.typed.UnaryOperator.{UnaryOperator}
 use Rattle.cyc_types.specs.declared.typed.UnaryOperator.TheVariants as unary
 use Rattle.cyc_types.specs.declared.typed.PointerOperator.{PointerOperator}
 use Rattle.cyc_types.specs.declared.typed.PointerOperator.TheVariants as pointers
-use Rattle.cyc_types.specs.Types.{Ty, Int, Pointer, Handle, Key, Struct, ValueType, Void, Null, Value, result_type, substituted_ty}
+use Rattle.cyc_types.specs.Types.{Ty, Int, Char, Pointer, Handle, Key, Struct, ValueType, Void, Null, Value, result_type, substituted_ty}
 use Rattle.cyc_types.specs.Outlives.{RegionContext, OutlivesIn, live_regions}
 use Rattle.cyc_types.specs.Declarations.{declared_types, item_types, caught_types, declared_regions, item_regions}
-use Rattle.cyc_types.specs.TypedTrees.{Lvalue, Local, Global, Expression, Number, NullPointer, HeapRegion, Counter, Copy, Move, Peek, Load, AddressOf, AddressOfCell, NumberOfElements, FreeUnique, FreeKey, Call, Unary, Binary, Assign, Store, New, Dereference, Target, Member, Element, Placement, OnHeap, AsUnique, ByHandle, Initial, Plain, Fields, Array, Converted, Convert, Arguments, NoArguments, MoreArguments, Operations, NoOperations, ThenCompute, ThenTest, ThenPointer, ThenPointerPeek, Side, VariableSide, CellSide, Statement, Block, Empty, Evaluate, Swap, If, While, Return, Break, Continue, Throw, Try, Items, NoItems, MoreItems, Execute, Declare, DeclareRegion, OpenRegion, DeclareAlias, DeclareKey, Clauses, NoClauses, Default, Case, Word, Null, StructType, GlobalVariable, Signature, Function, Program}
+use Rattle.cyc_types.specs.TypedTrees.{unary_type, Lvalue, Local, Global, Expression, Number, NullPointer, HeapRegion, Counter, Copy, Move, Peek, Load, AddressOf, AddressOfCell, NumberOfElements, FreeUnique, FreeKey, Call, Unary, Binary, Assign, Store, New, Dereference, Target, Member, Element, Placement, OnHeap, AsUnique, ByHandle, Initial, Plain, Fields, Array, Converted, Convert, Arguments, NoArguments, MoreArguments, Operations, NoOperations, ThenCompute, ThenTest, ThenPointer, ThenPointerPeek, Side, VariableSide, CellSide, Statement, Block, Empty, Evaluate, Swap, If, While, Return, Break, Continue, Throw, Try, Items, NoItems, MoreItems, Execute, Declare, DeclareRegion, OpenRegion, DeclareAlias, DeclareKey, Clauses, NoClauses, Default, Case, Word, Null, StructType, GlobalVariable, Signature, Function, Program}
 use Rattle.cyc_types.specs.typing.Scopes.{signature_of_ints, with_scope}
 use Rattle.cyc_types.specs.typing.Tests.{is_thin_mark, is_non_null, is_unique, is_key, is_struct, is_moved, is_tested, kind_of_mark, kind_of, kind_of_value}
 use Rattle.cyc_types.specs.typing.Expressions.{assigned_type, instantiated}
@@ -110,6 +110,9 @@ with_counter c = record c { counters = suc c.counters }
 -- a value of the first type is converted to the second
 abbrev pub Converts : Context → ValueType → Ty → Type 0
 Converts c (Value Int) Int = Unit {0}
+Converts c (Value Int) Char = Unit {0}
+Converts c (Value Char) Int = Unit {0}
+Converts c (Value Char) Char = Unit {0}
 Converts c (Value (Pointer k t r)) (Pointer l u s) = (t ≡ u) × OutlivesIn c.regions r s
 Converts c (Value (Handle r)) (Handle s) = r ≡ s
 Converts c (Value (Key r)) (Key s) = r ≡ s
@@ -153,6 +156,8 @@ abbrev pub IsUnaryOperand : (well : Type 0) → Context → UnaryOperator → Ex
 IsUnaryOperand well c unary.Not a v = (well ⊎ IsPeek c a v) × (is_tested v ≡ true)
 IsUnaryOperand well c unary.Negate a v = well × (v ≡ Value Int)
 IsUnaryOperand well c unary.Complement a v = well × (v ≡ Value Int)
+IsUnaryOperand well c unary.Widen a v = well × (v ≡ Value Char)
+IsUnaryOperand well c unary.LowByte a v = well × (v ≡ Value Int)
 
 abbrev mutual
   pub WellTyped : Context → Expression → ValueType → Type 0
@@ -176,7 +181,7 @@ abbrev mutual
   WellTyped c (Call f ds u) t =
       (s : Signature) × (m : List Region) × IsCallee c f s × (length m ≡ suc s.variables) × AreNotUnique m × ArePassed c (instantiated m s).parameters ds
       × AreLive c (instantiated m s).effect × AreOutliving c (instantiated m s).constraints × (u ≡ result_type (instantiated m s).result) × (t ≡ u)
-  WellTyped c (Unary o a) t = (v : ValueType) × IsUnaryOperand (WellTyped c a v) c o a v × (t ≡ Value Int)
+  WellTyped c (Unary o a) t = (v : ValueType) × IsUnaryOperand (WellTyped c a v) c o a v × (t ≡ Value (unary_type o))
   WellTyped c (Binary a os u) t = (v : ValueType) × IsLeft (WellTyped c a v) c a v os × IsChain c v os u × (t ≡ Value u)
   -- an assignment of a unique pointer or of a key has no value
   WellTyped c (Assign l d u) t = (v : Ty) × (r : Region) × IsPlace c l v r × IsConverted c d v × (u ≡ assigned_type v) × (t ≡ u)
@@ -386,6 +391,7 @@ AreNamed k (r ∷ rs) = IsNamed k r × AreNamed k rs
 
 abbrev pub IsNamedIn : (variables : ℕ) → Ty → Type 0
 IsNamedIn k Int = Unit {0}
+IsNamedIn k Char = Unit {0}
 IsNamedIn k (Pointer m t r) = IsNamedIn k t × IsNamed k r
 IsNamedIn k (Handle r) = IsNamed k r
 IsNamedIn k (Key r) = IsNamed k r
@@ -430,10 +436,12 @@ abbrev pub AreWellTypedFunctions : Program → List Function → Type 0
 AreWellTypedFunctions p [] = Unit {0}
 AreWellTypedFunctions p (h ∷ hs) = IsWellTypedFunction p h × AreWellTypedFunctions p hs
 
--- No global is a handle or a key, and it begins with a value of its type: a word, or null where null may stand.
+-- No global is a handle or a key, and it begins with a value of its type: a word, which is that of a byte for a char, or null where null
+-- may stand.
 abbrev pub IsWellTypedGlobal : GlobalVariable → Type 0
 IsWellTypedGlobal g =
     ((g.of_type ≡ Int) × ((word : ℕ) × (g.value ≡ Word word)))
+    ⊎ ((g.of_type ≡ Char) × ((word : ℕ) × (g.value ≡ Word word) × (word < 256)))
     ⊎ ((k : PointerKind) × (t : Ty) × (r : Region) × (g.of_type ≡ Pointer k t r) × (is_non_null g.of_type ≡ false) × (g.value ≡ Null))
 
 abbrev pub AreWellTypedGlobals : List GlobalVariable → Type 0

@@ -6,17 +6,19 @@ use Rattle.cyc_types.specs.declared.typed.Dereference.TheFolds as expressions
 use Rattle.cyc_types.specs.declared.typed.Operation.{Operation}
 use Rattle.cyc_types.specs.declared.typed.Converted.{Converted as ConvertedCode}
 use Rattle.cyc_meaning.specs.Values.{words_of_kind}
-use Rattle.cyc_types.specs.TypedTreeView.{view_dereference, view_expression, operations_of}
+use Rattle.cyc_types.specs.TypedTreeView.{view_dereference, view_expression, operations_of, arguments_of}
 use Rattle.cyc_plain.specs.declared.instruction.Operand.{Operand}
 use Rattle.cyc_plain.specs.declared.instruction.Operand.TheVariants as operands
 use Rattle.cyc_plain.specs.declared.instruction.Instruction.TheVariants as instructions
 use Rattle.cyc_plain.specs.declared.instruction.Instruction.{Instruction}
-use Rattle.cyc_lower.specs.ValueCode.{copy_code, conversion_code, test_jump, next_slot, span_of}
+use Rattle.cyc_lower.specs.ValueCode.{copy_code, conversion_code, test_jump, next_slot, span_of, all_passed, kinds_passed}
 use Rattle.cyc_lower.specs.ExpressionCode.{value_operand, expression_code}
 use Rattle.cyc_lower.specs.Emission.{Gives, left_code, HasRoom, operation_code, view_starts}
 use Rattle.cyc_lower.proofs.emission.Emitting.{Remains, all_arguments, one_argument, next_argument, arguments_lower, all_operations, one_operation, next_operation, operations_lower, goes_on, joined, passed_on, made_putchar, made_call, made_called, made_fields, made_binary, room_behind, made_left_alone, made_left_first, made_compute, made_test, room_after, slot_by_count, made_print, made_assigned, room_for_right, made_stored, made_elements, made_left_operand}
 use Rattle.cyc_lower.proofs.emitter.Emitter.+expression.Goals.{lower_left-then-is_empty, lower_left-else-is_empty, lower_operations-then-behind-eq0, lower_operations-else-behind-eq0}
+use Rattle.cyc_lower.proofs.slots.CellBytes.{passed_slots}
 use Rattle.cyc_lower.proofs.emitter.Emitter.+expression.Goals as goal
+use Rattle.cyc_lower.specs.ObjectCode.{slots_of_kinds}
 
 pub lower_arguments-loop-argument-preserved : goal.lower_arguments-loop-argument-preserved
 lower_arguments-loop-argument-preserved t c =
@@ -139,11 +141,21 @@ lower_expression-returns-in_ok-assigned-in-Assign t c =
     (e ∙ ap (λ (z : ConvertedCode). c.lower_assignment.new.self.code.items ++ copy_code (words_of_kind z.to) c.in_ok-assigned-in-Assign.assigned c.args.slot) same))
     c.copy.ensures
 
-pub lower_object-returns-in_ok-words-in-Fields : goal.lower_object-returns-in_ok-words-in-Fields
-lower_object-returns-in_ok-words-in-Fields t c =
+pub lower_object-make_object-requires-clause-slots : goal.lower_object-make_object-requires-clause-slots
+lower_object-make_object-requires-clause-slots t c =
+    let same = c.deref.ensures.value ∙ sym c.deref-in-Fields.ensures.value in
+    c.in_ok-words-in-Fields.ensures.0
+    ∙ ap (λ (l : List ConvertedCode). all_passed (arguments_of l)) same
+    ∙ sym (passed_slots (arguments_of c.deref-in-Fields.result.now))
+    ∙ ap slots_of_kinds (sym (c.deref-in-Fields-2.ensures.value ∙ c.in_ok-kinds-in-Fields.ensures))
+
+pub lower_object-returns-in_ok-kinds-in-Fields : goal.lower_object-returns-in_ok-kinds-in-Fields
+lower_object-returns-in_ok-kinds-in-Fields t c =
+    let same = c.deref-in-Fields.ensures.value ∙ sym c.deref.ensures.value in
+    let kinds_are = c.deref-in-Fields-2.ensures.value ∙ c.in_ok-kinds-in-Fields.ensures ∙ ap (λ (l : List ConvertedCode). kinds_passed (arguments_of l)) same in
     on_ok_weaker c.make_object.result
-    (made_fields (view_starts c.args.starts.now) c.args.initial.now c.in-Fields.values c.deref.result.now c.args.self.now.code.items c.lower_arguments.new.self.code.items c.make_object.new.self.code.items c.args.handle c.in_ok-words-in-Fields.words c.args.slot c.args.free
-    c.in-Fields.is c.deref.ensures.value c.in_ok-words-in-Fields.ensures.0 c.in_ok-words-in-Fields.ensures.1)
+    (made_fields (view_starts c.args.starts.now) c.args.initial.now c.in-Fields.values c.deref.result.now c.deref-in-Fields-2.result.now c.args.self.now.code.items c.lower_arguments.new.self.code.items c.make_object.new.self.code.items c.args.handle c.args.slot c.args.free
+    c.in-Fields.is c.deref.ensures.value kinds_are c.in_ok-words-in-Fields.ensures.1)
     c.make_object.ensures
 
 pub lower_expression-store-requires : goal.lower_expression-store-requires

@@ -1,6 +1,7 @@
+use Rattle.cyc_meaning.specs.Values.{words_of_kind}
 use Rattle.cyc_lower.specs.ObjectCode.{load_at}
 use Rattle.cyc_lower.proofs.emission.Emitting.{WordsLeft}
 use Rattle.cyc_lower.proofs.emitter.Emitter.load_words.Given as goal
 
 abbrev pub invariant-loop-index : goal.invariant-loop-index
-invariant-loop-index l = WordsLeft (load_at l.address) l.fn.self.code.items l.self.code.items l.words 0 l.slot l.index
+invariant-loop-index l = WordsLeft (load_at l.kind l.address) l.fn.self.code.items l.self.code.items (words_of_kind l.kind) 0 l.slot l.index

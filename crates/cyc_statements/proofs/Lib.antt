@@ -1,0 +1,2 @@
+-- what the proofs of this crate cite
+pub mod Aliases
