@@ -17,7 +17,8 @@ use cyc_forms::span_of;
 use cyc_heads::{heads, members};
 use cyc_scope::{Program, Scope};
 use cyc_syntax::{
-    Block, Clause, Declaration, Expr, Ident, Initial, Item, Member, Postfix, Stmt, Tree,
+    Block, Clause, Declaration, Expr, Ident, Initial, Item, Member, Operation, Postfix,
+    PrefixOperator, Stmt, Tree,
 };
 use cyc_words::Span;
 
@@ -100,6 +101,14 @@ fn explain_items(
 fn explain_item(teller: &mut Teller<'_>, scope: &mut Scope<'_>, item: &Item) {
     match item {
         Item::Statement { statement } => walk_statement(teller, scope, statement),
+        _ => explain_declaring(teller, scope, item),
+    }
+}
+
+/// Asks an item that declares what is in scope behind it.
+fn explain_declaring(teller: &mut Teller<'_>, scope: &mut Scope<'_>, item: &Item) {
+    match item {
+        Item::Statement { .. } => {}
         Item::Local { of_type, value, .. } => {
             walk_value(teller, scope, value, Wanted::Nothing);
             explain_local(teller, scope, of_type, value);
@@ -149,24 +158,14 @@ fn walk_statement(teller: &mut Teller<'_>, scope: &mut Scope<'_>, statement: &St
             teller.homes.add(None, block.span, Origin::Block);
             walk_block(teller, scope, block);
         }
-        Stmt::Labelled { label, block } => {
-            add_region(teller, *label, Origin::Block);
-            walk_block(teller, scope, block);
-        }
-        Stmt::Expression { value } => walk_expression(teller, scope, value, Wanted::Nothing),
-        Stmt::Swap { left, right } => {
-            walk_expression(teller, scope, left, Wanted::Nothing);
-            walk_expression(teller, scope, right, Wanted::Nothing);
-            explain_swap(teller, scope, left, right);
-        }
+        Stmt::Labelled { label, block } => walk_labelled(teller, scope, *label, block),
         Stmt::If {
             condition,
             then,
             otherwise,
             ..
         } => {
-            walk_expression(teller, scope, condition, Wanted::Tested);
-            walk_statement(teller, scope, then);
+            walk_tested(teller, scope, condition, then);
             if let Some(other) = otherwise {
                 walk_statement(teller, scope, other);
             }
@@ -175,9 +174,30 @@ fn walk_statement(teller: &mut Teller<'_>, scope: &mut Scope<'_>, statement: &St
             condition,
             body,
             ..
+        } => walk_tested(teller, scope, condition, body),
+        Stmt::Try {
+            span,
+            body,
+            clauses,
+            default,
         } => {
-            walk_expression(teller, scope, condition, Wanted::Tested);
             walk_statement(teller, scope, body);
+            walk_clauses(teller, scope, clauses);
+            if let Some(items) = default {
+                walk_default(teller, scope, *span, items);
+            }
+        }
+        _ => walk_plain(teller, scope, statement),
+    }
+}
+
+/// Asks a statement that has no statement in it.
+fn walk_plain(teller: &mut Teller<'_>, scope: &mut Scope<'_>, statement: &Stmt) {
+    match statement {
+        Stmt::Expression { value } => walk_expression(teller, scope, value, Wanted::Nothing),
+        Stmt::Swap { left, right } => {
+            walk_two(teller, scope, left, right);
+            explain_swap(teller, scope, left, right);
         }
         Stmt::Return { span, value } => {
             walk_value(teller, scope, value, Wanted::Nothing);
@@ -191,22 +211,30 @@ fn walk_statement(teller: &mut Teller<'_>, scope: &mut Scope<'_>, statement: &St
             explain_exception(teller, scope, *exception);
             walk_value(teller, scope, value, Wanted::Int);
         }
-        Stmt::Try {
-            span,
-            body,
-            clauses,
-            default,
-        } => {
-            walk_statement(teller, scope, body);
-            walk_clauses(teller, scope, clauses);
-            if let Some(items) = default {
-                let start = start_of(items, *span);
-                teller.homes.add(None, start, Origin::Block);
-                explain_items(teller, scope, items, &[]);
-            }
-        }
-        Stmt::Empty { .. } | Stmt::Break { .. } | Stmt::Continue { .. } => {}
+        _ => {}
     }
+}
+
+#[cycle(statement)]
+fn walk_labelled(teller: &mut Teller<'_>, scope: &mut Scope<'_>, label: Ident, block: &Block) {
+    add_region(teller, label, Origin::Block);
+    walk_block(teller, scope, block);
+}
+
+/// Asks a condition, and what is done where it holds.
+#[cycle(statement)]
+fn walk_tested(teller: &mut Teller<'_>, scope: &mut Scope<'_>, condition: &Expr, then: &Stmt) {
+    walk_expression(teller, scope, condition, Wanted::Tested);
+    walk_statement(teller, scope, then);
+}
+
+/// Asks the items of a default clause of a statement at this place.
+#[cycle(statement)]
+fn walk_default(teller: &mut Teller<'_>, scope: &mut Scope<'_>, around: Span, items: &[Item]) {
+    teller
+        .homes
+        .add(None, start_of(items, around), Origin::Block);
+    explain_items(teller, scope, items, &[]);
 }
 
 #[cycle(statement)]
@@ -272,62 +300,101 @@ fn walk_expression(
     wanted: Wanted,
 ) {
     match expression {
-        Expr::Number { .. }
-        | Expr::Character { .. }
-        | Expr::Null { .. }
-        | Expr::HeapRegion { .. } => {}
-        Expr::UniqueRegion { span } => explain_unique_region(teller, *span),
-        Expr::Variable { name } => explain_name(teller, scope, *name),
-        Expr::FreeKey { key, .. } => explain_key(teller, scope, *key),
         Expr::Call {
             function,
             arguments,
-        } => {
-            walk_expressions(teller, scope, arguments);
-            explain_call(teller, scope, *function, arguments);
-        }
+        } => walk_call(teller, scope, *function, arguments),
         Expr::Bracketed { inner, .. } => walk_expression(teller, scope, inner, Wanted::Nothing),
         Expr::NumberOfElements { pointer, .. } => {
             walk_expression(teller, scope, pointer, Wanted::Fat);
         }
         Expr::FreeUnique { pointer, .. } => walk_expression(teller, scope, pointer, Wanted::Freed),
-        Expr::Chained { base, postfixes } => {
-            walk_expression(teller, scope, base, Wanted::Nothing);
-            for postfix in postfixes {
-                if let Postfix::Index { index } = postfix {
-                    walk_expression(teller, scope, index, Wanted::Int);
-                }
-            }
-            explain_chain(teller, scope, base, postfixes);
-        }
+        Expr::Chained { base, postfixes } => walk_chain(teller, scope, base, postfixes),
         Expr::Prefixed {
             span,
             operator,
             operand,
-        } => {
-            walk_expression(teller, scope, operand, wanted_of(*operator));
-            explain_prefixed(teller, scope, *operator, *span, operand);
-        }
+        } => walk_prefixed(teller, scope, *operator, *span, operand),
         Expr::New { value, .. } => walk_initial(teller, scope, value),
-        Expr::RegionNew { region, value, .. } => {
-            walk_expression(teller, scope, region, Wanted::Handle);
-            walk_initial(teller, scope, value);
-        }
-        Expr::Binary { first, rest } => {
-            walk_expression(teller, scope, first, Wanted::Nothing);
-            for operation in rest {
-                let wanted = wanted_by(operation.operator).1;
-                walk_expression(teller, scope, &operation.operand, wanted);
-            }
-            explain_binary(teller, scope, first, rest);
-        }
-        Expr::Assign { target, value } => {
-            walk_expression(teller, scope, target, Wanted::Nothing);
-            walk_expression(teller, scope, value, Wanted::Nothing);
-            explain_assigned(teller, scope, target, value);
-        }
+        Expr::RegionNew { region, value, .. } => walk_placed(teller, scope, region, value),
+        Expr::Binary { first, rest } => walk_operations(teller, scope, first, rest),
+        Expr::Assign { target, value } => walk_assigned(teller, scope, target, value),
+        _ => explain_alone(teller, scope, expression),
     }
     explain_value(teller, scope, expression, wanted);
+}
+
+/// Asks an expression that has no other in it.
+fn explain_alone(teller: &mut Teller<'_>, scope: &Scope<'_>, expression: &Expr) {
+    match expression {
+        Expr::UniqueRegion { span } => explain_unique_region(teller, *span),
+        Expr::Variable { name } => explain_name(teller, scope, *name),
+        Expr::FreeKey { key, .. } => explain_key(teller, scope, *key),
+        _ => {}
+    }
+}
+
+#[cycle(expression)]
+fn walk_two(teller: &mut Teller<'_>, scope: &mut Scope<'_>, left: &Expr, right: &Expr) {
+    walk_expression(teller, scope, left, Wanted::Nothing);
+    walk_expression(teller, scope, right, Wanted::Nothing);
+}
+
+#[cycle(expression)]
+fn walk_assigned(teller: &mut Teller<'_>, scope: &mut Scope<'_>, target: &Expr, value: &Expr) {
+    walk_two(teller, scope, target, value);
+    explain_assigned(teller, scope, target, value);
+}
+
+#[cycle(expression)]
+fn walk_call(teller: &mut Teller<'_>, scope: &mut Scope<'_>, function: Ident, arguments: &[Expr]) {
+    walk_expressions(teller, scope, arguments);
+    explain_call(teller, scope, function, arguments);
+}
+
+#[cycle(expression)]
+fn walk_prefixed(
+    teller: &mut Teller<'_>,
+    scope: &mut Scope<'_>,
+    operator: PrefixOperator,
+    span: Span,
+    operand: &Expr,
+) {
+    walk_expression(teller, scope, operand, wanted_of(operator));
+    explain_prefixed(teller, scope, operator, span, operand);
+}
+
+/// Asks an object that is made in a region.
+#[cycle(expression)]
+fn walk_placed(teller: &mut Teller<'_>, scope: &mut Scope<'_>, region: &Expr, value: &Initial) {
+    walk_expression(teller, scope, region, Wanted::Handle);
+    walk_initial(teller, scope, value);
+}
+
+#[cycle(expression)]
+fn walk_chain(teller: &mut Teller<'_>, scope: &mut Scope<'_>, base: &Expr, postfixes: &[Postfix]) {
+    walk_expression(teller, scope, base, Wanted::Nothing);
+    for postfix in postfixes {
+        if let Postfix::Index { index } = postfix {
+            walk_expression(teller, scope, index, Wanted::Int);
+        }
+    }
+    explain_chain(teller, scope, base, postfixes);
+}
+
+#[cycle(expression)]
+fn walk_operations(
+    teller: &mut Teller<'_>,
+    scope: &mut Scope<'_>,
+    first: &Expr,
+    operations: &[Operation],
+) {
+    walk_expression(teller, scope, first, Wanted::Nothing);
+    for operation in operations {
+        let wanted = wanted_by(operation.operator).1;
+        walk_expression(teller, scope, &operation.operand, wanted);
+    }
+    explain_binary(teller, scope, first, operations);
 }
 
 #[cycle(expression)]

@@ -134,18 +134,12 @@ fn say_here(teller: &mut Teller<'_>, function: Ident, own: Region, here: Region)
     let ours = teller.homes.name(here);
     match teller.function {
         Some(caller) if theirs.is_some() && theirs == ours => {
-            let parts = [
-                Part::Theirs(own),
-                Part::Name(function),
-                Part::Region(here),
-                Part::Name(caller),
-            ];
-            teller.say(", and % of % is % of % here", &parts);
+            teller.say_both(", and % of %", Part::Theirs(own), Part::Name(function));
+            teller.say_both(" is % of % here", Part::Region(here), Part::Name(caller));
         }
         _ => {
             if let Region::Variable(_) = own {
-                let parts = [Part::Theirs(own), Part::Region(here)];
-                teller.say(", and % is % here", &parts);
+                teller.say_both(", and % is % here", Part::Theirs(own), Part::Region(here));
             }
         }
     }
@@ -160,12 +154,8 @@ fn explain_constraint(
     here: (Region, Region),
 ) {
     if teller.is_fault(Code::NotOutlived, function.span) && !scope.outlives(here.0, here.1) {
-        let parts = [
-            Part::Name(function),
-            Part::Theirs(own.0),
-            Part::Theirs(own.1),
-        ];
-        teller.say("% has the constraint % > %", &parts);
+        teller.say_name("% has the constraint ", function);
+        teller.say_both("% > %", Part::Theirs(own.0), Part::Theirs(own.1));
         say_here(teller, function, own.0, here.0);
         say_here(teller, function, own.1, here.1);
         say_shorter(teller, here.0, here.1);
@@ -182,14 +172,14 @@ fn explain_effect(
     here: Region,
 ) {
     if teller.is_fault(Code::EffectNotCovered, function.span) && !scope.is_live(here) {
-        teller.say("the effect of % is {", &[Part::Name(function)]);
+        teller.say_name("the effect of % is {", function);
         for i in 0..effect.len() {
             let text = if i == 0 { "%" } else { ", %" };
-            teller.say(text, &[Part::Theirs(effect[i])]);
+            teller.say_with(text, Part::Theirs(effect[i]));
         }
-        teller.say("}", &[]);
+        teller.say("}");
         say_here(teller, function, own, here);
-        teller.say("\n", &[]);
+        teller.say("\n");
         say_closed(teller, here);
     }
 }
@@ -209,12 +199,58 @@ fn explain_argument(
         if let Ok(wanted) = parameter.substituted(teller.alloc, instance) {
             explain_conversion(teller, scope, given(value), &wanted, span);
         }
-        if let Ty::Pointer { region, .. } = parameter {
-            let parts = [Part::Theirs(*region), Part::Name(function)];
-            let text =
-                "% of % would be `U\nhint: lend the pointer by let alias, or write `U in the parameter's type";
-            teller.say_of(Code::RegionOrKeyMisused, span, text, &parts);
+        if teller.is_fault(Code::RegionOrKeyMisused, span) {
+            say_would_be_unique(teller, function, parameter);
         }
+    }
+}
+
+/// Says that the region of a parameter of this type would be that of unique pointers.
+fn say_would_be_unique(teller: &mut Teller<'_>, function: Ident, parameter: &Ty) {
+    if let Ty::Pointer { region, .. } = parameter {
+        let text =
+            "% of % would be `U\nhint: lend the pointer by let alias, or write `U in the parameter's type";
+        teller.say_both(text, Part::Theirs(*region), Part::Name(function));
+    }
+}
+
+/// The words for arguments of a function with these parameters, which have these values.
+fn explain_arguments(
+    teller: &mut Teller<'_>,
+    scope: &Scope<'_>,
+    function: Ident,
+    arguments: &[Expr],
+    values: &[ValueType],
+    parameters: &[Ty],
+    instance: &[Region],
+) {
+    for i in 0..arguments.len() {
+        if let Some(value) = values.get(i) {
+            if let Some(parameter) = parameters.get(i) {
+                let argument = &arguments[i];
+                explain_argument(
+                    teller, scope, function, argument, value, parameter, instance,
+                );
+            }
+        }
+    }
+}
+
+/// The words for what a function with this signature asks of regions, where its region variables are these.
+fn explain_asked(
+    teller: &mut Teller<'_>,
+    scope: &Scope<'_>,
+    function: Ident,
+    signature: &Signature,
+    instance: &[Region],
+) {
+    for own in &signature.constraints {
+        let here = (own.0.substituted(instance), own.1.substituted(instance));
+        explain_constraint(teller, scope, function, *own, here);
+    }
+    for own in &signature.effect {
+        let here = own.substituted(instance);
+        explain_effect(teller, scope, function, &signature.effect, *own, here);
     }
 }
 
@@ -232,26 +268,30 @@ fn explain_called(
     if arguments.len() != parameters.len() && teller.is_fault(Code::TypeMismatch, function.span) {
         say_count(teller, parameters.len(), arguments.len(), "argument");
     }
-    for i in 0..arguments.len() {
-        if let (Some(value), Some(parameter)) = (values.get(i), parameters.get(i)) {
-            explain_argument(
-                teller,
-                scope,
-                function,
-                &arguments[i],
-                value,
-                parameter,
-                &instance,
-            );
+    explain_arguments(
+        teller, scope, function, arguments, values, parameters, &instance,
+    );
+    explain_asked(teller, scope, function, signature, &instance);
+}
+
+/// The words for a call of what a name means, with these values.
+fn explain_callee(
+    teller: &mut Teller<'_>,
+    scope: &Scope<'_>,
+    function: Ident,
+    arguments: &[Expr],
+    values: &[ValueType],
+) {
+    match scope.meaning(function) {
+        Meaning::Unknown => explain_unknown(teller, scope, Sort::Value, function),
+        Meaning::Routine { signature, .. } => {
+            explain_called(teller, scope, function, arguments, values, signature);
         }
-    }
-    for own in &signature.constraints {
-        let here = (own.0.substituted(&instance), own.1.substituted(&instance));
-        explain_constraint(teller, scope, function, *own, here);
-    }
-    for own in &signature.effect {
-        let here = own.substituted(&instance);
-        explain_effect(teller, scope, function, &signature.effect, *own, here);
+        _ => {
+            let text =
+                "% is a variable, and no function\nhint: only a function is called, by its name";
+            teller.tell(Code::TypeMismatch, function, text);
+        }
     }
 }
 
@@ -265,17 +305,6 @@ pub(crate) fn explain_call(
     if is_among(teller, function, arguments) {
         let values = values_of(scope, arguments);
         note_theirs(teller, scope.names(), function);
-        match scope.meaning(function) {
-            Meaning::Unknown => explain_unknown(teller, scope, Sort::Value, function),
-            Meaning::Routine { signature, .. } => {
-                explain_called(teller, scope, function, arguments, &values, signature);
-            }
-            _ => {
-                let text =
-                    "% is a variable, and no function\nhint: only a function is called, by its name";
-                let parts = [Part::Name(function)];
-                teller.say_of(Code::TypeMismatch, function.span, text, &parts);
-            }
-        }
+        explain_callee(teller, scope, function, arguments, &values);
     }
 }

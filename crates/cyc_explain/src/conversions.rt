@@ -1,7 +1,7 @@
 //! Words for values that are converted to a type, and for regions: that are not live, or do not outlive each other.
 use crate::homes::{Home, Origin};
 use crate::teller::{Part, Teller};
-use cyc_forms::types::is_pointer;
+use cyc_forms::types::{is_pointer, region_of};
 use cyc_forms::{Given, convert};
 use cyc_scope::{Scope, Settled};
 use cyc_types::{Region, Ty};
@@ -22,7 +22,6 @@ fn last_end(teller: &Teller<'_>, name: usize) -> Option<Span> {
 
 /// Says why a region is not live.
 pub(crate) fn say_closed(teller: &mut Teller<'_>, region: Region) {
-    let own = Part::Region(region);
     match teller.homes.find(region) {
         Some(
             Home {
@@ -31,7 +30,11 @@ pub(crate) fn say_closed(teller: &mut Teller<'_>, region: Region) {
             },
         ) => {
             if let Some(function) = teller.function {
-                teller.say("% is not in the effect of %", &[own, Part::Name(function)]);
+                teller.say_both(
+                    "% is not in the effect of %",
+                    Part::Region(region),
+                    Part::Name(function),
+                );
             }
         }
         Some(
@@ -41,17 +44,17 @@ pub(crate) fn say_closed(teller: &mut Teller<'_>, region: Region) {
                 span,
                 ..
             },
-        ) => {
-            let parts = [own, Part::Place(span)];
-            teller.say(
-                "%, the dynamic region declared at %, is not open here",
-                &parts,
-            );
-            if let Some(end) = last_end(teller, name) {
-                teller.say(": the block that opened it ended at %", &[Part::Place(end)]);
-            }
-        }
-        _ => teller.say("% is not live here", &[own]),
+        ) => say_shut(teller, region, name, span),
+        _ => teller.say_with("% is not live here", Part::Region(region)),
+    }
+}
+
+/// Says that a dynamic region, which has this name and is declared at this place, is not open, and since when.
+fn say_shut(teller: &mut Teller<'_>, region: Region, name: usize, span: Span) {
+    let text = "%, the dynamic region declared at %, is not open here";
+    teller.say_both(text, Part::Region(region), Part::Place(span));
+    if let Some(end) = last_end(teller, name) {
+        teller.say_with(": the block that opened it ended at %", Part::Place(end));
     }
 }
 
@@ -64,7 +67,7 @@ pub(crate) fn explain_closed(
 ) {
     let region = given.region();
     if teller.is_fault(Code::RegionNotLive, span) && !scope.is_live(region) {
-        teller.say("found %\n", &[Part::Given(given)]);
+        teller.say_with("found %\n", Part::of(given));
         say_closed(teller, region);
     }
 }
@@ -99,36 +102,38 @@ fn say_beginning(teller: &mut Teller<'_>, mark: &str, region: Region) -> bool {
         Some(home) => home.span,
         None => Span { line: 0, column: 0 },
     };
-    teller.say(mark, &[]);
-    teller.say(text, &[Part::Region(region), Part::Place(span)]);
+    teller.say(mark);
+    teller.say_both(text, Part::Region(region), Part::Place(span));
     true
 }
 
 /// Says in a line of its own which region does not outlive which, and where each begins, and then what to do.
 pub(crate) fn say_shorter(teller: &mut Teller<'_>, region: Region, other: Region) {
-    let parts = [Part::Region(region), Part::Region(other)];
-    teller.say("\n% does not outlive %", &parts);
+    let (own, its) = (Part::Region(region), Part::Region(other));
+    teller.say_both("\n% does not outlive %", own, its);
     let is_begun = say_beginning(teller, ": ", region);
     if region != other {
         say_beginning(teller, if is_begun { ", " } else { ": " }, other);
     }
     if let Some(home) = teller.homes.find(region) {
         let other_home = teller.homes.find(other);
-        teller.hint(advice_on_regions(home, other, other_home), &parts);
+        let text = advice_on_regions(home, other, other_home);
+        teller.say_both(text, own, its);
     }
 }
 
-/// What to do about a region of the function at hand that does not outlive another.
+/// What to do about a region of the function at hand that does not outlive another, in a line of its own.
 fn advice_on_regions(home: Home, other: Region, other_home: Option<Home>) -> &'static str {
     match other {
         Region::Unique => "",
         Region::Heap => match home.origin {
             Origin::Caller => {
-                "a parameter's pointer may lead anywhere: write `H behind its mark to take heap pointers alone, or name one region on both sides, as in int *`r same(int *`r p)"
+                "\nhint: a parameter's pointer may lead anywhere: write `H behind its mark to take heap pointers alone, or name one region on both sides, as in int *`r same(int *`r p)"
             }
-            Origin::Block => "a variable is gone when its block ends: make the object by new",
+            Origin::Block =>
+                "\nhint: a variable is gone when its block ends: make the object by new",
             Origin::Item | Origin::Dynamic => {
-                "what is in % is gone when its region ends: make the object by new, or write the region into the type"
+                "\nhint: what is in % is gone when its region ends: make the object by new, or write the region into the type"
             }
         },
         Region::Variable(_) => match other_home {
@@ -141,20 +146,20 @@ fn advice_on_regions(home: Home, other: Region, other_home: Option<Home>) -> &'s
 /// The same, where the other one is of the function at hand too.
 fn advice_between(home: Home, other: Home) -> &'static str {
     if matches!(other.origin, Origin::Dynamic) {
-        return "a dynamic region ends where its key is given back: only the heap is known to outlive it";
+        return "\nhint: a dynamic region ends where its key is given back: only the heap is known to outlive it";
     }
     match home.origin {
         Origin::Caller if home.name.is_some() && other.name.is_some() => {
-            "if it does at each call, declare so behind the parameters: % > %"
+            "\nhint: if it does at each call, declare so behind the parameters: % > %"
         }
         Origin::Caller => {
-            "name the regions of both types, as one, or as two with a constraint: `a > `b"
+            "\nhint: name the regions of both types, as one, or as two with a constraint: `a > `b"
         }
         Origin::Block => {
-            "a variable is gone when its block ends: make an object by new, or by rnew in the other region"
+            "\nhint: a variable is gone when its block ends: make an object by new, or by rnew in the other region"
         }
         Origin::Item | Origin::Dynamic => {
-            "what is in % is gone when its block ends: make the object in %"
+            "\nhint: what is in % is gone when its block ends: make the object in %"
         }
     }
 }
@@ -221,23 +226,31 @@ pub(crate) fn explain_conversion(
 ) {
     let mut settled = Settled::new();
     convert(&mut settled, scope, given, wanted, span);
-    let Some(broken) = settled.known else {
-        return;
-    };
-    if !teller.is_fault(broken.code, span) {
-        return;
+    if let Some(broken) = settled.known {
+        if teller.is_fault(broken.code, span) {
+            teller.say_both("expected %, found %", Part::Type(wanted), Part::of(given));
+            match broken.code {
+                Code::TypeMismatch => say_mismatch(teller, given, wanted),
+                Code::NotOutlived => say_shorter(teller, given.region(), region_of(wanted)),
+                _ => {}
+            }
+        }
     }
-    let parts = [Part::Given(Given::Value(wanted)), Part::Given(given)];
-    teller.say("expected %, found %", &parts);
-    match (broken.code, given, wanted) {
-        (Code::TypeMismatch, Given::Value(of_type), Ty::Pointer { .. })
-            if has_shape(of_type, wanted) => {
-            teller.say(", with other regions inside", &[]);
-        }
-        (Code::TypeMismatch, _, _) => teller.hint(advice(given, wanted), &[]),
-        (Code::NotOutlived, _, Ty::Pointer { region, .. }) => {
-            say_shorter(teller, given.region(), *region);
-        }
-        _ => {}
+}
+
+/// Says what more there is to say of a value that has another type than this.
+fn say_mismatch(teller: &mut Teller<'_>, given: Given<'_>, wanted: &Ty) {
+    if is_pointer(wanted) && is_alike(given, wanted) {
+        teller.say(", with other regions inside");
+    } else {
+        teller.hint(advice(given, wanted));
+    }
+}
+
+/// Whether a value has a type that is this one but for regions.
+fn is_alike(given: Given<'_>, wanted: &Ty) -> bool {
+    match given {
+        Given::Value(of_type) => has_shape(of_type, wanted),
+        _ => false,
     }
 }

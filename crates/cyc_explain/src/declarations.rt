@@ -14,7 +14,7 @@ const UNKNOWN: &str = "the parameters name no region `%: write it into the type 
 pub(crate) fn explain_heads(teller: &mut Teller<'_>, tree: &Tree) {
     let start = Span { line: 1, column: 1 };
     let text = "the program has no function main";
-    teller.say_of(Code::BadMain, start, text, &[]);
+    teller.tell_at(Code::BadMain, start, text);
     for i in 0..tree.declarations.len() {
         explain_head(teller, &tree.declarations[..i], &tree.declarations[i]);
     }
@@ -29,16 +29,8 @@ fn explain_head(teller: &mut Teller<'_>, before: &[Declaration], declaration: &D
             regions,
             fields,
         } => {
-            for other in before {
-                if let Declaration::Struct { name: other, .. } = other {
-                    explain_twice(teller, *name, *other);
-                }
-            }
-            for i in 0..regions.len() {
-                for j in 0..i {
-                    explain_twice(teller, regions[i], regions[j]);
-                }
-            }
+            explain_struct(teller, before, *name);
+            explain_parameters(teller, regions);
             explain_fields(teller, fields);
         }
         Declaration::Exceptions { constructors } => explain_constructors(teller, constructors),
@@ -50,7 +42,7 @@ fn explain_head(teller: &mut Teller<'_>, before: &[Declaration], declaration: &D
             explain_global(teller, of_type, *value);
             explain_named(teller, before, *name);
             let text = "main is a variable, and no function";
-            teller.say_of(Code::BadMain, name.span, text, &[]);
+            teller.tell_at(Code::BadMain, name.span, text);
         }
         Declaration::Function {
             result,
@@ -72,6 +64,24 @@ fn explain_head(teller: &mut Teller<'_>, before: &[Declaration], declaration: &D
 
 // ---- names
 
+/// The words for a struct whose name is there already.
+fn explain_struct(teller: &mut Teller<'_>, before: &[Declaration], name: Ident) {
+    for other in before {
+        if let Declaration::Struct { name: other, .. } = other {
+            explain_twice(teller, name, *other);
+        }
+    }
+}
+
+/// The words for the region parameters of a struct, of which two have one name.
+fn explain_parameters(teller: &mut Teller<'_>, regions: &[Ident]) {
+    for i in 0..regions.len() {
+        for j in 0..i {
+            explain_twice(teller, regions[i], regions[j]);
+        }
+    }
+}
+
 /// The words for a global or a function whose name is there already.
 fn explain_named(teller: &mut Teller<'_>, before: &[Declaration], name: Ident) {
     for other in before {
@@ -87,8 +97,7 @@ fn explain_named(teller: &mut Teller<'_>, before: &[Declaration], name: Ident) {
 
 /// The words for a name that is declared twice, and only once in the text.
 fn explain_built_in(teller: &mut Teller<'_>, name: Ident) {
-    let text = "`%` is there in each program";
-    teller.say_of(Code::DeclaredTwice, name.span, text, &[Part::Name(name)]);
+    teller.tell(Code::DeclaredTwice, name, "`%` is there in each program");
 }
 
 fn explain_constructors(teller: &mut Teller<'_>, constructors: &[Constructor]) {
@@ -118,7 +127,7 @@ fn explain_fields(teller: &mut Teller<'_>, fields: &[Member]) {
         if let BaseType::Key { .. } = &field.of_type.base {
             let text =
                 "a key is a variable, a parameter or a result, and no field\nhint: pass the key beside the struct";
-            teller.say_of(Code::RegionOrKeyMisused, field.of_type.span, text, &[]);
+            teller.tell_at(Code::RegionOrKeyMisused, field.of_type.span, text);
         }
         let unknown = "`% is no region parameter of the struct: write it behind the struct's name";
         explain_written(teller, &field.of_type, unknown);
@@ -163,7 +172,7 @@ fn explain_main(
     } else {
         "main returns another type than int"
     };
-    teller.say(text, &[]);
+    teller.say(text);
 }
 
 // ---- globals
@@ -187,10 +196,13 @@ fn explain_global(teller: &mut Teller<'_>, written: &WrittenType, value: Option<
     explain_written(teller, written, unknown);
     let text =
         "a global is an int or a pointer\nhint: give the function what it needs as a parameter";
-    teller.say_of(Code::TypeMismatch, written.span, text, &[]);
+    teller.tell_at(Code::TypeMismatch, written.span, text);
     let (span, found) = initial(written, value);
-    let parts = [Part::Written(written), Part::Text(found)];
-    let text = "expected %, found %";
-    teller.say_of(Code::TypeMismatch, span, text, &parts);
-    teller.say_of(Code::NullForNonNull, span, text, &parts);
+    if teller.is_fault(Code::TypeMismatch, span) || teller.is_fault(Code::NullForNonNull, span) {
+        teller.say_both(
+            "expected %, found %",
+            Part::Written(written),
+            Part::Text(found),
+        );
+    }
 }

@@ -14,25 +14,25 @@ use cyc_types::formation::arguments_or;
 use cyc_types::typed::{Lvalue, ValueType};
 use cyc_words::{Code, Span};
 
-const COMPARED: &str = "two ints, two thin pointers to one type, or a pointer and NULL";
+const COMPARED: &str =
+    "expected two ints, two thin pointers to one type, or a pointer and NULL, found % and %";
 
 // ---- names and places
 
 /// The words for a name that is no value, or none that is read.
 pub(crate) fn explain_name(teller: &mut Teller<'_>, scope: &Scope<'_>, name: Ident) {
-    let parts = [Part::Name(name), Part::Name(name)];
     match scope.meaning(name) {
         Meaning::Unknown => explain_unknown(teller, scope, Sort::Value, name),
         Meaning::Routine { .. } => {
             let text = "% is a function, and no value\nhint: call it: %(..)";
-            teller.say_of(Code::TypeMismatch, name.span, text, &parts);
+            teller.tell(Code::TypeMismatch, name, text);
         }
         Meaning::Variable {
             target: Lvalue::Global { .. },
             ..
         } => {
             let text = "% is a global: the unique pointer in it stays there";
-            teller.say_of(Code::UniqueShared, name.span, text, &parts);
+            teller.tell(Code::UniqueShared, name, text);
         }
         _ => {}
     }
@@ -42,7 +42,7 @@ pub(crate) fn explain_name(teller: &mut Teller<'_>, scope: &Scope<'_>, name: Ide
 pub(crate) fn explain_unique_region(teller: &mut Teller<'_>, span: Span) {
     let text =
         "unique_region stands alone between the brackets of rnew, and is no value\nhint: write rnew(unique_region) and what the object is made of";
-    teller.say_of(Code::RegionOrKeyMisused, span, text, &[]);
+    teller.tell_at(Code::RegionOrKeyMisused, span, text);
 }
 
 /// The words for what a name means at a place where a key is wanted.
@@ -52,11 +52,10 @@ pub(crate) fn explain_key(teller: &mut Teller<'_>, scope: &Scope<'_>, name: Iden
         Meaning::Variable { of_type, .. } | Meaning::Fixed { of_type, .. } => Given::Value(of_type),
         _ => Given::Int,
     };
-    if !found.is_key() {
+    if !found.is_key() && teller.is_fault(Code::RegionOrKeyMisused, name.span) {
         let text =
             "% is no key of a dynamic region: found %\nhint: a key is declared so: let NewDynamicRegion{<`k> key} = new_ukey();";
-        let parts = [Part::Name(name), Part::Given(found)];
-        teller.say_of(Code::RegionOrKeyMisused, name.span, text, &parts);
+        teller.say_both(text, Part::Name(name), Part::of(found));
     }
 }
 
@@ -66,11 +65,12 @@ pub(crate) fn explain_place(teller: &mut Teller<'_>, scope: &Scope<'_>, expressi
         match root_of(expression) {
             Some(name) => {
                 let text = text_on_place(scope.meaning(name));
-                teller.say(text, &[Part::Name(name), Part::Name(name)]);
+                teller.say_name(text, name);
             }
             None => {
-                let text = "assign to a variable, *p, p->f or p[i]: these alone have an address";
-                teller.hint(text, &[]);
+                teller.say(
+                    "hint: assign to a variable, *p, p->f or p[i]: these alone have an address",
+                );
             }
         }
     }
@@ -128,12 +128,13 @@ fn explain_address(teller: &mut Teller<'_>, scope: &Scope<'_>, operand: &Expr) {
     let span = span_inside(operand);
     explain_place(teller, scope, operand);
     let text = "a key has no address\nhint: pass the key itself, which gives it away";
-    teller.say_of(Code::RegionOrKeyMisused, span, text, &[]);
-    if let Some(name) = root_of(operand) {
-        let parts = [Part::Name(name), Part::Name(name)];
-        let text =
-            "what % leads to may be given back while its address is kept\nhint: lend it: let alias <`a> int *`a x = %; with the pointer's own type, and take the address by x";
-        teller.say_of(Code::UniqueShared, span, text, &parts);
+    teller.tell_at(Code::RegionOrKeyMisused, span, text);
+    if teller.is_fault(Code::UniqueShared, span) {
+        if let Some(name) = root_of(operand) {
+            let text =
+                "what % leads to may be given back while its address is kept\nhint: lend it: let alias <`a> int *`a x = %; with the pointer's own type, and take the address by x";
+            teller.say_name(text, name);
+        }
     }
 }
 
@@ -298,9 +299,8 @@ fn explain_operation(
 /// The words for two values that are not compared.
 fn explain_compared<'g>(teller: &mut Teller<'_>, left: Given<'g>, right: Given<'g>, span: Span) {
     if teller.is_fault(Code::TypeMismatch, span) {
-        let parts = [Part::Text(COMPARED), Part::Given(left), Part::Given(right)];
-        teller.say("expected %, found % and %", &parts);
-        teller.hint(advice_on_compared(left, right), &[]);
+        teller.say_both(COMPARED, Part::of(left), Part::of(right));
+        teller.hint(advice_on_compared(left, right));
     }
 }
 

@@ -82,30 +82,29 @@ pub(crate) fn explain_unknown(teller: &mut Teller<'_>, scope: &Scope<'_>, sort: 
         return;
     }
     if let Some(other) = near(&teller.tree.names, scope, sort, name) {
-        teller.hint("did you mean `%`?", &[Part::Name(other)]);
+        teller.say_name("hint: did you mean `%`?", other);
     }
 }
 
 /// The words for a name that is declared twice, where it is the name of this one before it.
 pub(crate) fn explain_twice(teller: &mut Teller<'_>, name: Ident, first: Ident) {
-    if first.name == name.name {
-        let parts = [Part::Name(name), Part::Place(first.span)];
+    if first.name == name.name && teller.is_fault(Code::DeclaredTwice, name.span) {
         let text = "`%` is first declared at %";
-        teller.say_of(Code::DeclaredTwice, name.span, text, &parts);
+        teller.say_both(text, Part::Name(name), Part::Place(first.span));
     }
 }
 
 /// The words for a region that is declared in a function which has one of this name.
 pub(crate) fn explain_region_twice(teller: &mut Teller<'_>, name: Ident) {
+    explain_own_region(teller, name);
     if teller.is_fault(Code::DeclaredTwice, name.span) {
-        explain_own_region(teller, name);
-        if let Some(first) = teller.homes.find_named(name.name.number) {
-            let text = "`% is first declared at %: a function declares a region's name once";
-            let parts = [Part::Name(name), Part::Place(first)];
-            teller.say_of(Code::DeclaredTwice, name.span, text, &parts);
+        match teller.homes.find_named(name.name.number) {
+            Some(first) => {
+                let text = "`% is first declared at %: a function declares a region's name once";
+                teller.say_both(text, Part::Name(name), Part::Place(first));
+            }
+            None => teller.say_name("`% is there in each function", name),
         }
-        let text = "`% is there in each function";
-        teller.say_of(Code::DeclaredTwice, name.span, text, &[Part::Name(name)]);
     }
 }
 
@@ -113,9 +112,8 @@ pub(crate) fn explain_region_twice(teller: &mut Teller<'_>, name: Ident) {
 pub(crate) fn explain_own_region(teller: &mut Teller<'_>, name: Ident) {
     if let Some(function) = teller.function {
         if function.name == name.name {
-            let parts = [Part::Name(name), Part::Name(function)];
             let text = "`% is the region of the variables of %";
-            teller.say_of(Code::DeclaredTwice, name.span, text, &parts);
+            teller.tell(Code::DeclaredTwice, name, text);
         }
     }
 }

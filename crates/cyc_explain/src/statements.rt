@@ -22,29 +22,25 @@ const UNKNOWN: &str = "no region `% is in scope here";
 /// The words for an exception that is not declared, or that is written with an int where it has none, or the other way round.
 pub(crate) fn explain_exception(teller: &mut Teller<'_>, scope: &Scope<'_>, exception: Ident) {
     explain_unknown(teller, scope, Sort::Exception, exception);
-    let parts = [
-        Part::Name(exception),
-        Part::Name(exception),
-        Part::Name(exception),
-    ];
     if let Some(known) = scope.exception(exception.name.number) {
         let text = if known.has_int {
             "% has an int\nhint: write it in brackets: throw new %(1), or case &%(n)"
         } else {
             "% has no int\nhint: leave out the brackets: throw new %, or case &%"
         };
-        teller.say_of(Code::TypeMismatch, exception.span, text, &parts);
+        teller.tell(Code::TypeMismatch, exception, text);
     }
     let text = "a clause for % stands before this one";
-    teller.say_of(Code::DeclaredTwice, exception.span, text, &parts);
+    teller.tell(Code::DeclaredTwice, exception, text);
 }
 
 /// The words for a `return` without a value at this place.
 fn explain_nothing(teller: &mut Teller<'_>, scope: &Scope<'_>, span: Span) {
-    if let Some(of_type) = scope.result_type() {
-        let text = "expected %, found no value\nhint: write a value behind return";
-        let parts = [Part::Given(Given::Value(of_type))];
-        teller.say_of(Code::TypeMismatch, span, text, &parts);
+    if teller.is_fault(Code::TypeMismatch, span) {
+        if let Some(of_type) = scope.result_type() {
+            let text = "expected %, found no value\nhint: write a value behind return";
+            teller.say_with(text, Part::Type(of_type));
+        }
     }
 }
 
@@ -78,10 +74,12 @@ fn explain_returned(teller: &mut Teller<'_>, scope: &Scope<'_>, value: Given<'_>
 
 /// The words for a value that a function returns which has none.
 fn explain_no_result(teller: &mut Teller<'_>, scope: &Scope<'_>, span: Span) {
-    if let (None, Some(function)) = (scope.result_type(), teller.function) {
-        let text =
-            "% returns no value\nhint: write return alone, or a type before the function's name";
-        teller.say_of(Code::TypeMismatch, span, text, &[Part::Name(function)]);
+    if teller.is_fault(Code::TypeMismatch, span) && scope.result_type().is_none() {
+        if let Some(function) = teller.function {
+            let text =
+                "% returns no value\nhint: write return alone, or a type before the function's name";
+            teller.say_name(text, function);
+        }
     }
 }
 
@@ -100,13 +98,11 @@ pub(crate) fn explain_swap(
     }
     if let (Some(first), Some(second)) = (place_type(scope, left), place_type(scope, right)) {
         explain_content(teller, &first, span);
-        let parts = [
-            Part::Given(Given::Value(&first)),
-            Part::Given(Given::Value(&second)),
-        ];
-        let text =
-            "expected the same type, with the same regions, found % and %\nhint: swap places of one type";
-        teller.say_of(Code::TypeMismatch, span, text, &parts);
+        if teller.is_at(span) {
+            let text =
+                "expected the same type, with the same regions, found % and %\nhint: swap places of one type";
+            teller.say_both(text, Part::Type(&first), Part::Type(&second));
+        }
     }
 }
 
@@ -171,9 +167,10 @@ pub(crate) fn explain_opened(
     region: Ident,
     key: Ident,
 ) {
-    let text = "the key % is not of `%\nhint: a region is opened by its own key";
-    let parts = [Part::Name(key), Part::Name(region)];
-    teller.say_of(Code::RegionOrKeyMisused, region.span, text, &parts);
+    if teller.is_fault(Code::RegionOrKeyMisused, region.span) {
+        let text = "the key % is not of `%\nhint: a region is opened by its own key";
+        teller.say_both(text, Part::Name(key), Part::Name(region));
+    }
     explain_region(teller, region, UNKNOWN, "");
     explain_key(teller, scope, key);
 }
@@ -194,28 +191,28 @@ pub(crate) fn explain_alias(
             ..
         } => {
             explain_lent_type(teller, scope, region, written, of_type);
-            let parts = [
-                Part::Name(source),
-                Part::Given(Given::Value(of_type)),
-                Part::Name(source),
-            ];
             if let Lvalue::Global { .. } = target {
                 let text =
                     "% is a global: only a local is lent\nhint: swap it into a variable by :=: first";
-                teller.say_of(Code::UniqueShared, source.span, text, &parts);
+                teller.tell(Code::UniqueShared, source, text);
             }
-            if !is_unique(of_type) {
-                let text =
-                    "% is no unique pointer: found %\nhint: only a unique pointer is lent: use % itself";
-                teller.say_of(Code::RegionOrKeyMisused, source.span, text, &parts);
-            }
+            explain_lent(teller, source, of_type);
         }
         _ => {
             explain_name(teller, scope, source);
             let text = "% is no unique pointer";
-            let parts = [Part::Name(source)];
-            teller.say_of(Code::RegionOrKeyMisused, source.span, text, &parts);
+            teller.tell(Code::RegionOrKeyMisused, source, text);
         }
+    }
+}
+
+/// The words for an alias of a variable of this name and type, where that is no unique pointer.
+fn explain_lent(teller: &mut Teller<'_>, source: Ident, of_type: &Ty) {
+    if teller.is_fault(Code::RegionOrKeyMisused, source.span) && !is_unique(of_type) {
+        let text = "% is no unique pointer: found %";
+        teller.say_both(text, Part::Name(source), Part::Type(of_type));
+        let hint = "\nhint: only a unique pointer is lent: use % itself";
+        teller.say_name(hint, source);
     }
 }
 
@@ -239,14 +236,8 @@ fn explain_lent_type(
             target,
             region: region_of(scope.names(), region),
         };
-        let parts = [
-            Part::Given(Given::Value(&wanted)),
-            Part::Given(Given::Value(&found)),
-        ];
-        teller.say("expected %, found %", &parts);
-        teller.hint(
-            "an alias has its source's type, with its own region in place of `U",
-            &[],
-        );
+        let text =
+            "expected %, found %\nhint: an alias has its source's type, with its own region in place of `U";
+        teller.say_both(text, Part::Type(&wanted), Part::Type(&found));
     }
 }

@@ -14,13 +14,27 @@ pub(crate) enum Part<'a> {
     Number(usize),
     Place(Span),
     Name(Ident),
-    Given(Given<'a>),
+    /// A type, in which a region without a name is left out.
+    Type(&'a Ty),
     /// A type as it is written, in which what is left out is the heap.
     Written(&'a WrittenType),
     /// A region of the function at hand, by its name or else by its place.
     Region(Region),
     /// The same of a function that is called, as its own head names it.
     Theirs(Region),
+}
+
+impl<'a> Part<'a> {
+    /// What is found where a value is.
+    pub(crate) fn of(given: Given<'a>) -> Part<'a> {
+        match given {
+            Given::Void => Part::Text("no value"),
+            Given::Null => Part::Text("NULL"),
+            Given::Int => Part::Text("int"),
+            Given::HeapHandle => Part::Text("region_t<`H>"),
+            Given::Value(of_type) => Part::Type(of_type),
+        }
+    }
 }
 
 /// The end of a block that opens the dynamic region of this name.
@@ -129,38 +143,54 @@ impl<'t> Teller<'t> {
 
     // ---- texts
 
-    /// Says a text, in which each `%` is a gap that the next part fills.
-    pub(crate) fn say(&mut self, text: &str, parts: &[Part<'_>]) {
-        let mut next = 0usize;
+    /// Says a text.
+    pub(crate) fn say(&mut self, text: &str) {
+        self.put(text.as_bytes());
+    }
+
+    /// Says a text, in which each `%` is a gap: the first part fills the first, and the other part any other.
+    pub(crate) fn say_both<'p>(&mut self, text: &str, first: Part<'p>, other: Part<'p>) {
+        let mut part = first;
         for byte in text.as_bytes() {
             if *byte == b'%' {
-                if let Some(part) = parts.get(next) {
-                    self.say_part(*part);
-                }
-                next = next.saturating_add(1);
+                self.put_part(part);
+                part = other;
             } else {
                 self.put(&[*byte]);
             }
         }
     }
 
-    /// The same, where this fault is at hand.
-    pub(crate) fn say_of(&mut self, code: Code, span: Span, text: &str, parts: &[Part<'_>]) {
-        if self.is_fault(code, span) {
-            self.say(text, parts);
+    /// The same, where one part fills every gap.
+    pub(crate) fn say_with(&mut self, text: &str, part: Part<'_>) {
+        self.say_both(text, part, part);
+    }
+
+    /// The same, where a name does.
+    pub(crate) fn say_name(&mut self, text: &str, name: Ident) {
+        self.say_with(text, Part::Name(name));
+    }
+
+    /// Says a text whose gaps a name fills, where this fault of the name is at hand.
+    pub(crate) fn tell(&mut self, code: Code, name: Ident, text: &str) {
+        if self.is_fault(code, name.span) {
+            self.say_name(text, name);
         }
     }
 
-    /// Says what to do, if there is anything, in place of what is said of the fault's code.
-    pub(crate) fn hint(&mut self, text: &str, parts: &[Part<'_>]) {
-        if text.is_empty() {
-            return;
+    /// Says a text without gaps, where this fault is at hand.
+    pub(crate) fn tell_at(&mut self, code: Code, span: Span, text: &str) {
+        if self.is_fault(code, span) {
+            self.say(text);
         }
-        if !self.bytes.is_empty() {
-            self.put(b"\n");
+    }
+
+    /// Says behind other words what to do, if there is anything, in place of what is said of the fault's code.
+    pub(crate) fn hint(&mut self, text: &str) {
+        if !text.is_empty() {
+            self.say("\nhint: ");
+            self.say(text);
         }
-        self.put(b"hint: ");
-        self.say(text, parts);
     }
 
     fn put(&mut self, bytes: &[u8]) {
@@ -189,17 +219,13 @@ impl<'t> Teller<'t> {
         }
     }
 
-    fn say_part(&mut self, part: Part<'_>) {
+    fn put_part(&mut self, part: Part<'_>) {
         match part {
-            Part::Text(text) => self.put(text.as_bytes()),
+            Part::Text(text) => self.say(text),
             Part::Number(number) => self.put_number(number),
             Part::Place(span) => self.put_place(span),
             Part::Name(name) => self.put_name(name.name.number),
-            Part::Given(Given::Void) => self.put(b"no value"),
-            Part::Given(Given::Null) => self.put(b"NULL"),
-            Part::Given(Given::Int) => self.put(b"int"),
-            Part::Given(Given::HeapHandle) => self.put(b"region_t<`H>"),
-            Part::Given(Given::Value(of_type)) => self.say_type(of_type),
+            Part::Type(of_type) => self.say_type(of_type),
             Part::Written(written) => self.say_written(written),
             Part::Region(region) => {
                 let home = self.homes.find(region);

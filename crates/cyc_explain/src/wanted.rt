@@ -174,22 +174,24 @@ pub(crate) fn explain_given(
     span: Span,
 ) {
     if teller.is_fault(Code::TypeMismatch, span) && !wanted.allows(value) {
-        teller.say(
+        teller.say_both(
             "expected %, found %",
-            &[Part::Text(wanted.text()), Part::Given(value)],
+            Part::Text(wanted.text()),
+            Part::of(value),
         );
-        teller.hint(wanted.advice(value), &[]);
+        teller.hint(wanted.advice(value));
     }
-    let parts = [Part::Given(value)];
-    let text = match wanted {
-        Wanted::Freed => {
-            "ufree takes a unique pointer (`U), found %\nhint: make the object by rnew(unique_region) if it is to be given back"
-        }
-        _ => {
-            "no object holds a key, found %\nhint: keep the key in a variable, a parameter or a result"
-        }
-    };
-    teller.say_of(Code::RegionOrKeyMisused, span, text, &parts);
+    if teller.is_fault(Code::RegionOrKeyMisused, span) {
+        let text = match wanted {
+            Wanted::Freed => {
+                "ufree takes a unique pointer (`U), found %\nhint: make the object by rnew(unique_region) if it is to be given back"
+            }
+            _ => {
+                "no object holds a key, found %\nhint: keep the key in a variable, a parameter or a result"
+            }
+        };
+        teller.say_with(text, Part::of(value));
+    }
     explain_closed(teller, scope, value, span);
 }
 
@@ -210,18 +212,12 @@ pub(crate) fn explain_value(
 
 /// The words for a cell of this type that is read at this place, where it is a struct or a unique pointer.
 pub(crate) fn explain_content(teller: &mut Teller<'_>, of_type: &Ty, span: Span) {
-    if is_struct(of_type) {
-        let parts = [Part::Given(Given::Value(of_type))];
-        teller.say_of(
-            Code::TypeMismatch,
-            span,
-            "expected a value, found %\nhint: a struct is no value: read a field by ->",
-            &parts,
-        );
+    if teller.is_fault(Code::TypeMismatch, span) && is_struct(of_type) {
+        let text = "expected a value, found %\nhint: a struct is no value: read a field by ->";
+        teller.say_with(text, Part::Type(of_type));
     }
-    if is_unique(of_type) || is_key(of_type) {
-        let parts = [Part::Given(Given::Value(of_type))];
+    if teller.is_fault(Code::UniqueShared, span) && (is_unique(of_type) || is_key(of_type)) {
         let text = "found %, which stays where it is: no second pointer leads to a unique object";
-        teller.say_of(Code::UniqueShared, span, text, &parts);
+        teller.say_with(text, Part::Type(of_type));
     }
 }

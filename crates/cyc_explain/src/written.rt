@@ -23,16 +23,12 @@ fn region_count(declarations: &[Declaration], name: Ident) -> Option<usize> {
 
 /// The words for another number of things at the fault than is wanted.
 pub(crate) fn say_count(teller: &mut Teller<'_>, wanted: usize, found: usize, thing: &str) {
-    let parts = [
-        Part::Number(wanted),
-        Part::Text(thing),
-        Part::Text(if wanted == 1 { "" } else { "s" }),
-        Part::Number(found),
-    ];
-    teller.say(
-        "expected % %%, found %\nhint: give as many as are wanted",
-        &parts,
-    );
+    teller.say_both("expected % %", Part::Number(wanted), Part::Text(thing));
+    if wanted != 1 {
+        teller.say("s");
+    }
+    let text = ", found %\nhint: give as many as are wanted";
+    teller.say_with(text, Part::Number(found));
 }
 
 /// What a type is that nothing has.
@@ -43,7 +39,6 @@ fn explain_shape(teller: &mut Teller<'_>, written: &WrittenType) {
             if !written.marks.is_empty() {
                 teller.say(
                     "no pointer leads to a key\nhint: pass the key itself, which gives it away",
-                    &[],
                 );
             }
         }
@@ -57,8 +52,7 @@ fn explain_shape(teller: &mut Teller<'_>, written: &WrittenType) {
             if !matches!(written.marks.first(), Some(mark) if mark.kind != PointerKind::Fat) {
                 let text =
                     "% is a struct: only a * or @ pointer to it is a type\nhint: make the struct by new and keep a pointer: struct % @p = new %{..};";
-                let parts = [Part::Name(*name), Part::Name(*name), Part::Name(*name)];
-                teller.say(text, &parts);
+                teller.say_name(text, *name);
             }
         }
     }
@@ -66,9 +60,8 @@ fn explain_shape(teller: &mut Teller<'_>, written: &WrittenType) {
 
 /// The words for a region in a type. `unknown` says what one is that is not in scope there, and `misused` one that may not stand there.
 pub(crate) fn explain_region(teller: &mut Teller<'_>, name: Ident, unknown: &str, misused: &str) {
-    let parts = [Part::Name(name)];
-    teller.say_of(Code::UnknownName, name.span, unknown, &parts);
-    teller.say_of(Code::RegionOrKeyMisused, name.span, misused, &parts);
+    teller.tell(Code::UnknownName, name, unknown);
+    teller.tell(Code::RegionOrKeyMisused, name, misused);
     explain_own_region(teller, name);
 }
 
