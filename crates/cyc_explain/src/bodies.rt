@@ -17,8 +17,7 @@ use cyc_forms::span_of;
 use cyc_heads::{heads, members};
 use cyc_scope::{Program, Scope};
 use cyc_syntax::{
-    Block, Clause, Declaration, Expr, Ident, Initial, Item, Member, Operation, Postfix,
-    PrefixOperator, Stmt, Tree,
+    Block, Clause, Declaration, Expr, Ident, Initial, Item, Member, Postfix, Stmt, Tree,
 };
 use cyc_words::Span;
 
@@ -165,7 +164,8 @@ fn walk_statement(teller: &mut Teller<'_>, scope: &mut Scope<'_>, statement: &St
             otherwise,
             ..
         } => {
-            walk_tested(teller, scope, condition, then);
+            walk_expression(teller, scope, condition, Wanted::Tested);
+            walk_statement(teller, scope, then);
             if let Some(other) = otherwise {
                 walk_statement(teller, scope, other);
             }
@@ -174,20 +174,29 @@ fn walk_statement(teller: &mut Teller<'_>, scope: &mut Scope<'_>, statement: &St
             condition,
             body,
             ..
-        } => walk_tested(teller, scope, condition, body),
-        Stmt::Try {
-            span,
-            body,
-            clauses,
-            default,
         } => {
+            walk_expression(teller, scope, condition, Wanted::Tested);
             walk_statement(teller, scope, body);
-            walk_clauses(teller, scope, clauses);
-            if let Some(items) = default {
-                walk_default(teller, scope, *span, items);
-            }
         }
+        Stmt::Try { .. } => walk_try(teller, scope, statement),
         _ => walk_plain(teller, scope, statement),
+    }
+}
+
+#[cycle(statement)]
+fn walk_try(teller: &mut Teller<'_>, scope: &mut Scope<'_>, statement: &Stmt) {
+    if let Stmt::Try {
+        span,
+        body,
+        clauses,
+        default,
+    } = statement
+    {
+        walk_statement(teller, scope, body);
+        walk_clauses(teller, scope, clauses);
+        if let Some(items) = default {
+            walk_default(teller, scope, *span, items);
+        }
     }
 }
 
@@ -196,7 +205,8 @@ fn walk_plain(teller: &mut Teller<'_>, scope: &mut Scope<'_>, statement: &Stmt) 
     match statement {
         Stmt::Expression { value } => walk_expression(teller, scope, value, Wanted::Nothing),
         Stmt::Swap { left, right } => {
-            walk_two(teller, scope, left, right);
+            walk_expression(teller, scope, left, Wanted::Nothing);
+            walk_expression(teller, scope, right, Wanted::Nothing);
             explain_swap(teller, scope, left, right);
         }
         Stmt::Return { span, value } => {
@@ -219,13 +229,6 @@ fn walk_plain(teller: &mut Teller<'_>, scope: &mut Scope<'_>, statement: &Stmt) 
 fn walk_labelled(teller: &mut Teller<'_>, scope: &mut Scope<'_>, label: Ident, block: &Block) {
     add_region(teller, label, Origin::Block);
     walk_block(teller, scope, block);
-}
-
-/// Asks a condition, and what is done where it holds.
-#[cycle(statement)]
-fn walk_tested(teller: &mut Teller<'_>, scope: &mut Scope<'_>, condition: &Expr, then: &Stmt) {
-    walk_expression(teller, scope, condition, Wanted::Tested);
-    walk_statement(teller, scope, then);
 }
 
 /// Asks the items of a default clause of a statement at this place.
@@ -300,25 +303,15 @@ fn walk_expression(
     wanted: Wanted,
 ) {
     match expression {
-        Expr::Call {
-            function,
-            arguments,
-        } => walk_call(teller, scope, *function, arguments),
-        Expr::Bracketed { inner, .. } => walk_expression(teller, scope, inner, Wanted::Nothing),
-        Expr::NumberOfElements { pointer, .. } => {
-            walk_expression(teller, scope, pointer, Wanted::Fat);
+        Expr::Call { .. } => walk_call(teller, scope, expression),
+        Expr::Chained { .. } => walk_chain(teller, scope, expression),
+        Expr::Prefixed { .. } => walk_prefixed(teller, scope, expression),
+        Expr::Binary { .. } => walk_binary(teller, scope, expression),
+        Expr::Assign { .. } => walk_assigned(teller, scope, expression),
+        Expr::New { .. } | Expr::RegionNew { .. } => walk_new(teller, scope, expression),
+        Expr::Bracketed { .. } | Expr::NumberOfElements { .. } | Expr::FreeUnique { .. } => {
+            walk_enclosed(teller, scope, expression);
         }
-        Expr::FreeUnique { pointer, .. } => walk_expression(teller, scope, pointer, Wanted::Freed),
-        Expr::Chained { base, postfixes } => walk_chain(teller, scope, base, postfixes),
-        Expr::Prefixed {
-            span,
-            operator,
-            operand,
-        } => walk_prefixed(teller, scope, *operator, *span, operand),
-        Expr::New { value, .. } => walk_initial(teller, scope, value),
-        Expr::RegionNew { region, value, .. } => walk_placed(teller, scope, region, value),
-        Expr::Binary { first, rest } => walk_operations(teller, scope, first, rest),
-        Expr::Assign { target, value } => walk_assigned(teller, scope, target, value),
         _ => explain_alone(teller, scope, expression),
     }
     explain_value(teller, scope, expression, wanted);
@@ -335,66 +328,88 @@ fn explain_alone(teller: &mut Teller<'_>, scope: &Scope<'_>, expression: &Expr) 
 }
 
 #[cycle(expression)]
-fn walk_two(teller: &mut Teller<'_>, scope: &mut Scope<'_>, left: &Expr, right: &Expr) {
-    walk_expression(teller, scope, left, Wanted::Nothing);
-    walk_expression(teller, scope, right, Wanted::Nothing);
+fn walk_call(teller: &mut Teller<'_>, scope: &mut Scope<'_>, expression: &Expr) {
+    if let Expr::Call {
+        function,
+        arguments,
+    } = expression
+    {
+        walk_expressions(teller, scope, arguments);
+        explain_call(teller, scope, *function, arguments);
+    }
 }
 
 #[cycle(expression)]
-fn walk_assigned(teller: &mut Teller<'_>, scope: &mut Scope<'_>, target: &Expr, value: &Expr) {
-    walk_two(teller, scope, target, value);
-    explain_assigned(teller, scope, target, value);
-}
-
-#[cycle(expression)]
-fn walk_call(teller: &mut Teller<'_>, scope: &mut Scope<'_>, function: Ident, arguments: &[Expr]) {
-    walk_expressions(teller, scope, arguments);
-    explain_call(teller, scope, function, arguments);
-}
-
-#[cycle(expression)]
-fn walk_prefixed(
-    teller: &mut Teller<'_>,
-    scope: &mut Scope<'_>,
-    operator: PrefixOperator,
-    span: Span,
-    operand: &Expr,
-) {
-    walk_expression(teller, scope, operand, wanted_of(operator));
-    explain_prefixed(teller, scope, operator, span, operand);
-}
-
-/// Asks an object that is made in a region.
-#[cycle(expression)]
-fn walk_placed(teller: &mut Teller<'_>, scope: &mut Scope<'_>, region: &Expr, value: &Initial) {
-    walk_expression(teller, scope, region, Wanted::Handle);
-    walk_initial(teller, scope, value);
-}
-
-#[cycle(expression)]
-fn walk_chain(teller: &mut Teller<'_>, scope: &mut Scope<'_>, base: &Expr, postfixes: &[Postfix]) {
-    walk_expression(teller, scope, base, Wanted::Nothing);
-    for postfix in postfixes {
-        if let Postfix::Index { index } = postfix {
-            walk_expression(teller, scope, index, Wanted::Int);
+fn walk_chain(teller: &mut Teller<'_>, scope: &mut Scope<'_>, expression: &Expr) {
+    if let Expr::Chained { base, postfixes } = expression {
+        walk_expression(teller, scope, base, Wanted::Nothing);
+        for postfix in postfixes {
+            if let Postfix::Index { index } = postfix {
+                walk_expression(teller, scope, index, Wanted::Int);
+            }
         }
+        explain_chain(teller, scope, base, postfixes);
     }
-    explain_chain(teller, scope, base, postfixes);
 }
 
 #[cycle(expression)]
-fn walk_operations(
-    teller: &mut Teller<'_>,
-    scope: &mut Scope<'_>,
-    first: &Expr,
-    operations: &[Operation],
-) {
-    walk_expression(teller, scope, first, Wanted::Nothing);
-    for operation in operations {
-        let wanted = wanted_by(operation.operator).1;
-        walk_expression(teller, scope, &operation.operand, wanted);
+fn walk_prefixed(teller: &mut Teller<'_>, scope: &mut Scope<'_>, expression: &Expr) {
+    if let Expr::Prefixed {
+        span,
+        operator,
+        operand,
+    } = expression
+    {
+        walk_expression(teller, scope, operand, wanted_of(*operator));
+        explain_prefixed(teller, scope, *operator, *span, operand);
     }
-    explain_binary(teller, scope, first, operations);
+}
+
+#[cycle(expression)]
+fn walk_binary(teller: &mut Teller<'_>, scope: &mut Scope<'_>, expression: &Expr) {
+    if let Expr::Binary { first, rest } = expression {
+        walk_expression(teller, scope, first, Wanted::Nothing);
+        for operation in rest {
+            let wanted = wanted_by(operation.operator).1;
+            walk_expression(teller, scope, &operation.operand, wanted);
+        }
+        explain_binary(teller, scope, first, rest);
+    }
+}
+
+#[cycle(expression)]
+fn walk_assigned(teller: &mut Teller<'_>, scope: &mut Scope<'_>, expression: &Expr) {
+    if let Expr::Assign { target, value } = expression {
+        walk_expression(teller, scope, target, Wanted::Nothing);
+        walk_expression(teller, scope, value, Wanted::Nothing);
+        explain_assigned(teller, scope, target, value);
+    }
+}
+
+/// Asks a new object.
+#[cycle(expression)]
+fn walk_new(teller: &mut Teller<'_>, scope: &mut Scope<'_>, expression: &Expr) {
+    match expression {
+        Expr::New { value, .. } => walk_initial(teller, scope, value),
+        Expr::RegionNew { region, value, .. } => {
+            walk_expression(teller, scope, region, Wanted::Handle);
+            walk_initial(teller, scope, value);
+        }
+        _ => {}
+    }
+}
+
+/// Asks an expression in brackets.
+#[cycle(expression)]
+fn walk_enclosed(teller: &mut Teller<'_>, scope: &mut Scope<'_>, expression: &Expr) {
+    match expression {
+        Expr::Bracketed { inner, .. } => walk_expression(teller, scope, inner, Wanted::Nothing),
+        Expr::NumberOfElements { pointer, .. } => {
+            walk_expression(teller, scope, pointer, Wanted::Fat);
+        }
+        Expr::FreeUnique { pointer, .. } => walk_expression(teller, scope, pointer, Wanted::Freed),
+        _ => {}
+    }
 }
 
 #[cycle(expression)]
