@@ -930,6 +930,10 @@ BYTE_ROUTINES = [
     "char got(char *p) { if (p) return *p; return -1; }",
     "int spent(char ?`U u) { int n = numelts(u); if (n > 0) n = n * 256 + u[n - 1]; ufree(u); return n; }",
     "char ?`U kept(int n) { return rnew(unique_region) {for i < n : char(i * n)}; }",
+    "int fields(struct B *`r b) { if (b) return (((b->a * 31 + b->b) * 31 + b->c) * 31 + b->d) * 31 + b->n + numelts(b->f); return -5; }",
+    "char cut(int n) { return n; }",
+    "int widened(char c) { return c; }",
+    "char tossed(char c, int n) { if (n & 1) throw new E1(c + n); if (n & 2) throw new E2(c); return c + n; }",
 ]
 
 
@@ -954,10 +958,12 @@ class ByteMaker(Chars, RegionMaker):
         for line in ("gs = word(6);", "gb = bytes('x', 1, 'y', gf);"):
             if self.chance(85):
                 self.put(line)
+        for name in ("cut", "widened"):
+            self.put(f"show({name}({self.pick(['', '-'])}{self.literal()}));")
 
     def simple_statements(self):
         ours = [self.char_store, self.char_store, self.char_swap, self.char_swap, self.char_address, self.printed, self.unique_chars]
-        return super().simple_statements() + ours
+        return super().simple_statements() + ours + [self.char_edge, self.char_tossed]
 
     def expressions(self):
         return super().expressions() + [self.char_cell, self.char_cell, self.char_routine] * 2
@@ -1007,9 +1013,15 @@ class ByteMaker(Chars, RegionMaker):
         return self.pick(cells)
 
     def char_routine(self, depth):
+        if self.chance(40):
+            return self.converting_call()
         if self.chance(50):
             return f"got({self.pointer(CHAR_STAR, depth)})"
         return f"mixed({self.pointer(CHAR_FAT, depth)})"
+
+    def converting_call(self):
+        """A call that makes a char of an int, as its argument or as its result."""
+        return f"{self.pick(['cut', 'widened'])}({self.expression(1)})"
 
     def char_store(self, depth):
         place = self.pick(self.char_cells() + self.chars())
@@ -1027,7 +1039,22 @@ class ByteMaker(Chars, RegionMaker):
         self.seen(value, 50)
 
     def printed(self, depth):
-        self.put(self.pick([f"print({self.pointer(CHAR_FAT, 1)});", f"show(mixed({self.pointer(CHAR_FAT, 1)}));"]))
+        structs = [f"show(fields({name}));" for name, _ in self.to(BYTES, "*@")]
+        chars = [f"print({self.pointer(CHAR_FAT, 1)});", f"show(mixed({self.pointer(CHAR_FAT, 1)}));"]
+        self.put(self.pick(structs if structs and self.chance(50) else chars))
+
+    def char_edge(self, depth):
+        """A store to the last byte of an array, or to one behind it, which is caught."""
+        name = self.pick([name for name, _ in self.to(CHAR, "?")])
+        place = f"{name}[numelts({name}){self.pick(['', '', ' - 1', ' - 1', ' + 1'])}]"
+        self.put(f"try {place} = {self.expression(1)}; catch {{ case &Array_bounds: show(mixed({name})); default: ; }}")
+        self.put(f"show(mixed({name}));")
+
+    def char_tossed(self, depth):
+        """A char that is returned, or thrown as an int and caught."""
+        clauses = "case &E1(n): show(n); case &E2(n): { putchar(n); show(n); }" + self.pick(["", " default: ;"])
+        self.put(f"show({self.converting_call()});")
+        self.put(f"try show(tossed({self.expression(1)}, {self.expression(1)})); catch {{ {clauses} }}")
 
     def unique_chars(self, depth):
         """An array that is one of a class of blocks, and is given back."""

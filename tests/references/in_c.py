@@ -21,13 +21,10 @@ import sys
 import tempfile
 
 import reference
-from language.runs import ARRAY_BOUNDS, ARRAY_SIZE, ARRAY_WORDS_AT_MOST, DIVISION_BY_ZERO, NULL_EXCEPTION, PAGE_WORDS, bytes_of, words_of
+from language.runs import bytes_of, words_of
 from language.types import CHAR, INT, NOTHING, NULL, is_fat, is_number, is_pointer
 
-# For calls within calls, in bytes.
-ROOM = 1 << 30
-
-HEAD = f"""
+HEAD = """
 #include <setjmp.h>
 #include <stdint.h>
 #include <stdio.h>
@@ -36,9 +33,11 @@ HEAD = f"""
 #include <sys/resource.h>
 #include <unistd.h>
 #define LEAST (-2147483647 - 1)
-enum {{ ROOM = {ROOM}, PAGE_WORDS = {PAGE_WORDS}, ARRAY_WORDS_AT_MOST = {ARRAY_WORDS_AT_MOST} }};
-enum {{ NULL_EXCEPTION = {NULL_EXCEPTION}, ARRAY_BOUNDS = {ARRAY_BOUNDS}, ARRAY_SIZE = {ARRAY_SIZE}, DIV_ZERO = {DIVISION_BY_ZERO} }};
-""" + """
+enum { PAGE_WORDS = 1024, ARRAY_WORDS_AT_MOST = 1000 };
+enum { NULL_EXCEPTION = 1, ARRAY_BOUNDS, ARRAY_SIZE, DIV_ZERO };
+/* The stack for calls within calls, in bytes. */
+enum { ROOM = 1 << 30 };
+
 struct fat { void *start; int32_t count, index; };
 struct region { long long pages, filled; struct region *outer; };
 struct mark { struct trial *trial; struct region *lexical; long long depth; };
