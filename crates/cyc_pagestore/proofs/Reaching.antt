@@ -1,7 +1,7 @@
 -- How far a page's words are live by serials, after a field of one page was written.
 use Rattle.std.proofs.Common.{◌≡◌, ℕ, ◌<◌, ◌≤◌, true, false, ap, sym, ◌∙◌, inl, inr, arith}
 use Rattle.std.specs.Prelude.{◌==◌, if◌then◌else◌, nat_lt}
-use Rattle.std.proofs.lemmas.Bool.{cases_eq, cases_lt, cond-true, cond-false, eq-eqb, ne_eqb, lt-ltb, le-ltb, true≢false, false≢true}
+use Rattle.std.proofs.lemmas.Bool.{cases_eq, cond-true, cond-false, eq-eqb, ne_eqb, lt-ltb, le-ltb, false≢true}
 use Rattle.cyc_pagestore.specs.Live.{reach_by}
 
 pub reach-by_serial : (serial owner fill : ℕ → ℕ) (page : ℕ) → serial page ≡ serial (owner page) → reach_by serial owner fill page ≡ fill page
@@ -22,12 +22,6 @@ pub reach-same : (serial owner fill serial' owner' fill' : ℕ → ℕ) (page : 
 reach-same serial owner fill serial' owner' fill' page o s t f = λ j. if s j == (ap serial' o ∙ t) j then f j else 0
 
 -- ---- whether a word is within a page's live words
-
-pub le-from : (m n : ℕ) → nat_lt m n ≡ false → n ≤ m
-le-from m n e = elim (cases_lt m n) [
-  | inl lt ↦ absurd (true≢false (sym (lt-ltb m n lt) ∙ e))
-  | inr le ↦ le
-]
 
 -- none is past the fill mark
 pub within-none : (serial owner fill : ℕ → ℕ) (page offset : ℕ) → fill page ≤ offset → nat_lt offset (reach_by serial owner fill page) ≡ false

@@ -1,6 +1,6 @@
 -- The three readings of a rule agree: what it derives and what it refuses with is what a checker computes, and nothing else.
 use Rattle.std.proofs.Common.{◌≡◌, ℕ, ◌<◌, ◌≤◌, Bool, true, false, cond, nat_lt, ◌⊎◌, List, [], ◌∷◌, ◌++◌, Option, Some, None, Ok, Err, inl, inr, refl, sym, ap, subst, ◌∙◌, arith}
-use Rattle.std.proofs.lemmas.Bool.Decides.{nat_tests}
+use Rattle.std.proofs.lemmas.Bool.{ltb-false}
 use Rattle.cyc_words.specs.declared.fault.Fault.{Fault}
 use Rattle.cyc_words.specs.Fault.{number_of}
 use Rattle.cyc_words.proofs.Decisions.{IsDecided}
@@ -112,9 +112,6 @@ behind : (d : Demand) (ds : List Demand) (f : Fault) → IsFaultOf ds f → (d.k
 behind d ds f (before, x, after, is, b, above, rest, eq) s =
     (d ∷ before, x, after, ap (λ l. d ∷ l) is, b, (subst (λ g. (d.kept ≡ true) ⊎ (number_of g.code < number_of d.code)) eq s, above), rest, eq)
 
-not_below_of : (m n : ℕ) → nat_lt m n ≡ false → n ≤ m
-not_below_of m n l = grind (arith, nat_tests)
-
 from_kept : (e : Fault) (d : Demand) (ds : List Demand) (o : Option Fault) → d.kept ≡ true → From e ds o → From e (d ∷ ds) o
 from_kept e d ds o k (same h) = same (inl k, h)
 from_kept e d ds o k (lower {f} h l) = lower (behind d ds f h (inl k)) l
@@ -132,7 +129,7 @@ from_next e d ds rest = by_kept d.kept refl
   where
     by_test : d.kept ≡ false → (b : Bool) → nat_lt (number_of d.code) (number_of e.code) ≡ b → From e (d ∷ ds) (settled (cond b (Some (fault_of d)) (Some e)) ds)
     by_test k true l = from_taken e d ds _ k (nat_lt-true (number_of d.code) (number_of e.code) l) (rest (fault_of d))
-    by_test k false l = from_passed e d ds _ (not_below_of (number_of d.code) (number_of e.code) l) (rest e)
+    by_test k false l = from_passed e d ds _ (ltb-false (number_of d.code) (number_of e.code) l) (rest e)
 
     by_kept : (b : Bool) → d.kept ≡ b → From e (d ∷ ds) (settled (cond b (Some e) (lesser (Some e) (fault_of d))) ds)
     by_kept true k = from_kept e d ds _ k (rest e)
