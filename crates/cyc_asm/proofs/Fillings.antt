@@ -1,5 +1,5 @@
 -- Laws of the slots that are filled.
-use Rattle.std.proofs.Common.{◌≡◌, ◌≢◌, ℕ, zero, suc, ◌+◌, ◌<◌, List, [], ◌∷◌, length, get_or, take, Bool, true, false, cond, not, nat_eq, Option, None, Some, refl, sym, ap, subst, ◌∙◌, arith, inl, inr, eq-eqb}
+use Rattle.std.proofs.Common.{◌≡◌, ◌≢◌, ℕ, zero, suc, ◌+◌, ◌<◌, List, length, get_or, take, Bool, true, false, cond, nat_eq, Option, None, Some, refl, sym, ap, subst, ◌∙◌, arith, inl, inr, eq-eqb}
 use Rattle.std.specs.Prelude.{◌⊎◌, ◌||◌, ◌&&◌, slice_get, slice_set}
 use Rattle.std.proofs.lemmas.Bool.{cases_eq, ne_eqb}
 use Rattle.std.proofs.lemmas.List.{get_or-set_same, get_or-set_other, length-set}
@@ -80,14 +80,18 @@ filled_moves i lines.Return may = (and_first (is_movable i) _ may, refl)
 
 -- ---- slots that are empty
 
+-- a label that a line goes to is used
+pub label_named : (code : List Line) (number label : ℕ) (line : Line) → slice_get code number ≡ Some line → label_of line ≡ Some label → is_named code label ≡ true
+label_named code number label line at goes =
+    list_any_at (λ (l : Line). is_label label (label_of l)) code number line (slice_get_within code number line at)
+    (ap (λ (l : Line). is_label label (label_of l)) (get_or_from_slice_get code number line line at)
+    ∙ ap (is_label label) goes ∙ eq-eqb label label refl)
+
 -- a line at which a used label stands
 pub named_empty : (code : List Line) (number label : ℕ) (line : Line) → slice_get code number ≡ Some line → label_of line ≡ Some label → filling code label ≡ None
 named_empty code number zero line at goes = refl
 named_empty code number (suc before) line at goes =
-    ap (λ b. cond b None (moved (slice_get code before) (slice_get code (suc before))))
-    (list_any_at (λ (l : Line). is_label (suc before) (label_of l)) code number line (slice_get_within code number line at)
-    (ap (λ (l : Line). is_label (suc before) (label_of l)) (get_or_from_slice_get code number line line at)
-    ∙ ap (is_label (suc before)) goes ∙ eq-eqb (suc before) (suc before) refl))
+    ap (λ b. cond b None (moved (slice_get code before) (slice_get code (suc before)))) (label_named code number (suc before) line at goes)
 
 -- a line behind a branch or jump
 pub behind_empty : (code : List Line) (number : ℕ) (line : Line) → slice_get code number ≡ Some line → is_jump line ≡ true → filling code (suc number) ≡ None

@@ -1,6 +1,6 @@
 -- Laws of the layout.
 use Rattle.std.proofs.Common.{◌≡◌, ℕ, zero, suc, ◌+◌, ◌-◌, ◌≤◌, ◌<◌, List, [], ◌∷◌, ◌++◌, length, get_or, take, Bool, true, false, nat_le, Option, None, Some, append-nil, refl, sym, ap, subst, ◌∙◌, arith, inl, inr}
-use Rattle.std.specs.Prelude.{◌&&◌, slice_get}
+use Rattle.std.specs.Prelude.{slice_get}
 use Rattle.std.specs.List.{range_with_len, flat_map}
 use Rattle.std.proofs.Math.Seq.{take-suc}
 use Rattle.std.proofs.lemmas.Bool.{leb-true, cases_lt}
@@ -17,7 +17,7 @@ use Rattle.cyc_select.specs.declared.code.Line.TheVariants as lines
 use Rattle.cyc_select.specs.Labelled.{Labelled, Fits, AreAddresses, words_of, all_words}
 use Rattle.cyc_asm.specs.declared.constants.TheConstants.{MAX_REACH}
 use Rattle.cyc_asm.specs.Slots.{filling}
-use Rattle.cyc_asm.specs.Layout.{most_before, is_near, head_width, tail_width, width_of, width_in, width_at, position, addresses_of}
+use Rattle.cyc_asm.specs.Layout.{most_before, is_near, head_width, tail_width, width_of, width_in, width_at, position, addresses_in}
 use Rattle.cyc_asm.specs.Text.{stretch, own}
 use Rattle.cyc_asm.proofs.Stretches.{own-stretch, stretch-append}
 
@@ -108,7 +108,7 @@ position-less code a b less within =
     omega (arith, next, some, rest)
 
 -- lines lie apart, in the text range
-pub addresses_fit : (code : Labelled) → Fits code.lines → AreAddresses code (addresses_of code)
+pub addresses_fit : (code : Labelled) → Fits code.lines → AreAddresses code (addresses_in code.lines)
 addresses_fit code fits = record {
   apart = λ a b in_a in_b same. elim (cases_lt a b) [
     | inl less ↦ absurd (omega (arith, same, position-less code.lines a b less (omega (arith, in_b))))
@@ -147,14 +147,14 @@ range_more from (suc count) =
     ∙ ap (λ (n : ℕ). from ∷ (range_with_len (from + 1) count ++ n ∷ [])) (let e : from + 1 + count ≡ from + suc count = omega arith in e)
 
 -- the lines' own words are all words, in order
-pub own_words : (code : Labelled) (count : ℕ) → flat_map (own (addresses_of code)) (range_with_len 0 count) ≡ stretch text_base (position code.lines count)
+pub own_words : (code : Labelled) (count : ℕ) → flat_map (own (addresses_in code.lines)) (range_with_len 0 count) ≡ stretch text_base (position code.lines count)
 own_words code zero = refl
 own_words code (suc count) =
     let p : ℕ = position code.lines count in
     let w : ℕ = width_at code.lines count in
-    ap (flat_map (own (addresses_of code))) (range_more 0 count)
-    ∙ flat_map-append (own (addresses_of code)) (range_with_len 0 count) (_ ∷ [])
-    ∙ ap (λ (front : List ℕ). front ++ (own (addresses_of code) (0 + count) ++ [])) (own_words code count)
-    ∙ ap (λ (n : ℕ). stretch text_base p ++ (own (addresses_of code) n ++ [])) (let e : 0 + count ≡ count = omega arith in e)
-    ∙ ap (λ (last : List ℕ). stretch text_base p ++ last) (append-nil (own (addresses_of code) count) ∙ own-stretch (addresses_of code) count w (omega arith))
+    ap (flat_map (own (addresses_in code.lines))) (range_more 0 count)
+    ∙ flat_map-append (own (addresses_in code.lines)) (range_with_len 0 count) (_ ∷ [])
+    ∙ ap (λ (front : List ℕ). front ++ (own (addresses_in code.lines) (0 + count) ++ [])) (own_words code count)
+    ∙ ap (λ (n : ℕ). stretch text_base p ++ (own (addresses_in code.lines) n ++ [])) (let e : 0 + count ≡ count = omega arith in e)
+    ∙ ap (λ (last : List ℕ). stretch text_base p ++ last) (append-nil (own (addresses_in code.lines) count) ∙ own-stretch (addresses_in code.lines) count w (omega arith))
     ∙ sym (stretch-append text_base p w)

@@ -2,11 +2,15 @@
 pub mod Running
 pub mod Stretches
 pub mod Standing
+pub mod Arranging
 -- what those lemmas rest on
 pub mod Fillings
 pub mod Moving
+pub mod Passing
+pub mod Exchanging
 pub mod Fetching
 pub mod Layouts
+mod Lengths
 pub mod Ordinary
 pub mod Steps
 pub mod Tables

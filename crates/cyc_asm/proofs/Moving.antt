@@ -1,6 +1,6 @@
 -- An instruction that moves into the slot of a branch or jump does there what it does before it, and does not change what this
 -- does: it leaves the registers that it does not set, and does not see those that it does not read.
-use Rattle.std.proofs.Common.{◌≡◌, ◌≢◌, ℕ, ◌+◌, ◌-◌, ◌%◌, ◌^◌, Bool, true, false, not, ◌==◌, ◌||◌, ◌&&◌, List, [], ◌∷◌, length, Option, None, refl, sym, ap, subst, ◌∙◌}
+use Rattle.std.proofs.Common.{◌≡◌, ◌≢◌, ℕ, ◌+◌, ◌-◌, ◌%◌, ◌^◌, Bool, true, false, not, ◌==◌, ◌||◌, ◌&&◌, List, [], ◌∷◌, length, Option, refl, sym, ap, ◌∙◌}
 use Rattle.std.specs.Prelude.{if◌then◌else◌, slice_index, slice_set}
 use Rattle.std.proofs.lemmas.Bool.{eq-eqb}
 use Rattle.std.proofs.lemmas.List.{get_or-set_other, set_comm}
@@ -14,7 +14,6 @@ use Rattle.cyc_isa.specs.declared.instr.Instr.TheVariants.{Immediate, LoadUpper,
 use Rattle.cyc_isa.specs.declared.instr.MemoryOp.TheVariants.{LoadWord, StoreWord, LoadByte, StoreByte}
 use Rattle.cyc_isa.specs.declared.instr.MoveFromOp.TheVariants.{High, Low}
 use Rattle.cyc_isa.specs.declared.instr.MultiplyDivideOp.TheVariants.{Multiply, Divide}
-use Rattle.cyc_machine.specs.declared.constants.TheConstants.{RETURN_ADDRESS}
 use Rattle.cyc_machine.specs.declared.event.Cause.{Cause}
 use Rattle.cyc_machine.specs.declared.event.Cause.TheVariants as causes
 use Rattle.cyc_machine.specs.declared.event.Event.TheVariants.{Ran}

@@ -16,7 +16,7 @@ use Rattle.cyc_words.proofs.Simulation.{simulates, running_ended}
 use Rattle.cyc_select.specs.Labelled.{Labelled}
 use Rattle.cyc_select.specs.Machine as labelled
 use Rattle.cyc_select.specs.Machine.{Configuration}
-use Rattle.cyc_asm.specs.Text.{IsTextOf}
+use Rattle.cyc_asm.specs.Text.{IsTextInOrder}
 use Rattle.cyc_asm.specs.Machine.{Runs, start}
 use Rattle.cyc_machine.specs.WorldMachine.{world_machine, status_in}
 use Rattle.cyc_asm.proofs.Fetching.{world_at}
@@ -49,8 +49,8 @@ started code store calls input = record {
   line = 0;
 }
 
-pub runs : (code : Labelled) (addresses : ℕ → ℕ) (words : List ℕ) → IsTextOf code addresses words → Runs code addresses words
-runs code addresses words text store calls input few never =
+pub runs_in_order : (code : Labelled) (addresses : ℕ → ℕ) (words : List ℕ) → IsTextInOrder code code addresses words → Runs code addresses words
+runs_in_order code addresses words text store calls input few never =
     simulates (above code addresses words text) world_machine (matching code addresses words text) (matched code addresses words text) lawful []
     (labelled.start code store calls input) never (start code words store calls input) refl (
       (let nothing : ℕ = 0 in let long = length-replicate (words_per_call * calls) nothing in omega (arith, long, few)),

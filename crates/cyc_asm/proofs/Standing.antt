@@ -22,10 +22,10 @@ use Rattle.cyc_select.specs.declared.code.Line.TheVariants as lines
 use Rattle.cyc_select.specs.Labelled.{Labelled, Fits, IsFormed, IsFormedLine}
 use Rattle.cyc_asm.specs.declared.constants.TheConstants.{ROUND_OFFSET, FIRST_INDEX}
 use Rattle.cyc_asm.specs.Slots.{filling}
-use Rattle.cyc_asm.specs.Layout.{is_near, head_width, tail_width, width_of, width_in, position, addresses_of}
-use Rattle.cyc_asm.specs.Text.{text_of, nothing, branch_of, inverse_of, IsJumpAt, StandsBranch, StandsFrom, StandsFilled, StandsOrdinary, Stands, stretch, IsTextOf}
-use Rattle.cyc_asm.specs.Words.{offset_of, IsHeadPosition, head_of_branch, head_of, head_in, round_words, tail_of, words_filled, words_ordinary, words_of_line, words_in, words_before, assembled}
-use Rattle.cyc_asm.proofs.Fillings.{is_jump, IsFilled, filled}
+use Rattle.cyc_asm.specs.Layout.{is_near, head_width, tail_width, width_of, width_in, position, addresses_in}
+use Rattle.cyc_asm.specs.Text.{text_of, nothing, branch_of, inverse_of, IsJumpAt, StandsBranch, StandsFrom, StandsFilled, StandsOrdinary, Stands, stretch, IsTextInOrder}
+use Rattle.cyc_asm.specs.Words.{offset_of, IsHeadPosition, head_of_branch, head_of, head_in, round_words, tail_of, words_filled, words_ordinary, words_of_line, words_in, words_before, words_in_order}
+use Rattle.cyc_asm.proofs.Fillings.{is_jump, filled}
 use Rattle.cyc_asm.proofs.Layouts.{position-suc, position-most, position-less, between_lines, addresses_fit, near_below, near_above, own_words}
 
 -- ---- how many words there are
@@ -159,10 +159,10 @@ index_target address to inside low = omega (arith, inside, low)
 
 module _ (code : Labelled) (formed : IsFormed code) (fits : Fits code.lines) where
   abbrev at : ℕ → ℕ
-  at number = addresses_of code number
+  at number = addresses_in code.lines number
 
   abbrev words : List ℕ
-  words = assembled code
+  words = words_in_order code.lines
 
   module _ (number : ℕ) (line : Line) (found : slice_get code.lines number ≡ Some line) where
     below : number < length code.lines
@@ -227,7 +227,7 @@ module _ (code : Labelled) (formed : IsFormed code) (fits : Fits code.lines) whe
 
     branch_there : (b : Bool) (condition : Condition) (label : ℕ) → slice_get code.lines number ≡ Some (lines.Branch condition label) → is_near code.lines number label ≡ b
         → word_at here (word_of (head_of_branch b code.lines from condition label)) → Tail (word_of slotted ∷ round_words b code.lines label) → Next (word_of slotted ∷ round_words b code.lines label)
-        → StandsBranch b words (addresses_of code) number condition label slotted here
+        → StandsBranch b words (addresses_in code.lines) number condition label slotted here
     branch_there true condition label found near head tail next =
         let is_label = line_formed number (lines.Branch condition label) found in
         let reach = are_near_at code.lines number label from condition fits found is_label near is_head in (
@@ -253,7 +253,7 @@ module _ (code : Labelled) (formed : IsFormed code) (fits : Fits code.lines) whe
         )
 
     from_here : (line : Line) → slice_get code.lines number ≡ Some line → is_jump line ≡ true → Head line → Tail (tail_of code.lines number line (word_of slotted)) → Next (tail_of code.lines number line (word_of slotted))
-        → StandsFrom code words (addresses_of code) number line slotted here
+        → StandsFrom code words (addresses_in code.lines) number line slotted here
     from_here (lines.Ordinary i) found jumps head tail next = absurd (let e : false ≡ true = jumps in cc)
     from_here (lines.Branch condition label) found jumps head tail next = branch_there (is_near code.lines number label) condition label found refl head tail next
     from_here (lines.Jump label) found jumps head tail next = (
@@ -282,7 +282,7 @@ module _ (code : Labelled) (formed : IsFormed code) (fits : Fits code.lines) whe
   words_of_jump number lines.Return jumps = refl
 
   filled_there : (number : ℕ) (line : Line) → slice_get code.lines number ≡ Some line → is_jump line ≡ true → (o : Option Instr) → filling code.lines number ≡ o
-      → StandsFilled o code words (addresses_of code) number line
+      → StandsFilled o code words (addresses_in code.lines) number line
   filled_there number line found jumps None none =
       let mine : words_of_line code.lines number line ≡ word_of (head_of code.lines (position code.lines number) number line) ∷ tail_of code.lines number line 0 =
       words_of_jump number line jumps ∙ ap (λ o. words_filled o code.lines number line) none in
@@ -314,7 +314,7 @@ module _ (code : Labelled) (formed : IsFormed code) (fits : Fits code.lines) whe
       )
 
   ordinary_there : (number : ℕ) (i : Instr) → slice_get code.lines number ≡ Some (lines.Ordinary i) → (o : Option Instr) → filling code.lines (suc number) ≡ o
-      → StandsOrdinary o words (addresses_of code) number i
+      → StandsOrdinary o words (addresses_in code.lines) number i
   ordinary_there number i found None none = (
     record {
       encodable = (line_formed number (lines.Ordinary i) found).1;
@@ -324,15 +324,15 @@ module _ (code : Labelled) (formed : IsFormed code) (fits : Fits code.lines) whe
   )
   ordinary_there number i found (Some slotted) some = (let n = next number (lines.Ordinary i) found in omega (arith, n))
 
-  stands : (number : ℕ) (line : Line) → slice_get code.lines number ≡ Some line → Stands code words (addresses_of code) number line
+  stands : (number : ℕ) (line : Line) → slice_get code.lines number ≡ Some line → Stands code words (addresses_in code.lines) number line
   stands number (lines.Ordinary i) found = ordinary_there number i found (filling code.lines (suc number)) refl
   stands number (lines.Branch condition label) found = filled_there number (lines.Branch condition label) found refl (filling code.lines number) refl
   stands number (lines.Jump label) found = filled_there number (lines.Jump label) found refl (filling code.lines number) refl
   stands number (lines.Call label) found = filled_there number (lines.Call label) found refl (filling code.lines number) refl
   stands number lines.Return found = filled_there number lines.Return found refl (filling code.lines number) refl
 
-  pub assembled_means : IsTextOf code (addresses_of code) (assembled code)
-  assembled_means = record {
+  pub in_order_means : IsTextInOrder code code (addresses_in code.lines) (words_in_order code.lines)
+  in_order_means = record {
     places = addresses_fit code fits;
     first = refl;
     stands = stands;

@@ -41,7 +41,7 @@ use Rattle.cyc_select.specs.Machine as labelled
 use Rattle.cyc_select.specs.Machine.{Configuration, IsReturnPoint, core_of, machine_of, world_of, from_world, word_in, holds_of, linked}
 use Rattle.cyc_asm.specs.Slots.{is_movable, leaves, moves, label_of, filling}
 use Rattle.cyc_asm.specs.Layout.{is_near}
-use Rattle.cyc_asm.specs.Text.{IsAt, IsJumpAt, IsTextOf, Stands, StandsBranch, StandsFrom, StandsFilled, StandsOrdinary, own, nothing, branch_of, inverse_of, return_register}
+use Rattle.cyc_asm.specs.Text.{IsAt, IsJumpAt, IsTextInOrder, Stands, StandsBranch, StandsFrom, StandsFilled, StandsOrdinary, own, nothing, branch_of, inverse_of, return_register}
 use Rattle.cyc_asm.proofs.Fetching.{world_at, fetches, goes_to, through}
 use Rattle.cyc_asm.proofs.Moving.{not_true, did, with_word, movable_ordinary, movable_does, after_runs, same_stack, stays, holds_stays, commutes, same_refusal}
 use Rattle.cyc_asm.proofs.Ordinary.{Shown, same_cause, performed}
@@ -117,7 +117,7 @@ branches_to : (words : List ℕ) (c : Configuration) (from : ℕ) (condition : C
 branches_to words c from (conditions.Registers op left right) offset = refl
 branches_to words c from (conditions.Sign op source) offset = refl
 
-module _ (code : Labelled) (addresses : ℕ → ℕ) (words : List ℕ) (text : IsTextOf code addresses words) where
+module _ (code : Labelled) (addresses : ℕ → ℕ) (words : List ℕ) (text : IsTextInOrder code code addresses words) where
   abbrev pub above : Machine
   above = labelled.machine code addresses
 

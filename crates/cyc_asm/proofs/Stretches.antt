@@ -12,8 +12,10 @@ use Rattle.cyc_select.specs.declared.code.Line.{Line}
 use Rattle.cyc_select.specs.declared.code.Line.TheVariants as lines
 use Rattle.cyc_select.specs.Labelled.{Labelled}
 use Rattle.cyc_asm.specs.Slots.{filling}
+use Rattle.cyc_asm.specs.Order.{arranged, in_order}
 use Rattle.cyc_asm.specs.Layout.{is_near}
 use Rattle.cyc_asm.specs.Text.{nothing, StandsBranch, StandsOrdinary, Stands, stretch, own, IsTextOf}
+use Rattle.cyc_asm.proofs.Lengths.{length-arranged}
 
 pub length-stretch : (from count : ℕ) → length (stretch from count) ≡ count
 length-stretch from zero = refl
@@ -72,7 +74,9 @@ first_wide code words addresses lines.Return (at, slot, next) = omega (arith, ne
 pub text_has_words : (code : Labelled) (addresses : ℕ → ℕ) (words : List ℕ) → 0 < length code.lines → IsTextOf code addresses words → 0 < length words
 text_has_words code addresses words some text =
     let rest : ℕ = length code.lines - 1 in
-    let wide = first_wide code words addresses (get_or code.lines 0 lines.Return) (text.stands 0 (get_or code.lines 0 lines.Return) (slice_get-get_or code.lines 0 lines.Return some)) in
+    let order : List Line = arranged code.lines in
+    let still : 0 < length order = omega (arith, some, length-arranged code.lines) in
+    let wide = first_wide (in_order code) words addresses (get_or order 0 lines.Return) (text.stands 0 (get_or order 0 lines.Return) (slice_get-get_or order 0 lines.Return still)) in
     let all = ap length (sym (ap (λ (n : ℕ). flat_map (own addresses) (range_with_len 0 n)) (let e : length code.lines ≡ suc rest = omega (arith, some) in e)) ∙ text.all) in
     let parts = length-append (own addresses 0) (flat_map (own addresses) (range_with_len 1 rest)) in
     let first = length-stretch (addresses 0) ((addresses 1 - addresses 0) / 4) in

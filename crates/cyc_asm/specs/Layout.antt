@@ -9,6 +9,7 @@ use Rattle.cyc_select.specs.declared.code.Line.TheVariants as lines
 use Rattle.cyc_isa.specs.declared.instr.Instr.{Instr}
 use Rattle.cyc_asm.specs.declared.constants.TheConstants.{MAX_REACH}
 use Rattle.cyc_asm.specs.Slots.{filling}
+use Rattle.cyc_asm.specs.Order.{arranged}
 
 -- how many words the lines before this one take at most
 abbrev pub most_before : List Line → ℕ → ℕ
@@ -56,6 +57,10 @@ most_of_each code = map (most_before code) (range_with_len 0 (length code))
 abbrev pub position_of_each : List Line → List ℕ
 position_of_each code = map (position code) (range_with_len 0 (length code))
 
--- the address of a line
+-- the address of a line among lines that lie in this order
+abbrev pub addresses_in : List Line → ℕ → ℕ
+addresses_in code number = text_base + 4 * position code number
+
+-- the address of a line of code
 abbrev pub addresses_of : Labelled → ℕ → ℕ
-addresses_of code number = text_base + 4 * position code.lines number
+addresses_of code = addresses_in (arranged code.lines)

@@ -2,6 +2,7 @@
 pub mod Text
 pub mod Machine
 pub mod Slots
+pub mod Order
 pub mod Layout
 -- what the functions inside the crate promise each other
 pub mod Words

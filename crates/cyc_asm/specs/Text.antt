@@ -24,6 +24,7 @@ use Rattle.cyc_select.specs.declared.code.Line.{Line}
 use Rattle.cyc_select.specs.declared.code.Line.TheVariants as lines
 use Rattle.cyc_asm.specs.Layout.{is_near}
 use Rattle.cyc_asm.specs.Slots.{filling}
+use Rattle.cyc_asm.specs.Order.{in_order}
 
 -- the text that these words are
 abbrev pub text_of : List ℕ → List (Option ℕ)
@@ -121,12 +122,17 @@ stretch from (suc count) = from ∷ stretch (from + 4) count
 abbrev pub own : (ℕ → ℕ) → ℕ → List ℕ
 own addresses number = stretch (addresses number) ((addresses (suc number) - addresses number) / 4)
 
--- The words mean the code. The lines stand in order, and nothing else stands in the text: the lines' own words are all
+-- The words mean the code, whose lines stand in this order. Nothing else stands in the text: the lines' own words are all
 -- its words, each once.
-pub record IsTextOf (code : Labelled) (addresses : ℕ → ℕ) (words : List ℕ) : Type 0 where
+pub record IsTextInOrder (code order : Labelled) (addresses : ℕ → ℕ) (words : List ℕ) : Type 0 where
   pub places : AreAddresses code addresses
   pub first : addresses 0 ≡ text_base
-  pub stands : (number : ℕ) (line : Line) → slice_get code.lines number ≡ Some line → Stands code words addresses number line
+  pub stands : (number : ℕ) (line : Line) → slice_get order.lines number ≡ Some line
+      → Stands order words addresses number line
   pub all : flat_map (own addresses) (range_with_len 0 (length code.lines)) ≡ stretch text_base (length words)
   pub few : length words ≤ all_words code.lines
   pub inside : text_base + 4 * length words ≤ text_end
+
+-- The words mean the code: its lines stand as they are but for the instructions that come down to a branch or jump.
+abbrev pub IsTextOf : Labelled → (ℕ → ℕ) → List ℕ → Type 0
+IsTextOf code addresses words = IsTextInOrder code (in_order code) addresses words

@@ -13,6 +13,7 @@ use Rattle.cyc_select.specs.declared.code.Line.TheVariants as lines
 use Rattle.cyc_asm.specs.declared.constants.TheConstants.{ROUND_OFFSET, FIRST_INDEX}
 use Rattle.cyc_asm.specs.Layout.{is_near, position}
 use Rattle.cyc_asm.specs.Slots.{filling}
+use Rattle.cyc_asm.specs.Order.{arranged}
 use Rattle.cyc_asm.specs.Text.{nothing, branch_of, inverse_of, return_register}
 
 -- The offset of a branch: how many words the target is from the delay slot, in two's complement of 16 bits. From and to
@@ -87,5 +88,8 @@ abbrev pub words_before : List Line → ℕ → List ℕ
 words_before code zero = []
 words_before code (suc number) = words_before code number ++ words_in code number (slice_get code number)
 
+abbrev pub words_in_order : List Line → List ℕ
+words_in_order code = words_before code (length code)
+
 abbrev pub assembled : Labelled → List ℕ
-assembled code = words_before code.lines (length code.lines)
+assembled code = words_in_order (arranged code.lines)

@@ -5,23 +5,36 @@ ghost use Rattle.cyc_words.specs.Fault.{memory_fault};
 ghost use Rattle.cyc_select.specs.Labelled.{Fits, IsFormedLine};
 ghost use Rattle.cyc_asm.specs.Layout.{addresses_of};
 ghost use Rattle.cyc_asm.specs.Text.{IsTextOf};
-ghost use Rattle.cyc_asm.specs.Words.{words_before};
+ghost use Rattle.cyc_asm.specs.Slots.{AreNamed};
+ghost use Rattle.cyc_asm.specs.Order.{arranged};
+ghost use Rattle.cyc_asm.specs.Words.{words_in_order};
 ghost use Rattle.cyc_asm.specs.Machine.{Runs};
 
-use crate::{emission, layout, slots};
+use crate::{emission, layout, order, slots};
 use cyc_select::{Code, Line};
 use cyc_words::Fault;
 use std::alloc::{AllocError, Global};
 
+/// The words of lines that stand in this order.
+fn words_in_order(alloc: Global, lines: &[Line], named: &[bool]) -> Result<Vec<u32>, AllocError>
+    requires formed { All (IsFormedLine (length lines.now)) lines.now }
+    requires fits { Fits lines.now }
+    requires named { AreNamed lines.now (length lines.now) named.now }
+    ensures { IfOk result (λ words. words.items ≡ words_in_order lines.now) }
+{
+    let most = layout::most_of_each(alloc, lines)?;
+    let positions = layout::position_of_each(alloc, lines, named, &most)?;
+    emission::words_of_all(alloc, lines, named, &most, &positions)
+}
+
 fn words_of(alloc: Global, lines: &[Line]) -> Result<Vec<u32>, AllocError>
     requires formed { All (IsFormedLine (length lines.now)) lines.now }
     requires fits { Fits lines.now }
-    ensures { IfOk result (λ words. words.items ≡ words_before lines.now (length lines.now)) }
+    ensures { IfOk result (λ words. words.items ≡ words_in_order (arranged lines.now)) }
 {
     let named = slots::named_of_each(alloc, lines)?;
-    let most = layout::most_of_each(alloc, lines)?;
-    let positions = layout::position_of_each(alloc, lines, &named, &most)?;
-    emission::words_of_all(alloc, lines, &named, &most, &positions)
+    let arranged = order::arranged(alloc, lines, &named)?;
+    words_in_order(alloc, &arranged, &named)
 }
 
 /// The words of labelled code, as they stand from the beginning of the machine's text range on.
@@ -29,7 +42,8 @@ fn words_of(alloc: Global, lines: &[Line]) -> Result<Vec<u32>, AllocError>
 /// Only want of memory is refused.
 pub fn assemble(alloc: Global, code: &Code) -> Result<Vec<u32>, Fault>
     // The words mean the code: each line's instruction stands once, each label is its line's address, each delay slot has
-    // the instruction just before its branch or jump, where that may move, or is empty, and there is nothing else.
+    // the instruction just before its branch or jump, or one before that, where that may move, or is empty, and there is
+    // nothing else.
     ensures means { IfOk result (λ words. IsTextOf code.now (addresses_of code.now) words.items) }
     // And the machine that runs them does what the labelled machine does.
     ensures runs { IfOk result (λ words. Runs code.now (addresses_of code.now) words.items) }

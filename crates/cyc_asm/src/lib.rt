@@ -9,6 +9,7 @@ pub mod constants;
 mod emission;
 pub mod laws;
 mod layout;
+mod order;
 mod slots;
 
 pub use assembler::assemble;

@@ -44,7 +44,7 @@ fn leaves(instruction: Instr, condition: Condition) -> bool
 }
 
 /// Whether an instruction may as well be executed behind a line's branch or jump as before it.
-fn moves(instruction: Instr, line: &Line) -> bool
+pub(crate) fn moves(instruction: Instr, line: &Line) -> bool
     ensures { result ≡ moves instruction line.now }
 {
     match line {

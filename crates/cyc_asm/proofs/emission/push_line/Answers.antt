@@ -1,7 +1,5 @@
-use Rattle.std.proofs.Common.{◌≡◌, List, ℕ, ◌++◌, ◌∙◌, get_or, true, refl, sym, ap, subst, inl, inr}
+use Rattle.std.proofs.Common.{◌≡◌, List, ℕ, ◌++◌, refl, subst, inl, inr}
 use Rattle.std.specs.Prelude.{OnOk}
-use Rattle.cyc_select.specs.declared.code.Line.TheVariants as lines
-use Rattle.cyc_asm.proofs.Fillings.{is_jump}
 use Rattle.cyc_asm.proofs.Tables.{line_here, words_of_ordinary_here, words_of_jump_here}
 use Rattle.cyc_asm.proofs.emission.push_line.Goals as goal
 

@@ -1,4 +1,4 @@
-use Rattle.std.proofs.Common.{◌≡◌, ℕ, List, ◌∷◌, [], ◌++◌, ◌∙◌, sym, ap, arith, true, false, inl, inr}
+use Rattle.std.proofs.Common.{ℕ, List, ◌∷◌, [], ◌++◌, ◌∙◌, sym, ap, arith, true, false, inl, inr}
 use Rattle.cyc_isa.specs.declared.instr.JumpOp.TheVariants.{Plain}
 use Rattle.cyc_asm.proofs.Tables.{length-most_of_each, length-position_of_each, most_low, position_low, formed_here, near_here, tail_here, tail_of_branch_here, jump_here, pushed_three}
 use Rattle.cyc_asm.proofs.emission.push_tail.Goals as goal

@@ -1,5 +1,5 @@
 -- The law is a lemma.
-use Rattle.cyc_asm.proofs.Running.{runs}
+use Rattle.cyc_asm.proofs.Arranging.{runs}
 use Rattle.cyc_asm.proofs.laws.texts_run.Goals as goal
 
 pub returns : goal.returns

@@ -1,0 +1,7 @@
+use Rattle.std.proofs.Common.{◌≡◌}
+use Rattle.cyc_asm.specs.Order.{arranged_before}
+use Rattle.cyc_asm.proofs.order.arranged.Given as goal
+
+-- the lines so far have their order
+abbrev pub invariant-loop-number : goal.invariant-loop-number
+invariant-loop-number l = l.arranged.items ≡ arranged_before l.lines l.number

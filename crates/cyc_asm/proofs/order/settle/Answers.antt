@@ -1,0 +1,12 @@
+use Rattle.std.proofs.Common.{List, length, sym, subst}
+use Rattle.cyc_select.specs.declared.code.Line.{Line}
+use Rattle.cyc_asm.specs.Slots.{AreNamed}
+use Rattle.cyc_asm.specs.Order.{tried}
+use Rattle.cyc_asm.proofs.Arranging.{permutes_tried, still_named}
+use Rattle.cyc_asm.proofs.order.settle.Goals as goal
+
+pub try_past-requires-2-clause-named : goal.try_past-requires-2-clause-named
+try_past-requires-2-clause-named c =
+    let code = c.args.lines.now in
+    subst (λ (order : List Line). AreNamed order (length order) c.args.named.now) (sym c.try_past.ensures)
+    (still_named code (tried code c.args.number 1) c.args.named.now (permutes_tried code c.args.number 1) c.requires.named)

@@ -1,0 +1,7 @@
+use Rattle.std.proofs.Common.{◌≡◌}
+use Rattle.cyc_asm.specs.Order.{sunk}
+use Rattle.cyc_asm.proofs.order.sink.Given as goal
+
+-- it stands behind those so far
+abbrev pub invariant-loop-passed : goal.invariant-loop-passed
+invariant-loop-passed l = l.lines ≡ sunk l.initial.lines l.from l.passed

@@ -1,0 +1,173 @@
+//! In which order instructions stand.
+
+ghost use Rattle.std.specs.Prelude.{◌≡◌, ◌+◌, ◌<◌, length, Some, IfOk};
+ghost use Rattle.std.specs.Option.{is_some};
+ghost use Rattle.cyc_asm.specs.Slots.{moved, AreNamed};
+ghost use Rattle.cyc_asm.specs.Order.{is_apart, passes, passes_line, passes_at, passes_all, comes_down, sunk, tried, settled, arranged};
+
+use crate::slots::{filling, moves};
+use cyc_isa::{Instr, Register, reads, writes};
+use cyc_select::Line;
+use std::alloc::{AllocError, Global};
+
+/// Whether an instruction has nothing to do with a register.
+fn is_apart(instruction: Instr, register: Register) -> bool
+    ensures { result ≡ is_apart instruction register }
+{
+    !reads(instruction, register.number) && !writes(instruction, register.number)
+}
+
+/// Whether an instruction may as well be executed behind the other as before it.
+fn passes(instruction: Instr, other: Instr) -> bool
+    ensures { result ≡ passes instruction other }
+{
+    match other {
+        Instr::Immediate { target, source, .. } => {
+            is_apart(instruction, target) && !writes(instruction, source.number)
+        }
+        Instr::LoadUpper { target, .. } => is_apart(instruction, target),
+        Instr::Shift {
+            destination,
+            source,
+            ..
+        } => is_apart(instruction, destination) && !writes(instruction, source.number),
+        Instr::ShiftVariable {
+            destination,
+            source,
+            by,
+            ..
+        } => {
+            is_apart(instruction, destination)
+                && !writes(instruction, source.number)
+                && !writes(instruction, by.number)
+        }
+        Instr::Arithmetic {
+            destination,
+            left,
+            right,
+            ..
+        } => {
+            is_apart(instruction, destination)
+                && !writes(instruction, left.number)
+                && !writes(instruction, right.number)
+        }
+        Instr::Memory { .. }
+        | Instr::Branch { .. }
+        | Instr::BranchZero { .. }
+        | Instr::Jump { .. }
+        | Instr::JumpRegister { .. }
+        | Instr::JumpRegisterLink { .. }
+        | Instr::Exception { .. }
+        | Instr::MoveFrom { .. }
+        | Instr::MultiplyDivide { .. } => false,
+    }
+}
+
+/// Whether the instruction of one line may as well be executed behind that of another.
+fn passes_line(line: &Line, behind: &Line) -> bool
+    ensures { result ≡ passes_line (Some line.now) (Some behind.now) }
+{
+    match line {
+        Line::Ordinary { instruction } => match behind {
+            Line::Ordinary { instruction: other } => passes(*instruction, *other),
+            Line::Branch { .. } | Line::Jump { .. } | Line::Call { .. } | Line::Return => false,
+        },
+        Line::Branch { .. } | Line::Jump { .. } | Line::Call { .. } | Line::Return => false,
+    }
+}
+
+/// Whether the instruction of this line may as well be executed behind that of another, to which nothing goes.
+fn passes_at(lines: &[Line], named: &[bool], from: usize, number: usize) -> bool
+    requires within { (from < length lines.now) × (number < length lines.now) }
+    requires named { AreNamed lines.now (length lines.now) named.now }
+    ensures { result ≡ passes_at lines.now from number }
+{
+    !named[number] && passes_line(&lines[from], &lines[number])
+}
+
+/// Whether it may as well be executed behind so many lines to which nothing goes.
+fn passes_all(lines: &[Line], named: &[bool], from: usize, count: usize) -> bool
+    requires within { from + count < length lines.now }
+    requires named { AreNamed lines.now (length lines.now) named.now }
+    ensures { result ≡ passes_all lines.now from count }
+{
+    let mut all = true;
+    for passed in 0..count {
+        let number = from + (passed + 1);
+        all = all && passes_at(lines, named, from, number);
+    }
+    all
+}
+
+/// Whether a line has an instruction that may move behind another line.
+fn moves_behind(line: &Line, behind: &Line) -> bool
+    ensures { result ≡ is_some (moved (Some line.now) (Some behind.now)) }
+{
+    match line {
+        Line::Ordinary { instruction } => moves(*instruction, behind),
+        Line::Branch { .. } | Line::Jump { .. } | Line::Call { .. } | Line::Return => false,
+    }
+}
+
+/// Whether it may move behind the branch or jump behind those, too.
+fn comes_down(lines: &[Line], named: &[bool], from: usize, count: usize) -> bool
+    requires within { from + count + 1 < length lines.now }
+    requires named { AreNamed lines.now (length lines.now) named.now }
+    ensures { result ≡ comes_down lines.now from count }
+{
+    let number = from + (count + 1);
+    passes_all(lines, named, from, count)
+        && !named[number]
+        && moves_behind(&lines[from], &lines[number])
+}
+
+/// Brings the instruction of this line behind so many others.
+fn sink(lines: &mut [Line], from: usize, count: usize)
+    requires within { from + count < length lines.old }
+    ensures { lines.new ≡ sunk lines.old from count }
+{
+    for passed in 0..count {
+        lines.swap(from + passed, from + (passed + 1));
+    }
+}
+
+/// Fills the slot of the branch or jump of this number, where it is empty and an instruction fills it that has so many to pass.
+fn try_past(lines: &mut [Line], named: &[bool], number: usize, count: usize)
+    requires within { number < length lines.old }
+    requires named { AreNamed lines.old (length lines.old) named.now }
+    ensures { lines.new ≡ tried lines.old number count }
+{
+    if number <= count || filling(lines, named, number).is_some() {
+        return;
+    }
+    let from = number - (count + 1);
+    if comes_down(lines, named, from, count) {
+        sink(lines, from, count);
+    }
+}
+
+/// Fills the slot of the branch or jump of this number, where it is empty and an instruction fills it that has one or two to pass.
+fn settle(lines: &mut [Line], named: &[bool], number: usize)
+    requires within { number < length lines.old }
+    requires named { AreNamed lines.old (length lines.old) named.now }
+    ensures { lines.new ≡ settled lines.old number }
+{
+    try_past(lines, named, number, 1);
+    try_past(lines, named, number, 2);
+}
+
+/// The lines in the order in which their instructions stand.
+pub(crate) fn arranged(
+    alloc: Global,
+    lines: &[Line],
+    named: &[bool],
+) -> Result<Vec<Line>, AllocError>
+    requires { AreNamed lines.now (length lines.now) named.now }
+    ensures { IfOk result (λ order. order.items ≡ arranged lines.now) }
+{
+    let mut arranged = Vec::from_slice(alloc, lines)?;
+    for number in 0..lines.len() {
+        settle(&mut arranged, named, number);
+    }
+    Ok(arranged)
+}
