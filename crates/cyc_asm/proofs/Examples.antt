@@ -24,7 +24,7 @@ use Rattle.cyc_machine.specs.declared.event.End.TheVariants.{Returned}
 use Rattle.cyc_machine.specs.Run.{end_of}
 use Rattle.cyc_machine.specs.Step.{instruction_of}
 use Rattle.cyc_machine.proofs.Choosing.{after}
-use Rattle.cyc_words.specs.Word.{sign_extended}
+use Rattle.cyc_words.specs.Word.{sign_extended, slt_of}
 use Rattle.cyc_asm.specs.Slots.{filling}
 use Rattle.cyc_asm.specs.Layout.{is_near, position}
 use Rattle.cyc_asm.specs.Words.{jump_words, head_of_branch, head_in, round_words, words_filled, words_ordinary, words_in, assembled}
@@ -174,6 +174,63 @@ meeting_words : assembled meeting ≡
     ∷ []
 meeting_words = refl
 
+-- What comes down to a branch: past what the branch asks for, past two, and a store, which is not asked for. What sets a
+-- register that is read behind it stays, and so do what reads one that is set behind it, what stands before a line to which
+-- another goes, and what would pass a load.
+abbrev passing : Labelled
+passing = record {
+  lines =
+      lines.Ordinary (Immediate immediates.AddUnsigned (register_of 8) (register_of 8) 1)
+      ∷ lines.Ordinary (Immediate immediates.SetLess (register_of 24) (register_of 10) 200)
+      ∷ lines.Branch (conditions.Registers NotEqual (register_of 24) (register_of 0)) 0
+      ∷ lines.Ordinary (Arithmetic operations.AddUnsigned (register_of 8) (register_of 8) (register_of 9))
+      ∷ lines.Ordinary (Immediate immediates.AddUnsigned (register_of 10) (register_of 10) 1)
+      ∷ lines.Ordinary (Immediate immediates.SetLess (register_of 24) (register_of 10) 200)
+      ∷ lines.Branch (conditions.Registers NotEqual (register_of 24) (register_of 0)) 3
+      ∷ lines.Ordinary (Memory StoreWord (register_of 8) (register_of 29) 4)
+      ∷ lines.Ordinary (Arithmetic operations.SetLessUnsigned (register_of 24) (register_of 9) (register_of 8))
+      ∷ lines.Branch (conditions.Registers Equal (register_of 24) (register_of 0)) 3
+      ∷ lines.Ordinary (Memory LoadWord (register_of 8) (register_of 29) 4)
+      ∷ lines.Ordinary (Arithmetic operations.SetLessUnsigned (register_of 24) (register_of 9) (register_of 8))
+      ∷ lines.Branch (conditions.Registers Equal (register_of 24) (register_of 0)) 3
+      ∷ lines.Ordinary (Arithmetic operations.AddUnsigned (register_of 8) (register_of 24) (register_of 0))
+      ∷ lines.Ordinary (Immediate immediates.SetLess (register_of 24) (register_of 10) 200)
+      ∷ lines.Branch (conditions.Registers NotEqual (register_of 24) (register_of 0)) 3
+      ∷ lines.Ordinary (Immediate immediates.AddUnsigned (register_of 8) (register_of 8) 1)
+      ∷ lines.Ordinary (Immediate immediates.SetLess (register_of 24) (register_of 10) 200)
+      ∷ lines.Branch (conditions.Registers NotEqual (register_of 24) (register_of 0)) 17
+      ∷ lines.Ordinary (Immediate immediates.AddUnsigned (register_of 8) (register_of 8) 1)
+      ∷ lines.Ordinary (Memory LoadWord (register_of 24) (register_of 29) 4)
+      ∷ lines.Branch (conditions.Registers NotEqual (register_of 24) (register_of 0)) 3
+      ∷ lines.Return
+      ∷ [];
+  globals = [];
+}
+
+passing_words : assembled passing ≡
+    0x295800c8
+    ∷ 0x1700fffe ∷ 0x25080001
+    ∷ 0x254a0001
+    ∷ 0x295800c8
+    ∷ 0x1700fffd ∷ 0x01094021
+    ∷ 0x0128c02b
+    ∷ 0x1300fffa ∷ 0xafa80004
+    ∷ 0x8fa80004
+    ∷ 0x0128c02b
+    ∷ 0x1300fff6 ∷ 0
+    ∷ 0x03004021
+    ∷ 0x295800c8
+    ∷ 0x1700fff2 ∷ 0
+    ∷ 0x25080001
+    ∷ 0x295800c8
+    ∷ 0x1700fffe ∷ 0
+    ∷ 0x25080001
+    ∷ 0x8fb80004
+    ∷ 0x1700ffea ∷ 0
+    ∷ 0x03e00008 ∷ 0
+    ∷ []
+passing_words = refl
+
 -- A branch that is not near is its inverse round a jump, with the instruction in the inverse's slot. (Here of any code.)
 far_words : (code : List Line) (number label : ℕ) (i : Instr) → slice_get code number ≡ Some (lines.Ordinary i) → filling code (suc number) ≡ Some i
     → slice_get code (suc number) ≡ Some (lines.Branch (conditions.Registers NotEqual (register_of 9) (register_of 0)) label) → is_near code (suc number) label ≡ false
@@ -214,3 +271,24 @@ empty_store = start 3 (λ (x : ℕ). 0)
 sum_is_six : end_of (after 30 (any_choice empty_store) (start_in (assembled summing) [] [] empty_store 1 [])) ≡ Some (Returned (pos 6))
 unfolding instruction_of sign_extended
 sum_is_six = refl
+
+-- 2 three times, by a loop whose test stands at its end, in 16 instructions: what adds has passed what counts and what asks,
+-- and stands in the slot of the branch back
+abbrev adding : Labelled
+adding = record {
+  lines =
+      lines.Ordinary (Immediate immediates.AddUnsigned (register_of 4) (register_of 0) 0)
+      ∷ lines.Ordinary (Immediate immediates.AddUnsigned (register_of 8) (register_of 0) 0)
+      ∷ lines.Ordinary (Immediate immediates.AddUnsigned (register_of 4) (register_of 4) 2)
+      ∷ lines.Ordinary (Immediate immediates.AddUnsigned (register_of 8) (register_of 8) 1)
+      ∷ lines.Ordinary (Immediate immediates.SetLess (register_of 24) (register_of 8) 3)
+      ∷ lines.Branch (conditions.Registers NotEqual (register_of 24) (register_of 0)) 2
+      ∷ lines.Ordinary (Immediate immediates.AddUnsigned (register_of 2) (register_of 0) 3)
+      ∷ lines.Ordinary (Exception Syscall (trap_code_of 0))
+      ∷ [];
+  globals = [];
+}
+
+twos_are_six : end_of (after 16 (any_choice empty_store) (start_in (assembled adding) [] [] empty_store 1 [])) ≡ Some (Returned (pos 6))
+unfolding instruction_of sign_extended slt_of
+twos_are_six = refl

@@ -31,37 +31,9 @@ use Rattle.cyc_asm.specs.Slots.{is_movable, label_of, is_named}
 use Rattle.cyc_asm.specs.Order.{passes}
 use Rattle.cyc_asm.specs.Text.{own}
 use Rattle.cyc_asm.specs.Machine.{Runs, start}
-use Rattle.cyc_asm.proofs.Moving.{did, movable_ordinary, movable_does, after_runs}
+use Rattle.cyc_asm.proofs.Moving.{did, movable_ordinary, performs_did, performs_refused, only_did}
 use Rattle.cyc_asm.proofs.Passing.{passed_movable, passed_allowed, either_order, passing_refusal}
 use Rattle.cyc_asm.proofs.Fillings.{label_named}
-
--- ---- what one instruction does
-
-pub performs_did : (c : Configuration) (i : Instr) → is_movable i ≡ true → cause_of (machine_of c) i ≡ None → labelled.Performs c i (labelled.Running (did c i))
-performs_did c i movable allowed = (
-  events.Ran,
-  after (machine_of c) i,
-  subst (λ (a : Action). Acts a (machine_of c) events.Ran (after (machine_of c) i)) (sym (executes-performs (machine_of c) i allowed ∙ movable_does (machine_of c) i movable)) (refl, refl),
-  sym (ap (labelled.settled (told (world_of c) events.Ran (after (machine_of c) i)) (c.line + 1)) (after_runs c i movable)),
-)
-
-pub performs_refused : (c : Configuration) (i : Instr) (cause : Cause) → cause_of (machine_of c) i ≡ Some cause → labelled.Performs c i (labelled.Stopped c.output c.input)
-performs_refused c i cause is = (
-  events.Ended (Trap cause),
-  machines.over (machine_of c) (Trap cause),
-  subst (λ (a : Action). Acts a (machine_of c) (events.Ended (Trap cause)) (machines.over (machine_of c) (Trap cause))) (sym (ap (λ o. refuses_or_performs o (machine_of c) i) is)) (refl, refl),
-  refl,
-)
-
--- and nothing else
-only_did : (c : Configuration) (i : Instr) → is_movable i ≡ true → cause_of (machine_of c) i ≡ None → (next : labelled.State) → labelled.Performs c i next → next ≡ labelled.Running (did c i)
-only_did c i movable allowed next (event, left, acts, is) =
-    let ran : (event ≡ events.Ran) × (left ≡ after (machine_of c) i) =
-    subst (λ (a : Action). Acts a (machine_of c) event left) (executes-performs (machine_of c) i allowed ∙ movable_does (machine_of c) i movable) acts in
-    is
-    ∙ ap (λ (e : Event). labelled.settled (told (world_of c) e left) (c.line + 1) (told (world_of c) e left).machine.phase) ran.0
-    ∙ ap (λ (s : machines.State). labelled.settled (told (world_of c) events.Ran s) (c.line + 1) s.phase) ran.1
-    ∙ ap (labelled.settled (told (world_of c) events.Ran (after (machine_of c) i)) (c.line + 1)) (after_runs c i movable)
 
 -- ---- the exchange
 

@@ -1,6 +1,6 @@
 -- An instruction that moves into the slot of a branch or jump does there what it does before it, and does not change what this
 -- does: it leaves the registers that it does not set, and does not see those that it does not read.
-use Rattle.std.proofs.Common.{◌≡◌, ◌≢◌, ℕ, ◌+◌, ◌-◌, ◌%◌, ◌^◌, Bool, true, false, not, ◌==◌, ◌||◌, ◌&&◌, List, [], ◌∷◌, length, Option, refl, sym, ap, ◌∙◌}
+use Rattle.std.proofs.Common.{◌≡◌, ◌≢◌, ℕ, ◌+◌, ◌-◌, ◌%◌, ◌^◌, Bool, true, false, not, ◌==◌, ◌||◌, ◌&&◌, List, [], ◌∷◌, length, Option, None, Some, refl, sym, ap, subst, ◌∙◌}
 use Rattle.std.specs.Prelude.{if◌then◌else◌, slice_index, slice_set}
 use Rattle.std.proofs.lemmas.Bool.{eq-eqb}
 use Rattle.std.proofs.lemmas.List.{get_or-set_other, set_comm}
@@ -16,17 +16,20 @@ use Rattle.cyc_isa.specs.declared.instr.MoveFromOp.TheVariants.{High, Low}
 use Rattle.cyc_isa.specs.declared.instr.MultiplyDivideOp.TheVariants.{Multiply, Divide}
 use Rattle.cyc_machine.specs.declared.event.Cause.{Cause}
 use Rattle.cyc_machine.specs.declared.event.Cause.TheVariants as causes
-use Rattle.cyc_machine.specs.declared.event.Event.TheVariants.{Ran}
+use Rattle.cyc_machine.specs.declared.event.End.TheVariants.{Trap}
+use Rattle.cyc_machine.specs.declared.event.Event.{Event}
+use Rattle.cyc_machine.specs.declared.event.Event.TheVariants.{Ran, Ended}
 use Rattle.cyc_machine.specs.declared.phase.Phase.TheVariants as phases
 use Rattle.cyc_machine.specs.State as machines
 use Rattle.cyc_machine.specs.State.{Core, Place, register, with_register, place_of, is_dead, loaded, stored}
-use Rattle.cyc_machine.specs.Step.{Does, after, performs, cause_of, first_of, is_aligned, is_nowhere, is_text}
+use Rattle.cyc_machine.specs.Step.{Action, Acts, Does, after, performs, refuses_or_performs, cause_of, first_of, is_aligned, is_nowhere, is_text}
 use Rattle.cyc_machine.specs.Run.{told}
 use Rattle.cyc_machine.proofs.MemoryLaws.{length-stack-stored}
+use Rattle.cyc_machine.proofs.StepLaws.{executes-performs}
 use Rattle.cyc_select.specs.declared.code.Condition.{Condition}
 use Rattle.cyc_select.specs.declared.code.Condition.TheVariants as conditions
 use Rattle.cyc_select.specs.Labelled.{is_ordinary}
-use Rattle.cyc_select.specs.Machine.{Configuration, core_of, memory_of, machine_of, world_of, from_world, word_in, holds_of}
+use Rattle.cyc_select.specs.Machine.{Configuration, State, Running, Stopped, Performs, settled, core_of, memory_of, machine_of, world_of, from_world, word_in, holds_of}
 use Rattle.cyc_asm.specs.Slots.{is_movable, leaves}
 
 or_left : (a b : Bool) → (a || b) ≡ false → a ≡ false
@@ -105,6 +108,34 @@ after_runs c (MoveFrom High d) movable = refl
 after_runs c (MoveFrom Low d) movable = refl
 after_runs c (MultiplyDivide op l r) movable = refl
 after_runs c (Arithmetic op d l r) movable = refl
+
+-- the labelled machine does it, where it is not refused
+pub performs_did : (c : Configuration) (i : Instr) → is_movable i ≡ true → cause_of (machine_of c) i ≡ None → Performs c i (Running (did c i))
+performs_did c i movable allowed = (
+  Ran,
+  after (machine_of c) i,
+  subst (λ (a : Action). Acts a (machine_of c) Ran (after (machine_of c) i)) (sym (executes-performs (machine_of c) i allowed ∙ movable_does (machine_of c) i movable)) (refl, refl),
+  sym (ap (settled (told (world_of c) Ran (after (machine_of c) i)) (c.line + 1)) (after_runs c i movable)),
+)
+
+-- where it is refused, it is stopped
+pub performs_refused : (c : Configuration) (i : Instr) (cause : Cause) → cause_of (machine_of c) i ≡ Some cause → Performs c i (Stopped c.output c.input)
+performs_refused c i cause is = (
+  Ended (Trap cause),
+  machines.over (machine_of c) (Trap cause),
+  subst (λ (a : Action). Acts a (machine_of c) (Ended (Trap cause)) (machines.over (machine_of c) (Trap cause))) (sym (ap (λ o. refuses_or_performs o (machine_of c) i) is)) (refl, refl),
+  refl,
+)
+
+-- and where it is not, it does nothing else
+pub only_did : (c : Configuration) (i : Instr) → is_movable i ≡ true → cause_of (machine_of c) i ≡ None → (next : State) → Performs c i next → next ≡ Running (did c i)
+only_did c i movable allowed next (event, left, acts, is) =
+    let ran : (event ≡ Ran) × (left ≡ after (machine_of c) i) =
+    subst (λ (a : Action). Acts a (machine_of c) event left) (executes-performs (machine_of c) i allowed ∙ movable_does (machine_of c) i movable) acts in
+    is
+    ∙ ap (λ (e : Event). settled (told (world_of c) e left) (c.line + 1) (told (world_of c) e left).machine.phase) ran.0
+    ∙ ap (λ (s : machines.State). settled (told (world_of c) Ran s) (c.line + 1) s.phase) ran.1
+    ∙ ap (settled (told (world_of c) Ran (after (machine_of c) i)) (c.line + 1)) (after_runs c i movable)
 
 -- it keeps the stack's length
 pub same_stack : (c : Configuration) (i : Instr) → is_movable i ≡ true → length (did c i).stack ≡ length c.stack

@@ -43,7 +43,7 @@ use Rattle.cyc_asm.specs.Slots.{is_movable, leaves, moves, label_of, filling}
 use Rattle.cyc_asm.specs.Layout.{is_near}
 use Rattle.cyc_asm.specs.Text.{IsAt, IsJumpAt, IsTextInOrder, Stands, StandsBranch, StandsFrom, StandsFilled, StandsOrdinary, own, nothing, branch_of, inverse_of, return_register}
 use Rattle.cyc_asm.proofs.Fetching.{world_at, fetches, goes_to, through}
-use Rattle.cyc_asm.proofs.Moving.{not_true, did, with_word, movable_ordinary, movable_does, after_runs, same_stack, stays, holds_stays, commutes, same_refusal}
+use Rattle.cyc_asm.proofs.Moving.{not_true, did, performs_did, performs_refused, with_word, movable_ordinary, movable_does, after_runs, same_stack, stays, holds_stays, commutes, same_refusal}
 use Rattle.cyc_asm.proofs.Ordinary.{Shown, same_cause, performed}
 use Rattle.cyc_asm.proofs.Fillings.{is_jump, IsFilled, filled, filled_moves, named_empty, behind_empty, ordinary_empty}
 use Rattle.cyc_asm.proofs.Stretches.{in_own}
@@ -488,14 +488,6 @@ module _ (code : Labelled) (addresses : ℕ → ℕ) (words : List ℕ) (text : 
     abbrev Result : Line → World → Type 0
     Result line u = (next : labelled.State) × labelled.Step code addresses (labelled.Running c) next × Matches next u
 
-    refused : (i : Instr) (cause : Cause) → cause_of (machine_of c) i ≡ Some cause → labelled.Performs c i (labelled.Stopped c.output c.input)
-    refused i cause is = (
-      events.Ended (Trap cause),
-      machines.over (machine_of c) (Trap cause),
-      subst (λ (a : Action). Acts a (machine_of c) (events.Ended (Trap cause)) (machines.over (machine_of c) (Trap cause))) (sym (ap (λ o. refuses_or_performs o (machine_of c) i) is)) (refl, refl),
-      refl,
-    )
-
     module _ (i : Instr) (is_one : is_ordinary i ≡ true) (found : slice_get code.lines c.line ≡ Some (lines.Ordinary i)) (fine : (next : labelled.State) → May (lines.Ordinary i) next → labelled.status_of next ≡ Failed → ⊥) (next_line : addresses (suc c.line) ≡ here + 4) (empty : filling code.lines c.line ≡ None) where
       may_perform : (next : labelled.State) → labelled.Performs c i next → May (lines.Ordinary i) next
       may_perform next performs = subst (λ b. labelled.PerformsOrdinary b c i next) (sym is_one) performs
@@ -549,7 +541,7 @@ module _ (code : Labelled) (addresses : ℕ → ℕ) (words : List ℕ) (text : 
           (subst (λ (v : World). Shown words text.inside c small (add_of here 4) (told (world_of c) e t) v) (sym is) shows)
 
       performs_it : filling code.lines (suc c.line) ≡ None → IsAt words here i → (cause : Option Cause) → cause_of (machine_of c) i ≡ cause → Stepped (placed c)
-      performs_it behind_it at (Some cause) is = absurd (fine _ (may_perform _ (refused i cause is)) refl)
+      performs_it behind_it at (Some cause) is = absurd (fine _ (may_perform _ (performs_refused c i cause is)) refl)
       performs_it behind_it at None is =
           by_one above world_machine matching (labelled.Running c) (placed c) (small, at_empty c _ empty refl) refl (in_own addresses c.line 1 0 here (omega (arith, next_line)) (omega arith) (omega arith))
           (goes_as behind_it at is)
@@ -564,14 +556,6 @@ module _ (code : Labelled) (addresses : ℕ → ℕ) (words : List ℕ) (text : 
             let whole = jump_stands (suc c.line) filled_behind.line (filled_moves i filled_behind.line filled_behind.moves).1 (text.stands (suc c.line) filled_behind.line filled_behind.at) in
             let (from, is, stands) = subst (λ o. StandsFilled o code words addresses (suc c.line) filled_behind.line) some whole in
             subst (StandsFrom code words addresses (suc c.line) filled_behind.line i) (let e : from ≡ here = omega (arith, is, next_line) in e) stands
-
-        performs_above : cause_of (machine_of c) i ≡ None → labelled.Performs c i (labelled.Running (did c i))
-        performs_above allowed = (
-          events.Ran,
-          after (machine_of c) i,
-          subst (λ (a : Action). Acts a (machine_of c) events.Ran (after (machine_of c) i)) (sym (executes-performs (machine_of c) i allowed ∙ movable_does (machine_of c) i may_move)) (refl, refl),
-          sym (ap (labelled.settled (told (world_of c) events.Ran (after (machine_of c) i)) (c.line + 1)) (after_runs c i may_move)),
-        )
 
         between : cause_of (machine_of c) i ≡ None → (u : World) → Goes (placed c) u → Between (did c i) i filled_behind.line u
         between allowed u goes =
@@ -588,12 +572,12 @@ module _ (code : Labelled) (addresses : ℕ → ℕ) (words : List ℕ) (text : 
             }
 
         moves_on : (cause : Option Cause) → cause_of (machine_of c) i ≡ cause → Stepped (placed c)
-        moves_on (Some cause) is = absurd (fine _ (may_perform _ (refused i cause is)) refl)
+        moves_on (Some cause) is = absurd (fine _ (may_perform _ (performs_refused c i cause is)) refl)
         moves_on None is =
             by_one above world_machine matching (labelled.Running c) (placed c) (small, at_empty c _ empty refl) refl (in_own addresses c.line 1 0 here (omega (arith, next_line)) (omega arith) (omega arith))
             (λ u goes. (
               labelled.Running (did c i),
-              step_of (lines.Ordinary i) found fine _ (may_perform _ (performs_above is)),
+              step_of (lines.Ordinary i) found fine _ (may_perform _ (performs_did c i may_move is)),
               (
                 (let long = same_stack c i may_move in omega (arith, long, small)),
                 subst (λ (o : Option Instr). MatchesAs o (did c i) u) (sym (ap (filling code.lines) one_more ∙ some)) (filled_behind.line, between is u goes),
