@@ -1,7 +1,7 @@
 //! The assembler: labelled code as words of text.
 //!
-//! The delay slot of a branch or jump has the instruction just before it where that changes nothing, else it is empty. A
-//! branch whose label may be out of reach goes round a jump. Nothing else is added.
+//! The delay slot of a branch or jump has one of the three instructions before it where that changes nothing, else it is
+//! empty. A branch whose label may be out of reach goes round a jump. Nothing else is added.
 #![tactic(auto)]
 
 mod assembler;
