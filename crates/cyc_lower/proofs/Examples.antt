@@ -7,7 +7,7 @@ use Rattle.cyc_types.specs.declared.typed.Kind.TheVariants as kinds
 use Rattle.cyc_types.specs.declared.typed.Callee.{Callee}
 use Rattle.cyc_types.specs.declared.typed.Callee.TheVariants.{Putchar, Getchar, Function as Calls}
 use Rattle.cyc_types.specs.declared.typed.UnaryOperator.TheVariants as unary
-use Rattle.cyc_types.specs.declared.typed.Operator.TheVariants.{Equal, NotEqual, Less, Greater, Add, Subtract, Multiply, Divide, Remainder}
+use Rattle.cyc_types.specs.declared.typed.Operator.TheVariants.{Equal, NotEqual, Less, LessOrEqual, Greater, Add, Subtract, Multiply, Divide, Remainder}
 use Rattle.cyc_types.specs.declared.typed.LogicalOperator.TheVariants.{AndThen, OrElse}
 use Rattle.cyc_types.specs.Types.{Ty, Int, Pointer, Handle, Value}
 use Rattle.cyc_types.specs.TypedTrees.{Local, Global, Expression, Number, Copy, Call, Unary, Binary, Assign, Converted, Convert, Arguments, NoArguments, MoreArguments, Operations, NoOperations, ThenCompute, ThenTest, Statement, Block, Empty, Evaluate, If, While, Return, Break, Continue, Items, NoItems, MoreItems, Execute, Declare, DeclareRegion, Word, Null, Function, Program, Throw, Try, Case, Default, NoClauses, GlobalVariable, Lvalue, AddressOf, Load, Store, Target}
@@ -29,7 +29,7 @@ use Rattle.cyc_plain.proofs.RunLaws.{zeros}
 use Rattle.cyc_meaning.specs.State.{status_of as status_of_source}
 use Rattle.cyc_meaning.specs.Run.{limited_run}
 use Rattle.cyc_meaning.specs.FrameCount.{frame_count, expression_need}
-use Rattle.cyc_lower.specs.ValueCode.{jump_if_zero, blocks}
+use Rattle.cyc_lower.specs.ValueCode.{jump_if_zero, jump_if_nonzero, blocks}
 use Rattle.cyc_lower.specs.Lowering.{function_code, lower_program, lower_globals}
 use Rattle.cyc_meaning.specs.SourceMachine.{status_in}
 use Rattle.cyc_lower.specs.Slots.{starts_from, global_types}
@@ -316,12 +316,20 @@ source_catches_null = refl
 abbrev code_of_body : Items → List Instruction
 code_of_body body = function_code [] [] None (function [] ints body)
 
--- a loop, with its two jumps in front
+-- a loop, with its two jumps in front and its condition behind its body
 loop_code : code_of_body (all (While nowhere (local 0) Break ∷ returns (local 1) ∷ [])) ≡
-    Jump 2 ∷ Jump 5 ∷ jump_if_zero (Slot 0) 1 ∷ Jump 1 ∷ Jump 2
+    Jump 3 ∷ Jump 4 ∷ Jump 1 ∷ jump_if_nonzero (Slot 0) 2
     ∷ instructions.Finish 1
     ∷ instructions.Finish 2 ∷ blocks
 loop_code = refl
+
+-- `continue` goes by the first jump, and a turn is one jump by what the condition compares
+continued_code : code_of_body (all (While nowhere (two (local 0) (ThenCompute LessOrEqual (local 1) NoOperations)) (If (local 1) Continue Empty) ∷ [])) ≡
+    Jump 5 ∷ Jump 6
+    ∷ jump_if_zero (Slot 1) 5 ∷ Jump 0 ∷ Jump 5
+    ∷ instructions.Branch comparisons.LessOrEqual (Slot 0) (Slot 1) 2
+    ∷ instructions.Finish 2 ∷ blocks
+continued_code = refl
 
 -- a branch, and a division with its test, which leads to the last block where it fails
 branch_code : code_of_body (all (If (local 0) (Evaluate (two (local 0) (ThenCompute Divide (local 1) NoOperations))) Empty ∷ [])) ≡
@@ -340,7 +348,7 @@ compared_code : code_of_body (all (If (two (local 0) (ThenCompute Less (local 1)
 compared_code = refl
 
 negated_code : code_of_body (all (While nowhere (Unary unary.Not (local 0)) Break ∷ [])) ≡
-    Jump 2 ∷ Jump 5 ∷ instructions.Branch comparisons.NotEqual (Slot 0) (Constant 0) 1 ∷ Jump 1 ∷ Jump 2
+    Jump 3 ∷ Jump 4 ∷ Jump 1 ∷ jump_if_zero (Slot 0) 2
     ∷ instructions.Finish 2 ∷ blocks
 negated_code = refl
 

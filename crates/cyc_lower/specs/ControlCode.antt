@@ -38,8 +38,23 @@ compared_of (Binary a (ThenCompute o b NoOperations) ty) =
     compared_or (failing_comparison o) a b (Binary a (ThenCompute o b NoOperations) ty)
 compared_of a = with_zero comparisons.Equal a
 
+-- the comparison that holds where another one fails
+abbrev pub opposite : Comparison → Comparison
+opposite comparisons.Equal = comparisons.NotEqual
+opposite comparisons.NotEqual = comparisons.Equal
+opposite comparisons.Less = comparisons.GreaterOrEqual
+opposite comparisons.LessOrEqual = comparisons.Greater
+opposite comparisons.Greater = comparisons.LessOrEqual
+opposite comparisons.GreaterOrEqual = comparisons.Less
+opposite comparisons.LessUnsigned = comparisons.GreaterOrEqualUnsigned
+opposite comparisons.GreaterOrEqualUnsigned = comparisons.LessUnsigned
+
+-- jumps where a condition fails, and where it holds
 abbrev pub failing_jump : Condition → (target : ℕ) → Instruction
 failing_jump c target = instructions.Branch c.failing c.left c.right target
+
+abbrev pub holding_jump : Condition → (target : ℕ) → Instruction
+holding_jump c target = instructions.Branch (opposite c.failing) c.left c.right target
 
 -- A branch whose condition stands at place p, the first statement behind the jump over it, and the other behind the jump
 -- to the end.
@@ -51,22 +66,25 @@ if_code condition jump first second p =
     ++ instructions.Jump (p + length condition + 1 + length first + 1 + length second)
     ∷ second
 
--- A loop begins with two jumps: one over the other, to its condition, and one to its end. So a break, which jumps to the
--- second, and a continue, which jumps to the condition, have targets that are known before the body's code is made.
+-- A loop begins with two jumps: one to its condition, which stands behind its body, and one to its end. So a continue, which jumps to the
+-- first, and a break, which jumps to the second, have targets that are known before the body's code is made. Where the condition holds, a
+-- turn is one jump back.
+abbrev pub continue_target : (head : ℕ) → ℕ
+continue_target head = head
+
 abbrev pub break_target : (head : ℕ) → ℕ
 break_target head = head + 1
 
-abbrev pub continue_target : (head : ℕ) → ℕ
-continue_target head = head + 2
+abbrev pub body_target : (head : ℕ) → ℕ
+body_target head = head + 2
 
-abbrev pub while_code : (condition : List Instruction) → (jump : ℕ → Instruction) → (body : List Instruction) → (p : ℕ) → List Instruction
-while_code condition jump body p =
-    instructions.Jump (continue_target p)
-    ∷ instructions.Jump (p + 2 + length condition + 1 + length body + 1)
-    ∷ condition
-    ++ jump (break_target p)
+abbrev pub while_code : (body condition : List Instruction) → (jump : ℕ → Instruction) → (p : ℕ) → List Instruction
+while_code body condition jump p =
+    instructions.Jump (p + 2 + length body)
+    ∷ instructions.Jump (p + 2 + length body + length condition + 1)
     ∷ body
-    ++ instructions.Jump (continue_target p)
+    ++ condition
+    ++ jump (body_target p)
     ∷ []
 
 -- ---- regions

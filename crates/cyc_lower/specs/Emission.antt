@@ -18,7 +18,7 @@ use Rattle.cyc_plain.specs.declared.instruction.Instruction.TheVariants.{WriteBy
 use Rattle.cyc_frame_count.specs.Needs.{most_frame_count}
 use Rattle.cyc_lower.specs.Slots.{Starts, slot_of}
 use Rattle.cyc_lower.specs.ValueCode.{code_unless, slot_or, code_unless_slot, conversion_code, compute_code, test_code, behind_left, pointer_code, span_of}
-use Rattle.cyc_lower.specs.ControlCode.{failing_jump, while_code, inside_loop, tag_operand, clause_code, opened_code, named_code, dynamic_code, inside_region}
+use Rattle.cyc_lower.specs.ControlCode.{holding_jump, while_code, inside_loop, tag_operand, clause_code, opened_code, named_code, dynamic_code, inside_region}
 use Rattle.cyc_lower.specs.ExpressionCode.{operand_of, source_of, source_slot, printed_operand, printed_code, left_of, value_slot, left_slot, value_operand, expression_code}
 use Rattle.cyc_lower.specs.Lowering.{condition_code, statement_code, declaration_code, condition_of, thrown_operand, thrown_code, caught_code, items_code, clauses_code}
 use Rattle.cyc_meaning.specs.FrameCount.{operand_words, argument_words, arguments_need, expression_need, initial_need, statement_need, kept_by, frame_count}
@@ -141,7 +141,7 @@ module _ (starts : Starts) where
   -- a loop
   abbrev pub loop_code : Expression → Statement → (p : ℕ) → Exits → (t : ℕ) → List Instruction
   loop_code a s p exits t =
-      while_code (condition_code starts a (p + 2) t) (failing_jump (condition_of starts a t)) (statement_code starts s (p + 2 + length (condition_code starts a (p + 2) t) + 1) (inside_loop p exits) t) p
+      while_code (statement_code starts s (p + 2) (inside_loop p exits) t) (condition_code starts a (p + 2 + length (statement_code starts s (p + 2) (inside_loop p exits) t)) t) (holding_jump (condition_of starts a t)) p
 
 -- behind an item of a block: the ways out, and the first slot for temporaries
 abbrev pub exits_behind : Item → Exits → (t : ℕ) → Exits

@@ -25,7 +25,7 @@ use Rattle.cyc_lower.specs.declared.operands.Condition.{Condition}
 use Rattle.cyc_lower.specs.declared.statements.Exits.{Exits}
 use Rattle.cyc_lower.specs.ValueCode.{slot_types, first_temporary, operand_or, code_unless, slot_or, code_unless_slot, left_with, blocks, move_of, conversion_code, span_of, addressed_by, word_by_word, global_code, passed_words, kind_passed, blank_code}
 use Rattle.cyc_lower.specs.ObjectCode.{stores_code, stored_by, load_at, right_slot}
-use Rattle.cyc_lower.specs.ControlCode.{compared_of, failing_jump, if_code, break_target, continue_target, while_code, named_code, opened_code, closed_code, dynamic_code, leave_code, behind_record, kept_code, tag_operand, handled_code, clause_code, goes_on, outside_loops, inside_loop, inside_try, inside_region}
+use Rattle.cyc_lower.specs.ControlCode.{compared_of, failing_jump, holding_jump, if_code, break_target, continue_target, while_code, named_code, opened_code, closed_code, dynamic_code, leave_code, behind_record, kept_code, tag_operand, handled_code, clause_code, goes_on, outside_loops, inside_loop, inside_try, inside_region}
 use Rattle.cyc_lower.specs.ExpressionCode.{operand_of, value_slot, slot_with, value_operand, source_of, converted_operand, printed_operand, place_operand, place_offset, load_code, expression_code, place_code, converted_operand_code, printed_code, initial_code}
 
 module _ (starts : Starts) where
@@ -151,7 +151,7 @@ module _ (starts : Starts) where
         (statement_code u (p + length (condition_code a p t) + 1 + length (statement_code s (p + length (condition_code a p t) + 1) exits t) + 1) exits t)
         p
     statement_code (While w a s) p exits t =
-        while_code (condition_code a (p + 2) t) (failing_jump (condition_of a t)) (statement_code s (p + 2 + length (condition_code a (p + 2) t) + 1) (inside_loop p exits) t) p
+        while_code (statement_code s (p + 2) (inside_loop p exits) t) (condition_code a (p + 2 + length (statement_code s (p + 2) (inside_loop p exits) t)) t) (holding_jump (condition_of a t)) p
     statement_code (Return v) p exits t = return_code v p exits t
     statement_code Break p exits t = leave_code exits.in_loop ++ instructions.Jump (break_target exits.head) ∷ []
     statement_code Continue p exits t = leave_code exits.in_loop ++ instructions.Jump (continue_target exits.head) ∷ []

@@ -1,7 +1,7 @@
 //! What operators become.
 ghost use Rattle.std.specs.Prelude.{◌≡◌, ◌≤◌};
 ghost use Rattle.cyc_lower.specs.ValueCode.{low_byte, unary_instruction, binary_operator, left_kind, pointer_operator, failing_comparison, move_of, jump_if_zero, jump_if_nonzero, test_jump, scale_of, load_of, store_of};
-ghost use Rattle.cyc_lower.specs.ControlCode.{failing_jump, tag_operand, other_jump, goes_on};
+ghost use Rattle.cyc_lower.specs.ControlCode.{opposite, failing_jump, holding_jump, tag_operand, other_jump, goes_on};
 ghost use Rattle.cyc_lower.specs.Emission.{most_locals};
 
 use crate::operands::Condition;
@@ -131,6 +131,22 @@ pub(crate) fn failing_comparison(operator: typed::Operator) -> Option<Comparison
     }
 }
 
+/// The comparison that holds where another one fails.
+fn opposite(comparison: Comparison) -> Comparison
+    ensures { result ≡ opposite comparison }
+{
+    match comparison {
+        Comparison::Equal => Comparison::NotEqual,
+        Comparison::NotEqual => Comparison::Equal,
+        Comparison::Less => Comparison::GreaterOrEqual,
+        Comparison::LessOrEqual => Comparison::Greater,
+        Comparison::Greater => Comparison::LessOrEqual,
+        Comparison::GreaterOrEqual => Comparison::Less,
+        Comparison::LessUnsigned => Comparison::GreaterOrEqualUnsigned,
+        Comparison::GreaterOrEqualUnsigned => Comparison::LessUnsigned,
+    }
+}
+
 /// A value of so many words comes to a slot and those behind it. A number has one word.
 pub(crate) fn move_of(words: usize, destination: usize, source: Operand) -> Instruction
     ensures { result ≡ move_of words destination source }
@@ -219,6 +235,18 @@ pub(crate) fn failing_jump(condition: Condition, target: usize) -> Instruction
 {
     Instruction::Branch {
         comparison: condition.failing,
+        left: condition.left,
+        right: condition.right,
+        target,
+    }
+}
+
+/// A jump where a condition holds.
+pub(crate) fn holding_jump(condition: Condition, target: usize) -> Instruction
+    ensures { result ≡ holding_jump condition target }
+{
+    Instruction::Branch {
+        comparison: opposite(condition.failing),
         left: condition.left,
         right: condition.right,
         target,

@@ -13,7 +13,7 @@ ghost use Rattle.cyc_lower.specs.Emission.{Appends, most_locals, throw_code, cas
 use crate::emitter::Emitter;
 use crate::locals::slot_of;
 use crate::operands::kind_of;
-use crate::operators::{failing_jump, goes_on, other_jump, tag_operand};
+use crate::operators::{goes_on, holding_jump, other_jump, tag_operand};
 use crate::starts::Starts;
 use cyc_frame_count::words_of;
 use cyc_plain::{Instruction, Operand};
@@ -325,16 +325,16 @@ impl Emitter {
         self.emit(Instruction::Jump { target: head + 1 })
     }
 
-    /// A jump to the condition of the loop that begins at this place.
+    /// A jump to the condition of the loop that begins at this place, by the first of its two jumps.
     fn lower_continue(&mut self, head: usize) -> Result<(), AllocError>
         requires { head ≤ length self.old.code.items }
         ensures { Appends result self.old self.new (Instruction.Jump (continue_target head) ∷ []) }
     {
-        self.emit(Instruction::Jump { target: head + 2 })
+        self.emit(Instruction::Jump { target: head })
     }
 
-    /// A loop begins with two jumps, one over the other to its condition, and one to its end. So the targets of a `break` and of
-    /// a `continue` are known before the body's code is made.
+    /// A loop begins with two jumps, one to its condition, which stands behind its body, and one to its end. So the targets of a
+    /// `continue` and of a `break` are known before the body's code is made.
     #[cycle(statement)]
     fn lower_loop(
         &mut self,
@@ -347,18 +347,18 @@ impl Emitter {
         requires { free + kept_by (view_statement body.now) ≤ most_locals }
         ensures { Appends result self.old self.new (loop_code (view_starts starts.now) (view_expression condition.now) (view_statement body.now) (length self.old.code.items) exits free) }
     {
-        let head = self.place();
+        let head = self.reserve()?;
+        let leaving = self.reserve()?;
         let inside = Exits {
             head,
             in_loop: nothing_opened(),
             in_function: exits.in_function,
         };
-        self.lower_continue(head)?;
-        let leaving = self.reserve()?;
-        let condition = self.lower_condition(starts, condition, free)?;
-        self.emit(failing_jump(condition, leaving))?;
+        let again = self.place();
         self.lower_statement(starts, body, inside, free)?;
-        self.lower_continue(head)?;
+        self.jump_here(head);
+        let condition = self.lower_condition(starts, condition, free)?;
+        self.emit(holding_jump(condition, again))?;
         self.jump_here(leaving);
         Ok(())
     }

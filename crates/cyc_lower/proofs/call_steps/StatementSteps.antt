@@ -1,5 +1,5 @@
 -- The steps of statements, and those that leave entries.
-use Rattle.std.proofs.Common.{◌≡◌, ℕ, zero, suc, ◌≤◌, ◌<◌, Bool, true, false, List, [], ◌∷◌, length, map, slice_index_or, Option, None, Some, slice_get, refl, sym, ap, subst, ◌∙◌, arith, inr}
+use Rattle.std.proofs.Common.{◌≡◌, ◌≢◌, ℕ, zero, suc, ◌≤◌, ◌<◌, Bool, true, false, List, [], ◌∷◌, length, map, slice_index_or, Option, None, Some, slice_get, refl, sym, ap, subst, ◌∙◌, arith, inr}
 use Rattle.std.specs.Prelude.{if◌then◌else◌}
 use Rattle.std.proofs.lemmas.Option.{same_Some, none-some}
 use Rattle.cyc_words.specs.Word.{signed}
@@ -21,7 +21,7 @@ use Rattle.cyc_plain.specs.Step as plain_step
 use Rattle.cyc_plain.proofs.SlotLaws.{copied-below, put-same}
 use Rattle.cyc_plain.specs.Straight.{At}
 use Rattle.cyc_meaning.specs.Values.{Value, Int, kind_of, Operand as Kinded, words_of_kind}
-use Rattle.cyc_meaning.specs.State.{Access, Region, World, Environment, variable, made, opened, closed, with_local, region_at, ConvertTo, Initialise, Choose, Return, Entry, Needs, NeedsPlace, Discard, Rest, Join, Loop, CloseRegion, CloseLexical, EndLoan, Handler, Caller, Main, Focus, Evaluating, Given, Executing, Proceeding, Breaking, Continuing, Returning, Running, Ended, State, Object}
+use Rattle.cyc_meaning.specs.State.{Access, Region, World, Environment, variable, made, opened, closed, with_local, region_at, ConvertTo, Initialise, Choose, Test, Return, Entry, Needs, NeedsPlace, Discard, Rest, Join, Loop, CloseRegion, CloseLexical, EndLoan, Handler, Caller, Main, Focus, Evaluating, Given, Executing, Proceeding, Breaking, Continuing, Returning, Running, Ended, State, Object}
 use Rattle.cyc_meaning.specs.Nesting.{IsNested}
 use Rattle.cyc_meaning.specs.Regions.{closing_lexical}
 use Rattle.cyc_meaning.specs.Step.{target_by, inside, region_end, step}
@@ -127,9 +127,9 @@ module _ (source : Program) (pages calls : ℕ) where
       silently source pages calls (Running (Executing (If a s t)) k e w) (Running (Evaluating a) (Needs (Choose s t) ∷ k) e w) (plain.Running c) refl
       (shared, facts, as_condition x y m at_a tt (exits, r, q, jump, at_s, over, at_t, stack))
       (omega arith)
-  executing (While p a s) k e w c nested well (shared, facts, (exits, q, (x, y, m, r, enter, leave, at_a, jump, at_s, back, end, after), stack)) =
+  executing (While p a s) k e w c nested well (shared, facts, (exits, q, (x, y, r, m, enter, leave, at_s, at_a, again, end, behind, after), stack)) =
       by_one source pages calls refl shared enter
-      (λ choice. (shared, facts, as_condition x y m at_a tt (inside_loop c.active.next exits, exits, q, (refl, refl, x, y, m, r, leave, at_a, jump, at_s, back, after), r, jump, at_s, back, stack)))
+      (λ choice. (shared, facts, as_condition x y m at_a tt (inside_loop c.active.next exits, exits, r, q, (refl, refl, x, y, m, enter, leave, at_s, at_a, again, end, behind, after), again, end, stack)))
   executing (typed.Return None) k e w c nested well (shared, facts, (exits, q, (s, m, (r, closing, marks), here), stack)) =
       leaving source pages calls false (Executing (typed.Return None)) (Returning None) k k e w c exits.in_function r m refl shared (omega arith) (record_left source c.active.function exits q c.frames k stack).1 closing marks facts.1
       (λ handlers stand marks_there marked. (shared_leaving source pages calls false k e w c shared, (facts.0, stand), m, marks_there, marked, (exits, q, s, here, stack)))
@@ -394,9 +394,10 @@ module _ (source : Program) (pages calls : ℕ) where
   after_statement (Rest (MoreItems (DeclareKey r n) js) ∷ k) e w c exits nested well shared facts (q, items, stack) =
       declares_key source pages calls r n js k e w c exits q shared facts items stack
   after_statement (Join ∷ k) e w c exits nested well shared facts (q, comes, stack) = arrives (Join ∷ k) k e e w w c exits q refl shared (omega arith) shared facts comes stack
-  after_statement (Loop a s ∷ k) e w c exits nested well shared facts (outer, q, (loop_is, function_is, x, y, m, r, leave, at_a, jump, at_s, back, after), here, stack) =
-      by_one source pages calls refl shared here
-      (λ choice. (shared, facts, as_condition x y m at_a tt (exits, outer, q, (loop_is, function_is, x, y, m, r, leave, at_a, jump, at_s, back, after), r, jump, at_s, back, stack)))
+  after_statement (Loop a s ∷ k) e w c exits nested well shared facts (outer, q, (loop_is, function_is, x, y, m, enter, leave, at_s, at_a, again, end, behind, after), stack) =
+      silently source pages calls (Running Proceeding (Loop a s ∷ k) e w) (Running (Evaluating a) (Needs (Test a s) ∷ k) e w) (plain.Running c) refl
+      (shared, facts, as_condition x y m at_a tt (exits, outer, c.active.next, q, (loop_is, function_is, x, y, m, enter, leave, at_s, at_a, again, end, behind, after), again, end, stack))
+      (omega arith)
   after_statement (CloseRegion region home ∷ k) e w c exits nested well shared facts (q, comes, stack) =
       let found = is_closed Proceeding region home k e w well in
       arrives (CloseRegion region home ∷ k) k (record e { home = home }) e (closed w region found.region) w c exits q found.gives shared (omega arith)
@@ -431,6 +432,16 @@ module _ (source : Program) (pages calls : ℕ) where
 
   -- ---- breaks
 
+  -- a jump leads elsewhere, if to one that leads further on
+  jumps_apart : (code : List Instruction) (p q r : ℕ) → At code p (instructions.Jump q) → At code q (instructions.Jump r) → q < r → p ≢ q
+  jumps_apart code p q r first second on same =
+      let jumps : r ≡ q = ap (λ (i : Instruction). target_of i) (same_Some (instructions.Jump r) (instructions.Jump q) (sym second ∙ ap (slice_get code) (sym same) ∙ first)) in
+      absurd (omega (arith, jumps, on))
+    where
+      target_of : Instruction → ℕ
+      target_of (instructions.Jump t) = t
+      target_of i = 0
+
   pub breaking : (k : List Entry) (e : Environment) (w : World) (c : Configuration) → IsNested k e w → IsStep source pages calls Breaking k e w c
   breaking [] e w c nested well related = absurd (well refl)
   breaking (Needs a ∷ k) e w c nested well (shared, facts, r, marks, marked, (exits, q, here, stack)) = absurd stack
@@ -439,17 +450,11 @@ module _ (source : Program) (pages calls : ℕ) where
       silently source pages calls (Running Breaking (Rest js ∷ k) e w) (Running Breaking k e w) (plain.Running c) refl (shared, facts, r, marks, marked, (exits, u, here, stack)) (omega arith)
   breaking (Join ∷ k) e w c nested well (shared, facts, r, marks, marked, (exits, q, here, (u, arrives, stack))) =
       silently source pages calls (Running Breaking (Join ∷ k) e w) (Running Breaking k e w) (plain.Running c) refl (shared, facts, r, marks, marked, (exits, u, here, stack)) (omega arith)
-  breaking (Loop a s ∷ k) e w c nested well (shared, facts, r, end, marked, (exits, q, jumps, (outer, u, (loop_is, function_is, x, y, m, n, leave, at_a, jump, at_s, back, after), again, stack))) =
+  breaking (Loop a s ∷ k) e w c nested well (shared, facts, r, end, marked, (exits, q, jumps, (outer, u, (loop_is, function_is, x, y, m, enter, leave, at_s, at_a, again, over, behind, after), stack))) =
       let here : At (code_of source c.active.function) c.active.next (instructions.Jump (break_target exits.head)) = subst (λ n. At (code_of source c.active.function) n (instructions.Jump (break_target exits.head))) (sym end) jumps in
       by_two source pages calls (at c (break_target exits.head)) refl shared shared here (λ choice. refl) leave
-      (λ same.
-      let jumps : u ≡ break_target exits.head = ap (λ (i : Instruction). target_of i) (same_Some (instructions.Jump u) (instructions.Jump (break_target exits.head)) (sym leave ∙ ap (slice_get (code_of source c.active.function)) (sym same) ∙ here)) in
-      absurd (omega (arith, jumps, after)))
+      (jumps_apart (code_of source c.active.function) c.active.next (break_target exits.head) u here leave after)
       (λ choice. (shared, behind_statement outer facts stack))
-    where
-      target_of : Instruction → ℕ
-      target_of (instructions.Jump t) = t
-      target_of i = 0
   breaking (CloseRegion region home ∷ k) e w c nested well (shared, facts, r, marks, marked, (exits, q, here, (u, comes, stack))) =
       let found = is_closed Breaking region home k e w well in
       silently source pages calls (Running Breaking (CloseRegion region home ∷ k) e w) (Running Breaking k (record e { home = home }) (closed w region found.region)) (plain.Running c) found.gives
@@ -476,9 +481,11 @@ module _ (source : Program) (pages calls : ℕ) where
       silently source pages calls (Running Continuing (Rest js ∷ k) e w) (Running Continuing k e w) (plain.Running c) refl (shared, facts, r, marks, marked, (exits, u, here, stack)) (omega arith)
   continuing (Join ∷ k) e w c nested well (shared, facts, r, marks, marked, (exits, q, here, (u, arrives, stack))) =
       silently source pages calls (Running Continuing (Join ∷ k) e w) (Running Continuing k e w) (plain.Running c) refl (shared, facts, r, marks, marked, (exits, u, here, stack)) (omega arith)
-  continuing (Loop a s ∷ k) e w c nested well (shared, facts, r, end, marked, (exits, q, here, (outer, u, (loop_is, function_is, x, y, m, n, leave, at_a, jump, at_s, back, after), again, stack))) =
-      by_one source pages calls refl shared (subst (λ n. At (code_of source c.active.function) n (instructions.Jump (continue_target exits.head))) (sym end) here)
-      (λ choice. (shared, facts, as_condition x y m at_a tt (exits, outer, u, (loop_is, function_is, x, y, m, n, leave, at_a, jump, at_s, back, after), n, jump, at_s, back, stack)))
+  continuing (Loop a s ∷ k) e w c nested well (shared, facts, r, end, marked, (exits, q, jumps, (outer, u, (loop_is, function_is, x, y, m, enter, leave, at_s, at_a, again, over, behind, after), stack))) =
+      let here : At (code_of source c.active.function) c.active.next (instructions.Jump (continue_target exits.head)) = subst (λ n. At (code_of source c.active.function) n (instructions.Jump (continue_target exits.head))) (sym end) jumps in
+      by_two source pages calls (at c (continue_target exits.head)) refl shared shared here (λ choice. refl) enter
+      (jumps_apart (code_of source c.active.function) c.active.next (continue_target exits.head) q here enter behind)
+      (λ choice. (shared, facts, as_condition x y m at_a tt (exits, outer, q, u, (loop_is, function_is, x, y, m, enter, leave, at_s, at_a, again, over, behind, after), again, over, stack)))
   continuing (CloseRegion region home ∷ k) e w c nested well (shared, facts, r, marks, marked, (exits, q, here, (u, comes, stack))) =
       let found = is_closed Continuing region home k e w well in
       silently source pages calls (Running Continuing (CloseRegion region home ∷ k) e w) (Running Continuing k (record e { home = home }) (closed w region found.region)) (plain.Running c) found.gives
@@ -521,7 +528,7 @@ module _ (source : Program) (pages calls : ℕ) where
       silently source pages calls (Running (Returning None) (Rest js ∷ k) e w) (Running (Returning None) k e w) (plain.Running c) refl (shared, facts, r, marks, marked, (exits, u, s, here, stack)) (omega arith)
   returning_none (Join ∷ k) e w c nested well (shared, facts, r, marks, marked, (exits, q, s, here, (u, arrives, stack))) =
       silently source pages calls (Running (Returning None) (Join ∷ k) e w) (Running (Returning None) k e w) (plain.Running c) refl (shared, facts, r, marks, marked, (exits, u, s, here, stack)) (omega arith)
-  returning_none (Loop a b ∷ k) e w c nested well (shared, facts, r, marks, marked, (exits, q, s, here, (outer, u, around, again, stack))) =
+  returning_none (Loop a b ∷ k) e w c nested well (shared, facts, r, marks, marked, (exits, q, s, here, (outer, u, around, stack))) =
       silently source pages calls (Running (Returning None) (Loop a b ∷ k) e w) (Running (Returning None) k e w) (plain.Running c) refl (shared, facts, r, marks, marked, (outer, u, s, here, stack)) (omega arith)
   returning_none (CloseRegion region home ∷ k) e w c nested well (shared, facts, r, marks, marked, (exits, q, s, here, (u, comes, stack))) =
       let found = is_closed (Returning None) region home k e w well in
@@ -549,7 +556,7 @@ module _ (source : Program) (pages calls : ℕ) where
       silently source pages calls (Running (Returning (Some v)) (Rest js ∷ k) e w) (Running (Returning (Some v)) k e w) (plain.Running c) refl (shared, facts, r, marks, marked, (exits, u, s, here, is, single, stack)) (omega arith)
   returning_some v (Join ∷ k) e w c nested well (shared, facts, r, marks, marked, (exits, q, s, here, is, single, (u, arrives, stack))) =
       silently source pages calls (Running (Returning (Some v)) (Join ∷ k) e w) (Running (Returning (Some v)) k e w) (plain.Running c) refl (shared, facts, r, marks, marked, (exits, u, s, here, is, single, stack)) (omega arith)
-  returning_some v (Loop a b ∷ k) e w c nested well (shared, facts, r, marks, marked, (exits, q, s, here, is, single, (outer, u, around, again, stack))) =
+  returning_some v (Loop a b ∷ k) e w c nested well (shared, facts, r, marks, marked, (exits, q, s, here, is, single, (outer, u, around, stack))) =
       silently source pages calls (Running (Returning (Some v)) (Loop a b ∷ k) e w) (Running (Returning (Some v)) k e w) (plain.Running c) refl (shared, facts, r, marks, marked, (outer, u, s, here, is, single, stack)) (omega arith)
   returning_some v (CloseRegion region home ∷ k) e w c nested well (shared, facts, r, marks, marked, (exits, q, s, here, is, single, (u, comes, stack))) =
       let found = is_closed (Returning (Some v)) region home k e w well in

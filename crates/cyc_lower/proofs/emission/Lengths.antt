@@ -21,7 +21,7 @@ use Rattle.cyc_lower.specs.declared.statements.Exits.{Exits}
 use Rattle.cyc_lower.specs.Slots.{with_counter, Starts, slot_of, global_of}
 use Rattle.cyc_lower.specs.ValueCode.{first_temporary, keeps_words, masked_code, kind_behind, last_byte_code, kind_passed, converts_there, passed_words, operand_or, code_unless, code_unless_slot, left_with, next_slot, converted_by, conversion_code, divisor_code, operator_code, pointer_instructions, first_two, copy_code, address_code, behind_left, checked_code, null_of, span_of, span_in, followed_operand, followed_code, conversion_by, widened_code, count_code, loaded_code, slot_or, kinds_passed, thinned_code, bounded_code, past_bounded, reached_operand, reached_code, word_by_word, load_word, global_code}
 use Rattle.cyc_lower.specs.ObjectCode.{begun_code, filled_code, elements_code, ended_code, object_code, right_slot, saved_code, stores_code}
-use Rattle.cyc_lower.specs.ControlCode.{outside_loops, if_code, while_code, failing_jump, compared_of, inside_loop, leave_code, try_code, clause_code, break_target, continue_target, kept_code, restored_code, behind_record, inside_try, inside_region, opened_code, closed_code}
+use Rattle.cyc_lower.specs.ControlCode.{outside_loops, if_code, while_code, failing_jump, holding_jump, compared_of, inside_loop, leave_code, try_code, clause_code, break_target, continue_target, kept_code, restored_code, behind_record, inside_try, inside_region, opened_code, closed_code}
 use Rattle.cyc_lower.specs.ExpressionCode.{operand_of, left_of, value_slot, slot_with, left_slot, value_operand, source_of, source_slot, converted_operand, load_code, place_operand, place_offset, expression_code, place_code, made_code, arguments_code, converted_code, converted_operand_code, printed_code, initial_code, operations_code, pointer_of}
 use Rattle.cyc_lower.specs.Lowering.{raises_of, body_code, assignment_code, discarded_code, pair_code, condition_code, return_code, declaration_code, statement_code, items_code, condition_of, side_code, swap_code, thrown_code, caught_code, clauses_code, starts_with, read_side, write_side, exchange_code}
 use Rattle.cyc_plain.specs.declared.instruction.Instruction.TheVariants as instructions
@@ -67,9 +67,8 @@ if_long : (a b c x y z : List Instruction) (jump same : ℕ → Instruction) (p 
 if_long a b c x y z jump same p q first second third =
     joined (a ++ _ ∷ b) (_ ∷ c) (x ++ _ ∷ y) (_ ∷ z) (joined a (_ ∷ b) x (_ ∷ y) first (ap suc second)) (ap suc third)
 
-while_long : (a b x y : List Instruction) (jump same : ℕ → Instruction) (p q : ℕ) → length a ≡ length x → length b ≡ length y → length (while_code a jump b p) ≡ length (while_code x same y q)
-while_long a b x y jump same p q first second =
-    ap (λ n. suc (suc n)) (joined (a ++ _ ∷ b) (_ ∷ []) (x ++ _ ∷ y) (_ ∷ []) (joined a (_ ∷ b) x (_ ∷ y) first (ap suc second)) refl)
+while_long : (a b x y : List Instruction) (jump same : ℕ → Instruction) (p q : ℕ) → length a ≡ length x → length b ≡ length y → length (while_code a b jump p) ≡ length (while_code x y same q)
+while_long a b x y jump same p q first second = ap (λ n. suc (suc n)) (joined (a ++ b) (_ ∷ []) (x ++ y) (_ ∷ []) (joined a b x y first second) refl)
 
 try_long : (a b x y : List Instruction) (t p q : ℕ) → length a ≡ length x → length b ≡ length y → length (try_code t a b p) ≡ length (try_code t x y q)
 try_long a b x y t p q first second = ap suc (joined a (_ ∷ b) x (_ ∷ y) first (ap suc second))
@@ -371,12 +370,13 @@ module _ (starts : Starts) (raises : ℕ) where
         if_long (condition_code starts a p t) first second (condition_code (other starts raises) a q t) same_first same_second (failing_jump (condition_of starts a t)) (failing_jump (condition_of (other starts raises) a t)) p q
         (condition_long (compared_of a).left (compared_of a).right p q t) (statement_long s (m + 1) (n + 1) head exits t) (statement_long u (m + 1 + length first + 1) (n + 1 + length same_first + 1) head exits t)
     statement_long (While w a s) p q head exits t =
-        let m = p + 2 + length (condition_code starts a (p + 2) t) in
-        let n = q + 2 + length (condition_code (other starts raises) a (q + 2) t) in
         let around = inside_loop p exits in
-        while_long (condition_code starts a (p + 2) t) (statement_code starts s (m + 1) around t) (condition_code (other starts raises) a (q + 2) t) (statement_code (other starts raises) s (n + 1) (record around { head = q }) t)
-        (failing_jump (condition_of starts a t)) (failing_jump (condition_of (other starts raises) a t)) p q
-        (condition_long (compared_of a).left (compared_of a).right (p + 2) (q + 2) t) (statement_long s (m + 1) (n + 1) q around t)
+        let body = statement_code starts s (p + 2) around t in
+        let same_body = statement_code (other starts raises) s (q + 2) (record around { head = q }) t in
+        let m = p + 2 + length body in
+        let n = q + 2 + length same_body in
+        while_long body (condition_code starts a m t) same_body (condition_code (other starts raises) a n t) (holding_jump (condition_of starts a t)) (holding_jump (condition_of (other starts raises) a t)) p q
+        (statement_long s (p + 2) (q + 2) q around t) (condition_long (compared_of a).left (compared_of a).right m n t)
     statement_long (Return v) p q head exits t = return_long v p q head exits t
     statement_long Break p q head exits t =
         joined (leave_code exits.in_loop) (instructions.Jump (break_target exits.head) ∷ []) (leave_code exits.in_loop) (instructions.Jump (break_target head) ∷ []) refl refl

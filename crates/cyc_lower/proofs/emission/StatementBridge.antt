@@ -18,7 +18,7 @@ use Rattle.cyc_meaning.specs.Values.{kind_of, words_of_kind}
 use Rattle.cyc_lower.specs.Slots.{Types, starts_of, slot_of, global_of}
 use Rattle.cyc_lower.specs.ValueCode.{passed_words, move_of, operand_or, slot_or, code_unless_slot, left_with, conversion_code, failing_comparison, address_code, span_of, global_code, kind_passed}
 use Rattle.cyc_lower.specs.ObjectCode.{right_slot, saved_code, load_at}
-use Rattle.cyc_lower.specs.ControlCode.{compared_or, compared_of, failing_jump, break_target, continue_target, inside_loop, leave_code, other_jump, clause_code, kept_code, kept_code_in, restored_code, restored_code_in, behind_record, inside_try, closed_code, handlers_code, marks_code, try_code, opened_code, inside_region, dynamic_code}
+use Rattle.cyc_lower.specs.ControlCode.{compared_or, compared_of, failing_jump, holding_jump, break_target, continue_target, body_target, inside_loop, leave_code, other_jump, clause_code, kept_code, kept_code_in, restored_code, restored_code_in, behind_record, inside_try, closed_code, handlers_code, marks_code, try_code, opened_code, inside_region, dynamic_code}
 use Rattle.cyc_lower.specs.ExpressionCode.{source_of, operand_of, value_slot, slot_with, value_operand, converted_operand, printed_operand, expression_code, converted_operand_code, printed_code, place_operand, place_offset, place_code}
 use Rattle.cyc_lower.specs.Lowering.{assignment_code, assigned_operand, discarded_code, first_operand, first_code, second_code, pair_code, condition_code, condition_of, return_code, declaration_code, statement_code, items_code, results_of, side_code, read_side, write_side, exchange_code, swap_code, thrown_code, thrown_operand, caught_code, clauses_code}
 use Rattle.cyc_lower.specs.declared.statements.Exits.{Exits}
@@ -295,31 +295,29 @@ module _ (code : List Instruction) (b : Numbering) (types : Types) (raised : Blo
           statement_stands u in_loop exits t (r + 1) q numbered_u end_is has_second,
         )
     statement_stands (While w a s) in_loop exits t p q (numbered_a, numbered_s) end has =
-        let condition = condition_code (starts_of types) a (p + 2) t in
-        let m = p + 2 + length condition in
-        let body = statement_code (starts_of types) s (m + 1) (inside_loop p exits) t in
-        let r = m + 1 + length body in
-        let test = failing_jump (condition_of (starts_of types) a t) (break_target p) ∷ body in
-        let again = instructions.Jump (continue_target p) ∷ [] in
+        let body = statement_code (starts_of types) s (p + 2) (inside_loop p exits) t in
+        let r = p + 2 + length body in
+        let condition = condition_code (starts_of types) a r t in
+        let m = r + length condition in
+        let test = holding_jump (condition_of (starts_of types) a t) (body_target p) ∷ [] in
         let (enter, (leave, inner)) = has in
-        let inner_has = subst (λ x. HasAt code x ((condition ++ test) ++ again)) (let e : p + 1 + 1 ≡ p + 2 = omega arith in e) inner in
-        let long : length (condition ++ test) ≡ length condition + suc (length body) = length-append condition test in
-        let all : length ((condition ++ test) ++ again) ≡ length (condition ++ test) + 1 = length-append (condition ++ test) again in
-        let front_has = has_front code (p + 2) (condition ++ test) again inner_has in
-        let (jump, has_body) = has_back code (p + 2) condition test front_has in
-        let (back, none) = has_back code (p + 2) (condition ++ test) again inner_has in
-        let end_is : r + 1 ≡ q = omega (arith, end, long, all) in (
+        let inner_has = subst (λ x. HasAt code x ((body ++ condition) ++ test)) (let e : p + 1 + 1 ≡ p + 2 = omega arith in e) inner in
+        let long : length (body ++ condition) ≡ length body + length condition = length-append body condition in
+        let all : length ((body ++ condition) ++ test) ≡ length (body ++ condition) + 1 = length-append (body ++ condition) test in
+        let front_has = has_front code (p + 2) (body ++ condition) test inner_has in
+        let (again, none) = has_back code (p + 2) (body ++ condition) test inner_has in
+        let end_is : m + 1 ≡ q = omega (arith, end, long, all) in (
           (condition_of (starts_of types) a t).left,
           (condition_of (starts_of types) a t).right,
-          m,
           r,
+          m,
           enter,
           subst (λ x. At code (p + 1) (instructions.Jump x)) end_is leave,
-          condition_stands a t (p + 2) m numbered_a refl (has_front code (p + 2) condition test front_has),
-          jump,
-          statement_stands s true (inside_loop p exits) t (m + 1) r numbered_s refl has_body,
-          subst (λ x. At code x (instructions.Jump (continue_target p))) (let e : p + 2 + length (condition ++ test) ≡ r = omega (arith, long) in e) back,
+          statement_stands s true (inside_loop p exits) t (p + 2) r numbered_s refl (has_front code (p + 2) body condition front_has),
+          condition_stands a t r m numbered_a refl (has_back code (p + 2) body condition front_has),
+          subst (λ x. At code x (holding_jump (condition_of (starts_of types) a t) (body_target p))) (let e : p + 2 + length (body ++ condition) ≡ m = omega (arith, long) in e) again,
           end_is,
+          omega arith,
           omega (arith, end_is),
         )
     statement_stands (Return v) in_loop exits d p q numbered end has = return_stands v exits d p q numbered end has

@@ -77,7 +77,7 @@ module _ (source : Program) where
         fill_counts object count index level wanted a k (by_lands source lands (λ stack. value_arrays g locals kinds.Fat (operands.Slot d) q frames k stack) (λ stack. ahead_arrays g locals kinds.Fat d q frames k stack))
     value_arrays g locals kind o p frames (Needs (Initialise n wanted items) ∷ k) (exits, q, at, below, of_type, items_at, stack) = statement_arrays g exits q frames k stack
     value_arrays g locals kind o p frames (Needs (Choose s t) ∷ k) (exits, r, q, at, at_s, jump, at_t, stack) = statement_arrays g exits q frames k stack
-    value_arrays g locals kind o p frames (Needs (Test a s) ∷ k) (exits, outer, q, at, r, jump, body, back, stack) = statement_arrays g outer q frames k stack
+    value_arrays g locals kind o p frames (Needs (Test a s) ∷ k) (exits, outer, m, q, at, jump, end, stack) = statement_arrays g outer q frames k stack
     value_arrays g locals kind o p frames (Needs Return ∷ k) (exits, q, s, r, is, leave, at, one, stack) = statement_arrays g exits q frames k stack
     value_arrays g locals kind o p frames (Needs (Follow pointer target) ∷ k) (q, low, at, place) = place_arrays g locals (followed_operand (is_thin pointer) (option_map bytes_of_kind target) o (top source g k)) 0 q frames k place
     value_arrays g locals kind o p frames (Needs (Index peek target i) ∷ k) (inl (x, m, q, there, at, sum, reached, place)) =
@@ -112,7 +112,7 @@ module _ (source : Program) where
     condition_arrays : (g : ℕ) (failing : Comparison) (l r : Operand) (p : ℕ) (frames : List Frame) (k : List Entry) → ConditionStack source g failing l r p frames k → AllCount k
     condition_arrays g failing l r p frames (Needs (Chain NoOperations) ∷ k) stack = condition_arrays g failing l r p frames k stack
     condition_arrays g failing l r p frames (Needs (Choose s t) ∷ k) (exits, m, q, at, at_s, jump, at_t, stack) = statement_arrays g exits q frames k stack
-    condition_arrays g failing l r p frames (Needs (Test a s) ∷ k) (exits, outer, q, at, m, jump, body, back, stack) = statement_arrays g outer q frames k stack
+    condition_arrays g failing l r p frames (Needs (Test a s) ∷ k) (exits, outer, m, q, at, jump, end, stack) = statement_arrays g outer q frames k stack
     condition_arrays g failing l r p frames k stack = absurd stack
 
     dropped_arrays : (g p : ℕ) (frames : List Frame) (k : List Entry) → DroppedStack source g p frames k → AllCount k
@@ -133,7 +133,7 @@ module _ (source : Program) where
     statement_arrays : (g : ℕ) (exits : Exits) (p : ℕ) (frames : List Frame) (k : List Entry) → StatementStack source g exits p frames k → arrays_in k ≡ 0
     statement_arrays g exits p frames (Rest js ∷ k) (q, at, stack) = statement_arrays g exits q frames k stack
     statement_arrays g exits p frames (Join ∷ k) (q, at, stack) = statement_arrays g exits q frames k stack
-    statement_arrays g exits p frames (Loop a s ∷ k) (outer, q, at, jump, stack) = statement_arrays g outer q frames k stack
+    statement_arrays g exits p frames (Loop a s ∷ k) (outer, q, at, stack) = statement_arrays g outer q frames k stack
     statement_arrays g exits p frames (CloseRegion r h ∷ k) (q, at, stack) = statement_arrays g exits q frames k stack
     statement_arrays g exits p frames (Handler handler ∷ k) (outer, q, is, leave, jump, stack) = statement_arrays g outer q frames k stack
     statement_arrays g exits p frames (CloseLexical region ∷ k) (outer, q, is, closing, stack) = statement_arrays g outer q frames k stack

@@ -162,8 +162,8 @@ module _ (source : Program) where
         (exits, q, at, below, of_type, items_at, statement_moves g exits q frames others like k stack)
     value_moves g locals kind o p frames others like (Needs (Choose s t) ∷ k) (exits, r, q, at, at_s, jump, at_t, stack) =
         (exits, r, q, at, at_s, jump, at_t, statement_moves g exits q frames others like k stack)
-    value_moves g locals kind o p frames others like (Needs (Test a s) ∷ k) (exits, outer, q, at, r, jump, body, back, stack) =
-        (exits, outer, q, at, r, jump, body, back, statement_moves g outer q frames others like k stack)
+    value_moves g locals kind o p frames others like (Needs (Test a s) ∷ k) (exits, outer, m, q, at, jump, end, stack) =
+        (exits, outer, m, q, at, jump, end, statement_moves g outer q frames others like k stack)
     value_moves g locals kind o p frames others like (Needs Return ∷ k) (exits, q, s, r, is, leave, at, one, stack) =
         (exits, q, s, r, is, leave, at, one, statement_moves g exits q frames others like k stack)
     value_moves g locals kind o p frames others like (Needs (Follow pointer target) ∷ k) (q, low, at, place) =
@@ -207,8 +207,8 @@ module _ (source : Program) where
     condition_moves g failing l r p frames others like (Needs (Chain NoOperations) ∷ k) stack = condition_moves g failing l r p frames others like k stack
     condition_moves g failing l r p frames others like (Needs (Choose s t) ∷ k) (exits, m, q, at, at_s, jump, at_t, stack) =
         (exits, m, q, at, at_s, jump, at_t, statement_moves g exits q frames others like k stack)
-    condition_moves g failing l r p frames others like (Needs (Test a s) ∷ k) (exits, outer, q, at, m, jump, body, back, stack) =
-        (exits, outer, q, at, m, jump, body, back, statement_moves g outer q frames others like k stack)
+    condition_moves g failing l r p frames others like (Needs (Test a s) ∷ k) (exits, outer, m, q, at, jump, end, stack) =
+        (exits, outer, m, q, at, jump, end, statement_moves g outer q frames others like k stack)
     condition_moves g failing l r p frames others like k stack = absurd stack
 
     pub dropped_moves : (g p : ℕ) (frames others : List Frame) → Like frames others → (k : List Entry) → DroppedStack source g p frames k → DroppedStack source g p others k
@@ -234,8 +234,8 @@ module _ (source : Program) where
         (q, at, statement_moves g exits q frames others like k stack)
     statement_moves g exits p frames others like (Join ∷ k) (q, at, stack) =
         (q, at, statement_moves g exits q frames others like k stack)
-    statement_moves g exits p frames others like (Loop a s ∷ k) (outer, q, at, jump, stack) =
-        (outer, q, at, jump, statement_moves g outer q frames others like k stack)
+    statement_moves g exits p frames others like (Loop a s ∷ k) (outer, q, at, stack) =
+        (outer, q, at, statement_moves g outer q frames others like k stack)
     statement_moves g exits p frames others like (CloseRegion r h ∷ k) (q, at, stack) =
         (q, at, statement_moves g exits q frames others like k stack)
     statement_moves g exits p frames others like (Handler handler ∷ k) (outer, q, is, leave, jump, stack) =

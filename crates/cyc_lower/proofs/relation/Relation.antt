@@ -45,11 +45,11 @@ use Rattle.cyc_meaning.specs.Pointers.{result_kind as operator_kind}
 use Rattle.cyc_lower.specs.Slots.{Types, Starts, starts_of, slot_of, global_of, global_types}
 use Rattle.cyc_lower.specs.ValueCode.{failing_comparison, move_of, low_byte, converts_there, all_passed, kinds_passed, slot_types, followed_operand, reached_operand, unary_instruction}
 use Rattle.cyc_lower.specs.ObjectCode.{right_slot}
-use Rattle.cyc_lower.specs.ControlCode.{compared_of, break_target, continue_target, outside_loops, tag_operand, nothing_opened, with_handler, with_mark, inside_try, inside_region}
+use Rattle.cyc_lower.specs.ControlCode.{opposite, compared_of, break_target, continue_target, body_target, outside_loops, tag_operand, nothing_opened, with_handler, with_mark, inside_try, inside_region}
 use Rattle.cyc_lower.specs.ExpressionCode.{operand_of}
 use Rattle.cyc_lower.specs.Lowering.{results_of, lower_program, raises_of, globals_of, scopes_of}
 use Rattle.cyc_lower.proofs.slots.Widths.{kind_of_result, given, called_kind, HasRoom, Outside, chain_kind, HasGlobal, made_kind, HasLocal, kind_in}
-use Rattle.cyc_lower.proofs.relation.Stands.{BegunAt, ElementsAt, CheckAt, ConversionAt, PlaceAt, OperatorAt, TruthAt, CopyAt, ExpressionAt, ArgumentsAt, OperationsAt, ValueAt, ConditionAt, FailingAt, ComparesAt, DiscardedAt, StatementAt, ItemsAt, PointerAt, CellsAt, ObjectAt, AddressAt, ConvertedOperandAt, FreedAt, HasSide, SideAt, ReadAt, WriteAt, ExchangeAt, LeaveAt, ClausesAt, CountAt, SavedAt, LoadedAt, FollowedAt, ReachedAt, GlobalAt, ClosedAt, MarksAt, RestoredAt, MadeAt, NamedAt}
+use Rattle.cyc_lower.proofs.relation.Stands.{BegunAt, ElementsAt, CheckAt, ConversionAt, PlaceAt, OperatorAt, TruthAt, CopyAt, ExpressionAt, ArgumentsAt, OperationsAt, ValueAt, ConditionAt, HoldingAt, ComparesAt, DiscardedAt, StatementAt, ItemsAt, PointerAt, CellsAt, ObjectAt, AddressAt, ConvertedOperandAt, FreedAt, HasSide, SideAt, ReadAt, WriteAt, ExchangeAt, LeaveAt, ClausesAt, CountAt, SavedAt, LoadedAt, FollowedAt, ReachedAt, GlobalAt, ClosedAt, MarksAt, RestoredAt, MadeAt, NamedAt}
 use Rattle.cyc_lower.proofs.relation.HeldValues.{IsIn, IsLow, IsParts, words_held, height, Holds, HoldsFrom, held, kept, counters_of, AreCounted, IsHandleOf, IsObject, contents, CallSlots, LocalsHold, GlobalsHold, behind_records, scopes_in, MayBeOpen, Waiting, callers, Newest, IsIntact, IsKept, left_by, handling, homes}
 
 -- ---- what is shared
@@ -227,26 +227,27 @@ module _ (source : Program) where
     to_slot : value → Yields value tested
     to_jump : tested → Yields value tested
 
-  abbrev pub LoopAt : (g t : ℕ) → Expression → Statement → (exits outer : Exits) → (q : ℕ) → Type 0
-  LoopAt g t condition body exits outer q = (exits.in_loop ≡ nothing_opened) × (exits.in_function ≡ outer.in_function) × (x : Operand) × (y : Operand) × (m : ℕ) × (r : ℕ) × At (code_of g) (break_target exits.head) (instructions.Jump q)
-      × ConditionAt (code_of g) (bounds_at g) (types_at g) condition x y t (continue_target exits.head) m
-      × FailingAt (code_of g) (bounds_at g) (types_at g) condition x y m (break_target exits.head)
-      × StatementAt (code_of g) (bounds_at g) (types_at g) body exits t (m + 1) r
-      × At (code_of g) r (instructions.Jump (continue_target exits.head)) × (break_target exits.head < q)
+  -- a loop, whose condition stands from place p on
+  abbrev pub LoopAt : (g t : ℕ) → Expression → Statement → (exits outer : Exits) → (p q : ℕ) → Type 0
+  LoopAt g t condition body exits outer p q = (exits.in_loop ≡ nothing_opened) × (exits.in_function ≡ outer.in_function) × (x : Operand) × (y : Operand) × (m : ℕ)
+      × At (code_of g) exits.head (instructions.Jump p) × At (code_of g) (exits.head + 1) (instructions.Jump q)
+      × StatementAt (code_of g) (bounds_at g) (types_at g) body exits t (body_target exits.head) p
+      × ConditionAt (code_of g) (bounds_at g) (types_at g) condition x y t p m
+      × HoldingAt (code_of g) (bounds_at g) (types_at g) condition x y m (body_target exits.head)
+      × (m + 1 ≡ q) × (exits.head < p) × (exits.head + 1 < q)
 
-  -- A branch that is taken where a condition has failed, and what stands behind it. From a place in a loop on stands what waits.
+  -- A branch that is taken where a condition has failed, and what stands behind it.
   abbrev pub ChoosesAt : (g t : ℕ) → Comparison → (l r : Operand) → (p : ℕ) → (first second : Statement) → (waits : Exits → (q : ℕ) → Type 0) → Type 0
   ChoosesAt g t failing l r p first second waits =
       (exits : Exits) × (m : ℕ) × (q : ℕ) × At (code_of g) p (instructions.Branch failing l r (m + 1))
       × StatementAt (code_of g) (bounds_at g) (types_at g) first exits t (p + 1) m × At (code_of g) m (instructions.Jump q)
       × StatementAt (code_of g) (bounds_at g) (types_at g) second exits t (m + 1) q × waits exits q
 
+  -- One that is taken where the condition of a loop holds. Behind it stands what waits.
   abbrev pub RepeatsAt : (g t : ℕ) → Comparison → (l r : Operand) → (p : ℕ) → Expression → Statement → (waits : Exits → (q : ℕ) → Type 0) → Type 0
   RepeatsAt g t failing l r p condition body waits =
-      (exits : Exits) × (outer : Exits) × (q : ℕ) × LoopAt g t condition body exits outer q
-      × (m : ℕ) × At (code_of g) p (instructions.Branch failing l r (break_target exits.head))
-      × StatementAt (code_of g) (bounds_at g) (types_at g) body exits t (p + 1) m
-      × At (code_of g) m (instructions.Jump (continue_target exits.head)) × waits outer q
+      (exits : Exits) × (outer : Exits) × (m : ℕ) × (q : ℕ) × LoopAt g t condition body exits outer m q
+      × At (code_of g) p (instructions.Branch (opposite failing) l r (body_target exits.head)) × (p + 1 ≡ q) × waits outer q
 
   abbrev pub Below : List Frame → (Frame → List Frame → Type 0) → Type 0
   Below [] P = ⊥
@@ -478,8 +479,7 @@ module _ (source : Program) where
         (q : ℕ) × ItemsAt (code_of g) (bounds_at g) (types_at g) items exits (floor g k) p q × StatementStack g exits q frames k
     StatementStack g exits p frames (Join ∷ k) = (q : ℕ) × Arrives (code_of g) p q × StatementStack g exits q frames k
     StatementStack g exits p frames (Loop condition body ∷ k) =
-        (outer : Exits) × (q : ℕ) × LoopAt g (floor g k) condition body exits outer q × At (code_of g) p (instructions.Jump (continue_target exits.head))
-        × StatementStack g outer q frames k
+        (outer : Exits) × (q : ℕ) × LoopAt g (floor g k) condition body exits outer p q × StatementStack g outer q frames k
     StatementStack g exits p frames (CloseRegion region home ∷ k) = (q : ℕ) × Arrives (code_of g) p q × StatementStack g exits q frames k
     StatementStack g exits p frames (Handler handler ∷ k) =
         (outer : Exits) × (q : ℕ) × (exits ≡ inside_try outer (floor g k)) × At (code_of g) p (instructions.Leave (floor g k)) × At (code_of g) (p + 1) (instructions.Jump q)

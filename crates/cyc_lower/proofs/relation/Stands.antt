@@ -33,7 +33,7 @@ use Rattle.cyc_lower.specs.declared.statements.Opened.{Opened}
 use Rattle.cyc_lower.specs.Slots.{counted, Types, starts_of, slot_of, field_of, global_of}
 use Rattle.cyc_lower.specs.ValueCode.{binary_operator, failing_comparison, left_with, next_slot, is_in, move_of, test_jump, converts_there, passed_words, all_passed, kinds_passed, low_byte, behind_left, pointer_operator, raising, jump_if_zero, span_of, span_in, followed_operand, scale_of, reached_operand, load_word, store_word, address_of_global, unary_instruction, keeps_words, kind_passed, load_of, store_of}
 use Rattle.cyc_lower.specs.ObjectCode.{most_elements, slots_of_kinds, right_slot, load_at}
-use Rattle.cyc_lower.specs.ControlCode.{compared_of, break_target, continue_target, inside_loop, inside_try, behind_record_in, tag_operand, other_jump, goes_on, inside_region}
+use Rattle.cyc_lower.specs.ControlCode.{opposite, compared_of, break_target, continue_target, body_target, inside_loop, inside_try, behind_record_in, tag_operand, other_jump, goes_on, inside_region}
 use Rattle.cyc_lower.specs.ExpressionCode.{operand_of, source_of, source_slot, left_of, value_slot, slot_with, left_slot, pointer_of}
 use Rattle.cyc_lower.specs.Lowering.{results_of}
 use Rattle.cyc_lower.proofs.slots.Widths.{kind_of_result, given, passed_kind, HasRoom, HasField, HasGlobal, words_in, HasLocal}
@@ -438,6 +438,10 @@ module _ (code : List Instruction) (bounds : Numbering) (types : Types) where
   abbrev pub FailingAt : Expression → (l r : Operand) → (p target : ℕ) → Type 0
   FailingAt a l r p target = At code p (instructions.Branch (compared_of a).failing l r target)
 
+  -- the same where it holds
+  abbrev pub HoldingAt : Expression → (l r : Operand) → (p target : ℕ) → Type 0
+  HoldingAt a l r p target = At code p (instructions.Branch (opposite (compared_of a).failing) l r target)
+
   -- the only operator of a condition, which compares, with its right operand
   abbrev pub ComparesAt : Operations → Comparison → (l r : Operand) → (t p q : ℕ) → Type 0
   ComparesAt (ThenCompute o b NoOperations) failing l r t p q = (failing_comparison o ≡ Some failing) × SecondAt b l r t p q
@@ -569,9 +573,9 @@ module _ (code : List Instruction) (bounds : Numbering) (types : Types) where
         (x : Operand) × (y : Operand) × (m : ℕ) × (r : ℕ) × ConditionAt a x y t p m × FailingAt a x y m (r + 1) × StatementAt s exits t (m + 1) r
         × At code r (instructions.Jump q) × StatementAt u exits t (r + 1) q
     StatementAt (While w a s) exits t p q =
-        (x : Operand) × (y : Operand) × (m : ℕ) × (r : ℕ) × At code p (instructions.Jump (continue_target p)) × At code (break_target p) (instructions.Jump q)
-        × ConditionAt a x y t (continue_target p) m × FailingAt a x y m (break_target p) × StatementAt s (inside_loop p exits) t (m + 1) r
-        × At code r (instructions.Jump (continue_target p)) × (r + 1 ≡ q) × (break_target p < q)
+        (x : Operand) × (y : Operand) × (r : ℕ) × (m : ℕ) × At code p (instructions.Jump r) × At code (p + 1) (instructions.Jump q)
+        × StatementAt s (inside_loop p exits) t (body_target p) r × ConditionAt a x y t r m × HoldingAt a x y m (body_target p)
+        × (m + 1 ≡ q) × (p < r) × (p + 1 < q)
     StatementAt (Return v) exits t p q = ReturnAt v exits t p
     StatementAt Break exits t p q = (m : ℕ) × LeaveAt exits.in_loop p m × At code m (instructions.Jump (break_target exits.head))
     StatementAt Continue exits t p q = (m : ℕ) × LeaveAt exits.in_loop p m × At code m (instructions.Jump (continue_target exits.head))

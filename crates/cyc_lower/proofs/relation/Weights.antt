@@ -2,7 +2,7 @@
 use Rattle.std.proofs.Common.{ℕ, suc, ◌+◌, List, [], ◌∷◌, Option, None, Some, length}
 use Rattle.cyc_types.specs.TypedTrees.{Array, Load, New, ByHandle, Initial, HeapRegion, FreeKey, Plain, Fields, Dereference, Target, Expression, Number, NullPointer, Copy, Call, Unary, Binary, Assign, Converted, Convert, Arguments, NoArguments, MoreArguments, Operations, NoOperations, ThenCompute, ThenTest, ThenPointer, Statement, Block, Empty, Evaluate, If, While, Break, Continue, Items, NoItems, MoreItems, Execute, Declare, OpenRegion, DeclareAlias, Move, Peek, ThenPointerPeek, AddressOfCell, Member, FreeUnique, Side, VariableSide, CellSide, Swap, Clauses, NoClauses, Default, Case, NumberOfElements, Element, AddressOf}
 use Rattle.cyc_types.specs.TypedTrees as typed
-use Rattle.cyc_meaning.specs.State.{Awaiting, Chain, Pass, PlaceBy, MakeFields, Initialise, OpenBy, AliasOf, Entry, Needs, Rest, Focus, Evaluating, Locating, Executing, Entering, Binding, State, Running, AwaitingPlace, StoreTo, NeedsPlace, SwapLeft, Writing, Catching, Index}
+use Rattle.cyc_meaning.specs.State.{Awaiting, Chain, Pass, PlaceBy, MakeFields, Initialise, OpenBy, AliasOf, Entry, Needs, Rest, Loop, Focus, Evaluating, Locating, Executing, Entering, Binding, State, Running, AwaitingPlace, StoreTo, NeedsPlace, SwapLeft, Writing, Catching, Index}
 
 -- An expression that is an operand may have no code. One that begins with another weighs more than that and what waits for it.
 abbrev mutual
@@ -116,6 +116,7 @@ abbrev pub entry_weight : Entry → ℕ
 entry_weight (Needs a) = suc (awaiting_weight a)
 entry_weight (NeedsPlace a) = suc (place_weight a)
 entry_weight (Rest js) = suc (items_weight js)
+entry_weight (Loop a s) = suc (suc (expression_weight a))
 entry_weight entry = 1
 
 abbrev pub stack_weight : List Entry → ℕ

@@ -22,7 +22,7 @@ use Rattle.cyc_lower.specs.declared.statements.Exits.{Exits}
 use Rattle.cyc_lower.specs.Slots.{starts_of, slot_of, Types, global_of}
 use Rattle.cyc_lower.specs.ValueCode.{passed_words, operand_or, slot_or, code_unless_slot, left_with, conversion_code, failing_comparison, span_of, null_of, word_by_word, global_code, keeps_words}
 use Rattle.cyc_lower.specs.ObjectCode.{right_slot, load_at}
-use Rattle.cyc_lower.specs.ControlCode.{compared_or, failing_jump, break_target, continue_target, inside_loop, leave_code, tag_operand, clause_code, opened_code, closed_code, named_code, dynamic_code, handlers_code, marks_code, kept_code, kept_code_in, restored_code, restored_code_in, behind_record, behind_record_in, inside_try, inside_region, outermost}
+use Rattle.cyc_lower.specs.ControlCode.{compared_or, failing_jump, holding_jump, body_target, inside_loop, leave_code, tag_operand, clause_code, opened_code, closed_code, named_code, dynamic_code, handlers_code, marks_code, kept_code, kept_code_in, restored_code, restored_code_in, behind_record, behind_record_in, inside_try, inside_region, outermost}
 use Rattle.cyc_lower.specs.ExpressionCode.{source_of, operand_of, value_slot, slot_with, value_operand, converted_operand, printed_operand, expression_code, converted_operand_code, printed_code}
 use Rattle.cyc_lower.specs.Lowering.{spare_slots, assignment_code, discarded_code, first_operand, first_code, second_code, pair_code, condition_code, condition_of, return_code, declaration_code, statement_code, items_code, results_of, side_code, read_side, write_side, exchange_code, swap_code, thrown_code, thrown_operand, caught_code, clauses_code}
 use Rattle.cyc_lower.proofs.slots.Widths.{kind_positive, kind_few, type_words, passed_kind, words_in, HasRoom, keeps_wide}
@@ -328,21 +328,21 @@ module _ (program : PlainProgram) (r : Routine) (b : Numbering) (types : Types) 
         ((left, right, omega (arith, short, long, long_front)), statement_in s in_loop (m + 1) exits t numbered_s around outside (omega (arith, few)) (omega (arith, short, long, long_front))))
         (omega (arith, short, long, long_front), statement_in u in_loop (q + 1) exits t numbered_u around outside (omega (arith, few)) (omega (arith, short, long, long_front)))
     statement_in (While w a s) in_loop p exits t (numbered_a, numbered_s) around outside few short =
-        let condition = condition_code (starts_of types) a (p + 2) t in
-        let m = p + 2 + length condition in
-        let body = statement_code (starts_of types) s (m + 1) (inside_loop p exits) t in
-        let test = failing_jump (condition_of (starts_of types) a t) (break_target p) ∷ body in
-        let again = instructions.Jump (continue_target p) ∷ [] in
-        let long = length-append (condition ++ test) again in
-        let long_front = length-append condition test in
+        let body = statement_code (starts_of types) s (p + 2) (inside_loop p exits) t in
+        let m = p + 2 + length body in
+        let condition = condition_code (starts_of types) a m t in
+        let test = holding_jump (condition_of (starts_of types) a t) (body_target p) ∷ [] in
+        let long = length-append (body ++ condition) test in
+        let long_front = length-append body condition in
         let (left, right) = compared_in a t numbered_a (omega (arith, few)) in (
           omega (arith, short, long, long_front),
           (
             omega (arith, short, long, long_front),
-            append program r b types locals levels globals called results behind (condition ++ test) again
-                (append program r b types locals levels globals called results behind condition test (condition_in a (p + 2) t numbered_a (omega (arith, few)) (omega (arith, short, long, long_front)))
-                ((left, right, omega (arith, short, long, long_front)), statement_in s true (m + 1) (inside_loop p exits) t numbered_s (λ inside. omega (arith, short, long, long_front)) ((tt, tt), outside.1) (omega (arith, few)) (omega (arith, short, long, long_front))))
-                (omega (arith, short, long, long_front), tt),
+            append program r b types locals levels globals called results behind (body ++ condition) test
+                (append program r b types locals levels globals called results behind body condition
+                (statement_in s true (p + 2) (inside_loop p exits) t numbered_s (λ inside. omega (arith, short, long, long_front)) ((tt, tt), outside.1) (omega (arith, few)) (omega (arith, short, long, long_front)))
+                (condition_in a m t numbered_a (omega (arith, few)) (omega (arith, short, long, long_front))))
+                ((left, right, omega (arith, short, long, long_front)), tt),
           ),
         )
     statement_in (Return v) in_loop p exits t numbered around outside few short = return_in v p exits t numbered outside (omega (arith, few)) short

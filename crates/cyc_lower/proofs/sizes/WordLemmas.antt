@@ -763,10 +763,10 @@ module _ (starts : Starts) where
         append (condition ++ _ ∷ first_part) (_ ∷ statement_code starts u (q + 1) exits t)
         (append condition (_ ∷ first_part) (condition_words a p t first) (condition_word a t first, statement_words s (m + 1) exits t second)) (tt, statement_words u (q + 1) exits t third)
     statement_words (While w a s) p exits t (first, second) =
-        let condition = condition_code starts a (p + 2) t in
-        let m = p + 2 + length condition in
-        let body = statement_code starts s (m + 1) (inside_loop p exits) t in
-        (tt, (tt, append (condition ++ _ ∷ body) _ (append condition (_ ∷ body) (condition_words a (p + 2) t first) (condition_word a t first, statement_words s (m + 1) (inside_loop p exits) t second)) (tt, tt)))
+        let body = statement_code starts s (p + 2) (inside_loop p exits) t in
+        let m = p + 2 + length body in
+        let condition = condition_code starts a m t in
+        (tt, (tt, append (body ++ condition) _ (append body condition (statement_words s (p + 2) (inside_loop p exits) t second) (condition_words a m t first)) (condition_word a t first, tt)))
     statement_words (Return v) p exits t words = return_words v p exits t words
     statement_words Break p exits t words = append (leave_code exits.in_loop) _ (leave_words exits.in_loop) (tt, tt)
     statement_words Continue p exits t words = append (leave_code exits.in_loop) _ (leave_words exits.in_loop) (tt, tt)

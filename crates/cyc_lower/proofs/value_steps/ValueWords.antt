@@ -27,6 +27,7 @@ use Rattle.cyc_meaning.specs.Conversion.{conversion}
 use Rattle.cyc_meaning.specs.State.{World}
 use Rattle.cyc_meaning.specs.Step.{wrong}
 use Rattle.cyc_lower.specs.ValueCode.{failing_comparison, converts_there}
+use Rattle.cyc_lower.specs.ControlCode.{opposite}
 use Rattle.cyc_objects.specs.Tables.{Tables}
 use Rattle.cyc_objects.specs.Words.{Is}
 use Rattle.cyc_objects.proofs.Pointers.{not-null, part-not-null, same_value}
@@ -231,6 +232,17 @@ fails_by operators.Greater failing a b is = not_less b a ∙ ap (λ f. compares 
 fails_by operators.GreaterOrEqual failing a b is =
     untrue (int_le (signed b) (signed a)) ∙ not_at_most (signed b) (signed a) ∙ ap (λ f. compares f a b) (same_Some comparisons.Less failing is)
 fails_by u failing a b is = absurd (none-some failing is)
+
+-- the opposite of a comparison holds where it fails
+pub opposed : (c : Comparison) (a b : ℕ) → compares (opposite c) a b ≡ not (compares c a b)
+opposed comparisons.Equal a b = refl
+opposed comparisons.NotEqual a b = sym (not_not (a == b))
+opposed comparisons.Less a b = sym (ap not (sym (not_at_most (signed b) (signed a))) ∙ not_not (int_le (signed b) (signed a)))
+opposed comparisons.LessOrEqual a b = sym (not_at_most (signed a) (signed b))
+opposed comparisons.Greater a b = sym (ap not (sym (not_at_most (signed a) (signed b))) ∙ not_not (int_le (signed a) (signed b)))
+opposed comparisons.GreaterOrEqual a b = sym (not_at_most (signed b) (signed a))
+opposed comparisons.LessUnsigned a b = grind arith
+opposed comparisons.GreaterOrEqualUnsigned a b = grind arith
 
 -- two different instructions stand in two places
 pub other_place : (code : List Instruction) (p q : ℕ) (i j : Instruction) → At code p i → At code q j → i ≢ j → p ≢ q

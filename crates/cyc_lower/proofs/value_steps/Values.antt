@@ -53,7 +53,7 @@ use Rattle.cyc_lower.proofs.slots.Slots.{slot-room, room-inside, global-inside}
 use Rattle.cyc_lower.proofs.slots.Widths.{kind_positive, same_kind, HasRoom, Outside, chain_kind, wide_kind, made_kind, keeps_wide, keeps_whole, changes_wide, kind_in}
 use Rattle.cyc_lower.proofs.relation.Moves.{moved_slots, moves, put_elsewhere, moved_elsewhere, moved_is}
 use Rattle.cyc_lower.specs.ValueCode.{binary_operator, failing_comparison, next_slot, is_in, jump_if_zero, jump_if_nonzero, move_of, converts_there, followed_operand, unary_instruction, keeps_words, masks, store_of}
-use Rattle.cyc_lower.specs.ControlCode.{break_target, tag_operand}
+use Rattle.cyc_lower.specs.ControlCode.{body_target, tag_operand}
 use Rattle.cyc_lower.specs.ExpressionCode.{operand_of, value_slot}
 use Rattle.cyc_lower.specs.Lowering.{lower_program}
 use Rattle.cyc_lower.proofs.relation.Stands.{OperandBy, CopyBy, CopyAt, CheckAt, CheckedAt, OperatorAt, TruthAt, ExpressionAt, OperationsAt, GuardAt, TestedAt, ConversionBy, StoresAt, FollowedAt, MadeAt, MaskedAt}
@@ -92,7 +92,7 @@ use Rattle.cyc_lower.proofs.relation.Known.{IsGlobalRow}
 use Rattle.cyc_lower.proofs.relation.Rows.{row-fits, row-variable, local-row, declared_low, char_cell}
 use Rattle.cyc_lower.proofs.relation.Leads.{AreNamed}
 use Rattle.cyc_lower.proofs.relation.Moving.{hands_moves}
-use Rattle.cyc_lower.proofs.value_steps.ValueWords.{of_kind, int_of, as_wide, goes_wrong, untrue, fails_by, other_place, zero_is, int_is, not_zero, not_widened, not_narrowed, not_fat, kept_at, kept_in, char_low, low_byte_of, int_at, int_in}
+use Rattle.cyc_lower.proofs.value_steps.ValueWords.{of_kind, int_of, as_wide, goes_wrong, untrue, fails_by, opposed, other_place, zero_is, int_is, not_zero, not_widened, not_narrowed, not_fat, kept_at, kept_in, char_low, low_byte_of, int_at, int_in}
 use Rattle.cyc_plain.specs.declared.instruction.UnaryOperator.{UnaryOperator as PlainUnary}
 use Rattle.cyc_lower.proofs.place_steps.KindWords.{saved_at, saves_by}
 
@@ -1051,16 +1051,14 @@ module _ (source : Program) (pages calls : ℕ) where
       → is_zero v.value ≡ Some f → compares failing (operand_word c.active.slots l) (operand_word c.active.slots r) ≡ f
       → (shared : SharedAt source pages calls k e w c) → DataIn source shared.tables c.active.slots (Needs (Test a s) ∷ k) e w c
       → ConditionStack source c.active.function failing l r c.active.next c.frames (Needs (Test a s) ∷ k) → GoesBehind v (Needs (Test a s) ∷ k) e w c
-  loops a s v true failing l r k e w c fails told shared facts (exits, outer, q, (record_is, first_is, x, y, m, n, leave, at_a, again, at_body, repeats, after), i, jump, at_s, back, stack) =
-      by_two source pages calls (at c (break_target exits.head)) (ap (λ (z : Option Bool). looped z a s k e w) fails) shared shared
-      jump (λ choice. ap (λ z. plain_step.branches c z (break_target exits.head)) told)
-      leave
-      (other_place (code_of source c.active.function) c.active.next (break_target exits.head) _ _ jump leave
-      (λ same. let f : instructions.Branch failing l r (break_target exits.head) ≡ instructions.Jump q = same in cc))
-      (λ choice. (shared, behind_statement outer facts stack))
-  loops a s v false failing l r k e w c fails told shared facts (exits, outer, q, around, m, jump, at_s, back, stack) =
+  loops a s v true failing l r k e w c fails told shared facts (exits, outer, m, q, around, jump, end, stack) =
       by_one source pages calls (ap (λ (z : Option Bool). looped z a s k e w) fails) shared jump
-      (λ choice. not_taken (Running (Executing s) (Loop a s ∷ k) e w) c _ _ told (shared, facts, (exits, m, at_s, (outer, q, around, back, stack))))
+      (λ choice. not_taken (Running Proceeding k e w) c _ (body_target exits.head) (opposed failing _ _ ∙ ap not told)
+      (shared, behind_statement outer facts (subst (λ p. StatementStack source c.active.function outer p c.frames k) (sym end) stack)))
+  loops a s v false failing l r k e w c fails told shared facts (exits, outer, m, q, (loop_is, function_is, x, y, n, enter, leave, at_s, at_a, again, over, behind, after), jump, end, stack) =
+      by_one source pages calls (ap (λ (z : Option Bool). looped z a s k e w) fails) shared jump
+      (λ choice. taken (Running (Executing s) (Loop a s ∷ k) e w) c _ (body_target exits.head) (opposed failing _ _ ∙ ap not told)
+      (shared, facts, (exits, m, at_s, (outer, q, (loop_is, function_is, x, y, n, enter, leave, at_s, at_a, again, over, behind, after), stack))))
 
   -- ---- exceptions
 

@@ -22,13 +22,14 @@ use Rattle.cyc_lower.proofs.emitter.Emitter.+statement.Goals as goal
 
 pub lower_loop-returns : goal.lower_loop-returns
 lower_loop-returns t c =
-    let code = c.emit.new.self.code.items in
-    made_loop (view_starts c.args.starts.now) (view_expression c.args.condition.now) (view_statement c.args.body.now) c.args.exits c.args.free c.in_ok-condition.condition c.in_ok-condition.ensures.0 c.args.self.now.code.items (Jump 0)
-    c.lower_continue.new.self.code.items c.reserve.new.self.code.items c.lower_condition.new.self.code.items c.emit.new.self.code.items c.lower_statement.new.self.code.items c.lower_continue-2.new.self.code.items c.jump_here.new.self.code.items
-    c.place-head.result c.in_ok-leaving.leaving c.place-head.ensures
-    c.in_ok-lower_continue.ensures c.in_ok-leaving.ensures.0 c.in_ok-leaving.ensures.1 c.in_ok-condition.ensures.1 (c.in_ok-emit.ensures ∙ ap (λ (i : Instruction). c.lower_condition.new.self.code.items ++ i ∷ []) c.failing_jump.ensures)
-    (c.in_ok-lower_statement.ensures ∙ ap (λ (o : Opened). code ++ statement_code (view_starts c.args.starts.now) (view_statement c.args.body.now) (length code) (record { head = c.place-head.result; in_loop = o; in_function = c.args.exits.in_function }) c.args.free) c.nothing_opened.ensures)
-    c.in_ok-lower_continue-2.ensures c.jump_here.ensures
+    let code = c.reserve-2.new.self.code.items in
+    made_loop (view_starts c.args.starts.now) (view_expression c.args.condition.now) (view_statement c.args.body.now) c.args.exits c.args.free c.in_ok-condition.condition c.in_ok-condition.ensures.0 c.args.self.now.code.items (Jump 0) (Jump 0)
+    c.reserve.new.self.code.items code c.lower_statement.new.self.code.items c.jump_here.new.self.code.items c.lower_condition.new.self.code.items c.emit.new.self.code.items c.jump_here-2.new.self.code.items
+    c.in_ok-head.head c.in_ok-leaving.leaving c.place-again.result c.in_ok-head.ensures.0
+    c.in_ok-head.ensures.1 c.in_ok-leaving.ensures.0 c.in_ok-leaving.ensures.1 c.place-again.ensures
+    (c.in_ok-lower_statement.ensures ∙ ap (λ (o : Opened). code ++ statement_code (view_starts c.args.starts.now) (view_statement c.args.body.now) (length code) (record { head = c.in_ok-head.head; in_loop = o; in_function = c.args.exits.in_function }) c.args.free) c.nothing_opened.ensures)
+    c.jump_here.ensures c.in_ok-condition.ensures.1 (c.in_ok-emit.ensures ∙ ap (λ (i : Instruction). c.lower_condition.new.self.code.items ++ i ∷ []) c.holding_jump.ensures)
+    c.jump_here-2.ensures
 
 pub lower_statement-returns-in-Block : goal.lower_statement-returns-in-Block
 lower_statement-returns-in-Block t c =
