@@ -202,9 +202,22 @@ stepped_code (Some bytes) n m t =
 abbrev pub bounded_code : Starts → (span : Option ℕ) → (n m t : ℕ) → List Instruction
 bounded_code starts span n m t = bounds_code starts (operands.Slot m) (operands.Slot (n + 1)) ++ stepped_code span n m t
 
--- an access by a fat pointer whose first words are in slot n and the next, and whose index is in slot m
+-- the parts of that: the index in slot m becomes a number of bytes in slot x, and the address is that of the first cell and so many more
+abbrev pub scaled_code : (span : Option ℕ) → (m x : ℕ) → List Instruction
+scaled_code None m x = []
+scaled_code (Some bytes) m x = scale_of bytes x m ∷ []
+
+abbrev pub summed_code : (span : Option ℕ) → (n x t : ℕ) → List Instruction
+summed_code None n x t = []
+summed_code (Some bytes) n x t = instructions.Binary plain_binary.Add t (operands.Slot n) (operands.Slot x) ∷ []
+
+-- An access by a fat pointer whose first words are in slot n and the next, and whose index is in slot m. The number of bytes comes behind
+-- the three slots from t on before the index is compared: it is no use where the index is past the length, and does no harm there, but so
+-- the branch has an instruction before it that may fill its slot.
 abbrev pub reached_code : Starts → (span : Option ℕ) → (n m t : ℕ) → List Instruction
-reached_code starts span n m t = check_code starts null_exception (operands.Slot n) ++ bounded_code starts span n m t
+reached_code starts span n m t =
+    check_code starts null_exception (operands.Slot n)
+    ++ (scaled_code span m (t + 3) ++ (bounds_code starts (operands.Slot m) (operands.Slot (n + 1)) ++ summed_code span n (t + 3) t))
 
 abbrev pub reached_operand : (span : Option ℕ) → (n t : ℕ) → Operand
 reached_operand None n t = operands.Slot n
@@ -237,7 +250,7 @@ past_bounded (Some bytes) = 4
 
 -- A fat pointer in slots becomes a thin one in the first of them, to the cell at its index. Null stays null, or raises an exception.
 abbrev pub thinned_code : Starts → (to : Kind) → (span : Option ℕ) → Operand → (p : ℕ) → List Instruction
-thinned_code starts kinds.NonNull span (operands.Slot n) p = reached_code starts span n (n + 2) n
+thinned_code starts kinds.NonNull span (operands.Slot n) p = check_code starts null_exception (operands.Slot n) ++ bounded_code starts span n (n + 2) n
 thinned_code starts kinds.Nullable span (operands.Slot n) p =
     jump_if_zero (operands.Slot n) (p + past_bounded span) ∷ bounded_code starts span n (n + 2) n
 thinned_code starts to span o p = []

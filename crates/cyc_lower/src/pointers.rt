@@ -3,7 +3,7 @@
 ghost use Rattle.std.specs.Prelude.{◌≡◌, ◌+◌, ◌≤◌, ◌∷◌, length};
 ghost use Rattle.cyc_types.specs.TypedTreeView.{view_lvalue};
 ghost use Rattle.cyc_meaning.specs.Values.{is_thin};
-ghost use Rattle.cyc_lower.specs.ValueCode.{address_of_code, address_of_global, last_byte_code, masked_code, bounded_code, count_code, past_bounded, thinned_code, followed_code, followed_operand, loaded_code, reached_code, reached_operand, stepped_code, widened_code};
+ghost use Rattle.cyc_lower.specs.ValueCode.{address_of_code, address_of_global, last_byte_code, masked_code, bounded_code, count_code, past_bounded, thinned_code, followed_code, followed_operand, loaded_code, reached_code, reached_operand, scaled_code, stepped_code, summed_code, bounds_code, widened_code};
 ghost use Rattle.cyc_lower.specs.ObjectCode.{saved_code};
 ghost use Rattle.cyc_types.specs.declared.typed.Kind.TheVariants as kinds;
 ghost use Rattle.cyc_plain.specs.declared.instruction.BinaryOperator.TheVariants as plain_binary;
@@ -143,6 +143,20 @@ impl Emitter {
         }
     }
 
+    /// An index is compared with the length of a fat pointer.
+    fn compare(&mut self, starts: &Starts, first: usize, index: usize) -> Result<(), AllocError>
+        ensures { Appends result self.old self.new (bounds_code (view_starts starts.now) (operands.Slot index) (operands.Slot (first + 1))) }
+    {
+        let bound = slot_behind(first, Kind::Fat)? - 2;
+        self.guard(
+            starts,
+            ARRAY_BOUNDS,
+            Comparison::GreaterOrEqualUnsigned,
+            Operand::Slot { number: index },
+            Operand::Slot { number: bound },
+        )
+    }
+
     /// An index is compared with the length of a fat pointer, and the address of the cell at the index is computed.
     fn reach_inside(
         &mut self,
@@ -154,19 +168,43 @@ impl Emitter {
     ) -> Result<(), AllocError>
         ensures { Appends result self.old self.new (bounded_code (view_starts starts.now) span first index slot) }
     {
-        let bound = slot_behind(first, Kind::Fat)? - 2;
-        self.guard(
-            starts,
-            ARRAY_BOUNDS,
-            Comparison::GreaterOrEqualUnsigned,
-            Operand::Slot { number: index },
-            Operand::Slot { number: bound },
-        )?;
+        self.compare(starts, first, index)?;
         self.step(span, first, index, slot)
     }
 
-    /// An access by a fat pointer: it is tested, and its cell reached.
-    pub(crate) fn reach(
+    /// An index becomes a number of bytes in a slot, where there are cells of so many bytes.
+    fn scale(&mut self, span: Option<usize>, index: usize, slot: usize) -> Result<(), AllocError>
+        ensures { Appends result self.old self.new (scaled_code span index slot) }
+    {
+        match span {
+            None => Ok(()),
+            Some(bytes) => self.emit(scale_of(bytes, slot, index)),
+        }
+    }
+
+    /// The address of the cell that stands so many bytes behind the first comes to a slot.
+    fn add_distance(
+        &mut self,
+        span: Option<usize>,
+        first: usize,
+        distance: usize,
+        slot: usize,
+    ) -> Result<(), AllocError>
+        ensures { Appends result self.old self.new (summed_code span first distance slot) }
+    {
+        match span {
+            None => Ok(()),
+            Some(_) => self.emit(Instruction::Binary {
+                operator: BinaryOperator::Add,
+                destination: slot,
+                left: Operand::Slot { number: first },
+                right: Operand::Slot { number: distance },
+            }),
+        }
+    }
+
+    /// An access by a fat pointer: it is tested, and its cell reached. The index becomes a number of bytes before it is compared.
+    fn reach(
         &mut self,
         starts: &Starts,
         span: Option<usize>,
@@ -176,8 +214,11 @@ impl Emitter {
     ) -> Result<(), AllocError>
         ensures { Appends result self.old self.new (reached_code (view_starts starts.now) span first index slot) }
     {
+        let distance = slot_behind(slot, Kind::Fat)?;
         self.check(starts, NULL_EXCEPTION, Operand::Slot { number: first })?;
-        self.reach_inside(starts, span, first, index, slot)
+        self.scale(span, index, distance)?;
+        self.compare(starts, first, index)?;
+        self.add_distance(span, first, distance, slot)
     }
 
     /// An access to an element of a fat pointer, which moves by an index before it: where the address stands then. Only the third word of
@@ -233,7 +274,8 @@ impl Emitter {
             match to {
                 Kind::NonNull => {
                     let index = slot_behind(number, Kind::Fat)? - 1;
-                    return self.reach(starts, span, number, index, number);
+                    self.check(starts, NULL_EXCEPTION, pointer)?;
+                    return self.reach_inside(starts, span, number, index, number);
                 }
                 Kind::Nullable => return self.thin_nullable(starts, span, number),
                 Kind::Int | Kind::Char | Kind::Fat | Kind::Handle | Kind::Key => {}

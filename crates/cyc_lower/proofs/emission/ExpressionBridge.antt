@@ -181,7 +181,7 @@ module _ (code : List Instruction) (b : Numbering) where
 
     pub place_stands : (types : Types) (raised : BlocksStand code types.raises) → (x : Dereference) (t p q : ℕ) → FitsCell b types x → p + length (place_code (starts_of types) x p t) ≡ q → HasAt code p (place_code (starts_of types) x p t)
         → PlaceAt code b types x (place_operand (starts_of types) x t) (place_offset (starts_of types) x) t p q
-    place_stands types raised (Target k a ty) t p q (pointer, kind_is, numbered) end has =
+    place_stands types raised (Target k a ty) t p q (pointer, kind_is, wide, numbered) end has =
         let slot = value_slot (starts_of types) a t in
         let o = value_operand (starts_of types) a t in
         let inner = expression_code (starts_of types) a p slot t in

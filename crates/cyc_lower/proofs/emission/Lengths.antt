@@ -165,9 +165,13 @@ module _ (starts : Starts) (raises : ℕ) where
   conversion_long from to span o r p q same = conversion_by_long (keeps_words from to) to span o r p q same
 
   -- an access by a pointer, and the number of its elements
+  reached_long : (span : Option ℕ) (n m t : ℕ) → length (reached_code starts span n m t) ≡ length (reached_code other span n m t)
+  reached_long None n m t = refl
+  reached_long (Some bytes) n m t = refl
+
   followed_long : (thin : Bool) (span : Option ℕ) (o r : Operand) (t : ℕ) → o ≡ r → length (followed_code starts thin span o t) ≡ length (followed_code other thin span r t)
   followed_long true span o r t same = refl
-  followed_long false span (operands.Slot n) r t same = ap (λ x. length (followed_code other false span x t)) same
+  followed_long false span (operands.Slot n) r t same = reached_long span n (n + 2) t ∙ ap (λ x. length (followed_code other false span x t)) same
   followed_long false span (operands.Word w) r t same = ap (λ x. length (followed_code other false span x t)) same
 
   counted_long : (o r : Operand) (p q d e : ℕ) → o ≡ r → length (count_code o p d) ≡ length (count_code r q e)
@@ -239,7 +243,7 @@ module _ (raises : ℕ) where
     place_long starts (Element a x ty) p q t =
         joined _ _ _ _ (unless_slot_long _ _ _ _ (same_pointer starts raises a x) (expression_long starts a p q t t t refl))
         (joined _ _ _ _ (operand_by starts raises x _ _ (t + 3) (expression_long starts x _ _ _ _ (t + 3) (same_slot starts raises x (t + 3))))
-        (λ i. suc (length (reached_code (other starts raises) (span_in ty) (slot_or (same_pointer starts raises a x i) t) (t + 2) t))))
+        (ap suc (reached_long starts raises (span_in ty) (slot_or (pointer_of starts a x) t) (t + 2) t ∙ (λ i. length (reached_code (other starts raises) (span_in ty) (slot_or (same_pointer starts raises a x i) t) (t + 2) t)))))
 
     made_long : (starts : Starts) → (x : Initial) (handle : Operand) (p q d e t : ℕ) → d ≡ e → length (made_code starts x handle p d t) ≡ length (made_code (other starts raises) x handle q e t)
     made_long starts (Plain kind a) handle p q d e t same = joined _ _ _ _ (expression_long starts a p q t t t refl) (λ i. length (object_code handle (kind ∷ []) (same i) t))

@@ -23,11 +23,11 @@ use Rattle.cyc_plain.proofs.Straight.{has_front, has_back}
 use Rattle.cyc_store.specs.declared.range.TheConstants.{MOST_BLOCK_WORDS}
 use Rattle.cyc_meaning.specs.Values.{words_of_kind, bytes_of_kind, begins, behind, is_thin, number_of_kind}
 use Rattle.cyc_lower.specs.Slots.{Types, starts_of, slot_of, global_of}
-use Rattle.cyc_lower.specs.ValueCode.{converts_there, moved_by, move_of, operand_or, code_unless, slot_or, code_unless_slot, left_with, next_slot, check_code, conversion_code, divisor_code, checked_code, operator_code, is_in, pointer_operator, index_code, pointer_instructions, address_code, raising, blocks, guard_code, jump_if_zero, count_code, span_of, null_of, tested_code, widened_code, conversion_by, bounds_code, stepped_code, bounded_code, past_bounded, thinned_code, reached_code, followed_code, word_by_word, load_word, store_word, global_code, keeps_words, masked_code, last_byte_code, blank_code, load_of}
+use Rattle.cyc_lower.specs.ValueCode.{converts_there, moved_by, move_of, operand_or, code_unless, slot_or, code_unless_slot, left_with, next_slot, check_code, conversion_code, divisor_code, checked_code, operator_code, is_in, pointer_operator, index_code, pointer_instructions, address_code, raising, blocks, guard_code, jump_if_zero, count_code, span_of, null_of, tested_code, widened_code, conversion_by, bounds_code, stepped_code, scaled_code, summed_code, bounded_code, past_bounded, thinned_code, reached_code, followed_code, word_by_word, load_word, store_word, global_code, keeps_words, masked_code, last_byte_code, blank_code, load_of}
 use Rattle.cyc_lower.specs.ObjectCode.{most_elements, begun_code, filled_code, stores_code, cells_code, slots_of_kinds, object_code, free_code, saved_code, sized_code}
 use Rattle.cyc_lower.specs.ControlCode.{counter_operand}
 use Rattle.cyc_lower.specs.ExpressionCode.{source_of, source_slot, operand_of, left_of, value_slot, slot_with, left_slot, value_operand, converted_operand, load_code, expression_code}
-use Rattle.cyc_lower.proofs.relation.Stands.{BegunAt, FilledAt, OperandBy, CheckAt, ConversionBy, ConversionAt, DivisorAt, CheckedAt, OperatorAt, LoadAt, CopyBy, ExpressionAt, InitialBy, ReturnedAt, FirstTwoAt, IndexAt, PointerAt, StoresAt, CellsAt, ObjectAt, AddressAt, GuardAt, FreedAt, CountAt, TestedAt, WidenedAt, LoadedBy, SavedAt, BoundsAt, SteppedAt, ThinnedAt, ReachedAt, FollowedAt, EachAt, GlobalAt, MaskedAt, SizedAt, LastByteAt, BlankAt}
+use Rattle.cyc_lower.proofs.relation.Stands.{BegunAt, FilledAt, OperandBy, CheckAt, ConversionBy, ConversionAt, DivisorAt, CheckedAt, OperatorAt, LoadAt, CopyBy, ExpressionAt, InitialBy, ReturnedAt, FirstTwoAt, IndexAt, PointerAt, StoresAt, CellsAt, ObjectAt, AddressAt, GuardAt, FreedAt, CountAt, TestedAt, WidenedAt, LoadedBy, SavedAt, BoundsAt, SteppedAt, ScaledAt, SummedAt, ThinnedAt, ReachedAt, FollowedAt, EachAt, GlobalAt, MaskedAt, SizedAt, LastByteAt, BlankAt}
 use Rattle.cyc_lower.proofs.emission.Lengths.{past_long}
 use Rattle.cyc_lower.specs.Lowerable.{is_converted, is_pointer}
 use Rattle.cyc_lower.proofs.slots.Widths.{given, changes}
@@ -134,13 +134,33 @@ module _ (code : List Instruction) (b : Numbering) (types : Types) (raised : Blo
         stepped_stands span n m t s q (cut p q bounds step end) (has_back code p bounds step has),
       )
 
+  scaled_stands : (span : Option ℕ) (m x p q : ℕ) → p + length (scaled_code span m x) ≡ q → HasAt code p (scaled_code span m x) → ScaledAt code b types span m x p q
+  scaled_stands None m x p q end has = omega (arith, end)
+  scaled_stands (Some bytes) m x p q end (scale, none) = (scale, omega (arith, end))
+
+  summed_stands : (span : Option ℕ) (n x t p q : ℕ) → p + length (summed_code span n x t) ≡ q → HasAt code p (summed_code span n x t) → SummedAt code b types span n x t p q
+  summed_stands None n x t p q end has = omega (arith, end)
+  summed_stands (Some bytes) n x t p q end (sum, none) = (sum, omega (arith, end))
+
   pub reached_stands : (span : Option ℕ) (n m t p q : ℕ) → p + length (reached_code (starts_of types) span n m t) ≡ q → HasAt code p (reached_code (starts_of types) span n m t) → ReachedAt code b types span n m t p q
   reached_stands span n m t p q end has =
       let check = check_code (starts_of types) null_exception (operands.Slot n) in
+      let scaled = scaled_code span m (t + 3) in
+      let bounds = bounds_code (starts_of types) (operands.Slot m) (operands.Slot (n + 1)) in
+      let summed = summed_code span n (t + 3) t in
       let r = p + length check in
-      let bounded = bounded_code (starts_of types) span n m t in
-      let (s, bounds, stepped) = bounded_stands span n m t r q (cut p q check bounded end) (has_back code p check bounded has) in
-      (r, s, check_stands null_exception (operands.Slot n) p r (omega arith) (omega arith) refl (has_front code p check bounded has), bounds, stepped)
+      let s = r + length scaled in
+      let u = s + length bounds in
+      let compared = has_back code p check (scaled ++ (bounds ++ summed)) has in
+      let last = has_back code r scaled (bounds ++ summed) compared in (
+        r,
+        s,
+        u,
+        check_stands null_exception (operands.Slot n) p r (omega arith) (omega arith) refl (has_front code p check (scaled ++ (bounds ++ summed)) has),
+        scaled_stands span m (t + 3) r s refl (has_front code r scaled (bounds ++ summed) compared),
+        bounds_stands (operands.Slot m) (operands.Slot (n + 1)) s u refl (has_front code s bounds summed last),
+        summed_stands span n (t + 3) t u q (cut s q bounds summed (cut r q scaled (bounds ++ summed) (cut p q check (scaled ++ (bounds ++ summed)) end))) (has_back code s bounds summed last),
+      )
 
   -- a pointer that is not thin stands in slots
   abbrev IsInSlots : (thin : Bool) → Operand → Type 0
@@ -212,7 +232,12 @@ module _ (code : List Instruction) (b : Numbering) (types : Types) (raised : Blo
 
   thinned_stands : (to : Kind) (span : Option ℕ) (o : Operand) (t p q : ℕ) → is_thin to ≡ true → IsBrought to o t
       → p + length (thinned_code (starts_of types) to span o p) ≡ q → HasAt code p (thinned_code (starts_of types) to span o p) → ThinnedAt code b types to span o t p q
-  thinned_stands kinds.NonNull span (operands.Slot n) t p q thin brought end has = (brought, reached_stands span n (n + 2) n p q end has)
+  thinned_stands kinds.NonNull span (operands.Slot n) t p q thin brought end has =
+      let check = check_code (starts_of types) null_exception (operands.Slot n) in
+      let bounded = bounded_code (starts_of types) span n (n + 2) n in
+      let r = p + length check in
+      let (s, bounds, stepped) = bounded_stands span n (n + 2) n r q (cut p q check bounded end) (has_back code p check bounded has) in
+      (brought, (r, s, check_stands null_exception (operands.Slot n) p r (omega arith) (omega arith) refl (has_front code p check bounded has), bounds, stepped))
   thinned_stands kinds.Nullable span (operands.Slot n) t p q thin brought end (jump, has) =
       let (s, bounds, stepped) = bounded_stands span n (n + 2) n (p + 1) q (omega (arith, end)) has in
       (brought, (p + 1, s, (p + past_bounded span, jump, omega (arith, end, past_long (starts_of types) span n (n + 2) n), refl), bounds, stepped))

@@ -1,6 +1,6 @@
 -- Accesses by fat pointers: the pointer is tested, its index is compared with its length, and the address of the cell at the index is
 -- computed. A pointer to a struct stands at the struct itself where the source does not go wrong.
-use Rattle.std.proofs.Common.{◌≡◌, ◌≢◌, ℕ, zero, suc, ◌+◌, ◌*◌, ◌≤◌, ◌<◌, Bool, true, false, List, [], ◌∷◌, Option, None, Some, slice_get, refl, sym, ap, subst, ◌∙◌, arith, inl, inr}
+use Rattle.std.proofs.Common.{◌≡◌, ◌≢◌, ℕ, zero, suc, ◌+◌, ◌*◌, ◌≤◌, ◌<◌, Bool, true, false, List, [], ◌∷◌, ◌++◌, Option, None, Some, slice_get, refl, sym, ap, subst, ◌∙◌, arith, inl, inr}
 use Rattle.std.specs.Prelude.{◌==◌, ◌&&◌, nat_lt, nat_le, if◌then◌else◌, option_map}
 use Rattle.std.proofs.lemmas.Bool.{eq-eqb, ne_eqb, eqb-true, cases_Bool, ltb-true, ltb-false, le-leb, lt-leb, and_parts}
 use Rattle.cyc_words.specs.Word.{add_of, mul_of, shl_of}
@@ -12,6 +12,7 @@ use Rattle.cyc_plain.specs.declared.instruction.BinaryOperator.TheVariants as pl
 use Rattle.cyc_plain.specs.declared.instruction.Comparison.TheVariants as comparisons
 use Rattle.cyc_plain.specs.declared.instruction.Operand.{Operand}
 use Rattle.cyc_plain.specs.declared.instruction.Operand.TheVariants as operands
+use Rattle.cyc_plain.specs.declared.instruction.Instruction.{Instruction}
 use Rattle.cyc_plain.specs.declared.instruction.Instruction.TheVariants as instructions
 use Rattle.cyc_plain.specs.State as plain
 use Rattle.cyc_plain.specs.State.{Words, put, Configuration}
@@ -37,7 +38,7 @@ use Rattle.cyc_lower.specs.Lowering.{lower_program}
 use Rattle.cyc_lower.proofs.slots.Widths.{same_kind, Outside}
 use Rattle.cyc_lower.proofs.slots.CellBytes.{wide_cell}
 use Rattle.cyc_lower.proofs.relation.Moves.{put_elsewhere}
-use Rattle.cyc_lower.proofs.relation.Stands.{SteppedAt, ReachedBy, ReachedAt, FollowedAt, ValueAt}
+use Rattle.cyc_lower.proofs.relation.Stands.{BoundsAt, SteppedAt, ReachedBy, ReachedAt, FollowedAt, ValueAt}
 use Rattle.cyc_lower.proofs.relation.HeldValues.{IsIn, IsLow, Holds, held, IsParts}
 use Rattle.cyc_lower.proofs.relation.Relation.{types_at, types_on, floor, as_operand, DataIn, SharedAt, ValueStack, PlaceStack, Matches, code_of, bounds_at, top, ReadyAt, with_left, as_right}
 use Rattle.cyc_lower.proofs.relation.Data.{Is-same, height-least, Holds-same, data_written, in_words}
@@ -46,7 +47,7 @@ use Rattle.cyc_lower.proofs.place_steps.PlaceWords.{narrow_element, byte_element
 use Rattle.cyc_lower.proofs.relation.Matched.{IsMatched, silently, by_one}
 use Rattle.cyc_lower.proofs.handler_steps.Handling.{raised}
 use Rattle.cyc_lower.proofs.pointer_steps.PointerSteps.{as_fat, int_word, is_moved, outside_index}
-use Rattle.cyc_lower.proofs.relation.Paths.{Link, is_quiet, by_path}
+use Rattle.cyc_lower.proofs.relation.Paths.{Link, IsPath, is_quiet, by_path}
 
 -- ---- the words of an access
 
@@ -112,14 +113,19 @@ module _ {t : Tables} {w : World} {s : StoreState} (related : objects.Related t 
       subst (λ (j : ℕ). Points t o (start + i) (add_of a (scaled (bytes_of_kind kind) j))) (sym index_is)
       (subst (λ (j : ℕ). Points t o (start + i) (add_of a (scaled j i))) (part_bytes i part kind below leads) (element_is i part below))
 
--- the slots that an access writes
-pub elsewhere : (slots : Words) (t x y m : ℕ) → Outside t 3 m → put (put slots (t + 2) x) t y m ≡ slots m
-elsewhere slots t x y m out =
-    put_elsewhere (put slots (t + 2) x) t y 3 m (omega arith) out ∙ put-other slots (t + 2) m x (λ same. beside out same)
+-- the slots that an access writes: the first, and one so many behind it
+pub elsewhere : (slots : Words) (t far x y m : ℕ) → Outside t (far + 1) m → put (put slots (t + far) x) t y m ≡ slots m
+elsewhere slots t far x y m out =
+    put_elsewhere (put slots (t + far) x) t y (far + 1) m (omega arith) out ∙ put-other slots (t + far) m x (λ same. beside out same)
   where
-    beside : Outside t 3 m → m ≡ t + 2 → ⊥
+    beside : Outside t (far + 1) m → m ≡ t + far → ⊥
     beside (inl short) same = absurd (omega (arith, same, short))
     beside (inr long) same = absurd (omega (arith, same, long))
+
+-- and that where the scaled index comes
+scaled_elsewhere : (slots : Words) (t x m : ℕ) → Outside t 4 m → put slots (t + 3) x m ≡ slots m
+scaled_elsewhere slots t x m (inl short) = put-other slots (t + 3) m x (λ same. absurd (omega (arith, same, short)))
+scaled_elsewhere slots t x m (inr long) = put-other slots (t + 3) m x (λ same. absurd (omega (arith, same, long)))
 
 -- ---- the instructions of an access
 
@@ -130,13 +136,54 @@ module _ (source : Program) (pages calls : ℕ) where
   passed : (c : Configuration) (b : Bool) (target : ℕ) → b ≡ false → branches c b target ≡ plain.Running (at c (c.active.next + 1))
   passed c b target is = ap (λ (x : Bool). branches c x target) is
 
+  -- an index becomes a number of bytes in a slot
+  scales : (bytes x m : ℕ) (c : Configuration) (choice : Choice)
+      → performed (lower_program source) choice c (scale_of bytes x m) ≡ plain.Running (at (with_slots c (put c.active.slots x (scaled bytes (c.active.slots m)))) (c.active.next + 1))
+  scales bytes x m c choice = by (bytes == 4) (bytes == 1)
+    where
+      by : (narrow one : Bool)
+          → performed (lower_program source) choice c
+          (if narrow then instructions.Binary plain_binary.ShiftLeft x (operands.Slot m) (operands.Word 2) else if one then instructions.Move x (operands.Slot m) else instructions.Binary plain_binary.Multiply x (operands.Slot m) (operands.Word 12))
+          ≡ plain.Running
+          (at (with_slots c (put c.active.slots x (if narrow then shl_of (c.active.slots m) 2 else if one then c.active.slots m else mul_of (c.active.slots m) 12))) (c.active.next + 1))
+      by true one = refl
+      by false true = refl
+      by false false = refl
+
+  -- ---- the test for null
+
+  module _ (focus : Focus) (k₀ k : List Entry) (e : Environment) (w : World) (c : Configuration) (null : ℕ → Type 0) (n r : ℕ) (shared : SharedAt source pages calls k₀ e w c)
+      (test : (x : ℕ) × At (code_of source c.active.function) c.active.next (instructions.Branch comparisons.Equal (operands.Slot n) (operands.Word 0) x) × null x × (c.active.next + 1 ≡ r)) where
+    -- null leads elsewhere
+    pub leaves_null : (next : State) → c.active.slots n ≡ 0 → step source (Running focus k₀ e w) ≡ next → ((block : ℕ) → null block → Matches source pages calls next (plain.Running (at c block)))
+        → IsMatched source pages calls (Running focus k₀ e w) (plain.Running c)
+    leaves_null next is_zero does goes =
+        let (block, jump, leads, end) = test in
+        by_one source pages calls does shared jump
+        (λ choice. subst (Matches source pages calls next) (sym (taken c (c.active.slots n == 0) block (eq-eqb (c.active.slots n) 0 is_zero))) (goes block leads))
+
+    -- where it raises an exception
+    pub raises_null : (shared_behind : SharedAt source pages calls k e w c) → DataIn source shared_behind.tables c.active.slots k e w c → c.active.slots n ≡ 0 → step source (Running focus k₀ e w) ≡ Running (Throwing null_exception 0) k e w
+        → ((block : ℕ) → null block → At (code_of source c.active.function) block (raising null_exception)) → IsMatched source pages calls (Running focus k₀ e w) (plain.Running c)
+    raises_null shared_behind facts is_zero does raises =
+        leaves_null (Running (Throwing null_exception 0) k e w) is_zero does
+        (λ block leads. raised source pages calls null_exception 0 k e w (at c block) (operands.Word null_exception) (operands.Word 0) (omega arith) shared_behind facts (raises block leads) refl refl)
+
+    -- and any other leads on
+    abbrev past_null : Link
+    past_null = record { instruction = instructions.Branch comparisons.Equal (operands.Slot n) (operands.Word 0) test.0; behind = at c r }
+
+    past_null_path : c.active.slots n ≢ 0 → (links : List Link) → IsPath source (at c r) links → IsPath source c (past_null ∷ links)
+    past_null_path some links path =
+        let (block, jump, leads, end) = test in
+        (jump, (λ choice. passed c (c.active.slots n == 0) block (ne_eqb (c.active.slots n) 0 some) ∙ ap (λ i. plain.Running (at c i)) end), omega (arith, end), is_quiet c (at c r).active, path)
+
+  -- ---- an index that is compared before it is scaled
+
   module _ (focus : Focus) (k₀ k : List Entry) (e : Environment) (w : World) (c : Configuration) (null : ℕ → Type 0) (span : Option ℕ) (n m t q : ℕ) (shared : SharedAt source pages calls k₀ e w c)
       (here : ReachedBy (code_of source c.active.function) (bounds_at source c.active.function) (types_at source c.active.function) null span n m t c.active.next q) where
     abbrev slots : Words
     slots = c.active.slots
-
-    abbrev p : ℕ
-    p = c.active.next
 
     abbrev r : ℕ
     r = here.0
@@ -144,26 +191,11 @@ module _ (source : Program) (pages calls : ℕ) where
     abbrev s : ℕ
     s = here.1
 
-    -- null leads elsewhere
-    pub leaves_null : (next : State) → slots n ≡ 0 → step source (Running focus k₀ e w) ≡ next → ((block : ℕ) → null block → Matches source pages calls next (plain.Running (at c block)))
-        → IsMatched source pages calls (Running focus k₀ e w) (plain.Running c)
-    leaves_null next is_zero does goes =
-        let (block, jump, leads, end) = here.2 in
-        by_one source pages calls does shared jump
-        (λ choice. subst (Matches source pages calls next) (sym (taken c (slots n == 0) block (eq-eqb (slots n) 0 is_zero))) (goes block leads))
+    abbrev not_null : Link
+    not_null = past_null focus k₀ k e w c null n r shared here.2
 
-    -- where it raises an exception
-    pub raises_null : (shared_behind : SharedAt source pages calls k e w c) → DataIn source shared_behind.tables c.active.slots k e w c → slots n ≡ 0 → step source (Running focus k₀ e w) ≡ Running (Throwing null_exception 0) k e w
-        → ((block : ℕ) → null block → At (code_of source c.active.function) block (raising null_exception)) → IsMatched source pages calls (Running focus k₀ e w) (plain.Running c)
-    raises_null shared_behind facts is_zero does raises =
-        leaves_null (Running (Throwing null_exception 0) k e w) is_zero does
-        (λ block leads. raised source pages calls null_exception 0 k e w (at c block) (operands.Word null_exception) (operands.Word 0) (omega arith) shared_behind facts (raises block leads) refl refl)
-
-    abbrev past_null : Link
-    past_null = record { instruction = instructions.Branch comparisons.Equal (operands.Slot n) (operands.Word 0) here.2.0; behind = at c r }
-
-    past_null_leads : slots n ≢ 0 → (choice : Choice) → performed (lower_program source) choice c past_null.instruction ≡ plain.Running (at c r)
-    past_null_leads some choice = passed c (slots n == 0) here.2.0 (ne_eqb (slots n) 0 some) ∙ ap (λ i. plain.Running (at c i)) here.2.3
+    not_null_path : slots n ≢ 0 → (links : List Link) → IsPath source (at c r) links → IsPath source c (not_null ∷ links)
+    not_null_path = past_null_path focus k₀ k e w c null n r shared here.2
 
     abbrev in_bounds : Link
     in_bounds = record { instruction = instructions.Branch comparisons.GreaterOrEqualUnsigned (operands.Slot m) (operands.Slot (n + 1)) here.3.0; behind = at c s }
@@ -176,11 +208,8 @@ module _ (source : Program) (pages calls : ℕ) where
     pub raises_bounds : (shared_behind : SharedAt source pages calls k e w c) → DataIn source shared_behind.tables c.active.slots k e w c → slots n ≢ 0 → nat_lt (slots m) (slots (n + 1)) ≡ false
         → step source (Running focus k₀ e w) ≡ Running (Throwing array_bounds 0) k e w → IsMatched source pages calls (Running focus k₀ e w) (plain.Running c)
     raises_bounds shared_behind facts some least does =
-        let (block, jump, first_raise, end) = here.2 in
         let (other, branch, raise, behind) = here.3 in
-        by_path source pages calls focus k₀ e w c (Running (Throwing array_bounds 0) k e w) (past_null ∷ []) in_bounds.instruction does shared
-        (jump, past_null_leads some, omega (arith, end), is_quiet c (at c r).active, tt)
-        branch
+        by_path source pages calls focus k₀ e w c (Running (Throwing array_bounds 0) k e w) (not_null ∷ []) in_bounds.instruction does shared (not_null_path some [] tt) branch
         (λ choice. subst (Matches source pages calls (Running (Throwing array_bounds 0) k e w)) (sym (taken (at c r) (nat_le (slots (n + 1)) (slots m)) other (le-leb (slots (n + 1)) (slots m) (ltb-false (slots m) (slots (n + 1)) least))))
         (raised source pages calls array_bounds 0 k e w (at c other) (operands.Word array_bounds) (operands.Word 0) (omega arith) shared_behind facts raise refl refl))
 
@@ -188,37 +217,19 @@ module _ (source : Program) (pages calls : ℕ) where
     pub reaches_first : span ≡ None → (next : State) → slots n ≢ 0 → nat_lt (slots m) (slots (n + 1)) ≡ true → step source (Running focus k₀ e w) ≡ next
         → Matches source pages calls next (plain.Running (at c q)) → IsMatched source pages calls (Running focus k₀ e w) (plain.Running c)
     reaches_first first next some less does goes =
-        let (block, jump, raised, end) = here.2 in
         let (other, branch, raise, behind) = here.3 in
         let there : s ≡ q = subst (λ x. SteppedAt (code_of source c.active.function) (bounds_at source c.active.function) (types_at source c.active.function) x n m t s q) first here.4 in
-        by_path source pages calls focus k₀ e w c next (past_null ∷ []) in_bounds.instruction does shared
-        (jump, past_null_leads some, omega (arith, end), is_quiet c (at c r).active, tt)
-        branch
+        by_path source pages calls focus k₀ e w c next (not_null ∷ []) in_bounds.instruction does shared (not_null_path some [] tt) branch
         (λ choice. subst (Matches source pages calls next) (sym (in_bounds_leads less choice)) (subst (λ i. Matches source pages calls next (plain.Running (at c i))) (sym there) goes))
 
     -- the cell at the index is reached, and its address comes to slot t
     abbrev pub stepped : (bytes : ℕ) → Words
     stepped bytes = put (put slots (t + 2) (scaled bytes (slots m))) t (add_of (slots n) (scaled bytes (slots m)))
 
-    scales : (bytes : ℕ) (choice : Choice)
-        → performed (lower_program source) choice (at c s)
-        (scale_of bytes (t + 2) m)
-        ≡ plain.Running (at (with_slots c (put slots (t + 2) (scaled bytes (slots m)))) (s + 1))
-    scales bytes choice = by (bytes == 4) (bytes == 1)
-      where
-        by : (narrow one : Bool)
-            → performed (lower_program source) choice (at c s)
-            (if narrow then instructions.Binary plain_binary.ShiftLeft (t + 2) (operands.Slot m) (operands.Word 2) else if one then instructions.Move (t + 2) (operands.Slot m) else instructions.Binary plain_binary.Multiply (t + 2) (operands.Slot m) (operands.Word 12))
-            ≡ plain.Running (at (with_slots c (put slots (t + 2) (if narrow then shl_of (slots m) 2 else if one then slots m else mul_of (slots m) 12))) (s + 1))
-        by true one = refl
-        by false true = refl
-        by false false = refl
-
     pub reaches_cell : (bytes : ℕ) → span ≡ Some bytes → (next : State) → n ≤ t → slots n ≢ 0 → nat_lt (slots m) (slots (n + 1)) ≡ true → step source (Running focus k₀ e w) ≡ next
         → Matches source pages calls next (plain.Running (at (with_slots c (stepped bytes)) q)) → IsMatched source pages calls (Running focus k₀ e w) (plain.Running c)
     reaches_cell bytes cells next low some less does goes =
         let g = c.active.function in
-        let (block, jump, raised, end) = here.2 in
         let (other, branch, raise, behind) = here.3 in
         let (scale, sum, last) = subst (λ x. SteppedAt (code_of source g) (bounds_at source g) (types_at source g) x n m t s q) cells here.4 in
         let far = scaled bytes (slots m) in
@@ -226,18 +237,80 @@ module _ (source : Program) (pages calls : ℕ) where
         let b : Configuration = at (with_slots c before) (s + 1) in
         let first : before n ≡ slots n = put-other slots (t + 2) n far (λ same. absurd (omega (arith, same, low))) in
         by_path source pages calls focus k₀ e w c next
-        (past_null ∷ in_bounds ∷ record { instruction = scale_of bytes (t + 2) m; behind = b } ∷ [])
-        (instructions.Binary plain_binary.Add t (operands.Slot n) (operands.Slot (t + 2))) does shared (
-          jump,
-          past_null_leads some,
-          omega (arith, end),
-          is_quiet c (at c r).active,
-          (branch, in_bounds_leads less, omega (arith, behind), is_quiet (at c r) (at c s).active, (scale, scales bytes, omega arith, is_quiet (at c s) b.active, tt)),
-        )
+        (not_null ∷ in_bounds ∷ record { instruction = scale_of bytes (t + 2) m; behind = b } ∷ [])
+        (instructions.Binary plain_binary.Add t (operands.Slot n) (operands.Slot (t + 2))) does shared
+        (not_null_path some (in_bounds ∷ record { instruction = scale_of bytes (t + 2) m; behind = b } ∷ [])
+        (branch, in_bounds_leads less, omega (arith, behind), is_quiet (at c r) (at c s).active, (scale, scales bytes (t + 2) m (at c s), omega arith, is_quiet (at c s) b.active, tt)))
         sum
         (λ choice. subst (λ (x : ℕ). Matches source pages calls next (plain.Running (at (with_slots c (put before t x)) (s + 1 + 1))))
         (sym (ap (λ (y : ℕ). add_of y (before (t + 2))) first ∙ ap (add_of (slots n)) (put-same slots (t + 2) far)))
         (subst (λ i. Matches source pages calls next (plain.Running (at (with_slots c (stepped bytes)) i))) (sym last) goes))
+
+  -- ---- an index that is scaled before it is compared
+
+  module _ (focus : Focus) (k₀ k : List Entry) (e : Environment) (w : World) (c : Configuration) (bytes n m t q : ℕ) (shared : SharedAt source pages calls k₀ e w c)
+      (here : ReachedAt (code_of source c.active.function) (bounds_at source c.active.function) (types_at source c.active.function) (Some bytes) n m t c.active.next q) (low : n ≤ t) (apart : m < t + 3) where
+    abbrev raises : ℕ → Type 0
+    raises block = At (code_of source c.active.function) block (raising null_exception)
+
+    abbrev far : ℕ
+    far = scaled bytes (c.active.slots m)
+
+    -- only a temporary is another then
+    abbrev before : Words
+    before = put c.active.slots (t + 3) far
+
+    abbrev b : Configuration
+    b = at (with_slots c before) (here.0 + 1)
+
+    index_stays : before m ≡ c.active.slots m
+    index_stays = put-other c.active.slots (t + 3) m far (λ same. absurd (omega (arith, same, apart)))
+
+    length_stays : before (n + 1) ≡ c.active.slots (n + 1)
+    length_stays = put-other c.active.slots (t + 3) (n + 1) far (λ same. absurd (omega (arith, same, low)))
+
+    abbrev links : List Link
+    links = past_null focus k₀ k e w c raises n here.0 shared here.3 ∷ record { instruction = scale_of bytes (t + 3) m; behind = b } ∷ []
+
+    to_comparison : c.active.slots n ≢ 0 → (rest : List Link) → IsPath source b rest → IsPath source c (links ++ rest)
+    to_comparison some rest path =
+        past_null_path focus k₀ k e w c raises n here.0 shared here.3 some (record { instruction = scale_of bytes (t + 3) m; behind = b } ∷ rest)
+        (here.4.0, scales bytes (t + 3) m (at c here.0), omega arith, is_quiet (at c here.0) b.active, path)
+
+    abbrev comparison : Instruction
+    comparison = instructions.Branch comparisons.GreaterOrEqualUnsigned (operands.Slot m) (operands.Slot (n + 1)) here.5.0
+
+    compared_there : At (code_of source c.active.function) (here.0 + 1) comparison
+    compared_there = subst (λ i. At (code_of source c.active.function) i comparison) (sym here.4.1) here.5.1
+
+    stops_at : (block : ℕ) → nat_lt (c.active.slots m) (c.active.slots (n + 1)) ≡ false → branches b (nat_le (before (n + 1)) (before m)) block ≡ plain.Running (at b block)
+    stops_at block least =
+        taken b (nat_le (before (n + 1)) (before m)) block (le-leb (before (n + 1)) (before m) (omega (arith, ltb-false (c.active.slots m) (c.active.slots (n + 1)) least, index_stays, length_stays)))
+
+    stops_past : (shared_behind : SharedAt source pages calls k e w c) → DataIn source shared_behind.tables before k e w c → c.active.slots n ≢ 0 → nat_lt (c.active.slots m) (c.active.slots (n + 1)) ≡ false
+        → step source (Running focus k₀ e w) ≡ Running (Throwing array_bounds 0) k e w → IsMatched source pages calls (Running focus k₀ e w) (plain.Running c)
+    stops_past shared_behind facts some least does =
+        let (block, branch, raise, behind) = here.5 in
+        by_path source pages calls focus k₀ e w c (Running (Throwing array_bounds 0) k e w) links comparison does shared (to_comparison some [] tt) compared_there
+        (λ choice. subst (Matches source pages calls (Running (Throwing array_bounds 0) k e w)) (sym (stops_at block least))
+        (raised source pages calls array_bounds 0 k e w (at b block) (operands.Word array_bounds) (operands.Word 0) (omega arith) shared_behind facts raise refl refl))
+
+    goes_on : nat_lt (c.active.slots m) (c.active.slots (n + 1)) ≡ true → branches b (nat_le (before (n + 1)) (before m)) here.5.0 ≡ plain.Running (at b here.2)
+    goes_on less =
+        passed b (nat_le (before (n + 1)) (before m)) here.5.0 (lt-leb (before (n + 1)) (before m) (omega (arith, ltb-true (c.active.slots m) (c.active.slots (n + 1)) less, index_stays, length_stays)))
+        ∙ ap (λ i. plain.Running (at b i)) (let on : here.0 + 1 + 1 ≡ here.2 = omega (arith, here.4.1, here.5.3) in on)
+
+    reaches_inside : (next : State) → c.active.slots n ≢ 0 → nat_lt (c.active.slots m) (c.active.slots (n + 1)) ≡ true → step source (Running focus k₀ e w) ≡ next
+        → Matches source pages calls next (plain.Running (at (with_slots c (put before t (add_of (c.active.slots n) far))) q)) → IsMatched source pages calls (Running focus k₀ e w) (plain.Running c)
+    reaches_inside next some less does goes =
+        let first : before n ≡ c.active.slots n = put-other c.active.slots (t + 3) n far (λ same. absurd (omega (arith, same, low))) in
+        let within : Link = record { instruction = comparison; behind = at b here.2 } in
+        by_path source pages calls focus k₀ e w c next (links ++ within ∷ []) (instructions.Binary plain_binary.Add t (operands.Slot n) (operands.Slot (t + 3))) does shared
+        (to_comparison some (within ∷ []) (compared_there, (λ choice. goes_on less), omega (arith, here.4.1, here.5.3), is_quiet b (at b here.2).active, tt))
+        here.6.0
+        (λ choice. subst (λ (x : ℕ). Matches source pages calls next (plain.Running (at (with_slots c (put before t x)) (here.2 + 1))))
+        (sym (ap (λ (y : ℕ). add_of y (before (t + 3))) first ∙ ap (add_of (c.active.slots n)) (put-same c.active.slots (t + 3) far)))
+        (subst (λ i. Matches source pages calls next (plain.Running (at (with_slots c (put before t (add_of (c.active.slots n) far))) i))) (sym here.6.1) goes))
 
   -- what raises the exception that null raises
   abbrev pub RaisesNull : ℕ → (block : ℕ) → Type 0
@@ -269,11 +342,17 @@ module _ (source : Program) (pages calls : ℕ) where
     leads_there : (x : Value) → IsWell (step source (Running (Given (given x)) waiting e w)) → leads_to w target (followed x) ≡ true
     leads_there x well = (and_parts (is_kind i kinds.Fat) (leads_to w target (followed x)) (is_fitting (tests x) (arrives (followed x) k e w) w well)).1
 
+    -- where no cell is looked for, nothing is scaled
+    as_first : ReachedAt (code_of source c.active.function) (bounds_at source c.active.function) (types_at source c.active.function) None n m free c.active.next q
+        → ReachedBy (code_of source c.active.function) (bounds_at source c.active.function) (types_at source c.active.function) (RaisesNull c.active.function) None n m free c.active.next q
+    as_first (r, s, u, test, same, compared, last) =
+        (r, u, test, subst (λ i. BoundsAt (code_of source c.active.function) (bounds_at source c.active.function) (types_at source c.active.function) (operands.Slot m) (operands.Slot (n + 1)) i u) (sym same) compared, last)
+
     -- within bounds: the first cell, or the one at the index
     cell_reached : (object start count index : ℕ) {x : Value} → c.active.slots n ≢ 0 → nat_lt (c.active.slots m) (c.active.slots (n + 1)) ≡ true → index < count
         → (shared : SharedAt source pages calls k e w c) → (part : IsPartOf shared.tables object start count (c.active.slots n)) → c.active.slots m ≡ index
         → step source (Running (Given (given x)) waiting e w) ≡ Running (GivenPlace (Thin object (start + index))) k e w → leads_to w target (reaches.At object (start + index)) ≡ true
-        → DataIn source shared.tables c.active.slots k e w c → Holds shared.tables c.active.slots (floor source c.active.function k) (held k) → n ≤ free
+        → DataIn source shared.tables c.active.slots k e w c → Holds shared.tables c.active.slots (floor source c.active.function k) (held k) → (n ≤ free) × (m < free + 3)
         → ReachedAt (code_of source c.active.function) (bounds_at source c.active.function) (types_at source c.active.function) span_there n m free c.active.next q
         → PlaceStack source c.active.function e.locals (reached_operand span_there n free) 0 q c.frames k
         → IsMatched source pages calls (Running (Given (given x)) waiting e w) (plain.Running c)
@@ -286,7 +365,7 @@ module _ (source : Program) (pages calls : ℕ) where
         by None is leads here place =
             let first : start + index ≡ 0 = eqb-true (start + index) 0 leads in
             let points = first_is index part first below in
-            reaches_first (Given (given x)) waiting k e w c (RaisesNull c.active.function) None n m free q shared here refl (Running (GivenPlace (Thin object (start + index))) k e w) some less does
+            reaches_first (Given (given x)) waiting k e w c (RaisesNull c.active.function) None n m free q shared (as_first here) refl (Running (GivenPlace (Thin object (start + index))) k e w) some less does
             (shared, facts, (operands.Slot n, 0, pointer-word points, stays points, holds, place))
         by (Some kind) is leads here place =
             let g = c.active.function in
@@ -295,23 +374,38 @@ module _ (source : Program) (pages calls : ℕ) where
             let bytes = bytes_of_kind kind in
             let address = add_of (slots n) (scaled bytes (slots m)) in
             let points = cell_is shared.related index (slots m) part kind index_is below leads in
-            let after = put (put slots (free + 2) (scaled bytes (slots m))) free address in
-            let there : Points shared.tables object (start + index) (after free) = subst (Points shared.tables object (start + index)) (sym (put-same (put slots (free + 2) (scaled bytes (slots m))) free address)) points in
-            reaches_cell (Given (given x)) waiting k e w c (RaisesNull g) (Some bytes) n m free q shared here bytes refl (Running (GivenPlace (Thin object (start + index))) k e w) low some less does (
+            let after = put (put slots (free + 3) (scaled bytes (slots m))) free address in
+            let there : Points shared.tables object (start + index) (after free) = subst (Points shared.tables object (start + index)) (sym (put-same (put slots (free + 3) (scaled bytes (slots m))) free address)) points in
+            reaches_inside (Given (given x)) waiting k e w c bytes n m free q shared here low.0 low.1 (Running (GivenPlace (Thin object (start + index))) k e w) some less does (
               shared,
-              data_written source shared.tables g c.active.base w.objects e.locals k slots after c.active.handlers c.globals c.frames free 3 (height-least base (held k)) (λ x out. elsewhere slots free (scaled bytes (slots m)) address x out) facts,
-              (operands.Slot free, 0, pointer-word there, stays there, Holds-same shared.tables slots after base (held k) (λ x short. elsewhere slots free (scaled bytes (slots m)) address x (inl short)) holds, place),
+              data_written source shared.tables g c.active.base w.objects e.locals k slots after c.active.handlers c.globals c.frames free 4 (height-least base (held k)) (λ x out. elsewhere slots free 3 (scaled bytes (slots m)) address x out) facts,
+              (operands.Slot free, 0, pointer-word there, stays there, Holds-same shared.tables slots after base (held k) (λ x short. elsewhere slots free 3 (scaled bytes (slots m)) address x (inl short)) holds, place),
             )
 
+    -- past the length
+    stops_there : (x : Value) (shared : SharedAt source pages calls k e w c) → DataIn source shared.tables c.active.slots k e w c → (n ≤ free) × (m < free + 3) → c.active.slots n ≢ 0 → nat_lt (c.active.slots m) (c.active.slots (n + 1)) ≡ false
+        → ReachedAt (code_of source c.active.function) (bounds_at source c.active.function) (types_at source c.active.function) span_there n m free c.active.next q
+        → step source (Running (Given (given x)) waiting e w) ≡ Running (Throwing array_bounds 0) k e w → IsMatched source pages calls (Running (Given (given x)) waiting e w) (plain.Running c)
+    stops_there x shared facts low some least here does = by span_there here
+      where
+        by : (span : Option ℕ) → ReachedAt (code_of source c.active.function) (bounds_at source c.active.function) (types_at source c.active.function) span n m free c.active.next q
+            → IsMatched source pages calls (Running (Given (given x)) waiting e w) (plain.Running c)
+        by None here = raises_bounds (Given (given x)) waiting k e w c (RaisesNull c.active.function) None n m free q shared (as_first here) shared facts some least does
+        by (Some bytes) here =
+            let slots = c.active.slots in
+            let far = scaled bytes (slots m) in
+            stops_past (Given (given x)) waiting k e w c bytes n m free q shared here low.0 low.1 shared
+            (data_written source shared.tables c.active.function c.active.base w.objects e.locals k slots (put slots (free + 3) far) c.active.handlers c.globals c.frames free 4 (height-least (floor source c.active.function k) (held k)) (λ x out. scaled_elsewhere slots free far x out) facts)
+            some least does
+
     pub follows_parts : (x : Value) → IsWell (step source (Running (Given (given x)) waiting e w)) → (shared : SharedAt source pages calls k e w c) → DataIn source shared.tables c.active.slots k e w c
-        → IsParts shared.tables x c.active.slots n m → Holds shared.tables c.active.slots (floor source c.active.function k) (held k) → n ≤ free
+        → IsParts shared.tables x c.active.slots n m → Holds shared.tables c.active.slots (floor source c.active.function k) (held k) → (n ≤ free) × (m < free + 3)
         → ReachedAt (code_of source c.active.function) (bounds_at source c.active.function) (types_at source c.active.function) span_there n m free c.active.next q
         → PlaceStack source c.active.function e.locals (reached_operand span_there n free) 0 q c.frames k
         → IsMatched source pages calls (Running (Given (given x)) waiting e w) (plain.Running c)
     follows_parts Null well shared facts is holds low here place =
-        raises_null (Given (given Null)) waiting k e w c (RaisesNull c.active.function) span_there n m free q shared here shared facts is (arrives_so Null (Stops null_exception) well refl) (λ block raises. raises)
+        raises_null (Given (given Null)) waiting k e w c (RaisesNull c.active.function) n here.0 shared here.3 shared facts is (arrives_so Null (Stops null_exception) well refl) (λ block raises. raises)
     follows_parts (Fat object start count index) well shared facts (part, count_is, index_is) holds low here place =
-        let g = c.active.function in
         let slots = c.active.slots in
         let x = Fat object start count index in
         let some = part-not-null part in
@@ -324,7 +418,7 @@ module _ (source : Program) (pages calls : ℕ) where
               (subst (λ (y : Reach). leads_to w target y ≡ true) reach (leads_there x well)) facts holds low here place
           | inr least ↦
               let reach : followed x ≡ Stops array_bounds = ap (λ (b : Bool). if b then reaches.At object (start + index) else Stops array_bounds) (sym same ∙ least) in
-              raises_bounds (Given (given x)) waiting k e w c (RaisesNull g) span_there n m free q shared here shared facts some least (arrives_so x (Stops array_bounds) well reach)
+              stops_there x shared facts low some least here (arrives_so x (Stops array_bounds) well reach)
         ]
     follows_parts x well shared facts is holds low here place = absurd is
 
@@ -357,7 +451,7 @@ module _ (source : Program) (pages calls : ℕ) where
           → IsMatched source pages calls (Running (Given (record { kind = i; value = v.value })) (Needs (Follow j target) ∷ k) e w) (plain.Running c)
       by kinds.Fat i thin same is well =
           follows_parts i target n (n + 2) q k e w c v.value well shared facts
-          (parts_of shared.tables v.value c.active.slots n (subst (λ x. Is shared.tables x v.value c.active.slots n) same is)) holds low access place
+          (parts_of shared.tables v.value c.active.slots n (subst (λ x. Is shared.tables x v.value c.active.slots n) same is)) holds (low, omega (arith, low)) access place
       by kinds.Nullable i thin same is well = absurd (let f : true ≡ false = thin in cc)
       by kinds.NonNull i thin same is well = absurd (let f : true ≡ false = thin in cc)
       by kinds.Int i thin same is well = absurd (not_followed i target shared.tables kinds.Int kinds.Int v.value c.active.slots n k e w (subst (λ x. Is shared.tables x v.value c.active.slots n) same is) well refl)
@@ -423,7 +517,7 @@ module _ (source : Program) (pages calls : ℕ) where
               refl,
               fat-moved shared.tables change base.value result.value slots (λ m. if m == 0 then after n else if m == 1 then after (n + 1) else after (t + 2)) n 0 (as_fat shared.tables base.kind base.value slots n is_base result.fat) result.gives
                   first second (put-same slots (t + 2) index),
-              low,
+              (low, omega arith),
               Holds-same shared.tables slots after (floor source g k) (held k) (λ m short. elsewhere_same m (inl short)) holds,
               reached,
               place,

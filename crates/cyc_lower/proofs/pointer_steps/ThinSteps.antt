@@ -64,9 +64,9 @@ module _ (source : Program) (pages calls : ℕ) where
         reaches_cell source pages calls (Given v) waiting k e w c null (Some bytes) n (n + 2) n q shared here bytes refl (Running (Given (record { kind = to; value = Thin object (start + index) })) k e w) (omega arith) (part-not-null part) less does (
           shared,
           in_operand (operands.Slot n)
-              (data_written source shared.tables g c.active.base w.objects e.locals k slots after c.active.handlers c.globals c.frames n 3 (omega (arith, there, height-least (floor source g k) (held k))) (λ x out. elsewhere slots n far address x out) facts)
+              (data_written source shared.tables g c.active.base w.objects e.locals k slots after c.active.handlers c.globals c.frames n 3 (omega (arith, there, height-least (floor source g k) (held k))) (λ x out. elsewhere slots n 2 far address x out) facts)
               (thin after (subst (Points shared.tables object (start + index)) (sym (put-same (put slots (n + 2) far) n address)) points))
-              (kept_holds _ _ _ k (Holds-same shared.tables slots after (floor source g k) (held k) (λ x short. elsewhere slots n far address x (inl (omega (arith, short, there)))) holds)) stack,
+              (kept_holds _ _ _ k (Holds-same shared.tables slots after (floor source g k) (held k) (λ x short. elsewhere slots n 2 far address x (inl (omega (arith, short, there)))) holds)) stack,
         )
 
     -- what is not null
@@ -99,7 +99,7 @@ module _ (source : Program) (pages calls : ℕ) where
     where
       by : (x : Value) → v.value ≡ x → Is shared.tables kinds.Fat x c.active.slots n → IsMatched source pages calls (Running (Given v) (Needs (ConvertTo from kinds.NonNull target) ∷ k) e w) (plain.Running c)
       by Null value is =
-          raises_null source pages calls (Given v) (Needs (ConvertTo from kinds.NonNull target) ∷ k) k e w c (RaisesNull source pages calls c.active.function) (option_map bytes_of_kind target) n (n + 2) n q shared here shared facts is
+          raises_null source pages calls (Given v) (Needs (ConvertTo from kinds.NonNull target) ∷ k) k e w c (RaisesNull source pages calls c.active.function) n here.0 shared here.2 shared facts is
           (does ∙ ap (λ (y : Value). computed kinds.NonNull (conversion kinds.NonNull y) k e w) value) (λ block raises. raises)
       by (Fat object start count index) value is =
           narrows_fat from kinds.NonNull target v n q k e w c (RaisesNull source pages calls c.active.function) shared facts holds there stack object start count index value is refl (λ words points. points) does leads here
@@ -110,7 +110,7 @@ module _ (source : Program) (pages calls : ℕ) where
       by : (x : Value) → v.value ≡ x → Is shared.tables kinds.Fat x c.active.slots n → IsMatched source pages calls (Running (Given v) (Needs (ConvertTo from kinds.Nullable target) ∷ k) e w) (plain.Running c)
       by Null value is =
           let next = Running (Given (record { kind = kinds.Nullable; value = Null })) k e w in
-          leaves_null source pages calls (Given v) (Needs (ConvertTo from kinds.Nullable target) ∷ k) k e w c (λ x. x ≡ q) (option_map bytes_of_kind target) n (n + 2) n q shared here next is
+          leaves_null source pages calls (Given v) (Needs (ConvertTo from kinds.Nullable target) ∷ k) k e w c (λ x. x ≡ q) n here.0 shared here.2 next is
           (does ∙ ap (λ (y : Value). computed kinds.Nullable (conversion kinds.Nullable y) k e w) value)
           (λ block same. subst (λ i. Matches source pages calls next (plain.Running (at c i))) (sym same) (shared, in_operand (operands.Slot n) facts is (kept_holds _ _ _ k holds) stack))
       by (Fat object start count index) value is =

@@ -84,7 +84,7 @@ module _ (b : Numbering) where
 
     pub FitsCell : (types : Types) → Dereference → Type 0
     FitsCell types (Element a i t) = (given b.functions a ≡ kinds.Fat) × (3 ≤ operand_words (type_of a)) × Fits types a × Fits types i
-    FitsCell types (Target k a t) = (is_pointer k ≡ true) × (k ≡ given b.functions a) × Fits types a
+    FitsCell types (Target k a t) = (is_pointer k ≡ true) × (k ≡ given b.functions a) × (words_of_kind k ≤ operand_words (type_of a)) × Fits types a
     FitsCell types (Member k a s f t) = (is_thin k ≡ true) × HasField types s f × Fits types a
 
     -- what a new object holds
@@ -541,8 +541,10 @@ module _ (b : Numbering) where
 
     fits_cell : (types : Types) → (x : Dereference) (c : Context) (t : Ty) (r : Region) → Suits b types c → IsLowerableCell b x → IsCell c x t r → (t ≡ type_of_place x) × FitsCell b types x
     fits_cell types (Target k a u) c t r suits numbered (m, well, live, kind, same) =
-        let (given_is, fitting) = looked_fits b types a c (Value (type_forms.Pointer m u r)) suits numbered (λ h. fits types a c (Value (type_forms.Pointer m u r)) suits numbered h) well in
-        (same, (pointer_mark b types m k kind, kind ∙ (kind_of_pointer b types m u r ∙ sym given_is), fitting))
+        let pointer = type_forms.Pointer m u r in
+        let (given_is, fitting) = looked_fits b types a c (Value pointer) suits numbered (λ h. fits types a c (Value pointer) suits numbered h) well in
+        let kind_is = kind ∙ kind_of_pointer b types m u r in
+        (same, (pointer_mark b types m k kind, kind_is ∙ sym given_is, omega (arith, ap operand_words (type_given a c (Value pointer) well), type_words pointer, ap words_of_kind kind_is), fitting))
     fits_cell types (Member k a s f u) c t r suits (thin, numbered) (m, rs, st, w, well, mark, live, kind, there, field, is_u, same) =
         let pointer = Value (type_forms.Pointer m (type_forms.Struct s rs) r) in (
           same,

@@ -548,7 +548,7 @@ module _ (source : Program) where
       (n : ℕ) × (x : Operand) × (q : ℕ) × IsIn t v slots x × Is t base.kind base.value slots n × (n ≤ top g k) × Holds t slots (floor g k) (held k)
       × AdvancesAt g locals (option_map bytes_of_kind target) n x p q frames k
   ReadyAt t v locals g p slots frames (Needs (Follow pointer target) ∷ k) =
-      (n : ℕ) × (m : ℕ) × (q : ℕ) × (pointer ≡ kinds.Fat) × IsParts t v.value slots n m × (n ≤ top g k) × Holds t slots (floor g k) (held k)
+      (n : ℕ) × (m : ℕ) × (q : ℕ) × (pointer ≡ kinds.Fat) × IsParts t v.value slots n m × ((n ≤ top g k) × (m < top g k + 3)) × Holds t slots (floor g k) (held k)
       × ReachedAt (code_of g) (bounds_at g) (types_on g k) (option_map bytes_of_kind target) n m (top g k) p q
       × PlaceStack g locals (reached_operand (option_map bytes_of_kind target) n (top g k)) 0 q frames k
   ReadyAt t v locals g p slots frames (Needs (Operate unary.Widen) ∷ k) = (a : ℕ) → v.value ≡ Int a → ReadyAt t (record { kind = kinds.Int; value = Int a }) locals g p slots frames k

@@ -122,15 +122,26 @@ module _ (code : List Instruction) (bounds : Numbering) (types : Types) where
       At code p (scale_of bytes (t + 2) m)
       × At code (p + 1) (instructions.Binary plain_binary.Add t (operands.Slot n) (operands.Slot (t + 2))) × (p + 1 + 1 ≡ q)
 
-  -- the same where null leads to a place of which this is said
+  -- the cell of a pointer that is converted, where null leads to a place of which this is said
   abbrev pub ReachedBy : (null : ℕ → Type 0) → (span : Option ℕ) → (n m t p q : ℕ) → Type 0
   ReachedBy null span n m t p q =
       (r : ℕ) × (s : ℕ) × ((x : ℕ) × At code p (instructions.Branch comparisons.Equal (operands.Slot n) (operands.Word 0) x) × null x × (p + 1 ≡ r))
       × BoundsAt (operands.Slot m) (operands.Slot (n + 1)) r s × SteppedAt span n m t s q
 
+  -- an index is scaled, and so many bytes are added
+  abbrev pub ScaledAt : (span : Option ℕ) → (m x p q : ℕ) → Type 0
+  ScaledAt None m x p q = p ≡ q
+  ScaledAt (Some bytes) m x p q = At code p (scale_of bytes x m) × (p + 1 ≡ q)
+
+  abbrev pub SummedAt : (span : Option ℕ) → (n x t p q : ℕ) → Type 0
+  SummedAt None n x t p q = p ≡ q
+  SummedAt (Some bytes) n x t p q = At code p (instructions.Binary plain_binary.Add t (operands.Slot n) (operands.Slot x)) × (p + 1 ≡ q)
+
   -- an access by a fat pointer whose first words are in slot n and the next, and whose index is in slot m
   abbrev pub ReachedAt : (span : Option ℕ) → (n m t p q : ℕ) → Type 0
-  ReachedAt span n m t p q = ReachedBy (λ x. At code x (raising null_exception)) span n m t p q
+  ReachedAt span n m t p q =
+      (r : ℕ) × (s : ℕ) × (u : ℕ) × CheckAt null_exception (operands.Slot n) p r × ScaledAt span m (t + 3) r s
+      × BoundsAt (operands.Slot m) (operands.Slot (n + 1)) s u × SummedAt span n (t + 3) t u q
 
   -- an access by a pointer in an operand
   abbrev pub FollowedAt : (thin : Bool) → (span : Option ℕ) → Operand → (t p q : ℕ) → Type 0
@@ -150,7 +161,7 @@ module _ (code : List Instruction) (bounds : Numbering) (types : Types) where
 
   -- a fat pointer becomes a thin one
   abbrev pub ThinnedAt : (to : Kind) → (span : Option ℕ) → Operand → (t p q : ℕ) → Type 0
-  ThinnedAt kinds.NonNull span (operands.Slot n) t p q = (n ≡ t) × ReachedAt span n (n + 2) n p q
+  ThinnedAt kinds.NonNull span (operands.Slot n) t p q = (n ≡ t) × ReachedBy (λ x. At code x (raising null_exception)) span n (n + 2) n p q
   ThinnedAt kinds.Nullable span (operands.Slot n) t p q = (n ≡ t) × ReachedBy (λ x. x ≡ q) span n (n + 2) n p q
   ThinnedAt to span o t p q = ⊥
 

@@ -218,7 +218,7 @@ module _ (program : PlainProgram) (r : Routine) (b : Numbering) (called : (n : �
 
     -- a place of what has so many words
     pub place_in : (types : Types) (locals : (n : ℕ) → n < b.locals → slot_of (starts_of types) n + words_in types.locals n ≤ r.slots) (levels : (l slot : ℕ) → slice_get types.counters l ≡ Some slot → slot < r.slots) (globals : AreGlobals program types.globals) (behind : types.raises + 4 < length r.code) → (x : Dereference) (own p t : ℕ) → FitsCell b types x → 1 ≤ own → t + dereference_need x own ≤ r.slots → p + length (place_code (starts_of types) x p t) < length r.code → AreIn program r b types locals levels globals called results behind (place_code (starts_of types) x p t)
-    place_in types locals levels globals behind (Target k a ty) own p t (pointer, kind_is, numbered) some few short =
+    place_in types locals levels globals behind (Target k a ty) own p t (pointer, kind_is, wide, numbered) some few short =
         let slot = value_slot (starts_of types) a t in
         let o = value_operand (starts_of types) a t in
         let inner = expression_code (starts_of types) a p slot t in
@@ -227,7 +227,7 @@ module _ (program : PlainProgram) (r : Routine) (b : Numbering) (called : (n : �
         let long = length-append front access in
         let free : t + words_of_kind (kind_at program r b types locals levels globals called results behind a) ≤ r.slots = omega (arith, few, given_needs program r b types locals levels globals called results behind a numbered, some) in
         append program r b types locals levels globals called results behind front access (unless_in program r b types locals levels globals called results behind (operand_of (starts_of types) a) inner p (omega (arith, short, long)) (λ less. expression_in types locals levels globals behind a p slot t numbered (slot_fits program r b types locals levels globals called results behind a t numbered free) (omega (arith, few)) less))
-        (followed_in program r b types locals levels globals called results behind k (is_thin k) (span_in ty) o t refl pointer (subst (λ x. HasOperand program r b types locals levels globals called results behind o (words_of_kind x)) (sym kind_is) (value_room program r b types locals levels globals called results behind a t numbered free)) (omega (arith, free, ap words_of_kind kind_is)))
+        (followed_in program r b types locals levels globals called results behind k (is_thin k) (span_in ty) o t refl pointer (subst (λ x. HasOperand program r b types locals levels globals called results behind o (words_of_kind x)) (sym kind_is) (value_room program r b types locals levels globals called results behind a t numbered free)) (omega (arith, few, wide, some)))
     place_in types locals levels globals behind (Member k a s f ty) own p t (thin, there, numbered) some few short =
         let slot = value_slot (starts_of types) a t in
         let o = value_operand (starts_of types) a t in
@@ -259,7 +259,7 @@ module _ (program : PlainProgram) (r : Routine) (b : Numbering) (called : (n : �
         let inside : n + 3 ≤ r.slots = pointer_room program r b types locals levels globals called results behind a i t fat first (omega (arith, room, wide)) in
         append program r b types locals levels globals called results behind front (operand ++ back) (unless_slot_in program r b types locals levels globals called results behind known pointer p (omega (arith, short, long)) (λ less. expression_in types locals levels globals behind a p t t first room (omega (arith, few)) less))
         (append program r b types locals levels globals called results behind operand back (unless_in program r b types locals levels globals called results behind (operand_of (starts_of types) i) inner m (omega (arith, short, long, long_operand)) (λ less. expression_in types locals levels globals behind i m slot (t + 3) second (slot_fits program r b types locals levels globals called results behind i (t + 3) second free) (omega (arith, few, three)) less))
-        ((third, omega (arith, inside), value_in program r b types locals levels globals called results behind i (t + 3) second free), reached_in program r b types locals levels globals called results behind (span_in ty) n (t + 2) t (omega (arith, inside)) third (omega (arith, room, wide))))
+        ((third, omega (arith, inside), value_in program r b types locals levels globals called results behind i (t + 3) second free), reached_in program r b types locals levels globals called results behind (span_in ty) n (t + 2) t (omega (arith, inside)) third (omega (arith, few, three, some))))
 
     pub initial_in : (types : Types) (locals : (n : ℕ) → n < b.locals → slot_of (starts_of types) n + words_in types.locals n ≤ r.slots) (levels : (l slot : ℕ) → slice_get types.counters l ≡ Some slot → slot < r.slots) (globals : AreGlobals program types.globals) (behind : types.raises + 4 < length r.code) → (c : Converted) (p d t : ℕ) → FitsConverted b types c → d + words_of_kind (passed_kind c) ≤ r.slots → t + converted_words c ≤ r.slots → t + converted_need c ≤ r.slots → p + length (initial_code (starts_of types) c p d t) < length r.code → AreIn program r b types locals levels globals called results behind (initial_code (starts_of types) c p d t)
     initial_in types locals levels globals behind (Convert from to a) p d t (kind, wide, numbered) room free few short =

@@ -36,7 +36,7 @@ use Rattle.cyc_store.specs.declared.range.TheConstants.{HEAP, UNIQUE}
 use Rattle.cyc_meaning.specs.Values.{kind_of, words_of_kind, begins, behind, bytes_from, words_for, is_thin}
 use Rattle.cyc_lower.proofs.slots.Widths.{kind_few, type_words}
 use Rattle.cyc_lower.proofs.slots.CellBytes.{passed_slots}
-use Rattle.cyc_lower.specs.ValueCode.{converts_there, passed_words, all_passed, kinds_passed, converted_by, moved_by, move_of, binary_operator, operand_or, code_unless, slot_or, code_unless_slot, next_slot, conversion_code, divisor_code, checked_code, operator_code, truth_code, low_byte, test_code, is_in, copy_code, failing_comparison, left_with, first_temporary, jump_if_zero, jump_if_nonzero, behind_left, pointer_code, pointer_operator, index_of, first_two, pointer_instructions, address_code, blocks, element_by, count_code, span_of, tested_code, widened_code, conversion_by, tested_by, check_code, loaded_code, bounds_code, stepped_code, bounded_code, past_bounded, thinned_code, reached_code, followed_code, followed_operand, followed_by, span_in, reached_operand, word_by_word, load_word, store_word, global_code, keeps_words, masked_code, load_of, store_of, unary_instruction, last_byte_code, blank_code, kind_behind, kind_passed}
+use Rattle.cyc_lower.specs.ValueCode.{converts_there, passed_words, all_passed, kinds_passed, converted_by, moved_by, move_of, binary_operator, operand_or, code_unless, slot_or, code_unless_slot, next_slot, conversion_code, divisor_code, checked_code, operator_code, truth_code, low_byte, test_code, is_in, copy_code, failing_comparison, left_with, first_temporary, jump_if_zero, jump_if_nonzero, behind_left, pointer_code, pointer_operator, index_of, first_two, pointer_instructions, address_code, blocks, element_by, count_code, span_of, tested_code, widened_code, conversion_by, tested_by, check_code, loaded_code, bounds_code, stepped_code, scaled_code, summed_code, bounded_code, past_bounded, thinned_code, reached_code, followed_code, followed_operand, followed_by, span_in, reached_operand, word_by_word, load_word, store_word, global_code, keeps_words, masked_code, load_of, store_of, unary_instruction, last_byte_code, blank_code, kind_behind, kind_passed, scale_of}
 use Rattle.cyc_lower.specs.ObjectCode.{begun_code, filled_code, ended_code, elements_code, stores_code, cells_code, slots_of_kinds, object_code, free_code, right_slot, saved_code, load_at, measured_code, sized_code}
 use Rattle.cyc_lower.specs.ControlCode.{compared_or, failing_jump, holding_jump, break_target, continue_target, body_target, outside_loops, inside_loop, leave_code, tag_operand, other_jump, clause_code, opened_code, closed_code, named_code, dynamic_code, closing_code, handlers_code, marks_code, kept_code, kept_code_in, restored_code, restored_code_in, behind_record, inside_try, inside_region}
 use Rattle.cyc_lower.specs.ExpressionCode.{source_of, source_slot, operand_of, left_of, value_slot, left_slot, value_operand, converted_operand, printed_operand, load_code, expression_code, arguments_code, converted_code, converted_operand_code, printed_code, initial_code, operations_code, slot_with, made_code, place_operand, place_offset, place_code, pointer_of, pointer_slot}
@@ -74,24 +74,48 @@ widened_size : (o : Operand) → code_size (widened_code o) ≤ 18
 widened_size (operands.Slot n) = omega arith
 widened_size (operands.Word w) = omega arith
 
-stepped_size : (span : Option ℕ) (n m t : ℕ) → code_size (stepped_code span n m t) ≤ 22
-stepped_size None n m t = omega arith
-stepped_size (Some bytes) n m t = by (bytes == 4) (bytes == 1)
+scale_size : (bytes d m : ℕ) → code_size (scale_of bytes d m ∷ []) ≤ 11
+scale_size bytes d m = by (bytes == 4) (bytes == 1)
   where
     by : (narrow one : Bool)
-        → code_size ((if narrow then instructions.Binary plain_binary.ShiftLeft (t + 2) (operands.Slot m) (operands.Word 2) else if one then instructions.Move (t + 2) (operands.Slot m) else instructions.Binary plain_binary.Multiply (t + 2) (operands.Slot m) (operands.Word 12)) ∷ instructions.Binary plain_binary.Add t (operands.Slot n) (operands.Slot (t + 2)) ∷ []) ≤ 22
+        → code_size ((if narrow then instructions.Binary plain_binary.ShiftLeft d (operands.Slot m) (operands.Word 2) else if one then instructions.Move d (operands.Slot m) else instructions.Binary plain_binary.Multiply d (operands.Slot m) (operands.Word 12)) ∷ []) ≤ 11
     by true one = omega arith
     by false true = omega arith
     by false false = omega arith
+
+scaled_size : (span : Option ℕ) (m x : ℕ) → code_size (scaled_code span m x) ≤ 11
+scaled_size None m x = omega arith
+scaled_size (Some bytes) m x = scale_size bytes x m
+
+summed_size : (span : Option ℕ) (n x t : ℕ) → code_size (summed_code span n x t) ≤ 11
+summed_size None n x t = omega arith
+summed_size (Some bytes) n x t = omega arith
+
+stepped_size : (span : Option ℕ) (n m t : ℕ) → code_size (stepped_code span n m t) ≤ 22
+stepped_size None n m t = omega arith
+stepped_size (Some bytes) n m t =
+    omega (arith, both (scale_of bytes (t + 2) m ∷ []) (instructions.Binary plain_binary.Add t (operands.Slot n) (operands.Slot (t + 2)) ∷ []), scale_size bytes (t + 2) m)
 
 bounded_size : (starts : Starts) (span : Option ℕ) (n m t : ℕ) → code_size (bounded_code starts span n m t) ≤ 33
 bounded_size starts span n m t = omega (arith, both (bounds_code starts (operands.Slot m) (operands.Slot (n + 1))) (stepped_code span n m t), stepped_size span n m t)
 
 reached_size : (starts : Starts) (span : Option ℕ) (n m t : ℕ) → code_size (reached_code starts span n m t) ≤ 44
-reached_size starts span n m t = omega (arith, both (check_code starts null_exception (operands.Slot n)) (bounded_code starts span n m t), bounded_size starts span n m t)
+reached_size starts span n m t =
+    let scaled = scaled_code span m (t + 3) in
+    let bounds = bounds_code starts (operands.Slot m) (operands.Slot (n + 1)) in
+    let summed = summed_code span n (t + 3) t in
+    omega (
+      arith,
+      both (check_code starts null_exception (operands.Slot n)) (scaled ++ (bounds ++ summed)),
+      both scaled (bounds ++ summed),
+      both bounds summed,
+      scaled_size span m (t + 3),
+      summed_size span n (t + 3) t,
+    )
 
 thinned_size : (starts : Starts) (to : Kind) (span : Option ℕ) (o : Operand) (p : ℕ) → code_size (thinned_code starts to span o p) ≤ 44
-thinned_size starts kinds.NonNull span (operands.Slot n) p = reached_size starts span n (n + 2) n
+thinned_size starts kinds.NonNull span (operands.Slot n) p =
+    omega (arith, both (check_code starts null_exception (operands.Slot n)) (bounded_code starts span n (n + 2) n), bounded_size starts span n (n + 2) n)
 thinned_size starts kinds.Nullable span (operands.Slot n) p =
     omega (arith, cons (jump_if_zero (operands.Slot n) (p + past_bounded span)) (bounded_code starts span n (n + 2) n), bounded_size starts span n (n + 2) n)
 thinned_size starts to span o p = omega arith

@@ -33,7 +33,7 @@ use Rattle.cyc_meaning.specs.Values.{kind_of, words_of_kind, begins, behind as c
 use Rattle.cyc_meaning.specs.FrameCount.{operand_words, converted_words, argument_words, expression_need, dereference_need, operations_need, place_words}
 use Rattle.cyc_meaning.specs.Pointers.{result_kind as operator_kind}
 use Rattle.cyc_lower.specs.Slots.{starts_of, slot_of, Types, global_of}
-use Rattle.cyc_lower.specs.ValueCode.{converts_there, passed_words, moved_by, move_of, binary_operator, operand_or, code_unless, slot_or, code_unless_slot, left_with, next_slot, check_code, conversion_code, divisor_code, checked_code, operator_code, truth_code, test_code, copy_code, pointer_operator, left_kind, behind_left, pointer_code, index_code, pointer_instructions, address_code, addressed_by, guard_code, count_code, span_of, null_of, tested_code, widened_code, conversion_by, bounds_code, stepped_code, bounded_code, thinned_code, reached_code, followed_code, followed_operand, span_in, reached_operand, word_by_word, load_word, store_word, global_code, keeps_words, masked_code, scale_of, load_of, store_of, kind_passed, unary_instruction, last_byte_code, blank_code}
+use Rattle.cyc_lower.specs.ValueCode.{converts_there, passed_words, moved_by, move_of, binary_operator, operand_or, code_unless, slot_or, code_unless_slot, left_with, next_slot, check_code, conversion_code, divisor_code, checked_code, operator_code, truth_code, test_code, copy_code, pointer_operator, left_kind, behind_left, pointer_code, index_code, pointer_instructions, address_code, addressed_by, guard_code, count_code, span_of, null_of, tested_code, widened_code, conversion_by, bounds_code, stepped_code, scaled_code, summed_code, bounded_code, thinned_code, reached_code, followed_code, followed_operand, span_in, reached_operand, word_by_word, load_word, store_word, global_code, keeps_words, masked_code, scale_of, load_of, store_of, kind_passed, unary_instruction, last_byte_code, blank_code}
 use Rattle.cyc_lower.specs.ObjectCode.{stores_code, cells_code, slots_of_kinds, object_code, free_code, saved_code, measured_code, sized_code, asked_code, begun_code, filled_code, most_elements}
 use Rattle.cyc_lower.specs.ControlCode.{counter_operand}
 use Rattle.cyc_lower.specs.ExpressionCode.{source_of, source_slot, operand_of, left_of, value_slot, slot_with, left_slot, value_operand, converted_operand, printed_operand, load_code, expression_code, converted_operand_code, place_operand, place_offset, place_code, pointer_slot}
@@ -312,11 +312,24 @@ module _ (program : PlainProgram) (r : Routine) (b : Numbering) (types : Types) 
   bounded_in span n m t first index room =
       append (bounds_code (starts_of types) (operands.Slot m) (operands.Slot (n + 1))) (stepped_code span n m t) (bounds_in (operands.Slot m) (operands.Slot (n + 1)) index (omega (arith, first))) (stepped_in span n m t (omega (arith, first)) index room)
 
-  pub reached_in : (span : Option ℕ) (n m t : ℕ) → n + 2 ≤ r.slots → m < r.slots → t + 3 ≤ r.slots → AreIn (reached_code (starts_of types) span n m t)
-  reached_in span n m t first index room =
-      append (check_code (starts_of types) null_exception (operands.Slot n)) (bounded_code (starts_of types) span n m t) (check_in null_exception (operands.Slot n) (omega arith) (omega (arith, first))) (bounded_in span n m t first index room)
+  scaled_in : (span : Option ℕ) (m x : ℕ) → m < r.slots → x < r.slots → AreIn (scaled_code span m x)
+  scaled_in None m x index room = tt
+  scaled_in (Some bytes) m x index room = (scale_in bytes x m room index, tt)
 
-  pub followed_in : (k : Kind) (thin : Bool) (span : Option ℕ) (o : Operand) (t : ℕ) → is_thin k ≡ thin → is_pointer k ≡ true → HasOperand o (words_of_kind k) → t + words_of_kind k ≤ r.slots → AreIn (followed_code (starts_of types) thin span o t)
+  summed_in : (span : Option ℕ) (n x t : ℕ) → n < r.slots → x < r.slots → t < r.slots → AreIn (summed_code span n x t)
+  summed_in None n x t first distance room = tt
+  summed_in (Some bytes) n x t first distance room = ((room, first, distance), tt)
+
+  pub reached_in : (span : Option ℕ) (n m t : ℕ) → n + 2 ≤ r.slots → m < r.slots → t + 3 < r.slots → AreIn (reached_code (starts_of types) span n m t)
+  reached_in span n m t first index room =
+      let scaled = scaled_code span m (t + 3) in
+      let bounds = bounds_code (starts_of types) (operands.Slot m) (operands.Slot (n + 1)) in
+      let summed = summed_code span n (t + 3) t in
+      append (check_code (starts_of types) null_exception (operands.Slot n)) (scaled ++ (bounds ++ summed)) (check_in null_exception (operands.Slot n) (omega arith) (omega (arith, first)))
+      (append scaled (bounds ++ summed) (scaled_in span m (t + 3) index room)
+      (append bounds summed (bounds_in (operands.Slot m) (operands.Slot (n + 1)) index (omega (arith, first))) (summed_in span n (t + 3) t (omega (arith, first)) room (omega (arith, room)))))
+
+  pub followed_in : (k : Kind) (thin : Bool) (span : Option ℕ) (o : Operand) (t : ℕ) → is_thin k ≡ thin → is_pointer k ≡ true → HasOperand o (words_of_kind k) → t + words_of_kind k < r.slots → AreIn (followed_code (starts_of types) thin span o t)
   followed_in k true span o t is pointer inside room = check_in null_exception o (omega arith) (operand_in o k inside)
   followed_in k false span (operands.Word w) t is pointer inside room = check_in null_exception (operands.Word w) (omega arith) tt
   followed_in k false span (operands.Slot n) t is pointer inside room =
@@ -339,7 +352,9 @@ module _ (program : PlainProgram) (r : Routine) (b : Numbering) (types : Types) 
   widened_in (operands.Word w) inside = tt
 
   thinned_in : (to : Kind) (span : Option ℕ) (o : Operand) (p : ℕ) → HasOperand o 3 → p + length (thinned_code (starts_of types) to span o p) < length r.code → AreIn (thinned_code (starts_of types) to span o p)
-  thinned_in kinds.NonNull span (operands.Slot n) p inside short = reached_in span n (n + 2) n (omega (arith, inside)) (omega (arith, inside)) inside
+  thinned_in kinds.NonNull span (operands.Slot n) p inside short =
+      append (check_code (starts_of types) null_exception (operands.Slot n)) (bounded_code (starts_of types) span n (n + 2) n) (check_in null_exception (operands.Slot n) (omega arith) (omega (arith, inside)))
+      (bounded_in span n (n + 2) n (omega (arith, inside)) (omega (arith, inside)) inside)
   thinned_in kinds.Nullable span (operands.Slot n) p inside short = ((omega (arith, inside), tt, omega (arith, short, past_long (starts_of types) span n (n + 2) n)), bounded_in span n (n + 2) n (omega (arith, inside)) (omega (arith, inside)) inside)
   thinned_in to span o p inside short = tt
 
@@ -581,7 +596,7 @@ module _ (program : PlainProgram) (r : Routine) (b : Numbering) (types : Types) 
   reached_operand_in (Some words) n t inside room = room
 
   pub place_operand_in : (x : Dereference) (own t : ℕ) → FitsCell b types x → 1 ≤ own → t + dereference_need x own ≤ r.slots → IsOperand r (place_operand (starts_of types) x t)
-  place_operand_in (Target k a ty) own t (pointer, kind_is, numbered) some few =
+  place_operand_in (Target k a ty) own t (pointer, kind_is, wide, numbered) some few =
       followed_operand_in (is_thin k) (span_in ty) (value_operand (starts_of types) a t) t (value_in a t numbered (omega (arith, few, given_needs a numbered, some))) (omega (arith, few, some))
   place_operand_in (Member k a s f ty) own t (thin, there, numbered) some few = value_in a t numbered (omega (arith, few, given_needs a numbered, some))
   place_operand_in (Element a i ty) own t (fat, three, first, second) some few =

@@ -35,7 +35,7 @@ use Rattle.cyc_words.proofs.Lists.{all_append}
 use Rattle.cyc_types.specs.Types.{words_of, Ty}
 use Rattle.cyc_store.specs.declared.range.TheConstants.{HEAP, UNIQUE}
 use Rattle.cyc_meaning.specs.Values.{words_of_kind, bytes_of_kind, begins, behind, bytes_from, words_for, is_thin, kind_of}
-use Rattle.cyc_lower.specs.ValueCode.{converts_there, passed_words, kinds_passed, converted_by, moved_by, move_of, operand_or, code_unless, slot_or, code_unless_slot, left_with, next_slot, check_code, conversion_code, divisor_code, checked_code, operator_code, truth_code, test_code, is_in, copy_code, failing_comparison, first_temporary, behind_left, pointer_code, index_of, first_two, pointer_instructions, address_code, addressed_by, guard_code, blocks, element_by, count_code, span_of, null_of, tested_code, widened_code, conversion_by, tested_by, bounds_code, stepped_code, bounded_code, thinned_code, reached_code, followed_code, followed_operand, followed_by, span_in, reached_operand, word_by_word, load_word, store_word, global_code, keeps_words, masked_code, scale_of, load_of, store_of, unary_instruction, last_byte_code, blank_code, kind_behind, kind_passed, variable_bytes}
+use Rattle.cyc_lower.specs.ValueCode.{converts_there, passed_words, kinds_passed, converted_by, moved_by, move_of, operand_or, code_unless, slot_or, code_unless_slot, left_with, next_slot, check_code, conversion_code, divisor_code, checked_code, operator_code, truth_code, test_code, is_in, copy_code, failing_comparison, first_temporary, behind_left, pointer_code, index_of, first_two, pointer_instructions, address_code, addressed_by, guard_code, blocks, element_by, count_code, span_of, null_of, tested_code, widened_code, conversion_by, tested_by, bounds_code, stepped_code, scaled_code, summed_code, bounded_code, thinned_code, reached_code, followed_code, followed_operand, followed_by, span_in, reached_operand, word_by_word, load_word, store_word, global_code, keeps_words, masked_code, scale_of, load_of, store_of, unary_instruction, last_byte_code, blank_code, kind_behind, kind_passed, variable_bytes}
 use Rattle.cyc_lower.specs.ObjectCode.{begun_code, filled_code, ended_code, elements_code, stores_code, cells_code, slots_of_kinds, object_code, right_slot, saved_code, asked_code, load_at, measured_code, sized_code, most_elements}
 use Rattle.cyc_lower.specs.ControlCode.{counter_operand, compared_or, compared_of, outside_loops, inside_loop, leave_code, clause_code, opened_code, closed_code, named_code, dynamic_code, handlers_code, marks_code, kept_code, kept_code_in, restored_code, restored_code_in, behind_record, inside_try, inside_region}
 use Rattle.cyc_lower.specs.ExpressionCode.{source_of, source_slot, operand_of, left_of, value_slot, left_slot, value_operand, converted_operand, printed_operand, load_code, expression_code, arguments_code, converted_code, converted_operand_code, printed_code, initial_code, operations_code, slot_with, made_code, place_operand, place_offset, place_code, pointer_of, pointer_slot}
@@ -122,12 +122,25 @@ bounded_words : (starts : Starts) (span : Option ℕ) (n m t : ℕ) → HaveWord
 bounded_words starts span n m t =
     append (bounds_code starts (operands.Slot m) (operands.Slot (n + 1))) (stepped_code span n m t) (bounds_words starts (operands.Slot m) (operands.Slot (n + 1)) tt tt) (stepped_words span n m t)
 
+scaled_words : (span : Option ℕ) (m x : ℕ) → HaveWords (scaled_code span m x)
+scaled_words None m x = tt
+scaled_words (Some bytes) m x = (scale_words bytes x m, tt)
+
+summed_words : (span : Option ℕ) (n x t : ℕ) → HaveWords (summed_code span n x t)
+summed_words None n x t = tt
+summed_words (Some bytes) n x t = ((tt, tt), tt)
+
 reached_words : (starts : Starts) (span : Option ℕ) (n m t : ℕ) → HaveWords (reached_code starts span n m t)
 reached_words starts span n m t =
-    append (check_code starts null_exception (operands.Slot n)) (bounded_code starts span n m t) (check_words starts null_exception (operands.Slot n) tt) (bounded_words starts span n m t)
+    let scaled = scaled_code span m (t + 3) in
+    let bounds = bounds_code starts (operands.Slot m) (operands.Slot (n + 1)) in
+    let summed = summed_code span n (t + 3) t in
+    append (check_code starts null_exception (operands.Slot n)) (scaled ++ (bounds ++ summed)) (check_words starts null_exception (operands.Slot n) tt)
+    (append scaled (bounds ++ summed) (scaled_words span m (t + 3)) (append bounds summed (bounds_words starts (operands.Slot m) (operands.Slot (n + 1)) tt tt) (summed_words span n (t + 3) t)))
 
 thinned_words : (starts : Starts) (to : Kind) (span : Option ℕ) (o : Operand) (p : ℕ) → HaveWords (thinned_code starts to span o p)
-thinned_words starts kinds.NonNull span (operands.Slot n) p = reached_words starts span n (n + 2) n
+thinned_words starts kinds.NonNull span (operands.Slot n) p =
+    append (check_code starts null_exception (operands.Slot n)) (bounded_code starts span n (n + 2) n) (check_words starts null_exception (operands.Slot n) tt) (bounded_words starts span n (n + 2) n)
 thinned_words starts kinds.Nullable span (operands.Slot n) p = ((tt, omega arith), bounded_words starts span n (n + 2) n)
 thinned_words starts to span o p = tt
 
