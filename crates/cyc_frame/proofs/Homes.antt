@@ -15,14 +15,13 @@ use Rattle.cyc_frame.specs.Masks.{mask_at, HasBit, AreMasks}
 use Rattle.cyc_frame.specs.Live.{IsSound, may_have}
 use Rattle.cyc_frame.specs.Allocation.{register_count, Suits, IsHomeOf, AreFirstHomes}
 use Rattle.cyc_frame.proofs.Bits.{apart_bits}
-use Rattle.cyc_frame.proofs.Lives.{wanted_bit, passed_bit, behind_bit, clause_bit, barred_bit}
+use Rattle.cyc_frame.proofs.Lives.{wanted_bit, behind_bit, clause_bit, barred_bit}
 
 pub memory_suits : (program : Program) (r : Routine) (slot : ℕ) → Suits program r slot homes.Memory
 memory_suits program r slot = record {
   entry = λ k is wanted. absurd (let e : None ≡ Some k = is in cc);
-  behind = λ index function arguments count result at wanted. refl;
+  behind = λ index function arguments count result at other wanted. refl;
   clause = λ index first handler at wanted. refl;
-  passed = λ index i at passed. refl;
   barred = λ index i at barred. refl;
 }
 
@@ -38,19 +37,17 @@ module _ (program : Program) (r : Routine) (masks live : List ℕ) (kept barred 
   both_suits : Suits program r slot (homes.Both register)
   both_suits = record {
     entry = λ k is wanted. entered wanted;
-    behind = λ index function arguments count result at wanted. refl;
+    behind = λ index function arguments count result at other wanted. refl;
     clause = λ index first handler at wanted. refl;
-    passed = λ index i at passed. refl;
     barred = λ index i at is. absurd (free (barred_bit program r masks live kept barred sound slot j are has index i at is));
   }
 
   register_suits : (bit_at kept j ≡ 1 → ⊥) → Suits program r slot (homes.Register register)
   register_suits private = record {
     entry = λ k is wanted. entered wanted;
-    behind = λ index function arguments count result at wanted.
-        absurd (private (behind_bit program r masks live kept barred sound slot j are has index function arguments count result at wanted));
+    behind = λ index function arguments count result at other wanted.
+        absurd (private (behind_bit program r masks live kept barred sound slot j are has index function arguments count result at other wanted));
     clause = λ index first handler at wanted. absurd (private (clause_bit program r masks live kept barred sound slot j are has index first handler at wanted));
-    passed = λ index i at passed. absurd (private (passed_bit program r masks live kept barred sound slot j are has index i at passed));
     barred = λ index i at is. absurd (free (barred_bit program r masks live kept barred sound slot j are has index i at is));
   }
 
@@ -208,8 +205,7 @@ module _ (program : Program) (r : Routine) where
     alone = λ a c k both has_c. are.one a c k (ap register_of both) has_c;
     entry = λ a k has wanted. (are.each a).entry k has wanted;
     parameters = λ a c k has_a has_c below wanted. are.one a c k has_a has_c;
-    behind = λ index function arguments count result a at wanted. (are.each a).behind index function arguments count result at wanted;
+    behind = λ index function arguments count result a at other wanted. (are.each a).behind index function arguments count result at other wanted;
     clause = λ index first handler a at wanted. (are.each a).clause index first handler at wanted;
-    passed = λ index a i at passed. (are.each a).passed index i at passed;
     barred = λ index a i at barred. (are.each a).barred index i at barred;
   }

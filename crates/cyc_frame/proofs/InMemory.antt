@@ -30,8 +30,7 @@ memory_homes program r = record {
   alone = λ a c k both has_c. absurd (no_register r.slots c k has_c);
   entry = λ a k has wanted. absurd (no_register r.slots a k has);
   parameters = λ a c k has_a has_c below wanted. absurd (no_register r.slots a k has_a);
-  behind = λ index function arguments count result a at wanted. ap is_kept (in_memory r.slots a);
+  behind = λ index function arguments count result a at other wanted. ap is_kept (in_memory r.slots a);
   clause = λ index first handler a at wanted. ap is_kept (in_memory r.slots a);
-  passed = λ index a i at passed. ap is_kept (in_memory r.slots a);
   barred = λ index a i at barred. ap register_of (in_memory r.slots a);
 }

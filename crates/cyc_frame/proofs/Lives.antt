@@ -1,6 +1,6 @@
 -- What a table that was checked says of each chosen slot: it misses no place where the slot is wanted.
 use Rattle.std.proofs.Common.{◌≡◌, ℕ, zero, suc, ◌+◌, true, false, ◌||◌, ◌&&◌, List, sym, subst, arith, inl, inr}
-use Rattle.std.specs.Prelude.{◌==◌, Bool, if◌then◌else◌, bit_and, bit_or, bit_xor}
+use Rattle.std.specs.Prelude.{◌==◌, Bool, if◌then◌else◌, bit_and, bit_or}
 use Rattle.std.specs.Int.{bit_at}
 use Rattle.std.proofs.lemmas.Nat.Bits.{bit_at-zero}
 use Rattle.std.proofs.lemmas.Bool.{and_parts, or_cases, eqb-true, eqb-false, false≢true}
@@ -12,11 +12,11 @@ use Rattle.cyc_plain.specs.declared.instruction.Request.{Request}
 use Rattle.cyc_plain.specs.declared.instruction.Request.TheVariants as requests
 use Rattle.cyc_plain.specs.declared.limits.TheConstants.{RECORD_WORDS}
 use Rattle.cyc_plain.specs.Program.{Routine, Program, routine_at}
-use Rattle.cyc_frame.specs.declared.live.TheConstants.{ALL_NUMBERS, MOST_CHOSEN}
-use Rattle.cyc_frame.specs.Uses.{is_slot, is_among, is_crossing, request_reads, request_writes, reads, writes, leads, bars, passes}
+use Rattle.cyc_frame.specs.declared.live.TheConstants.{MOST_CHOSEN}
+use Rattle.cyc_frame.specs.Uses.{is_slot, is_among, is_crossing, request_reads, request_writes, reads, writes, leads, bars}
 use Rattle.cyc_frame.specs.Homes.{At, WantedIn, Wanted}
-use Rattle.cyc_frame.specs.Masks.{mask_at, HasBit, AreMasks, operand_mask, range_mask, request_read_mask, read_mask, write_mask, request_bar_mask, bar_mask, pass_mask}
-use Rattle.cyc_frame.specs.Live.{behind_mask, needed_mask, lost_mask, kept_mask, is_within, is_sound_at, IsSound}
+use Rattle.cyc_frame.specs.Masks.{mask_at, HasBit, AreMasks, operand_mask, range_mask, request_read_mask, read_mask, request_write_mask, write_mask, bar_mask}
+use Rattle.cyc_frame.specs.Live.{behind_mask, unwritten_mask, needed_mask, kept_mask, is_within, is_sound_at, IsSound}
 use Rattle.cyc_frame.proofs.Bits.{bit_left, bit_right, bit_both, bit_within, unwritten, among_bit, other_bit, not_among_bit}
 
 -- ---- where a run may stand behind an instruction
@@ -47,7 +47,7 @@ led_bit (instructions.Finish value) index next j live led is = absurd (false≢t
 led_bit (instructions.Uncaught tag value) index next j live led is = absurd (false≢true led)
 led_bit i index next j live led is = next_bit live index next j led is
 
--- ---- the masks of an instruction have a slot's bit where it reads, bars or passes the slot
+-- ---- the masks of an instruction have a slot's bit where it reads or bars the slot
 
 module _ (masks : List ℕ) (slot j : ℕ) (has : HasBit masks slot j) where
   slot_bit : (number : ℕ) → (number == slot) ≡ true → bit_at (mask_at masks number) j ≡ 1
@@ -98,34 +98,28 @@ module _ (masks : List ℕ) (slot j : ℕ) (has : HasBit masks slot j) where
   read_bit results (instructions.Uncaught tag value) is = operand_bit value is
   read_bit results i is = absurd (false≢true is)
 
-  request_bar_bit : (request : Request) → request_writes request slot ≡ true → bit_at (request_bar_mask masks request) j ≡ 1
-  request_bar_bit (requests.OpenLexical destination) is = among_bit masks destination 2 slot j is has
-  request_bar_bit (requests.CloseTo mark) is = absurd (false≢true is)
-  request_bar_bit (requests.OpenDynamic destination) is = slot_bit destination is
-  request_bar_bit (requests.CloseDynamic handle) is = absurd (false≢true is)
-  request_bar_bit (requests.Allocate destination handle words) is = slot_bit destination is
-  request_bar_bit (requests.Free address) is = absurd (false≢true is)
-
   pub bar_bit : (i : Instruction) → bars i slot ≡ true → bit_at (bar_mask masks i) j ≡ 1
   bar_bit (instructions.MoveWords destination source count) is =
       let parts = and_parts (is_crossing destination source count) (is_among destination count slot || is_among source count slot) is in
       subst (λ (b : Bool). bit_at (if b then bit_or (range_mask masks destination count) (range_mask masks source count) else 0) j ≡ 1) (sym parts.0)
       (ranges_bit destination count source count parts.1)
   bar_bit (instructions.AddressOf destination taken count) is = among_bit masks taken count slot j is has
-  bar_bit (instructions.Ask request) is = request_bar_bit request is
   bar_bit (instructions.Try first handler) is = among_bit masks first RECORD_WORDS slot j is has
   bar_bit (instructions.Leave first) is = among_bit masks first RECORD_WORDS slot j is has
   bar_bit i is = absurd (false≢true is)
-
-  pub pass_bit : (program : Program) (i : Instruction) → passes program i slot ≡ true → bit_at (pass_mask masks program i) j ≡ 1
-  pass_bit program (instructions.Call function arguments count result) is =
-      among_bit masks result (routine_at program function).results slot j is has
-  pass_bit program i is = absurd (false≢true is)
 
   -- and that of what it writes has no bit of a slot that it does not write
   module _ (program : Program) (next : ℕ) (are : AreMasks masks next) where
     other_slot : (number : ℕ) → (number == slot) ≡ false → bit_at (mask_at masks number) j ≡ 0
     other_slot number apart = other_bit masks next are slot j has number (eqb-false number slot apart)
+
+    unwritten_request : (request : Request) → request_writes request slot ≡ false → bit_at (request_write_mask masks request) j ≡ 0
+    unwritten_request (requests.OpenLexical destination) apart = not_among_bit masks next are slot j has destination 2 apart
+    unwritten_request (requests.CloseTo mark) apart = bit_at-zero j
+    unwritten_request (requests.OpenDynamic destination) apart = other_slot destination apart
+    unwritten_request (requests.CloseDynamic handle) apart = bit_at-zero j
+    unwritten_request (requests.Allocate destination handle words) apart = other_slot destination apart
+    unwritten_request (requests.Free address) apart = bit_at-zero j
 
     pub unwritten_bit : (i : Instruction) → writes program i slot ≡ false → bit_at (write_mask masks program i) j ≡ 0
     unwritten_bit (instructions.Move destination source) apart = other_slot destination apart
@@ -139,6 +133,7 @@ module _ (masks : List ℕ) (slot j : ℕ) (has : HasBit masks slot j) where
     unwritten_bit (instructions.LoadGlobal destination global) apart = other_slot destination apart
     unwritten_bit (instructions.Load destination address offset) apart = other_slot destination apart
     unwritten_bit (instructions.LoadByte destination address offset) apart = other_slot destination apart
+    unwritten_bit (instructions.Ask request) apart = unwritten_request request apart
     unwritten_bit (instructions.CountLexical destination) apart = other_slot destination apart
     unwritten_bit i apart = bit_at-zero j
 
@@ -161,41 +156,40 @@ module _ (program : Program) (r : Routine) (masks live : List ℕ) (kept barred 
       )
 
   module _ (slot j : ℕ) (are : AreMasks masks MOST_CHOSEN) (has : HasBit masks slot j) where
+    others_bit : (i : Instruction) → writes program i slot ≡ false → bit_at (unwritten_mask program masks i) j ≡ 1
+    others_bit i other = unwritten (write_mask masks program i) j (are.below slot j has) (unwritten_bit masks slot j has program MOST_CHOSEN are i other)
+
     wanted_in : (steps index : ℕ) → WantedIn program r slot steps index → bit_at (mask_at live index) j ≡ 1
     wanted_in zero index (i, at, is) =
         bit_within (needed_mask program r.results masks i index live) (mask_at live index) j (checked index i at).0
-        (bit_left (read_mask masks r.results i) (bit_and (behind_mask i index live) (bit_xor ALL_NUMBERS (write_mask masks program i))) j
+        (bit_left (read_mask masks r.results i) (bit_and (behind_mask i index live) (unwritten_mask program masks i)) j
         (read_bit masks slot j has r.results i is))
     wanted_in (suc steps) index (i, at, other, next, led, wanted) =
-        let others = bit_xor ALL_NUMBERS (write_mask masks program i) in
+        let others = unwritten_mask program masks i in
         bit_within (needed_mask program r.results masks i index live) (mask_at live index) j (checked index i at).0
         (bit_right (read_mask masks r.results i) (bit_and (behind_mask i index live) others) j
         (bit_both (behind_mask i index live) others j
         (led_bit i index next j live led (wanted_in steps next wanted))
-        (unwritten (write_mask masks program i) j (are.below slot j has) (unwritten_bit masks slot j has program MOST_CHOSEN are i other))))
+        (others_bit i other)))
 
     -- where it is wanted the table says so
     pub wanted_bit : (index : ℕ) → Wanted program r slot index → bit_at (mask_at live index) j ≡ 1
     wanted_bit index (steps, wanted) = wanted_in steps index wanted
 
-    pub passed_bit : (index : ℕ) (i : Instruction) → At r index i → passes program i slot ≡ true → bit_at kept j ≡ 1
-    passed_bit index i at is =
-        bit_within (kept_mask program masks i index live) kept j (checked index i at).1
-        (bit_left (pass_mask masks program i) (lost_mask i index live) j (pass_bit masks slot j has program i is))
-
-    lost_bit : (index : ℕ) (i : Instruction) → At r index i → bit_at (lost_mask i index live) j ≡ 1 → bit_at kept j ≡ 1
-    lost_bit index i at is =
-        bit_within (kept_mask program masks i index live) kept j (checked index i at).1
-        (bit_right (pass_mask masks program i) (lost_mask i index live) j is)
+    kept_bit : (index : ℕ) (i : Instruction) → At r index i → bit_at (kept_mask program masks i index live) j ≡ 1 → bit_at kept j ≡ 1
+    kept_bit index i at is = bit_within (kept_mask program masks i index live) kept j (checked index i at).1 is
 
     pub behind_bit : (index function arguments count result : ℕ) → At r index (instructions.Call function arguments count result)
-        → Wanted program r slot (suc index) → bit_at kept j ≡ 1
-    behind_bit index function arguments count result at wanted =
-        lost_bit index (instructions.Call function arguments count result) at
+        → writes program (instructions.Call function arguments count result) slot ≡ false → Wanted program r slot (suc index) → bit_at kept j ≡ 1
+    behind_bit index function arguments count result at other wanted =
+        let i : Instruction = instructions.Call function arguments count result in
+        kept_bit index i at
+        (bit_both (mask_at live (index + 1)) (unwritten_mask program masks i) j
         (subst (λ (n : ℕ). bit_at (mask_at live n) j ≡ 1) (let e : suc index ≡ index + 1 = omega arith in e) (wanted_bit (suc index) wanted))
+        (others_bit i other))
 
     pub clause_bit : (index first handler : ℕ) → At r index (instructions.Try first handler) → Wanted program r slot handler → bit_at kept j ≡ 1
-    clause_bit index first handler at wanted = lost_bit index (instructions.Try first handler) at (wanted_bit handler wanted)
+    clause_bit index first handler at wanted = kept_bit index (instructions.Try first handler) at (wanted_bit handler wanted)
 
     pub barred_bit : (index : ℕ) (i : Instruction) → At r index i → bars i slot ≡ true → bit_at barred j ≡ 1
     barred_bit index i at is = bit_within (bar_mask masks i) barred j (checked index i at).2 (bar_bit masks slot j has i is)

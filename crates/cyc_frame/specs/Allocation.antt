@@ -1,5 +1,5 @@
 -- What the home of each slot keeps for itself, so that all of them together are right.
-use Rattle.std.specs.Prelude.{◌≡◌, ℕ, suc, ◌+◌, ◌<◌, ◌≤◌, true, List, length, sum_by, Some, None}
+use Rattle.std.specs.Prelude.{◌≡◌, ℕ, suc, ◌+◌, ◌<◌, ◌≤◌, true, false, List, length, sum_by, Some, None}
 use Rattle.cyc_plain.specs.declared.instruction.Instruction.{Instruction}
 use Rattle.cyc_plain.specs.declared.instruction.Instruction.TheVariants as instructions
 use Rattle.cyc_plain.specs.Program.{Routine, Program}
@@ -8,7 +8,7 @@ use Rattle.cyc_frame.specs.declared.home.Home.TheVariants as homes
 use Rattle.cyc_frame.specs.declared.home.TheConstants.{FIRST_REGISTER, MOST_BOTH}
 use Rattle.cyc_frame.specs.declared.live.TheConstants.{MOST_REGISTERS}
 use Rattle.cyc_frame.specs.Homes.{At, Wanted, HasRegister, register_of, is_kept, home_of, both_count}
-use Rattle.cyc_frame.specs.Uses.{bars, passes}
+use Rattle.cyc_frame.specs.Uses.{writes, bars}
 
 abbrev pub register_count : Home → ℕ
 register_count homes.Memory = 0
@@ -19,10 +19,9 @@ register_count (homes.Register register) = 1
 pub record Suits (program : Program) (r : Routine) (slot : ℕ) (home : Home) : Type 0 where
   pub entry : (k : ℕ) → register_of home ≡ Some k → Wanted program r slot 0 → slot < r.parameters
   pub behind : (index function arguments count result : ℕ) → At r index (instructions.Call function arguments count result)
-      → Wanted program r slot (suc index) → is_kept home ≡ true
+      → writes program (instructions.Call function arguments count result) slot ≡ false → Wanted program r slot (suc index) → is_kept home ≡ true
   pub clause : (index first handler : ℕ) → At r index (instructions.Try first handler)
       → Wanted program r slot handler → is_kept home ≡ true
-  pub passed : (index : ℕ) (i : Instruction) → At r index i → passes program i slot ≡ true → is_kept home ≡ true
   pub barred : (index : ℕ) (i : Instruction) → At r index i → bars i slot ≡ true → register_of home ≡ None
 
 -- a slot's home: where it has a register that is the next one, so many are given already

@@ -7,7 +7,7 @@ use Rattle.cyc_plain.specs.Program.{Routine, Program}
 use Rattle.cyc_frame.specs.declared.home.Home.{Home}
 use Rattle.cyc_frame.specs.declared.home.Home.TheVariants as homes
 use Rattle.cyc_frame.specs.declared.home.TheConstants.{FIRST_REGISTER, REGISTERS_END, MOST_BOTH}
-use Rattle.cyc_frame.specs.Uses.{is_among, reads, writes, leads, bars, passes}
+use Rattle.cyc_frame.specs.Uses.{is_among, reads, writes, leads, bars}
 
 -- this instruction stands in the code
 abbrev pub At : Routine → (index : ℕ) → Instruction → Type 0
@@ -76,10 +76,9 @@ pub record AreHomes (program : Program) (r : Routine) (hs : List Home) : Type 0 
   -- where the function begins only parameters are wanted, and no two of them come to the register of one that is
   pub entry : (a k : ℕ) → HasRegister hs a k → Wanted program r a 0 → a < r.parameters
   pub parameters : (a c k : ℕ) → HasRegister hs a k → HasRegister hs c k → c < r.parameters → Wanted program r a 0 → a ≡ c
-  -- what is wanted behind a call or in a clause, and what calls return, is in memory too
+  -- what is wanted behind a call, unless the call returned it, or in a clause is in memory too
   pub behind : (index function arguments count result a : ℕ) → At r index (instructions.Call function arguments count result)
-      → Wanted program r a (suc index) → is_kept (home_of hs a) ≡ true
+      → writes program (instructions.Call function arguments count result) a ≡ false → Wanted program r a (suc index) → is_kept (home_of hs a) ≡ true
   pub clause : (index first handler a : ℕ) → At r index (instructions.Try first handler)
       → Wanted program r a handler → is_kept (home_of hs a) ≡ true
-  pub passed : (index a : ℕ) (i : Instruction) → At r index i → passes program i a ≡ true → is_kept (home_of hs a) ≡ true
   pub barred : (index a : ℕ) (i : Instruction) → At r index i → bars i a ≡ true → register_of (home_of hs a) ≡ None

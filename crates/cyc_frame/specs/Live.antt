@@ -7,7 +7,7 @@ use Rattle.cyc_plain.specs.declared.instruction.Instruction.TheVariants as instr
 use Rattle.cyc_plain.specs.Program.{Routine, Program}
 use Rattle.cyc_frame.specs.declared.live.TheConstants.{ALL_NUMBERS}
 use Rattle.cyc_frame.specs.Homes.{At}
-use Rattle.cyc_frame.specs.Masks.{mask_at, read_mask, write_mask, bar_mask, pass_mask}
+use Rattle.cyc_frame.specs.Masks.{mask_at, read_mask, write_mask, bar_mask}
 
 -- what the table has where the run may stand behind an instruction
 abbrev pub behind_mask : Instruction → (index : ℕ) → List ℕ → ℕ
@@ -21,20 +21,21 @@ behind_mask (instructions.Finish value) index live = 0
 behind_mask (instructions.Uncaught tag value) index live = 0
 behind_mask instruction index live = mask_at live (index + 1)
 
+-- all but what an instruction writes
+abbrev pub unwritten_mask : Program → (masks : List ℕ) → Instruction → ℕ
+unwritten_mask program masks i = bit_xor ALL_NUMBERS (write_mask masks program i)
+
 -- what is to be in the table at an instruction: what it reads, and what is wanted behind it and not written by it
 abbrev pub needed_mask : Program → (results : ℕ) → (masks : List ℕ) → Instruction → (index : ℕ) → List ℕ → ℕ
 needed_mask program results masks i index live =
-    bit_or (read_mask masks results i) (bit_and (behind_mask i index live) (bit_xor ALL_NUMBERS (write_mask masks program i)))
+    bit_or (read_mask masks results i) (bit_and (behind_mask i index live) (unwritten_mask program masks i))
 
--- registers are lost here, and this is wanted behind it
-abbrev pub lost_mask : Instruction → (index : ℕ) → List ℕ → ℕ
-lost_mask (instructions.Call function arguments count result) index live = mask_at live (index + 1)
-lost_mask (instructions.Try first handler) index live = mask_at live handler
-lost_mask instruction index live = 0
-
--- what is to be in memory too
+-- what is to be in memory too: registers are lost here, and this is wanted behind it
 abbrev pub kept_mask : Program → (masks : List ℕ) → Instruction → (index : ℕ) → List ℕ → ℕ
-kept_mask program masks i index live = bit_or (pass_mask masks program i) (lost_mask i index live)
+kept_mask program masks (instructions.Call function arguments count result) index live =
+    bit_and (mask_at live (index + 1)) (unwritten_mask program masks (instructions.Call function arguments count result))
+kept_mask program masks (instructions.Try first handler) index live = mask_at live handler
+kept_mask program masks instruction index live = 0
 
 -- all bits of the first are bits of the second
 abbrev pub is_within : (part whole : ℕ) → Bool

@@ -69,6 +69,12 @@ read_mask masks results (instructions.Finish value) = range_mask masks value res
 read_mask masks results (instructions.Uncaught tag value) = operand_mask masks value
 read_mask masks results instruction = 0
 
+abbrev pub request_write_mask : List ℕ → Request → ℕ
+request_write_mask masks (requests.OpenLexical destination) = range_mask masks destination 2
+request_write_mask masks (requests.OpenDynamic destination) = mask_at masks destination
+request_write_mask masks (requests.Allocate destination handle words) = mask_at masks destination
+request_write_mask masks request = 0
+
 -- what it writes of the slots that it does not bar
 abbrev pub write_mask : List ℕ → Program → Instruction → ℕ
 write_mask masks program (instructions.Move destination source) = mask_at masks destination
@@ -82,14 +88,9 @@ write_mask masks program (instructions.AddressOf destination taken count) = mask
 write_mask masks program (instructions.LoadGlobal destination global) = mask_at masks destination
 write_mask masks program (instructions.Load destination address offset) = mask_at masks destination
 write_mask masks program (instructions.LoadByte destination address offset) = mask_at masks destination
+write_mask masks program (instructions.Ask request) = request_write_mask masks request
 write_mask masks program (instructions.CountLexical destination) = mask_at masks destination
 write_mask masks program instruction = 0
-
-abbrev pub request_bar_mask : List ℕ → Request → ℕ
-request_bar_mask masks (requests.OpenLexical destination) = range_mask masks destination 2
-request_bar_mask masks (requests.OpenDynamic destination) = mask_at masks destination
-request_bar_mask masks (requests.Allocate destination handle words) = mask_at masks destination
-request_bar_mask masks request = 0
 
 -- what it bars
 abbrev pub bar_mask : List ℕ → Instruction → ℕ
@@ -98,13 +99,6 @@ bar_mask masks (instructions.MoveWords destination source count) =
     then bit_or (range_mask masks destination count) (range_mask masks source count)
     else 0
 bar_mask masks (instructions.AddressOf destination taken count) = range_mask masks taken count
-bar_mask masks (instructions.Ask request) = request_bar_mask masks request
 bar_mask masks (instructions.Try first handler) = range_mask masks first RECORD_WORDS
 bar_mask masks (instructions.Leave first) = range_mask masks first RECORD_WORDS
 bar_mask masks instruction = 0
-
--- what it gets from another function
-abbrev pub pass_mask : List ℕ → Program → Instruction → ℕ
-pass_mask masks program (instructions.Call function arguments count result) =
-    range_mask masks result (routine_at program function).results
-pass_mask masks program instruction = 0

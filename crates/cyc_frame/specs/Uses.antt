@@ -93,13 +93,6 @@ abbrev pub bars : Instruction → (slot : ℕ) → Bool
 bars (instructions.MoveWords destination source count) slot =
     is_crossing destination source count && (is_among destination count slot || is_among source count slot)
 bars (instructions.AddressOf destination taken count) slot = is_among taken count slot
-bars (instructions.Ask request) slot = request_writes request slot
 bars (instructions.Try first handler) slot = is_among first RECORD_WORDS slot
 bars (instructions.Leave first) slot = is_among first RECORD_WORDS slot
 bars instruction slot = false
-
--- it gets the slot's word from another function
-abbrev pub passes : Program → Instruction → (slot : ℕ) → Bool
-passes program (instructions.Call function arguments count result) slot =
-    is_among result (routine_at program function).results slot
-passes program instruction slot = false

@@ -4,7 +4,7 @@ ghost use Rattle.cyc_plain.specs.Program.{routine_of};
 ghost use Rattle.cyc_frame.specs.Live as checks;
 
 use crate::home::{FIRST_REGISTER, REGISTERS_END};
-use crate::masks::{bar_mask, mask_at, pass_mask, read_mask, write_mask};
+use crate::masks::{bar_mask, mask_at, read_mask, write_mask};
 use cyc_plain::{Function, Instruction, Plain};
 use std::alloc::{AllocError, Global};
 
@@ -37,6 +37,13 @@ fn behind_mask(instruction: Instruction, index: usize, live: &[u32]) -> u32
     }
 }
 
+/// All but what an instruction writes.
+fn unwritten_mask(plain: &Plain, masks: &[u32], instruction: Instruction) -> u32
+    ensures { result ≡ checks.unwritten_mask plain.now masks.now instruction }
+{
+    ALL_NUMBERS ^ write_mask(masks, plain, instruction)
+}
+
 /// What is to be in the table at an instruction: what it reads, and what is wanted behind it and not written by it.
 fn needed_mask(
     plain: &Plain,
@@ -49,23 +56,11 @@ fn needed_mask(
     requires { index < length live.now }
     ensures { result ≡ checks.needed_mask plain.now results masks.now instruction index live.now }
 {
-    let unwritten = ALL_NUMBERS ^ write_mask(masks, plain, instruction);
+    let unwritten = unwritten_mask(plain, masks, instruction);
     read_mask(masks, results, instruction) | behind_mask(instruction, index, live) & unwritten
 }
 
-/// What is wanted behind an instruction that loses what registers hold.
-fn lost_mask(instruction: Instruction, index: usize, live: &[u32]) -> u32
-    requires { index < length live.now }
-    ensures { result ≡ checks.lost_mask instruction index live.now }
-{
-    match instruction {
-        Instruction::Call { .. } => mask_at(live, index + 1),
-        Instruction::Try { handler, .. } => mask_at(live, handler),
-        _ => 0,
-    }
-}
-
-/// What is to be in memory too.
+/// What is to be in memory too: what is wanted behind an instruction that loses what registers hold.
 fn kept_mask(
     plain: &Plain,
     masks: &[u32],
@@ -76,7 +71,13 @@ fn kept_mask(
     requires { index < length live.now }
     ensures { result ≡ checks.kept_mask plain.now masks.now instruction index live.now }
 {
-    pass_mask(masks, plain, instruction) | lost_mask(instruction, index, live)
+    match instruction {
+        Instruction::Call { .. } => {
+            mask_at(live, index + 1) & unwritten_mask(plain, masks, instruction)
+        }
+        Instruction::Try { handler, .. } => mask_at(live, handler),
+        _ => 0,
+    }
 }
 
 fn is_within(part: u32, whole: u32) -> bool

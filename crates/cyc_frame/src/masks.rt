@@ -114,6 +114,17 @@ pub(crate) fn read_mask(masks: &[u32], results: usize, instruction: Instruction)
     }
 }
 
+fn request_write_mask(masks: &[u32], request: Request) -> u32
+    ensures { result ≡ masks_of.request_write_mask masks.now request }
+{
+    match request {
+        Request::OpenLexical { destination } => range_mask(masks, destination, 2),
+        Request::OpenDynamic { destination } => mask_at(masks, destination),
+        Request::Allocate { destination, .. } => mask_at(masks, destination),
+        _ => 0,
+    }
+}
+
 /// What it writes of the slots that it does not bar.
 pub(crate) fn write_mask(masks: &[u32], plain: &Plain, instruction: Instruction) -> u32
     ensures { result ≡ masks_of.write_mask masks.now plain.now instruction }
@@ -137,18 +148,8 @@ pub(crate) fn write_mask(masks: &[u32], plain: &Plain, instruction: Instruction)
         Instruction::LoadGlobal { destination, .. } => mask_at(masks, destination),
         Instruction::Load { destination, .. } => mask_at(masks, destination),
         Instruction::LoadByte { destination, .. } => mask_at(masks, destination),
+        Instruction::Ask { request } => request_write_mask(masks, request),
         Instruction::CountLexical { destination } => mask_at(masks, destination),
-        _ => 0,
-    }
-}
-
-fn request_bar_mask(masks: &[u32], request: Request) -> u32
-    ensures { result ≡ masks_of.request_bar_mask masks.now request }
-{
-    match request {
-        Request::OpenLexical { destination } => range_mask(masks, destination, 2),
-        Request::OpenDynamic { destination } => mask_at(masks, destination),
-        Request::Allocate { destination, .. } => mask_at(masks, destination),
         _ => 0,
     }
 }
@@ -170,26 +171,11 @@ pub(crate) fn bar_mask(masks: &[u32], instruction: Instruction) -> u32
             }
         }
         Instruction::AddressOf { slot, count, .. } => range_mask(masks, slot, count),
-        Instruction::Ask { request } => request_bar_mask(masks, request),
         Instruction::Try { first, .. } | Instruction::Leave { first } => range_mask(
             masks,
             first,
             RECORD_WORDS,
         ),
-        _ => 0,
-    }
-}
-
-/// What it gets from another function.
-pub(crate) fn pass_mask(masks: &[u32], plain: &Plain, instruction: Instruction) -> u32
-    ensures { result ≡ masks_of.pass_mask masks.now plain.now instruction }
-{
-    match instruction {
-        Instruction::Call {
-            function,
-            result,
-            ..
-        } => range_mask(masks, result, results_of(plain, function)),
         _ => 0,
     }
 }

@@ -1,4 +1,5 @@
 -- one instruction each
+pub mod Answers
 pub mod Simple
 pub mod Moves
 pub mod Accesses

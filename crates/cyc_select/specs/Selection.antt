@@ -3,7 +3,7 @@
 --
 -- Frames grow downward from the end of the stack. The return address of the call that starts the program is 0. Which
 -- registers have what is in the module `constants`.
-use Rattle.std.specs.Prelude.{ℕ, zero, suc, ◌+◌, ◌-◌, ◌*◌, ◌/◌, ◌%◌, ◌^◌, ◌==◌, Bool, false, not, nat_lt, if◌then◌else◌, List, [], ◌∷◌, ◌++◌, length, map, sum_by, take, Option, Some, None}
+use Rattle.std.specs.Prelude.{ℕ, zero, suc, ◌+◌, ◌-◌, ◌*◌, ◌/◌, ◌%◌, ◌^◌, ◌==◌, ◌&&◌, Bool, true, false, not, nat_lt, if◌then◌else◌, List, [], ◌∷◌, ◌++◌, length, map, sum_by, take, Option, Some, None}
 use Rattle.cyc_isa.specs.Decoding.{register_of, shift_amount_of, trap_code_of}
 use Rattle.cyc_isa.specs.declared.instr.Instr.{Instr}
 use Rattle.cyc_isa.specs.declared.instr.Instr.TheVariants as machine
@@ -159,6 +159,16 @@ give_to (Some register) frame source slot = copy register source ∷ keep_code f
 
 abbrev pub give_code : Frame → (source slot : ℕ) → List Instr
 give_code frame source slot = give_to (value_register frame slot) frame source slot
+
+-- The same, where registers that stand beside memory are read again behind it: such a slot gets the word in memory alone.
+abbrev pub bring_code : (again : Bool) → Frame → (source slot : ℕ) → List Instr
+bring_code again frame source slot =
+    if again && is_kept frame slot then store_slot frame source slot ∷ [] else give_code frame source slot
+
+-- the words of registers into the slots from this one on
+abbrev pub bring_all : (again : Bool) → Frame → (slot : ℕ) → List ℕ → List Instr
+bring_all again frame slot [] = []
+bring_all again frame slot (source ∷ sources) = bring_code again frame source slot ++ bring_all again frame (suc slot) sources
 
 -- Registers that stand beside memory are read again.
 abbrev pub reload : Frame → Home → (slot : ℕ) → List Instr
@@ -331,6 +341,11 @@ give_count_to (Some register) frame slot = keep_count frame slot + 1
 abbrev pub give_count : Frame → (slot : ℕ) → ℕ
 give_count frame slot = give_count_to (value_register frame slot) frame slot
 
+-- what brings words into the slots from this one on
+abbrev pub gives_count : Frame → (slot count : ℕ) → ℕ
+gives_count frame slot zero = 0
+gives_count frame slot (suc count) = give_count frame slot + gives_count frame (suc slot) count
+
 -- what reads registers again
 abbrev pub reload_count : Frame → ℕ
 reload_count frame = sum_by homing.both_count frame.homes
@@ -494,9 +509,10 @@ regions_count (requests.CloseDynamic handle) = 0
 regions_count (requests.Allocate destination handle words) = 0
 regions_count (requests.Free address) = 0
 
-abbrev pub ask_count : Request → ℕ
-ask_count request =
-    argument_count (first_operand request) + argument_count (second_operand request) + 2 + regions_count request + answer_count request
+abbrev pub ask_count : Frame → Request → ℕ
+ask_count frame request =
+    argument_count (first_operand request) + argument_count (second_operand request) + 2 + regions_count request
+    + gives_count frame (destination_of request) (answer_count request)
 
 -- the lines of a move of several words
 abbrev pub move_words_count : Frame → (destination source count : ℕ) → ℕ
@@ -538,7 +554,7 @@ body_count program frames function (plain.LoadByte destination address offset) =
     address_count (frame_at frames function) address offset + 1 + keep_count (frame_at frames function) destination
 body_count program frames function (plain.StoreByte address offset source) =
     address_count (frame_at frames function) address offset + operand_count (frame_at frames function) source + 1
-body_count program frames function (plain.Ask request) = ask_count request
+body_count program frames function (plain.Ask request) = ask_count (frame_at frames function) request
 body_count program frames function (plain.CountLexical destination) =
     give_count (frame_at frames function) destination
 body_count program frames function (plain.Try first handler) = 12 + reload_count (frame_at frames function)
@@ -666,7 +682,7 @@ service_number (requests.Free address) = FREE
 
 -- its answer comes to slots; a service answers in the registers of results
 abbrev pub answer_code : Frame → Request → List Instr
-answer_code frame request = store_all frame (destination_of request) (result_registers (answer_count request))
+answer_code frame request = bring_all false frame (destination_of request) (result_registers (answer_count request))
 
 -- A register tells how many lexical regions are open: one more than before one was opened, and as many as the mark where others were closed.
 abbrev pub regions_code : Request → List Instr
@@ -712,7 +728,7 @@ returned_code frame result results =
     ordinary (
     load RETURN_ADDRESS (4 * frame.return_address)
     ∷ add_immediate CALLS CALLS 1
-    ∷ (store_all frame result (result_registers results) ++ reloads frame))
+    ∷ (bring_all true frame result (result_registers results) ++ reloads frame))
 
 -- where `main` was called first its result ends the run
 abbrev pub ending_code : Bool → Frame → (here value : ℕ) → List Line

@@ -1,5 +1,5 @@
 //! The lines that call the store.
-ghost use Rattle.std.specs.Prelude.{◌≡◌, ◌≤◌, [], ◌∷◌, OnOk};
+ghost use Rattle.std.specs.Prelude.{◌≡◌, ◌+◌, ◌≤◌, [], ◌∷◌, OnOk};
 ghost use Rattle.cyc_plain.specs.Requests.{first_operand, second_operand, answer_count, destination_of};
 ghost use Rattle.cyc_select.specs.Selection.{ordinary, give_code, argument_code, service_number, regions_code, answer_code, ask_code, ask_count};
 ghost use Rattle.cyc_select.specs.Emission.{AddsLines, IsReached, IsArgumentFound, AreReached, IsRequestFound};
@@ -8,8 +8,8 @@ use crate::calling::RESULTS;
 use crate::constants::REGIONS;
 use crate::emitter::Emitter;
 use crate::instructions::{add_immediate, small, syscall};
-use crate::operands::load_count;
-use cyc_frame::Frame;
+use crate::operands::{give_count, load_count};
+use cyc_frame::{Frame, MOST_FRAME_WORDS};
 use cyc_machine::constants::{
     ALLOCATE, ARGUMENT, CLOSE_DYNAMIC, CLOSE_LEXICAL, FREE, OPEN_DYNAMIC, OPEN_LEXICAL,
     SECOND_ANSWER, SECOND_ARGUMENT, SERVICE,
@@ -32,16 +32,23 @@ fn service_number(request: Request) -> u16
 }
 
 /// The lines of a call of the store.
-pub(crate) fn ask_count(request: Request) -> usize
-    ensures value { result ≡ ask_count request }
-    ensures few { result ≤ 7 }
+pub(crate) fn ask_count(frame: &Frame, request: Request) -> usize
+    requires { destination_of request + answer_count request ≤ MOST_FRAME_WORDS }
+    ensures value { result ≡ ask_count frame.now request }
+    ensures few { result ≤ 8 }
 {
     match request {
-        Request::OpenLexical { .. } => 5,
+        Request::OpenLexical { destination } => {
+            3 + (give_count(frame, destination) + give_count(frame, destination + 1))
+        }
         Request::CloseTo { mark } => load_count(mark) + 3,
-        Request::OpenDynamic { .. } => 3,
+        Request::OpenDynamic { destination } => 2 + give_count(frame, destination),
         Request::CloseDynamic { handle } => load_count(handle) + 2,
-        Request::Allocate { handle, words, .. } => load_count(handle) + load_count(words) + 3,
+        Request::Allocate {
+            destination,
+            handle,
+            words,
+        } => load_count(handle) + load_count(words) + 2 + give_count(frame, destination),
         Request::Free { address } => load_count(address) + 2,
     }
 }
@@ -95,20 +102,23 @@ impl Emitter {
         ensures { AddsLines result self.old self.new (ordinary (answer_code frame.now request)) }
     {
         match request {
-            Request::OpenLexical { destination } => self.store_all(
+            Request::OpenLexical { destination } => self.bring_all(
                 frame,
+                false,
                 destination,
                 &RESULTS[..2],
             ),
             Request::CloseTo { .. } => Ok(()),
-            Request::OpenDynamic { destination } => self.store_all(
+            Request::OpenDynamic { destination } => self.bring_all(
                 frame,
+                false,
                 destination,
                 &RESULTS[..1],
             ),
             Request::CloseDynamic { .. } => Ok(()),
-            Request::Allocate { destination, .. } => self.store_all(
+            Request::Allocate { destination, .. } => self.bring_all(
                 frame,
+                false,
                 destination,
                 &RESULTS[..1],
             ),

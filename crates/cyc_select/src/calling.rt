@@ -127,12 +127,7 @@ impl Emitter {
     }
 
     /// Registers into the slots from one on.
-    pub(crate) fn store_all(
-        &mut self,
-        frame: &Frame,
-        slot: usize,
-        sources: &[u8],
-    ) -> Result<(), AllocError>
+    fn store_all(&mut self, frame: &Frame, slot: usize, sources: &[u8]) -> Result<(), AllocError>
         requires { AreReached frame.now slot (length sources.now) }
         ensures { AddsLines result self.old self.new (ordinary (store_all frame.now slot sources.now)) }
     {
@@ -245,7 +240,7 @@ impl Emitter {
             load(RETURN_ADDRESS, offset_of(frame.return_address)),
             add_immediate(CALLS, CALLS, 1),
         ])?;
-        self.store_all(frame, slot, &RESULTS[..results])?;
+        self.bring_all(frame, true, slot, &RESULTS[..results])?;
         self.reloads(frame)
     }
 

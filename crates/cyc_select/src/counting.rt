@@ -121,7 +121,7 @@ fn return_count(plain: &Plain, function: usize) -> usize
 }
 
 /// The lines of an instruction up to what it does.
-#[tactic(auto, using(crate::proofs::emission::Numbering::source_small, crate::proofs::emission::Numbering::target_small, crate::proofs::emission::Numbering::arguments_small))]
+#[tactic(auto, using(crate::proofs::emission::Numbering::source_small, crate::proofs::emission::Numbering::target_small, crate::proofs::emission::Numbering::arguments_small, crate::proofs::emission::Numbering::answer_small))]
 fn body_count(plain: &Plain, frames: &[Frame], function: usize, instruction: Instruction) -> usize
     requires fit { AreFrames plain.now frames.now }
     requires function { function < length plain.now.functions }
@@ -198,7 +198,7 @@ fn body_count(plain: &Plain, frames: &[Frame], function: usize, instruction: Ins
         Instruction::LoadGlobal { destination, .. } => 2 + keep_count(frame, destination),
         Instruction::WriteByte { source } => load_count(source) + 2,
         Instruction::StoreGlobal { source, .. } => operand_count(frame, source) + 2,
-        Instruction::Ask { request } => ask_count(request),
+        Instruction::Ask { request } => ask_count(frame, request),
         Instruction::CountLexical { destination } => give_count(frame, destination),
         Instruction::Try { .. } => 12 + reload_count(frame),
         Instruction::Leave { .. } => 1,

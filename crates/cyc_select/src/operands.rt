@@ -2,7 +2,7 @@
 ghost use Rattle.std.specs.Prelude.{◌≡◌, ◌≤◌, length, OnOk};
 ghost use Rattle.cyc_frame.specs.Homes.{home_of, both_count};
 ghost use Rattle.cyc_frame.specs.declared.home.TheConstants.{MOST_BOTH};
-ghost use Rattle.cyc_select.specs.Selection.{ordinary, value_register, is_kept, made_in, keep_code, keep_count, give_code, give_count, move_count, reload, reloads, reload_count, word_code, load_code, operand_code, operand_register, word_count, load_count, operand_count};
+ghost use Rattle.cyc_select.specs.Selection.{ordinary, value_register, is_kept, made_in, keep_code, keep_count, give_code, give_count, bring_code, bring_all, move_count, reload, reloads, reload_count, word_code, load_code, operand_code, operand_register, word_count, load_count, operand_count};
 ghost use Rattle.cyc_select.specs.Emission.{AddsLines, IsReached, AreReached, IsFound};
 
 use crate::constants::{FIRST, ZERO};
@@ -250,6 +250,43 @@ impl Emitter {
             }
             None => self.ordinary(&[store_slot(frame, source, slot)]),
         }
+    }
+
+    /// The same, where registers that stand beside memory may be read again behind it: such a slot gets the word in memory
+    /// alone then.
+    fn bring(
+        &mut self,
+        frame: &Frame,
+        again: bool,
+        source: u8,
+        slot: usize,
+    ) -> Result<(), AllocError>
+        requires { IsReached frame.now slot }
+        ensures { AddsLines result self.old self.new (ordinary (bring_code again frame.now source slot)) }
+    {
+        if again && is_kept(frame, slot) {
+            return self.ordinary(&[store_slot(frame, source, slot)]);
+        }
+        self.give(frame, source, slot)
+    }
+
+    /// The words of registers come into the slots from one on.
+    pub(crate) fn bring_all(
+        &mut self,
+        frame: &Frame,
+        again: bool,
+        slot: usize,
+        sources: &[u8],
+    ) -> Result<(), AllocError>
+        requires { AreReached frame.now slot (length sources.now) }
+        ensures { AddsLines result self.old self.new (ordinary (bring_all again frame.now slot sources.now)) }
+    {
+        let mut next = slot;
+        for source in sources {
+            self.bring(frame, again, *source, next)?;
+            next += 1;
+        }
+        Ok(())
     }
 
     /// The register of a slot is read again, where it stands beside memory.

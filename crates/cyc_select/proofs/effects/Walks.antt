@@ -20,11 +20,9 @@ use Rattle.cyc_store.specs.Services.{Call, Answer, refusal}
 use Rattle.cyc_plain.specs.State.{Words, AreWords, put}
 use Rattle.cyc_plain.specs.Step.{HasAnswerWords}
 use Rattle.cyc_plain.specs.declared.instruction.Request.{Request}
-use Rattle.cyc_plain.proofs.SlotLaws.{put-same, put-other}
 use Rattle.cyc_plain.proofs.Placed.{holds_at}
 use Rattle.cyc_isa.specs.Encoding.{IsEncodable}
 use Rattle.cyc_isa.proofs.EffectLemmas.{IsWord-immediate_result, IsWord-load_upper_result, IsWord-arithmetic_result, IsWord-shift_result, IsWord-low_result, IsWord-high_result}
-use Rattle.std.proofs.lemmas.Bool.{cases_eq}
 use Rattle.cyc_plain.proofs.WordLaws.{put_words}
 use Rattle.cyc_select.specs.declared.code.Condition.{Condition}
 use Rattle.cyc_select.specs.declared.code.Condition.TheVariants as conditions

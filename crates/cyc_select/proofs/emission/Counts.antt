@@ -1,6 +1,7 @@
 -- How many lines operands, plans and tests have, as they are counted: so many, and few.
-use Rattle.std.proofs.Common.{◌≡◌, ℕ, zero, suc, ◌+◌, ◌-◌, ◌*◌, ◌%◌, ◌^◌, ◌<◌, ◌≤◌, Bool, true, false, List, [], ◌∷◌, length, Option, None, Some, refl, ap, ◌∙◌, arith, length-append}
+use Rattle.std.proofs.Common.{◌≡◌, ℕ, zero, suc, ◌+◌, ◌-◌, ◌*◌, ◌%◌, ◌^◌, ◌<◌, ◌≤◌, Bool, true, false, List, [], ◌∷◌, length, Option, None, Some, refl, sym, ap, ◌∙◌, arith, length-append}
 use Rattle.std.specs.Prelude.{◌==◌, nat_lt, if◌then◌else◌}
+use Rattle.std.proofs.lemmas.Bool.{false≢true}
 use Rattle.cyc_isa.specs.declared.instr.Instr.{Instr}
 use Rattle.cyc_isa.specs.declared.instr.ArithmeticOp.{ArithmeticOp}
 use Rattle.cyc_isa.specs.declared.instr.ArithmeticOp.TheVariants as arithmetic
@@ -26,7 +27,8 @@ use Rattle.cyc_select.specs.declared.plan.Test.{Test}
 use Rattle.cyc_select.specs.declared.plan.Test.TheVariants as tests
 use Rattle.cyc_select.specs.Plans.{arithmetic_plan, immediate_plan, immediate_or, zero_plan, differs_plan, equal_plan, unary_plan, binary_plan}
 use Rattle.cyc_select.specs.Numbers.{fits_signed, negated_half, is_word, is_zero_word}
-use Rattle.cyc_select.specs.Selection.{value_register, is_kept, fetch_from, fetch_count, keep_code, keep_count, give_to, give_code, give_count_to, give_count, move_to, move_count_to, move_count, moves_count, move_words_count, spill, spills, spill_count, spills_count, load_words, load_all, store_all, moves, all_moved, moved_code, result_registers, argument_code, argument_count, service_number, answer_code, small, or_immediate, load_upper, constant, is_tested, word_code, load_code, operand_code, operand_register, made_in, operation_code, outcome_code, operands_code, operation_of, computed_code, plan_code, test_code, loads_code, divided_code, store_slot, add_immediate, minus, word_count, load_count, operand_count, far_plan, address_code, address_count, operation_count, outcome_count, count_of_operation, plan_count, test_count, divide_count, operator_count, regions_code, regions_count}
+use Rattle.cyc_select.specs.Selection.{value_register, is_kept, fetch_from, fetch_count, keep_code, keep_count, give_to, give_code, give_count_to, give_count, bring_code, bring_all, gives_count, move_to, move_count_to, move_count, moves_count, move_words_count, spill, spills, spill_count, spills_count, load_words, load_all, store_all, moves, all_moved, moved_code, result_registers, argument_code, argument_count, service_number, answer_code, small, or_immediate, load_upper, constant, is_tested, word_code, load_code, operand_code, operand_register, made_in, operation_code, outcome_code, operands_code, operation_of, computed_code, plan_code, test_code, loads_code, divided_code, store_slot, add_immediate, minus, word_count, load_count, operand_count, far_plan, address_code, address_count, operation_count, outcome_count, count_of_operation, plan_count, test_count, divide_count, operator_count, regions_code, regions_count}
+use Rattle.cyc_select.proofs.relation.Values.{memory_kept}
 
 -- ---- few
 
@@ -185,7 +187,7 @@ argument_small None = omega arith
 argument_small (Some operand) = omega (arith, load_small operand)
 
 -- and so much do those have that count regions, with the first word that is taken
-pub regions_small : (request : Request) → argument_count (first_operand request) + regions_count request ≤ operand_size (first_operand request) + 2 * answer_count request
+pub regions_small : (request : Request) → argument_count (first_operand request) + regions_count request ≤ operand_size (first_operand request) + answer_count request
 regions_small (requests.OpenLexical destination) = omega arith
 regions_small (requests.CloseTo mark) = omega (arith, load_small mark)
 regions_small (requests.OpenDynamic destination) = omega arith
@@ -313,7 +315,35 @@ pub length_divided : (frame : Frame) (left right : Operand) → length (divided_
 length_divided frame left right =
     omega (arith, length-append (load_code frame FIRST left) (load_code frame SECOND right), length-append (loads_code frame left right) (add_immediate THIRD ZERO (minus 1) ∷ []), length_load frame FIRST left, length_load frame SECOND right)
 
+pub gives_small : (frame : Frame) (slot count : ℕ) → gives_count frame slot count ≤ 2 * count
+gives_small frame slot zero = omega arith
+gives_small frame slot (suc count) = omega (arith, give_small frame slot, gives_small frame (suc slot) count)
+
 -- ---- several words
+
+length_brought : (again : Bool) (f : Frame) (source slot : ℕ) → length (bring_code again f source slot) ≡ (if again then 1 else give_count f slot)
+length_brought false f source slot = length_give f source slot
+length_brought true f source slot = go (is_kept f slot) refl
+  where
+    -- what no memory holds is in a register
+    given : (o : Option ℕ) → value_register f slot ≡ o → is_kept f slot ≡ false → length (give_to o f source slot) ≡ 1
+    given None none unkept = absurd (false≢true (sym unkept ∙ memory_kept f slot none))
+    given (Some register) has unkept = ap (λ (b : Bool). suc (length (if b then store_slot f (made_in f slot) slot ∷ [] else []))) unkept
+
+    go : (b : Bool) → is_kept f slot ≡ b → length (if b then store_slot f source slot ∷ [] else give_code f source slot) ≡ 1
+    go true kept = refl
+    go false unkept = given (value_register f slot) refl unkept
+
+-- where registers are read again behind it, each word has one
+pub length_results : (f : Frame) (slot : ℕ) (sources : List ℕ) → length (bring_all true f slot sources) ≡ length sources
+length_results f slot [] = refl
+length_results f slot (source ∷ sources) =
+    omega (arith, length-append (bring_code true f source slot) (bring_all true f (suc slot) sources), length_brought true f source slot, length_results f (suc slot) sources)
+
+length_gives : (f : Frame) (slot : ℕ) (sources : List ℕ) → length (bring_all false f slot sources) ≡ gives_count f slot (length sources)
+length_gives f slot [] = refl
+length_gives f slot (source ∷ sources) =
+    omega (arith, length-append (bring_code false f source slot) (bring_all false f (suc slot) sources), length_brought false f source slot, length_gives f (suc slot) sources)
 
 pub length_stores : (f : Frame) (slot : ℕ) (sources : List ℕ) → length (store_all f slot sources) ≡ length sources
 length_stores f slot [] = refl
@@ -420,7 +450,7 @@ pub length_argument : (frame : Frame) (register : ℕ) (o : Option Operand) → 
 length_argument frame register None = refl
 length_argument frame register (Some operand) = length_load frame register operand
 
-pub length_answer : (frame : Frame) (request : Request) → length (answer_code frame request) ≡ answer_count request
+pub length_answer : (frame : Frame) (request : Request) → length (answer_code frame request) ≡ gives_count frame (destination_of request) (answer_count request)
 length_answer frame request =
-    length_stores frame (destination_of request) (result_registers (answer_count request))
-    ∙ length_registers (answer_count request) (omega (arith, answer_few request))
+    length_gives frame (destination_of request) (result_registers (answer_count request))
+    ∙ ap (gives_count frame (destination_of request)) (length_registers (answer_count request) (omega (arith, answer_few request)))

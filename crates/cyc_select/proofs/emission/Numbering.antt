@@ -8,9 +8,10 @@ use Rattle.cyc_plain.specs.declared.instruction.BinaryOperator.{BinaryOperator}
 use Rattle.cyc_plain.specs.declared.instruction.BinaryOperator.TheVariants as binary
 use Rattle.cyc_plain.specs.declared.instruction.Instruction.{Instruction}
 use Rattle.cyc_plain.specs.declared.instruction.Instruction.TheVariants as plain
-use Rattle.cyc_plain.specs.Requests.{second_operand}
+use Rattle.cyc_plain.specs.Requests.{second_operand, answer_count, destination_of}
 use Rattle.cyc_plain.specs.Program.{Program, Routine, no_routine, routine_at, operator_size, instruction_size, size}
-use Rattle.cyc_plain.specs.WellFormed.{IsCallInRange, IsMoveInRange, IsRoutine, IsWellFormed}
+use Rattle.cyc_plain.specs.WellFormed.{IsCallInRange, IsMoveInRange, IsRequestInRange, IsRoutine, IsWellFormed}
+use Rattle.cyc_plain.specs.declared.instruction.Request.{Request}
 use Rattle.cyc_plain.specs.declared.limits.TheConstants.{GREATEST_VALUE, MOST_SIZE}
 use Rattle.cyc_frame.specs.declared.frame.TheConstants.{MOST_FRAME_WORDS}
 use Rattle.cyc_frame.specs.Homes.{AreHomes}
@@ -20,7 +21,7 @@ use Rattle.cyc_select.specs.declared.constants.TheConstants.{START_LINES}
 use Rattle.cyc_select.specs.Selection.{reload_count, ending_count, count_of, function_count, functions_count, function_line, instruction_line, code_lines, function_lines}
 use Rattle.cyc_select.specs.Plans.{test_of}
 use Rattle.cyc_select.specs.Emission.{AreReached, AreFew, most_lines, instruction_lines, function_starts, AreReady, AreTables}
-use Rattle.cyc_select.proofs.emission.Counts.{move_small, move_words_small, spills_few, give_small, keep_few, argument_small, regions_small, word_small, load_small, operand_small, address_small, unary_small, test_small, operator_small}
+use Rattle.cyc_select.proofs.emission.Counts.{move_small, move_words_small, spills_few, give_small, keep_few, argument_small, regions_small, gives_small, word_small, load_small, operand_small, address_small, unary_small, test_small, operator_small}
 
 abbrev no_frame : Frame
 no_frame = record { words = 0; return_address = 0; first_slot = 0; homes = [] }
@@ -62,7 +63,7 @@ count_small program frames function fit few (plain.Load destination address offs
 count_small program frames function fit few (plain.LoadByte destination address offset) = omega (arith, address_small (frame_at frames function) address offset, keep_few (frame_at frames function) destination)
 count_small program frames function fit few (plain.Store address offset source) = omega (arith, address_small (frame_at frames function) address offset, operand_small (frame_at frames function) source)
 count_small program frames function fit few (plain.StoreByte address offset source) = omega (arith, address_small (frame_at frames function) address offset, operand_small (frame_at frames function) source)
-count_small program frames function fit few (plain.Ask request) = omega (arith, regions_small request, argument_small (second_operand request))
+count_small program frames function fit few (plain.Ask request) = omega (arith, regions_small request, argument_small (second_operand request), gives_small (frame_at frames function) (destination_of request) (answer_count request))
 count_small program frames function fit few (plain.CountLexical destination) = omega (arith, give_small (frame_at frames function) destination)
 count_small program frames function fit few (plain.Try first handler) = omega (arith, fit)
 count_small program frames function fit few (plain.Leave first) = omega arith
@@ -154,6 +155,11 @@ pub arguments_small : (program : Program) (frames : List Frame) (function : ℕ)
     → (callee arguments count result : ℕ) → IsCallInRange program (routine_at program function) callee arguments count result → arguments + count ≤ MOST_FRAME_WORDS
 arguments_small program frames function fit known callee arguments count result in_range =
     slots_end (routine_at program function) (frame_at frames function) (fit.each function known) (arguments + count) (omega (arith, in_range.arguments_in_range))
+
+pub answer_small : (program : Program) (frames : List Frame) (function : ℕ) → AreFrames program frames → function < length program.functions
+    → (request : Request) → IsRequestInRange (routine_at program function) request → destination_of request + answer_count request ≤ MOST_FRAME_WORDS
+answer_small program frames function fit known request in_range =
+    slots_end (routine_at program function) (frame_at frames function) (fit.each function known) (destination_of request + answer_count request) in_range.answer_in_range
 
 -- ---- tables
 

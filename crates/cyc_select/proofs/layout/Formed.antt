@@ -1,6 +1,6 @@
 -- Each line of the code is formed, and each part has few words.
 use Rattle.std.proofs.Common.{◌≡◌, ℕ, zero, suc, ◌+◌, ◌*◌, ◌/◌, ◌%◌, ◌^◌, ◌<◌, ◌≤◌, Bool, true, false, List, [], ◌∷◌, ◌++◌, length, take, Option, None, Some, slice_get, refl, sym, ap, subst, ◌∙◌, arith, inl, inr, length-append}
-use Rattle.std.specs.Prelude.{All, sum_by, ◌==◌, nat_lt, if◌then◌else◌, slice_index_or}
+use Rattle.std.specs.Prelude.{All, sum_by, ◌==◌, ◌&&◌, nat_lt, if◌then◌else◌, slice_index_or}
 use Rattle.std.specs.List.{AllByRecursion}
 use Rattle.std.proofs.lemmas.Bool.{cases_lt, eqb-true, ltb-true}
 use Rattle.std.proofs.lemmas.List.{get_or_past}
@@ -48,7 +48,7 @@ use Rattle.cyc_select.specs.declared.plan.Test.TheVariants as tests
 use Rattle.cyc_select.specs.Plans.{unary_plan, binary_plan, test_of}
 use Rattle.cyc_select.specs.Labelled.{Labelled, IsFormed, IsFormedLine}
 use Rattle.cyc_select.specs.Numbers.{fits_signed, is_zero_word}
-use Rattle.cyc_select.specs.Selection.{value_register, is_kept, load_from, fetch_from, move_to, keep_code, give_to, give_code, load_words, reloads_from, reloads, opened_code, made_in, slot_offset, ordinary, result_registers, argument_code, service_number, answer_code, unwound_code, far_plan, address_code, near_half, at_address, copies, load_all, store_all, moves, all_moved, store_slot, pop_frame, load_upper, constant, or_immediate, is_tested, part_of, plan_count, small, syscall, add_immediate, minus, upper_of_global, at_global, word_code, load_code, load_count, operand_code, operand_register, operands_code, operation_code, outcome_code, operation_of, computed_code, plan_code, test_code, branch_line, quotient_code, loads_code, divided_code, divide_code, divide_count, ending_code, ending_count, operator_code, operator_count, body, behind, body_count, count_of, function_count, functions_count, function_line, instruction_line, code_lines, function_lines, start_lines, select_of, regions_code, load_at, store_at, spill, spills, spills_count, calling_code}
+use Rattle.cyc_select.specs.Selection.{value_register, is_kept, load_from, fetch_from, move_to, keep_code, give_to, give_code, bring_code, bring_all, load_words, reloads_from, reloads, opened_code, made_in, slot_offset, ordinary, result_registers, argument_code, service_number, answer_code, unwound_code, far_plan, address_code, near_half, at_address, copies, load_all, store_all, moves, all_moved, store_slot, pop_frame, load_upper, constant, or_immediate, is_tested, part_of, plan_count, small, syscall, add_immediate, minus, upper_of_global, at_global, word_code, load_code, load_count, operand_code, operand_register, operands_code, operation_code, outcome_code, operation_of, computed_code, plan_code, test_code, branch_line, quotient_code, loads_code, divided_code, divide_code, divide_count, ending_code, ending_count, operator_code, operator_count, body, behind, body_count, count_of, function_count, functions_count, function_line, instruction_line, code_lines, function_lines, start_lines, select_of, regions_code, load_at, store_at, spill, spills, spills_count, calling_code}
 use Rattle.cyc_select.proofs.layout.Lines.{line_first}
 use Rattle.cyc_select.proofs.values.Plans.{AllOfTest, all_unary, all_binary, all_test}
 use Rattle.cyc_select.proofs.emission.Counts.{operation_some, move_some, move_words_some, give_some, length_registers, answer_few, service_small}
@@ -226,6 +226,15 @@ module _ (program : Program) (well : IsWellFormed program) (words : HasWords pro
     formed_append : (xs ys : List Instr) → Formed (ordinary xs) → Formed (ordinary ys) → Formed (ordinary (xs ++ ys))
     formed_append [] ys first second = second
     formed_append (x ∷ xs) ys (one, rest) second = (one, formed_append xs ys rest second)
+
+    brought_formed : (again : Bool) (slot : ℕ) (sources : List ℕ) → slot + length sources ≤ slots → Formed (ordinary (bring_all again frame slot sources))
+    brought_formed again slot [] fits = tt
+    brought_formed again slot (source ∷ sources) fits =
+        formed_append (bring_code again frame source slot) (bring_all again frame (suc slot) sources) (one (again && is_kept frame slot)) (brought_formed again (suc slot) sources (omega (arith, fits)))
+      where
+        one : (b : Bool) → Formed (ordinary (if b then store_slot frame source slot ∷ [] else give_code frame source slot))
+        one true = ((refl, slot_fits slot (omega (arith, fits))), tt)
+        one false = give_formed source slot (omega (arith, fits))
 
     spills_formed : (slot count : ℕ) → slot + count ≤ slots → Formed (ordinary (spills frame slot count))
     spills_formed slot zero fits = tt
@@ -511,7 +520,7 @@ module _ (program : Program) (well : IsWellFormed program) (words : HasWords pro
           (
             (refl, tt),
             formed_append (regions_code request) (answer_code frame request) (regions_formed request)
-                (stores_formed (destination_of request) (result_registers (answer_count request)) (omega (arith, registers, in_range.answer_in_range))),
+                (brought_formed false (destination_of request) (result_registers (answer_count request)) (omega (arith, registers, in_range.answer_in_range))),
           ),
         ))
     body_formed (plain.CountLexical destination) n below fits long = give_formed REGIONS destination below
@@ -561,8 +570,8 @@ module _ (program : Program) (well : IsWellFormed program) (words : HasWords pro
           (refl, return_fits),
           (
             (refl, (omega arith)),
-            formed_append (store_all frame result (result_registers (routine_at program callee).results)) (reloads frame)
-                (stores_formed result (result_registers (routine_at program callee).results) (omega (arith, registers, in_range.result_in_range))) reloads_formed,
+            formed_append (bring_all true frame result (result_registers (routine_at program callee).results)) (reloads frame)
+                (brought_formed true result (result_registers (routine_at program callee).results) (omega (arith, registers, in_range.result_in_range))) reloads_formed,
           ),
         )
     behind_formed (plain.Move destination source) in_range = tt

@@ -26,9 +26,9 @@ use Rattle.cyc_select.specs.declared.code.Line.TheVariants as lines
 use Rattle.cyc_select.specs.declared.plan.Plan.{Plan}
 use Rattle.cyc_select.specs.Labelled.{Labelled}
 use Rattle.cyc_select.specs.Plans.{unary_plan, binary_plan, test_of}
-use Rattle.cyc_select.specs.Selection.{value_register, move_to, keep_code, keep_count, give_code, give_count, moved_code, reloads, reload_count, opened_code, made_in, ordinary, argument_code, service_number, answer_code, unwound_code, address_code, at_address, copies, store_all, small, syscall, upper_of_global, at_global, word_code, load_code, load_count, operand_code, operand_register, plan_code, plan_count, test_code, branch_line, quotient_code, divided_code, divide_code, divide_count, is_tested, part_of, result_registers, ending_code, ending_count, operator_code, operator_count, body, behind, body_count, behind_count, count_of, function_count, functions_count, function_line, instruction_line, code_lines, function_lines, start_lines, select_of, regions_code, load_at, store_at, address_count, operand_count, spills, spills_count, calling_code}
+use Rattle.cyc_select.specs.Selection.{value_register, move_to, keep_code, keep_count, give_code, give_count, moved_code, reloads, reload_count, opened_code, made_in, ordinary, argument_code, service_number, answer_code, unwound_code, address_code, at_address, copies, bring_all, small, syscall, upper_of_global, at_global, word_code, load_code, load_count, operand_code, operand_register, plan_code, plan_count, test_code, branch_line, quotient_code, divided_code, divide_code, divide_count, is_tested, part_of, result_registers, ending_code, ending_count, operator_code, operator_count, body, behind, body_count, behind_count, count_of, function_count, functions_count, function_line, instruction_line, code_lines, function_lines, start_lines, select_of, regions_code, load_at, store_at, address_count, operand_count, spills, spills_count, calling_code}
 use Rattle.cyc_select.proofs.steps.Calls.{length_ordinary, length-copies}
-use Rattle.cyc_select.proofs.emission.Counts.{length_keep, length_give, length_move, length_moved, length_spills, length_argument, length_answer, length_regions, length_stores, length_registers, length_word, length_load, length_operand, length_address, length_plan, length_test, length_divided}
+use Rattle.cyc_select.proofs.emission.Counts.{length_keep, length_give, length_move, length_moved, length_spills, length_argument, length_answer, length_regions, length_results, length_registers, length_word, length_load, length_operand, length_address, length_plan, length_test, length_divided}
 use Rattle.cyc_select.proofs.steps.Returns.{loaded, length_loaded}
 use Rattle.cyc_select.proofs.relation.Values.{length_reloads}
 use Rattle.cyc_select.proofs.effects.Walks.{Stands, stands_front, stands_back}
@@ -152,11 +152,11 @@ module _ (program : Program) (frames : List Frame) (few_results : (function : �
 
   pub length_behind : (function : ℕ) (i : Instruction) → length (behind program frames function i) ≡ behind_count program frames function i
   length_behind function (plain.Call callee arguments count result) =
-      let stores : List Instr = store_all (frame_at frames function) result (result_registers (routine_at program callee).results) in
+      let stores : List Instr = bring_all true (frame_at frames function) result (result_registers (routine_at program callee).results) in
       let a = length_ordinary (stores ++ reloads (frame_at frames function)) in
-      let b = length_stores (frame_at frames function) result (result_registers (routine_at program callee).results) in
+      let b = length_results (frame_at frames function) result (result_registers (routine_at program callee).results) in
       let d = length_registers (routine_at program callee).results (few_results callee) in
-      let e : suc (suc (length (ordinary (store_all (frame_at frames function) result (result_registers (routine_at program callee).results) ++ reloads (frame_at frames function))))) ≡ 2 + (routine_at program callee).results + reload_count (frame_at frames function)
+      let e : suc (suc (length (ordinary (bring_all true (frame_at frames function) result (result_registers (routine_at program callee).results) ++ reloads (frame_at frames function))))) ≡ 2 + (routine_at program callee).results + reload_count (frame_at frames function)
       = omega (arith, a, b, d, length-append stores (reloads (frame_at frames function)), length_reloads (frame_at frames function)) in
       e
   length_behind function (plain.Move destination source) = refl

@@ -1,10 +1,10 @@
 -- What is asked of the store that a run has, and what its calls leave of it.
 use Rattle.std.proofs.Common.{◌≡◌, ℕ, zero, suc, ◌+◌, ◌*◌, ◌%◌, ◌^◌, ◌<◌, ◌≤◌, Bool, true, false, List, [], ◌∷◌, ◌++◌, length, Option, None, Some, refl, sym, ap, subst, ◌∙◌, arith, inl, inr}
-use Rattle.std.specs.Prelude.{◌==◌, ◌&&◌, nat_le, nat_lt, if◌then◌else◌}
+use Rattle.std.specs.Prelude.{◌==◌, nat_le, nat_lt, if◌then◌else◌}
 use Rattle.std.specs.List.{AllByRecursion}
 use Rattle.std.proofs.lemmas.Bool.{cases_eq, cond-true, cond-false, eqb-true, leb-true, ltb-true}
 use Rattle.cyc_words.specs.Word.{IsWord}
-use Rattle.cyc_words.specs.Demand.{page_words, pages_from, region_pages, demand_of}
+use Rattle.cyc_words.specs.Demand.{region_pages, demand_of}
 use Rattle.cyc_words.proofs.Booleans.{and_right, and_left}
 use Rattle.cyc_words.proofs.Numbers.{when_equal}
 use Rattle.cyc_store.specs.Lookup.{lookup, changed, without}

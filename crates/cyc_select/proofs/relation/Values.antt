@@ -1,7 +1,7 @@
 -- Values in registers: a register has its slot's word wherever the slot is wanted.
 use Rattle.std.proofs.Common.{◌≡◌, ◌≢◌, ℕ, zero, suc, ◌+◌, ◌-◌, ◌%◌, ◌<◌, ◌≤◌, Bool, true, false, List, [], ◌∷◌, length, Option, Some, None, refl, sym, ap, subst, ◌∙◌, arith, inl, inr}
 use Rattle.std.specs.Prelude.{◌⊎◌, ◌==◌, nat_le, nat_lt, sum_by}
-use Rattle.std.proofs.lemmas.Bool.{cases_eq, cases_lt, eq-eqb, ne_eqb, le-leb, lt-ltb, leb-true, leb-false, ltb-true, ltb-false, and_parts, and_from, and_cases, false≢true}
+use Rattle.std.proofs.lemmas.Bool.{cases_eq, cases_lt, cases_Bool, eq-eqb, ne_eqb, le-leb, lt-ltb, leb-true, leb-false, ltb-true, ltb-false, and_parts, and_from, and_cases, false≢true}
 use Rattle.std.proofs.lemmas.List.{get_or_past}
 use Rattle.std.proofs.lemmas.List.Sums.{sum_by-cons}
 use Rattle.cyc_isa.specs.Effect.{memory_address}
@@ -54,6 +54,18 @@ not_among first count slot other = elim (and_cases (nat_le first slot) (nat_lt s
   | inr behind ↦ inr (ltb-false slot (first + count) behind)
 ]
 
+pub outside_among : (first count slot : ℕ) → slot < first ⊎ first + count ≤ slot → is_among first count slot ≡ false
+outside_among first count slot outside = go (is_among first count slot) refl
+  where
+    go : (b : Bool) → is_among first count slot ≡ b → is_among first count slot ≡ false
+    go false is = is
+    go true is =
+        let parts = and_parts (nat_le first slot) (nat_lt slot (first + count)) is in
+        elim outside [
+          | inl below ↦ absurd (omega (arith, below, leb-true first slot parts.0))
+          | inr above ↦ absurd (omega (arith, above, ltb-true slot (first + count) parts.1))
+        ]
+
 pub next_led : (index : ℕ) → (suc index == index + 1) ≡ true
 next_led index = eq-eqb (suc index) (index + 1) (omega arith)
 
@@ -78,7 +90,7 @@ module _ (program : Program) (frames : List Frame) (function : ℕ) (right : Are
   IsAt index i = instruction_at program (record { function = function; index = index }) ≡ Some i
 
   -- what is wanted behind an instruction that does not write it is wanted before it
-  wanted_before : (index next slot : ℕ) (i : Instruction) → IsAt index i → leads i index next ≡ true → writes program i slot ≡ false
+  pub wanted_before : (index next slot : ℕ) (i : Instruction) → IsAt index i → leads i index next ≡ true → writes program i slot ≡ false
       → Wanted program (routine_at program function) slot next → Wanted program (routine_at program function) slot index
   wanted_before index next slot i at led unwritten (steps, wanted) = (suc steps, (i, at, unwritten, next, led, wanted))
 
@@ -255,7 +267,7 @@ module _ (globals stack : ℕ) (frame : Frame) (base : ℕ) (w : Contents) where
           ∙ ap (λ (n : ℕ). w.words (memory_address base (slot_offset frame n))) (let e : slot ≡ slot + 0 = omega arith in e))))
       in_rest rest (suc j) k both = rest.result j k both ∙ there_behind slot j
 
--- where what is wanted is in memory too, registers have it once they are read again; no other register is written
+-- where what is wanted is in memory too, or in a register alone, registers have it once they are read again; no other register is written
 pub record Reloaded (globals stack : ℕ) (program : Program) (frames : List Frame) (function index : ℕ) (q : Words) (w : Contents) (slots : Words) : Type 0 where
   pub safe : AreSafe globals stack (reloads (frame_at frames function)) q w
   pub memory : after_w (reloads (frame_at frames function)) q w ≡ w
@@ -265,9 +277,9 @@ pub record Reloaded (globals stack : ℕ) (program : Program) (frames : List Fra
 pub reloaded : (globals stack : ℕ) (program : Program) (frames : List Frame) (function : ℕ) (right : AreHomes program (routine_at program function) (frame_at frames function).homes) (index : ℕ) (q : Words) (w : Contents) (slots : Words)
     → ((slot : ℕ) → slot < (routine_at program function).slots → IsCell globals stack (memory_address (q FRAME) (slot_offset (frame_at frames function) slot)))
     → ((slot : ℕ) → slot < (routine_at program function).slots → is_kept (frame_at frames function) slot ≡ true → w.words (memory_address (q FRAME) (slot_offset (frame_at frames function) slot)) ≡ slots slot)
-    → ((slot : ℕ) → Wanted program (routine_at program function) slot index → is_kept (frame_at frames function) slot ≡ true)
+    → ((slot k : ℕ) → value_register (frame_at frames function) slot ≡ Some k → Wanted program (routine_at program function) slot index → is_kept (frame_at frames function) slot ≡ false → q k ≡ slots slot)
     → Reloaded globals stack program frames function index q w slots
-reloaded globals stack program frames function right index q w slots cells holds kept =
+reloaded globals stack program frames function right index q w slots cells holds own =
     let frame : Frame = frame_at frames function in
     let values : AreValues frame.homes = λ a k both. (right.low a k (ap homing.register_of both), right.high a k (ap homing.register_of both)) in
     let alone : AreAlone frame.homes = λ a c k here there. right.alone a c k here (ap homing.register_of there) in
@@ -276,13 +288,24 @@ reloaded globals stack program frames function right index q w slots cells holds
       safe = all.safe;
       memory = all.memory;
       others = λ n aside. all.others n (λ j both. out_of n aside (values j n both));
-      caches = λ slot k has wanted.
-          let both = both_of (homing.home_of frame.homes slot) k has (kept slot wanted) in
-          all.result slot k both
-          ∙ (ap (λ (n : ℕ). w.words (memory_address (q FRAME) (slot_offset frame n))) (let e : 0 + slot ≡ slot = omega arith in e)
-          ∙ holds slot (listed slot k has) (kept slot wanted));
+      caches = λ slot k has wanted. elim (cases_Bool (is_kept (frame_at frames function) slot)) [
+        | inl kept ↦
+            all.result slot k (both_of (homing.home_of frame.homes slot) k has kept)
+            ∙ (ap (λ (n : ℕ). w.words (memory_address (q FRAME) (slot_offset frame n))) (let e : 0 + slot ≡ slot = omega arith in e)
+            ∙ holds slot (listed slot k has) kept)
+        | inr unkept ↦
+            all.others k (λ j both. no_both slot k has unkept j both)
+            ∙ own slot k has wanted unkept
+      ];
     }
   where
+    -- a register that stands alone is none that is read again
+    no_both : (slot k : ℕ) → value_register (frame_at frames function) slot ≡ Some k → is_kept (frame_at frames function) slot ≡ false
+        → (j : ℕ) → homing.home_of (frame_at frames function).homes j ≡ homes.Both k → ⊥
+    no_both slot k has unkept j both =
+        let same : j ≡ slot = right.alone j slot k both has in
+        false≢true (sym unkept ∙ ap homing.is_kept (ap (homing.home_of (frame_at frames function).homes) (sym same) ∙ both))
+
     out_of : (n : ℕ) → n < 8 ⊎ 24 ≤ n → (8 ≤ n) × (n < 24) → ⊥
     out_of n (inl below) (low, high) = omega (arith, below, low)
     out_of n (inr above) (low, high) = omega (arith, above, high)

@@ -1,7 +1,7 @@
 -- The instructions that open and close handlers, and that throw.
 use Rattle.std.proofs.Common.{◌≡◌, ◌≢◌, ℕ, suc, ◌+◌, ◌*◌, ◌<◌, ◌≤◌, Bool, true, false, not, ◌&&◌, List, [], ◌∷◌, ◌++◌, length, Some, slice_get, refl, sym, ap, subst, ◌∙◌, arith, inl, inr, length-append}
 use Rattle.std.specs.Prelude.{◌==◌, if◌then◌else◌}
-use Rattle.std.proofs.lemmas.Bool.{cases_eq, cases_lt, eqb-true, eq-eqb, ne_eqb, or_left, or_right}
+use Rattle.std.proofs.lemmas.Bool.{cases_eq, cases_lt, eqb-true, eq-eqb, ne_eqb, or_left, or_right, false≢true}
 use Rattle.cyc_words.specs.Ending.{Ending, Uncaught}
 use Rattle.cyc_words.specs.Word.{IsWord, signed, add_of, sign_extended}
 use Rattle.cyc_words.proofs.Booleans.{and_right, and_left}
@@ -178,7 +178,7 @@ module _ (program : Program) (well : IsWellFormed program) (frames : List Frame)
         let again = reloaded globals_length (words_per_call * calls) program frames c.active.function right l.handler restored m c.active.slots
         (λ slot below. slot_cell program well frames fit addresses pages calls few c0 restored m l.base back (suc (length c.frames)) c.active.slots in_slots slot below)
         (λ slot below slot_kept. slot_word_is program well frames fit addresses pages calls few c0 restored m l.base back (suc (length c.frames)) c.active.slots in_slots slot below slot_kept)
-        (λ slot wanted. right.clause c.active.next l.first l.handler slot l.opened wanted) in
+        (λ slot k has wanted unkept. absurd (false≢true (sym unkept ∙ right.clause c.active.next l.first l.handler slot l.opened wanted))) in
         let final : Words = after_r read_again restored m in
         let registers : after_r (stores ++ read_again) restored l.w ≡ after_r read_again restored m =
         after_r-append stores read_again restored l.w ∙ ap (λ (q : Words). after_r read_again q m) all.same in

@@ -1,9 +1,9 @@
 -- The instruction that calls the store.
 use Rattle.std.proofs.Common.{◌≡◌, ◌≢◌, ℕ, suc, ◌+◌, ◌*◌, ◌%◌, ◌^◌, ◌<◌, ◌≤◌, true, false, List, [], ◌∷◌, ◌++◌, length, length-append, Option, None, Some, refl, sym, ap, subst, ◌∙◌, arith, inl, inr}
-use Rattle.std.specs.Prelude.{◌⊎◌, ◌==◌}
-use Rattle.std.proofs.lemmas.Bool.{eq-eqb, or_left, or_right}
+use Rattle.std.specs.Prelude.{◌⊎◌}
+use Rattle.std.proofs.lemmas.Bool.{eq-eqb, ne_eqb, or_left, or_right}
 use Rattle.cyc_words.specs.Ending.{Full}
-use Rattle.cyc_words.specs.Word.{add_of, sign_extended}
+use Rattle.cyc_words.specs.Word.{IsWord, add_of, sign_extended}
 use Rattle.cyc_isa.specs.Effect.{memory_address}
 use Rattle.cyc_isa.specs.declared.instr.Instr.{Instr}
 use Rattle.cyc_machine.specs.State.{globals_length, words_per_call}
@@ -26,7 +26,7 @@ use Rattle.cyc_plain.specs.Step.{Choice, IsAllowed, MayServe, call_in, call_of, 
 use Rattle.cyc_plain.specs.WellFormed.{IsOperand, IsOfWord, IsArgument, IsArgumentOfWord, IsRequestInRange, IsWellFormed}
 use Rattle.cyc_plain.proofs.SlotLaws.{put-other}
 use Rattle.cyc_plain.proofs.RunLaws.{zeros, zeros_refused, over_within, lies_at}
-use Rattle.cyc_frame.specs.Homes.{AreHomes}
+use Rattle.cyc_frame.specs.Homes.{AreHomes, Wanted}
 use Rattle.cyc_frame.specs.Layout.{AreFrames, frame_at}
 use Rattle.cyc_frame.specs.Uses.{is_slot, request_reads, request_writes}
 use Rattle.cyc_frame.specs.Frame.{Frame}
@@ -34,7 +34,8 @@ use Rattle.cyc_select.specs.declared.constants.TheConstants.{CALLS, FRAME, HANDL
 use Rattle.cyc_select.specs.Labelled.{Labelled, IsFormed}
 use Rattle.cyc_select.specs.Machine as labelled
 use Rattle.cyc_select.specs.Machine.{State, Running, Ended}
-use Rattle.cyc_select.specs.Selection.{ordinary, small, syscall, slot_offset, store_all, result_registers, argument_code, argument_count, service_number, answer_code, regions_code, regions_count, ask_count, body, instruction_line}
+use Rattle.cyc_select.specs.Selection.{ordinary, value_register, small, syscall, slot_offset, store_all, result_registers, argument_code, argument_count, service_number, answer_code, regions_code, regions_count, gives_count, ask_count, body, instruction_line}
+use Rattle.cyc_select.proofs.steps.Answers.{put_all, results_low, AreBrought, are_brought}
 use Rattle.cyc_select.proofs.values.Blocks.{ValuesSame, safe_append}
 use Rattle.cyc_select.proofs.values.Computing.{IsHeld, load_puts}
 use Rattle.cyc_select.proofs.emission.Counts.{service_small, length_argument, length_answer, length_regions, length_registers, answer_few}
@@ -45,7 +46,7 @@ use Rattle.cyc_select.proofs.relation.Matches.{At, Reached, reached, within}
 use Rattle.cyc_select.proofs.values.Operations.{add_small}
 use Rattle.cyc_select.proofs.relation.Standing.{Standing, slot_address, slot_cell, standing_at, standing_slot, standing_store}
 use Rattle.cyc_select.proofs.relation.Stores.{lexical_opened, lexical_besides, lexical_left, lexical_made, lexical_closed, marks_few, IsLaid, served_laid, served_words}
-use Rattle.cyc_select.proofs.relation.Values.{Caches, caches_past, unbarred, not_among, next_led}
+use Rattle.cyc_select.proofs.relation.Values.{Caches, wanted_before, among, outside_among, next_led}
 use Rattle.cyc_select.proofs.effects.Views.{Contents, IsWritable, written, answered_r}
 use Rattle.cyc_select.proofs.effects.Walks.{Stands, stands_first, stands_behind, after_r, after_w, AreSafe, after_r-append, after_w-append, Walk, now_at, now_is, walk_few, walk_block, walk_served, walk_no_room, comes_block, lines_from, lines_rise}
 
@@ -62,12 +63,7 @@ is_call (requests.Allocate destination handle words) slots q first second =
     ap (λ (x : ℕ). services.Allocate x (q 5)) (first handle refl) ∙ ap (services.Allocate (operand_word slots handle)) (second words refl)
 is_call (requests.Free address) slots q first second = ap services.Free (first address refl)
 
--- registers come to slots, one behind the other
-abbrev pub put_all : (slot : ℕ) → List ℕ → (q slots : Words) → Words
-put_all slot [] q slots = slots
-put_all slot (source ∷ sources) q slots = put_all (suc slot) sources q (put slots slot (q (source % 32)))
-
--- and these are what the store answers, also behind the lines that count regions
+-- the words of its registers are what the store answers, also behind the lines that count regions
 told_is : (request : Request) (store : StoreState) (slots q : Words) (m : Contents) (choice : services.Choice)
     → put_all (destination_of request) (result_registers (answer_count request)) (after_r (regions_code request) (answered_r (answer store (call_in slots request) choice) q) m) slots
     ≡ told (answer store (call_in slots request) choice) (destination_of request) slots
@@ -78,26 +74,26 @@ told_is (requests.CloseDynamic handle) store slots q m choice = refl
 told_is (requests.Allocate destination handle words) store slots q m choice = refl
 told_is (requests.Free address) store slots q m choice = refl
 
-other_slot : (destination slot : ℕ) → (destination == slot) ≡ false → slot ≢ destination
-other_slot destination slot apart same = let e : true ≡ false = sym (eq-eqb destination slot (sym same)) ∙ apart in cc
+one_apart : (destination slot : ℕ) → slot < destination ⊎ destination + 1 ≤ slot → destination ≢ slot
+one_apart destination slot (inl below) same = omega (arith, below, same)
+one_apart destination slot (inr above) same = omega (arith, above, same)
 
--- any other slot is as before
-told_apart : (request : Request) (store : StoreState) (slots : Words) (choice : services.Choice) (slot : ℕ) → request_writes request slot ≡ false
-    → told (answer store (call_in slots request) choice) (destination_of request) slots slot ≡ slots slot
-told_apart (requests.OpenLexical destination) store slots choice slot apart = go (not_among destination 2 slot apart)
-  where
-    go : slot < destination ⊎ destination + 2 ≤ slot → told (answer store (call_in slots (requests.OpenLexical destination)) choice) destination slots slot ≡ slots slot
-    go (inl below) =
-        put-other (put slots destination choice.handle) (suc destination) slot _ (λ e. absurd (omega (arith, e, below)))
-        ∙ put-other slots destination slot _ (λ e. absurd (omega (arith, e, below)))
-    go (inr above) =
-        put-other (put slots destination choice.handle) (suc destination) slot _ (λ e. absurd (omega (arith, e, above)))
-        ∙ put-other slots destination slot _ (λ e. absurd (omega (arith, e, above)))
-told_apart (requests.CloseTo mark) store slots choice slot apart = refl
-told_apart (requests.OpenDynamic destination) store slots choice slot apart = put-other slots destination slot _ (other_slot destination slot apart)
-told_apart (requests.CloseDynamic handle) store slots choice slot apart = refl
-told_apart (requests.Allocate destination handle words) store slots choice slot apart = put-other slots destination slot _ (other_slot destination slot apart)
-told_apart (requests.Free address) store slots choice slot apart = refl
+-- these slots get its answer, and no others
+answers_written : (request : Request) (slot : ℕ) → destination_of request ≤ slot → slot < destination_of request + length (result_registers (answer_count request)) → request_writes request slot ≡ true
+answers_written (requests.OpenLexical destination) slot begun below = among destination 2 slot begun below
+answers_written (requests.CloseTo mark) slot begun below = absurd (omega (arith, begun, below))
+answers_written (requests.OpenDynamic destination) slot begun below = eq-eqb destination slot (omega (arith, begun, below))
+answers_written (requests.CloseDynamic handle) slot begun below = absurd (omega (arith, begun, below))
+answers_written (requests.Allocate destination handle words) slot begun below = eq-eqb destination slot (omega (arith, begun, below))
+answers_written (requests.Free address) slot begun below = absurd (omega (arith, begun, below))
+
+answers_apart : (request : Request) (slot : ℕ) → slot < destination_of request ⊎ destination_of request + length (result_registers (answer_count request)) ≤ slot → request_writes request slot ≡ false
+answers_apart (requests.OpenLexical destination) slot outside = outside_among destination 2 slot outside
+answers_apart (requests.CloseTo mark) slot outside = refl
+answers_apart (requests.OpenDynamic destination) slot outside = ne_eqb destination slot (one_apart destination slot outside)
+answers_apart (requests.CloseDynamic handle) slot outside = refl
+answers_apart (requests.Allocate destination handle words) slot outside = ne_eqb destination slot (one_apart destination slot outside)
+answers_apart (requests.Free address) slot outside = refl
 
 -- ---- how many lexical regions are open
 
@@ -259,7 +255,7 @@ module _ (program : Program) (well : IsWellFormed program) (frames : List Frame)
     last = small SERVICE (service_number request) ∷ syscall ∷ (regions_code request ++ answer_code frame request)
 
     abbrev hi : ℕ
-    hi = here + ask_count request
+    hi = here + ask_count frame request
 
     abbrev called : ℕ
     called = here + length is + length js + 1
@@ -270,7 +266,7 @@ module _ (program : Program) (well : IsWellFormed program) (frames : List Frame)
     more : length js ≡ argument_count (second_operand request)
     more = length_argument frame SECOND_ARGUMENT (second_operand request)
 
-    stored_few : length (counts ++ answers) ≡ regions_count request + answer_count request
+    stored_few : length (counts ++ answers) ≡ regions_count request + gives_count frame (destination_of request) (answer_count request)
     stored_few = omega (arith, length-append counts answers, length_regions request, length_answer frame request)
 
     -- its operands are what it needs
@@ -440,59 +436,92 @@ module _ (program : Program) (well : IsWellFormed program) (frames : List Frame)
           standing_store program well frames fit addresses pages calls few c r w base (r RETURN_ADDRESS) (suc (length c.frames)) c.active.slots s (served c.store call chosen)
           final zero_kept base_kept left_kept newest_kept count_told laid
 
-      stored : AreStored program well frames fit addresses pages calls few c1 final base (r RETURN_ADDRESS) (suc (length c.frames)) (destination_of request) (result_registers (answer_count request)) w1 c.active.slots
-      stored =
-          are_stored program well frames fit addresses pages calls few c1 final base (r RETURN_ADDRESS) (suc (length c.frames)) (destination_of request) (result_registers (answer_count request)) w1 c.active.slots
-          (omega (arith, in_range.answer_in_range, length_registers (answer_count request) (omega (arith, answer_few request)))) in_final
-
+      -- the answer comes to slots
       abbrev m : Contents
       m = after_w answers final w1
 
-      abbrev there : Words
-      there = told (answer c.store call chosen) (destination_of request) c.active.slots
+      abbrev brought : Words
+      brought = after_r answers final w1
 
-      ends_at : Standing program frames addresses pages calls next final m base (final RETURN_ADDRESS) (suc (length c.frames)) there
-      ends_at =
-          let in_slots : Standing program frames addresses pages calls c1 final m base (r RETURN_ADDRESS) (suc (length c.frames)) there =
-          subst (λ (x : Words). Standing program frames addresses pages calls c1 final m base (r RETURN_ADDRESS) (suc (length c.frames)) x) (told_is request c.store c.active.slots ready w1 chosen) stored.standing in
-          let at_next = standing_at program well frames fit addresses pages calls few c1 final m base (r RETURN_ADDRESS) (suc (length c.frames)) there in_slots next refl refl refl refl refl refl s.input in
-          subst (λ (b : ℕ). Standing program frames addresses pages calls next final m base b (suc (length c.frames)) there) (sym back_kept) at_next
+      abbrev past : ℕ
+      past = destination_of request + length (result_registers (answer_count request))
 
-      -- both blocks, one behind the other
-      block_safe : AreSafe globals_length (words_per_call * calls) (counts ++ answers) answered w1
-      block_safe =
-          safe_append globals_length (words_per_call * calls) counts answers answered w1 (regions_safe globals_length (words_per_call * calls) request answered w1)
-          (subst (AreSafe globals_length (words_per_call * calls) answers final) (sym (regions_memory request answered w1)) stored.safe)
+      module _ (answered_words : (n : ℕ) → IsWord (answered_r (answer c.store call chosen) ready n)) where
+        shares_none : (d slot k : ℕ) → destination_of request ≤ d → d < past → value_register (frame_at frames c.active.function) d ≡ Some k → value_register (frame_at frames c.active.function) slot ≡ Some k
+            → Wanted program (routine_at program c.active.function) slot (c.active.next + 1) → slot ≡ d
+        shares_none d slot k begun below has_d has wanted =
+            homes_right.made c.active.next (c.active.next + 1) slot d k (plain.Ask request) at_i (answers_written request d begun below) (next_led c.active.next) has_d has wanted
 
-      block_registers : after_r (counts ++ answers) answered w1 ≡ final
-      block_registers = after_r-append counts answers answered w1 ∙ (ap (after_r answers final) (regions_memory request answered w1) ∙ stored.same)
+        low_words : (n : ℕ) → n < 8 → IsWord (after_r counts answered w1 n)
+        low_words n low = subst IsWord (sym (regions_others request answered w1 n (λ e. absurd (omega (arith, e, low))))) (answered_words n)
 
-      block_memory : after_w (counts ++ answers) answered w1 ≡ m
-      block_memory = after_w-append counts answers answered w1 ∙ ap (after_w answers final) (regions_memory request answered w1)
+        few_answers : answer_count request ≤ 3
+        few_answers = omega (arith, answer_few request)
 
-      line_is : called + 1 + length (counts ++ answers) ≡ instruction_line program frames c.active.function (c.active.next + 1)
-      line_is = omega (arith, line_next program frames c.active.function c.active.next (plain.Ask request) at_i, long, more, stored_few)
+        fits_here : destination_of request + length (result_registers (answer_count request)) ≤ (routine_at program c.active.function).slots
+        fits_here = omega (arith, in_range.answer_in_range, length_registers (answer_count request) few_answers)
 
-      reaches : (d : labelled.Configuration) → At program well frames fit code formed addresses pages calls few (called + 1 + length (counts ++ answers)) c.output c.input (after_r (counts ++ answers) answered w1) (after_w (counts ++ answers) answered w1) d
-          → Reached program well frames fit code formed addresses pages calls few c (Running d)
-      reaches d later =
-          reached program well frames fit code formed addresses pages calls few c choice (plain.Ask request) (states.Running next) (Running d) is_allowed at_i does
-          (within program well frames fit code formed addresses pages calls few next laid.paged s.deep)
-          (inl (record {
-            run = d;
-            r = final;
-            w = m;
-            base = base;
-            is = refl;
-            now = now_at code formed addresses globals_length (words_per_call * calls) (called + 1 + length (counts ++ answers)) (instruction_line program frames c.active.function (c.active.next + 1)) c.output c.input final m d line_is
-                (now_is code formed addresses globals_length (words_per_call * calls) (called + 1 + length (counts ++ answers)) c.output c.input (after_r (counts ++ answers) answered w1) (after_w (counts ++ answers) answered w1) final m d block_registers block_memory later);
-            standing = ends_at;
-            caches =
-                caches_past program frames c.active.function homes_right c.active.next (c.active.next + 1) r final c.active.slots next.active.slots (plain.Ask request) at_i (next_led c.active.next)
-                (λ slot k has. unbarred program frames c.active.function homes_right c.active.next slot k (plain.Ask request) at_i has)
-                (λ slot k has. told_apart request c.store c.active.slots chosen slot (unbarred program frames c.active.function homes_right c.active.next slot k (plain.Ask request) at_i has))
-                values_kept caches;
-          }))
+        stored : AreBrought program well frames fit addresses pages calls few false c1 base (r RETURN_ADDRESS) (suc (length c.frames)) (c.active.next + 1) (destination_of request) past final low_words fits_here shares_none (destination_of request) (result_registers (answer_count request)) final w1 c.active.slots
+        stored =
+            are_brought program well frames fit addresses pages calls few false c1 base (r RETURN_ADDRESS) (suc (length c.frames)) (c.active.next + 1) (destination_of request) past final low_words fits_here shares_none (destination_of request) (result_registers (answer_count request)) final w1 c.active.slots
+            (omega arith) (omega arith) (results_low (answer_count request) few_answers) (λ n below. refl) in_final
+
+        back_same : brought RETURN_ADDRESS ≡ r RETURN_ADDRESS
+        back_same = stored.aside RETURN_ADDRESS (inr (omega arith)) ∙ back_kept
+
+        -- what is not answered is in registers as before
+        apart_kept : (a k : ℕ) → value_register (frame_at frames c.active.function) a ≡ Some k → Wanted program (routine_at program c.active.function) a (c.active.next + 1)
+            → a < destination_of request ⊎ destination_of request + length (result_registers (answer_count request)) ≤ a → final k ≡ c.active.slots a
+        apart_kept a k has wanted outside =
+            values_kept k (homes_right.low a k has) (homes_right.high a k has)
+            ∙ caches a k has (wanted_before program frames c.active.function homes_right c.active.next (c.active.next + 1) a (plain.Ask request) at_i (next_led c.active.next) (answers_apart request a outside) wanted)
+
+        told_caches : Caches program frames c.active.function (c.active.next + 1) brought (told (answer c.store call chosen) (destination_of request) c.active.slots)
+        told_caches a k has wanted =
+            stored.caches (λ a k has wanted last outside. apart_kept a k has wanted outside) a k has wanted refl
+            ∙ ap (λ (x : Words). x a) (told_is request c.store c.active.slots ready w1 chosen)
+
+        abbrev there : Words
+        there = told (answer c.store call chosen) (destination_of request) c.active.slots
+
+        ends_at : Standing program frames addresses pages calls next brought m base (brought RETURN_ADDRESS) (suc (length c.frames)) there
+        ends_at =
+            let in_slots : Standing program frames addresses pages calls c1 brought m base (r RETURN_ADDRESS) (suc (length c.frames)) there =
+            subst (λ (x : Words). Standing program frames addresses pages calls c1 brought m base (r RETURN_ADDRESS) (suc (length c.frames)) x) (told_is request c.store c.active.slots ready w1 chosen) stored.standing in
+            let at_next = standing_at program well frames fit addresses pages calls few c1 brought m base (r RETURN_ADDRESS) (suc (length c.frames)) there in_slots next refl refl refl refl refl refl s.input in
+            subst (λ (b : ℕ). Standing program frames addresses pages calls next brought m base b (suc (length c.frames)) there) (sym back_same) at_next
+
+        -- both blocks, one behind the other
+        block_safe : AreSafe globals_length (words_per_call * calls) (counts ++ answers) answered w1
+        block_safe =
+            safe_append globals_length (words_per_call * calls) counts answers answered w1 (regions_safe globals_length (words_per_call * calls) request answered w1)
+            (subst (AreSafe globals_length (words_per_call * calls) answers final) (sym (regions_memory request answered w1)) stored.safe)
+
+        block_registers : after_r (counts ++ answers) answered w1 ≡ brought
+        block_registers = after_r-append counts answers answered w1 ∙ ap (after_r answers final) (regions_memory request answered w1)
+
+        block_memory : after_w (counts ++ answers) answered w1 ≡ m
+        block_memory = after_w-append counts answers answered w1 ∙ ap (after_w answers final) (regions_memory request answered w1)
+
+        line_is : called + 1 + length (counts ++ answers) ≡ instruction_line program frames c.active.function (c.active.next + 1)
+        line_is = omega (arith, line_next program frames c.active.function c.active.next (plain.Ask request) at_i, long, more, stored_few)
+
+        reaches : (d : labelled.Configuration) → At program well frames fit code formed addresses pages calls few (called + 1 + length (counts ++ answers)) c.output c.input (after_r (counts ++ answers) answered w1) (after_w (counts ++ answers) answered w1) d
+            → Reached program well frames fit code formed addresses pages calls few c (Running d)
+        reaches d later =
+            reached program well frames fit code formed addresses pages calls few c choice (plain.Ask request) (states.Running next) (Running d) is_allowed at_i does
+            (within program well frames fit code formed addresses pages calls few next laid.paged s.deep)
+            (inl (record {
+              run = d;
+              r = brought;
+              w = m;
+              base = base;
+              is = refl;
+              now = now_at code formed addresses globals_length (words_per_call * calls) (called + 1 + length (counts ++ answers)) (instruction_line program frames c.active.function (c.active.next + 1)) c.output c.input brought m d line_is
+                  (now_is code formed addresses globals_length (words_per_call * calls) (called + 1 + length (counts ++ answers)) c.output c.input (after_r (counts ++ answers) answered w1) (after_w (counts ++ answers) answered w1) brought m d block_registers block_memory later);
+              standing = ends_at;
+              caches = told_caches;
+            }))
 
     served_goes : refusal c.store call ≡ None → Goes 1 here hi (Running run)
     served_goes free =
@@ -503,7 +532,7 @@ module _ (program : Program) (well : IsWellFormed program) (frames : List Frame)
         (lines_rise code formed addresses globals_length (words_per_call * calls) (counts ++ answers) (suc called) (called + 1) hi (omega arith) (omega (arith, long, more, stored_few)))
         (λ chosen allowed e served_now.
         comes_block code formed addresses globals_length (words_per_call * calls) (counts ++ answers) (called + 1) c.output c.input _ (answered_r (answer c.store call chosen) ready) (record w { store = served c.store call chosen }) e served_now last_lines.1.1
-        (block_safe free chosen allowed) (λ f after. reaches free chosen allowed f after)))
+        (block_safe free chosen allowed (λ n. served_now.r_words n)) (λ f after. reaches free chosen allowed (λ n. served_now.r_words n) f after)))
 
     pub ask_goes : (performed program zeros c (plain.Ask request) ≡ states.Stuck c.output c.input → IsAllowed program (states.Running c) zeros → ⊥) → Goes 1 here hi (Running run)
     ask_goes never = go (refusal c.store call) refl

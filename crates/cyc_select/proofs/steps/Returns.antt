@@ -1,11 +1,11 @@
 -- Returns, and what stands behind a call.
 use Rattle.std.proofs.Common.{◌≡◌, ◌≢◌, ℕ, zero, suc, ◌+◌, ◌-◌, ◌*◌, ◌%◌, ◌<◌, ◌≤◌, Bool, true, false, not, List, [], ◌∷◌, ◌++◌, length, length-append, Some, slice_get, refl, sym, ap, subst, ◌∙◌, arith, inl, inr}
-use Rattle.std.specs.Prelude.{◌==◌, if◌then◌else◌}
-use Rattle.std.proofs.lemmas.Bool.{cases_eq, cases_lt, cases_Bool, eq-eqb, ne_eqb}
+use Rattle.std.specs.Prelude.{◌==◌, ◌⊎◌, if◌then◌else◌}
+use Rattle.std.proofs.lemmas.Bool.{cases_eq, cases_lt, cases_Bool, eq-eqb, ne_eqb, false≢true}
 use Rattle.cyc_select.specs.declared.constants.TheConstants.{CALLS, FRAME, HANDLERS, REGIONS}
 use Rattle.cyc_machine.specs.declared.constants.TheConstants.{RETURN_ADDRESS}
 use Rattle.cyc_words.specs.Ending.{Returned}
-use Rattle.cyc_words.specs.Word.{signed, add_of, sign_extended}
+use Rattle.cyc_words.specs.Word.{IsWord, signed, add_of, sign_extended}
 use Rattle.cyc_isa.specs.Effect.{memory_address}
 use Rattle.cyc_isa.specs.declared.instr.Instr.{Instr}
 use Rattle.cyc_isa.specs.declared.instr.BranchOp.TheVariants as branch
@@ -20,8 +20,8 @@ use Rattle.cyc_plain.specs.Step.{instruction_at, performed, returns}
 use Rattle.cyc_plain.specs.WellFormed.{IsWellFormed, HasSlots}
 use Rattle.cyc_plain.proofs.RunLaws.{zeros, zeros_at, over_within, calls_nothing}
 use Rattle.cyc_plain.proofs.SlotLaws.{put-same, put-other, copied-inside, copied-above, copied-below}
-use Rattle.cyc_frame.specs.Homes.{Wanted}
-use Rattle.cyc_frame.specs.Uses.{is_among, reads}
+use Rattle.cyc_frame.specs.Homes.{AreHomes, Wanted}
+use Rattle.cyc_frame.specs.Uses.{is_among, reads, writes}
 use Rattle.cyc_frame.specs.Layout.{AreFrames, frame_at}
 use Rattle.cyc_frame.specs.Frame.{Frame}
 use Rattle.cyc_select.specs.declared.code.Line.{Line}
@@ -30,17 +30,18 @@ use Rattle.cyc_select.specs.declared.code.Line.TheVariants as lines
 use Rattle.cyc_select.specs.Labelled.{Labelled, IsFormed, AreAddresses}
 use Rattle.cyc_select.specs.Machine as labelled
 use Rattle.cyc_select.specs.Machine.{State, Running, Ended, IsReturnPoint}
-use Rattle.cyc_select.specs.Selection.{value_register, reloads, reload_count, slot_offset, load, small, add_immediate, load_slot, load_all, store_all, pop_frame, result_registers, ordinary, syscall, ending_code, ending_count, returning_code, behind, instruction_line}
+use Rattle.cyc_select.specs.Selection.{value_register, reloads, reload_count, slot_offset, load, small, add_immediate, load_slot, load_all, store_all, bring_all, is_kept, pop_frame, result_registers, ordinary, syscall, ending_code, ending_count, returning_code, behind, instruction_line}
 use Rattle.cyc_select.proofs.values.Blocks.{ValuesSame, lasting_same, Puts, safe_append}
 use Rattle.cyc_select.proofs.steps.Calls.{length_ordinary}
+use Rattle.cyc_select.proofs.steps.Answers.{put_all, results_low, CachesBut, AreBrought, are_brought}
 use Rattle.cyc_select.proofs.values.Computing.{HeldIn, slot_puts}
 use Rattle.cyc_select.proofs.relation.Held.{slot_held}
 use Rattle.cyc_select.proofs.layout.Lines.{line_next}
 use Rattle.cyc_select.proofs.values.Operations.{add_small}
-use Rattle.cyc_select.proofs.relation.Values.{Caches, among, length_reloads, reloaded}
+use Rattle.cyc_select.proofs.relation.Values.{Caches, among, outside_among, length_reloads, reloaded}
 use Rattle.cyc_select.proofs.effects.Views.{Contents, IsWritable, written}
 use Rattle.cyc_select.proofs.effects.Walks.{Stands, stands_front, stands_back, after_r, after_w, after_r-append, after_w-append, AreSafe, Walk, now_at, now_is, walk_end, walk_few, walk_from, walk_block, walk_branch, walk_return, walk_returned}
-use Rattle.cyc_select.proofs.emission.Counts.{length_stores, length_registers}
+use Rattle.cyc_select.proofs.emission.Counts.{length_results, length_registers}
 use Rattle.cyc_select.proofs.relation.Standing.{Chain, IsNewest, kept_here, Standing, behind_line, lies, slot_address, slot_cell, slot_word_is, return_cell, return_address, standing_registers, standing_slot, AreBased}
 use Rattle.cyc_select.proofs.relation.Matches.{At, Ready, Back, Reached, reached, within, result_register}
 
@@ -470,6 +471,29 @@ module _ (program : Program) (well : IsWellFormed program) (frames : List Frame)
   given (suc (suc (suc zero))) few_results holds = (holds 0 (omega arith), (holds 1 (omega arith), (holds 2 (omega arith), tt)))
   given (suc (suc (suc (suc count)))) few_results holds = absurd (omega (arith, few_results))
 
+  put_pointwise : (one other : Words) (slot word : ℕ) → ((number : ℕ) → one number ≡ other number) → (number : ℕ) → put one slot word number ≡ put other slot word number
+  put_pointwise one other slot word same number = elim (cases_eq number slot) [
+    | inl here ↦ ap (put one slot word) here ∙ (put-same one slot word ∙ sym (ap (put other slot word) here ∙ put-same other slot word))
+    | inr apart ↦ put-other one slot number word apart ∙ (same number ∙ sym (put-other other slot number word apart))
+  ]
+
+  puts_copied : (slot k : ℕ) (sources : List ℕ) (slots : Words) → slot ≡ result + k → Given k sources → ((number : ℕ) → slots number ≡ copied values first k waiting result number)
+      → (number : ℕ) → put_all slot sources q slots number ≡ copied values first (k + length sources) waiting result number
+  puts_copied slot k [] slots is_slot given same number =
+      same number ∙ ap (λ (n : ℕ). copied values first n waiting result number) (let e : k ≡ k + 0 = omega arith in e)
+  puts_copied slot k (source ∷ sources) slots is_slot (one, others) same number =
+      puts_copied (suc slot) (suc k) sources (put slots slot (q (source % 32))) (omega (arith, is_slot)) others
+      (λ n. put_pointwise slots (copied values first k waiting result) slot (q (source % 32)) same n ∙ slots_next values waiting first k result slot n (q (source % 32)) is_slot one)
+      number
+      ∙ ap (λ (n : ℕ). copied values first n waiting result number) (let e : suc k + length sources ≡ k + suc (length sources) = omega arith in e)
+
+  -- the words of the registers of results in slots are what was returned
+  pub results_copied : (count : ℕ) → count ≤ 3 → ((k : ℕ) → k < count → q (result_register k) ≡ values (first + k))
+      → (number : ℕ) → put_all result (result_registers count) q waiting number ≡ copied values first count waiting result number
+  results_copied count few_results holds number =
+      puts_copied result 0 (result_registers count) waiting (omega arith) (given count few_results holds) (λ n. no_slots values waiting first result n) number
+      ∙ ap (λ (n : ℕ). copied values first n waiting result number) (let e : 0 + length (result_registers count) ≡ count = omega (arith, length_registers count few_results) in e)
+
   pub stored : (count : ℕ) (m : Contents) → count ≤ 3 → result + count ≤ (routine_at program c.active.function).slots → ((k : ℕ) → k < count → q (result_register k) ≡ values (first + k)) → StandsWith m waiting
       → (AreSafe globals_length (words_per_call * calls) (store_all (frame_at frames c.active.function) result (result_registers count)) q m)
       × (after_r (store_all (frame_at frames c.active.function) result (result_registers count)) q m ≡ q)
@@ -492,7 +516,7 @@ module _ (program : Program) (well : IsWellFormed program) (frames : List Frame)
   first_two = load RETURN_ADDRESS (4 * own_frame.return_address) ∷ add_immediate CALLS CALLS 1 ∷ []
 
   abbrev kept_words : List Instr
-  kept_words = store_all own_frame b.result (result_registers (routine_at program b.callee).results)
+  kept_words = bring_all true own_frame b.result (result_registers (routine_at program b.callee).results)
 
   abbrev saved : ℕ
   saved = b.w.words (b.base + 4 * own_frame.return_address)
@@ -545,7 +569,7 @@ module _ (program : Program) (well : IsWellFormed program) (frames : List Frame)
   length_kept : length (first_two ++ (kept_words ++ read_again)) ≡ 2 + (routine_at program b.callee).results + reload_count own_frame
   length_kept =
       let long = length-append kept_words read_again in
-      let stores = length_stores own_frame b.result (result_registers (routine_at program b.callee).results) in
+      let stores = length_results own_frame b.result (result_registers (routine_at program b.callee).results) in
       let registers = length_registers (routine_at program b.callee).results few_results in
       let e : suc (suc (length (kept_words ++ read_again))) ≡ 2 + (routine_at program b.callee).results + reload_count own_frame = omega (arith, long, stores, registers, length_reloads own_frame) in
       e
@@ -557,44 +581,112 @@ module _ (program : Program) (well : IsWellFormed program) (frames : List Frame)
       ∙ ((let f : behind_line program frames c.active.function b.index b.callee b.arguments b.count b.result + (2 + (routine_at program b.callee).results + reload_count own_frame) ≡ instruction_line program frames c.active.function (b.index + 1) = omega (arith, e) in f)
       ∙ ap (instruction_line program frames c.active.function) (sym b.next))
 
+  -- ---- what was returned comes to slots
+
+  right : AreHomes program (routine_at program c.active.function) (frame_at frames c.active.function).homes
+  right = fit.homes c.active.function b.standing.known
+
+  abbrev registers_of : List ℕ
+  registers_of = result_registers (routine_at program b.callee).results
+
+  abbrev past : ℕ
+  past = b.result + length (result_registers (routine_at program b.callee).results)
+
+  room_is : b.result + length (result_registers (routine_at program b.callee).results) ≤ (routine_at program c.active.function).slots
+  room_is = omega (arith, room, length_registers (routine_at program b.callee).results few_results)
+
+  many : length (result_registers (routine_at program b.callee).results) ≡ (routine_at program b.callee).results
+  many = length_registers (routine_at program b.callee).results few_results
+
+  next_is : c.active.next ≡ suc b.index
+  next_is = omega (arith, b.next)
+
+  -- the call writes these slots, and no others
+  written_by : (slot : ℕ) → b.result ≤ slot → slot < past → writes program (plain.Call b.callee b.arguments b.count b.result) slot ≡ true
+  written_by slot begun below = among b.result (routine_at program b.callee).results slot begun (omega (arith, below, many))
+
+  apart_from_all : (slot : ℕ) → slot < b.result ⊎ past ≤ slot → writes program (plain.Call b.callee b.arguments b.count b.result) slot ≡ false
+  apart_from_all slot (inl below) = outside_among b.result (routine_at program b.callee).results slot (inl below)
+  apart_from_all slot (inr above) = outside_among b.result (routine_at program b.callee).results slot (inr (omega (arith, above, many)))
+
+  behind_next : (slot : ℕ) → Wanted program (routine_at program c.active.function) slot c.active.next → Wanted program (routine_at program c.active.function) slot (suc b.index)
+  behind_next slot wanted = subst (Wanted program (routine_at program c.active.function) slot) next_is wanted
+
+  shares_none : (d slot k : ℕ) → b.result ≤ d → d < past → value_register (frame_at frames c.active.function) d ≡ Some k → value_register (frame_at frames c.active.function) slot ≡ Some k
+      → Wanted program (routine_at program c.active.function) slot c.active.next → slot ≡ d
+  shares_none d slot k begun below has_d has wanted =
+      right.made b.index (suc b.index) slot d k (plain.Call b.callee b.arguments b.count b.result) b.call (written_by d begun below) (eq-eqb (suc b.index) (suc b.index) refl) has_d has (behind_next slot wanted)
+
+  low_words : (n : ℕ) → n < 8 → IsWord (restored n)
+  low_words n low =
+      subst IsWord
+      (sym (put-other (put b.r RETURN_ADDRESS _) CALLS n _ (λ e. absurd (omega (arith, e, low))) ∙ put-other b.r RETURN_ADDRESS n _ (λ e. absurd (omega (arith, e, low)))))
+      (b.now.r_words n)
+
+  brought : AreBrought program well frames fit addresses pages calls few true c b.base saved (suc (length c.frames)) c.active.next b.result past restored low_words room_is shares_none b.result registers_of restored b.w b.waiting
+  brought =
+      are_brought program well frames fit addresses pages calls few true c b.base saved (suc (length c.frames)) c.active.next b.result past restored low_words room_is shares_none b.result registers_of restored b.w b.waiting
+      (omega arith) (omega arith) (results_low (routine_at program b.callee).results few_results) (λ n low. refl) restored_stands
+
+  abbrev given_r : Words
+  given_r = after_r kept_words restored b.w
+
+  abbrev given_w : Contents
+  given_w = after_w kept_words restored b.w
+
+  -- so the slots are those of the next instruction
+  slots_are : (number : ℕ) → put_all b.result registers_of restored b.waiting number ≡ c.active.slots number
+  slots_are number =
+      results_copied program well frames fit addresses pages calls few c restored b.base saved (suc (length c.frames)) b.result b.first b.values b.waiting (routine_at program b.callee).results few_results
+      (λ j below. register_kept j ∙ b.returned j below) number
+      ∙ sym (ap (λ (x : Words). x number) b.slots)
+
+  given_stands : Standing program frames addresses pages calls c given_r given_w b.base saved (suc (length c.frames)) c.active.slots
+  given_stands =
+      same_slots program well frames fit addresses pages calls few c given_r b.base saved (suc (length c.frames)) b.result b.first b.values b.waiting given_w
+      (put_all b.result registers_of restored b.waiting) c.active.slots slots_are brought.standing
+
+  -- what is wanted and not in memory was returned
+  alone_returned : CachesBut program well frames fit addresses pages calls few true c b.base saved (suc (length c.frames)) c.active.next b.result past restored low_words room_is shares_none b.result (length registers_of) restored b.waiting
+  alone_returned a k has wanted last outside =
+      absurd (false≢true (sym last ∙ right.behind b.index b.callee b.arguments b.count b.result a b.call (apart_from_all a outside) (behind_next a wanted)))
+
+  returned_alone : (slot k : ℕ) → value_register (frame_at frames c.active.function) slot ≡ Some k → Wanted program (routine_at program c.active.function) slot c.active.next → is_kept (frame_at frames c.active.function) slot ≡ false
+      → given_r k ≡ c.active.slots slot
+  returned_alone slot k has wanted unkept = brought.caches alone_returned slot k has wanted unkept ∙ slots_are slot
+
   pub behind_goes : (n hi : ℕ) (Goal : State → Type 0)
       → ((u : State) → Ready program well frames fit code formed addresses pages calls few c u → Walk code formed addresses globals_length (words_per_call * calls) n (instruction_line program frames c.active.function c.active.next) hi c.output Goal u)
       → Walk code formed addresses globals_length (words_per_call * calls) n (behind_line program frames c.active.function b.index b.callee b.arguments b.count b.result) hi c.output Goal (Running b.run)
   behind_goes n hi Goal rest =
       let k : ℕ = behind_line program frames c.active.function b.index b.callee b.arguments b.count b.result in
-      let all = stored program well frames fit addresses pages calls few c restored b.base saved (suc (length c.frames)) b.result b.first b.values b.waiting (routine_at program b.callee).results b.w few_results room
-      (λ j below. register_kept j ∙ b.returned j below) restored_stands in
-      let right = fit.homes c.active.function b.standing.known in
-      let stands_again : Standing program frames addresses pages calls c restored (after_w kept_words restored b.w) b.base saved (suc (length c.frames)) c.active.slots =
-      subst (λ (x : Words). Standing program frames addresses pages calls c restored (after_w kept_words restored b.w) b.base saved (suc (length c.frames)) x) (sym b.slots) all.2 in
-      let again = reloaded globals_length (words_per_call * calls) program frames c.active.function right c.active.next restored (after_w kept_words restored b.w) c.active.slots
-      (λ slot below. slot_cell program well frames fit addresses pages calls few c restored (after_w kept_words restored b.w) b.base saved (suc (length c.frames)) c.active.slots stands_again slot below)
-      (λ slot below slot_kept. slot_word_is program well frames fit addresses pages calls few c restored (after_w kept_words restored b.w) b.base saved (suc (length c.frames)) c.active.slots stands_again slot below slot_kept)
-      (λ slot wanted. right.behind b.index b.callee b.arguments b.count b.result slot b.call (subst (Wanted program (routine_at program c.active.function) slot) (b.next ∙ (let e : b.index + 1 ≡ suc b.index = omega arith in e)) wanted)) in
-      let final : Words = after_r read_again restored (after_w kept_words restored b.w) in
-      let registers : after_r (kept_words ++ read_again) restored b.w ≡ after_r read_again restored (after_w kept_words restored b.w) =
-      after_r-append kept_words read_again restored b.w ∙ ap (λ (q : Words). after_r read_again q (after_w kept_words restored b.w)) all.1 in
-      let memory : after_w (kept_words ++ read_again) restored b.w ≡ after_w kept_words restored b.w =
-      after_w-append kept_words read_again restored b.w ∙ (ap (λ (q : Words). after_w read_again q (after_w kept_words restored b.w)) all.1 ∙ again.memory) in
-      let safe_again = subst (λ (q : Words). AreSafe globals_length (words_per_call * calls) read_again q (after_w kept_words restored b.w)) (sym all.1) again.safe in
-      let in_final = standing_registers program well frames fit addresses pages calls few c restored (after_w kept_words restored b.w) b.base saved (suc (length c.frames)) c.active.slots stands_again final
+      let again = reloaded globals_length (words_per_call * calls) program frames c.active.function right c.active.next given_r given_w c.active.slots
+      (λ slot below. slot_cell program well frames fit addresses pages calls few c given_r given_w b.base saved (suc (length c.frames)) c.active.slots given_stands slot below)
+      (λ slot below slot_kept. slot_word_is program well frames fit addresses pages calls few c given_r given_w b.base saved (suc (length c.frames)) c.active.slots given_stands slot below slot_kept)
+      returned_alone in
+      let final : Words = after_r read_again given_r given_w in
+      let registers : after_r (kept_words ++ read_again) restored b.w ≡ after_r read_again given_r given_w = after_r-append kept_words read_again restored b.w in
+      let memory : after_w (kept_words ++ read_again) restored b.w ≡ given_w = after_w-append kept_words read_again restored b.w ∙ again.memory in
+      let in_final = standing_registers program well frames fit addresses pages calls few c given_r given_w b.base saved (suc (length c.frames)) c.active.slots given_stands final
       (again.others 0 (inl (omega arith))) (again.others FRAME (inr (omega arith))) (again.others CALLS (inr (omega arith)))
-      (lasting_same final restored (again.others HANDLERS (inr (omega arith))) (again.others REGIONS (inr (omega arith)))) in
+      (lasting_same final given_r (again.others HANDLERS (inr (omega arith))) (again.others REGIONS (inr (omega arith)))) in
       walk_few code formed addresses globals_length (words_per_call * calls) n (length (first_two ++ (kept_words ++ read_again)) + n) k hi c.output Goal (Running b.run) (omega arith)
       (walk_block code formed addresses globals_length (words_per_call * calls) (first_two ++ (kept_words ++ read_again)) n k k hi c.output c.input Goal b.r b.w b.run b.now stands (
         (refl, return_cell program well frames fit addresses pages calls few c b.r b.w b.base saved (suc (suc (length c.frames))) b.waiting b.standing),
-        (refl, safe_append globals_length (words_per_call * calls) kept_words read_again restored b.w all.0 safe_again),
+        (refl, safe_append globals_length (words_per_call * calls) kept_words read_again restored b.w brought.safe again.safe),
       ) (omega arith)
       (λ d later.
       walk_from code formed addresses globals_length (words_per_call * calls) n (k + length (first_two ++ (kept_words ++ read_again))) (instruction_line program frames c.active.function c.active.next) hi c.output Goal (Running d) (omega (arith, line_is))
       (rest (Running d) (record {
         run = d;
         r = final;
-        w = after_w kept_words restored b.w;
+        w = given_w;
         base = b.base;
         is = refl;
-        now = now_at code formed addresses globals_length (words_per_call * calls) (k + length (first_two ++ (kept_words ++ read_again))) (instruction_line program frames c.active.function c.active.next) c.output c.input final (after_w kept_words restored b.w) d line_is
-            (now_is code formed addresses globals_length (words_per_call * calls) (k + length (first_two ++ (kept_words ++ read_again))) c.output c.input (after_r (kept_words ++ read_again) restored b.w) (after_w (kept_words ++ read_again) restored b.w) final (after_w kept_words restored b.w) d registers memory later);
-        standing = subst (λ (x : ℕ). Standing program frames addresses pages calls c final (after_w kept_words restored b.w) b.base x (suc (length c.frames)) c.active.slots) (sym (again.others RETURN_ADDRESS (inr (omega arith)) ∙ back_is)) in_final;
+        now = now_at code formed addresses globals_length (words_per_call * calls) (k + length (first_two ++ (kept_words ++ read_again))) (instruction_line program frames c.active.function c.active.next) c.output c.input final given_w d line_is
+            (now_is code formed addresses globals_length (words_per_call * calls) (k + length (first_two ++ (kept_words ++ read_again))) c.output c.input (after_r (kept_words ++ read_again) restored b.w) (after_w (kept_words ++ read_again) restored b.w) final given_w d registers memory later);
+        standing =
+            subst (λ (x : ℕ). Standing program frames addresses pages calls c final given_w b.base x (suc (length c.frames)) c.active.slots)
+            (sym (again.others RETURN_ADDRESS (inr (omega arith)) ∙ (brought.aside RETURN_ADDRESS (inr (omega arith)) ∙ back_is))) in_final;
         caches = again.caches;
       }))))

@@ -1,0 +1,10 @@
+use Rattle.std.proofs.Common.{◌≡◌, ◌+◌, ◌++◌, drop}
+use Rattle.cyc_select.specs.Selection.{ordinary, bring_all}
+use Rattle.cyc_select.proofs.emitter.Emitter.bring_all.Given as goal
+
+-- the lines so far, with those of the other registers, are all of them
+abbrev pub invariant-loop-source : goal.invariant-loop-source
+invariant-loop-source l =
+    (l.next ≡ l.slot + l.source-index)
+    × (l.self.lines.items ++ ordinary (bring_all l.again l.frame l.next (drop l.source-index l.sources))
+    ≡ l.fn.self.lines.items ++ ordinary (bring_all l.again l.frame l.slot l.sources))
