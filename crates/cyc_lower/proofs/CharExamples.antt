@@ -14,6 +14,7 @@ use Rattle.cyc_plain.specs.declared.instruction.Operand.TheVariants.{Slot, Word 
 use Rattle.cyc_plain.specs.declared.instruction.Instruction.TheVariants.{Move}
 use Rattle.cyc_plain.specs.declared.instruction.Instruction.TheVariants as instructions
 use Rattle.cyc_plain.specs.declared.instruction.BinaryOperator.TheVariants as plain_binary
+use Rattle.cyc_plain.specs.declared.instruction.Comparison.TheVariants as comparisons
 use Rattle.cyc_store.specs.State as stores
 use Rattle.cyc_store.specs.declared.range.TheConstants.{HEAP, STORE_BASE}
 use Rattle.cyc_plain.specs.State.{status_of}
@@ -58,11 +59,18 @@ program structs locals body others =
 
 -- ---- code
 
--- an int becomes a char in a temporary, and keeps its own word
+-- an int becomes a char as it comes to its slot, and keeps its own word
 char_is_masked : function_code [] [] None (function [] (Int ∷ Char ∷ []) (all (Evaluate (Assign (Local nowhere 1) (low (local 0)) (Value Char)) ∷ []))) ≡
-    Move 2 (Slot 0) ∷ instructions.Binary plain_binary.And 2 (Slot 2) (Constant 255) ∷ Move 1 (Slot 2)
+    instructions.Binary plain_binary.And 1 (Slot 0) (Constant 255)
     ∷ instructions.Finish 2 ∷ blocks
 char_is_masked = refl
+
+-- to a cell it comes by a temporary, behind that of the address
+char_is_stored : function_code [] [] None (function [] (Int ∷ star ∷ []) (all (puts 1 (local 0) ∷ []))) ≡
+    instructions.Branch comparisons.Equal (Slot 1) (Constant 0) 5 ∷ Move 2 (Slot 1)
+    ∷ instructions.Binary plain_binary.And 3 (Slot 0) (Constant 255) ∷ instructions.StoreByte (Slot 2) 0 (Slot 3)
+    ∷ instructions.Finish 2 ∷ blocks
+char_is_stored = refl
 
 -- a char is an operand, as an int is
 char_is_operand : function_code [] [] None (function [] (Int ∷ Char ∷ []) (all (Evaluate (Assign (Local nowhere 0) (int (sum (wide (char 1)) (Number 1))) (Value Int)) ∷ []))) ≡

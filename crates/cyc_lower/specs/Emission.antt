@@ -19,7 +19,7 @@ use Rattle.cyc_frame_count.specs.Needs.{most_frame_count}
 use Rattle.cyc_lower.specs.Slots.{Starts, slot_of}
 use Rattle.cyc_lower.specs.ValueCode.{code_unless, slot_or, code_unless_slot, conversion_code, compute_code, test_code, behind_left, pointer_code, span_of}
 use Rattle.cyc_lower.specs.ControlCode.{holding_jump, while_code, inside_loop, tag_operand, clause_code, opened_code, named_code, dynamic_code, inside_region}
-use Rattle.cyc_lower.specs.ExpressionCode.{operand_of, source_of, source_slot, printed_operand, printed_code, left_of, value_slot, left_slot, value_operand, expression_code}
+use Rattle.cyc_lower.specs.ExpressionCode.{operand_of, source_of, source_slot, printed_operand, printed_code, left_of, value_slot, left_slot, value_operand, expression_code, brought_code}
 use Rattle.cyc_lower.specs.Lowering.{condition_code, statement_code, declaration_code, condition_of, thrown_operand, thrown_code, caught_code, items_code, clauses_code}
 use Rattle.cyc_meaning.specs.FrameCount.{operand_words, argument_words, arguments_need, expression_need, initial_need, statement_need, kept_by, frame_count}
 use Rattle.cyc_plain.specs.declared.instruction.Comparison.{Comparison}
@@ -66,11 +66,11 @@ module _ (starts : Starts) where
   -- the code of a value that is to be converted
   abbrev pub source_code : Converted → (p t : ℕ) → List Instruction
   source_code (Convert from to a) p t =
-      code_unless (source_of starts (Convert from to a)) (expression_code starts a p (source_slot starts (Convert from to a) t) t)
+      code_unless (source_of starts (Convert from to a)) (brought_code starts (Convert from to a) p (source_slot starts (Convert from to a) t) t)
 
   -- that of one which only a slot will do for
   abbrev pub slot_code : Converted → (p t : ℕ) → List Instruction
-  slot_code (Convert from to a) p t = code_unless_slot (source_of starts (Convert from to a)) (expression_code starts a p t t)
+  slot_code (Convert from to a) p t = code_unless_slot (source_of starts (Convert from to a)) (brought_code starts (Convert from to a) p t t)
 
   -- a value that is returned, converted, and its slot
   abbrev pub converted_slot : Converted → (t : ℕ) → ℕ
@@ -78,8 +78,8 @@ module _ (starts : Starts) where
 
   abbrev pub converted_slot_code : Converted → (p t : ℕ) → List Instruction
   converted_slot_code (Convert from to a) p t =
-      code_unless_slot (source_of starts (Convert from to a)) (expression_code starts a p t t)
-      ++ conversion_code starts from to (span_of a) (Slot (slot_or (source_of starts (Convert from to a)) t)) (p + length (code_unless_slot (source_of starts (Convert from to a)) (expression_code starts a p t t)))
+      code_unless_slot (source_of starts (Convert from to a)) (brought_code starts (Convert from to a) p t t)
+      ++ conversion_code starts from to (span_of a) (Slot (slot_or (source_of starts (Convert from to a)) t)) (p + length (code_unless_slot (source_of starts (Convert from to a)) (brought_code starts (Convert from to a) p t t)))
 
   -- what brings the left operand of a chain
   abbrev pub left_code : Expression → Operations → (p d t : ℕ) → List Instruction

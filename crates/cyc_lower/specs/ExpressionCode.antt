@@ -11,7 +11,7 @@ use Rattle.cyc_plain.specs.declared.instruction.Instruction.TheVariants as instr
 use Rattle.cyc_store.specs.declared.range.TheConstants.{HEAP, UNIQUE}
 use Rattle.cyc_meaning.specs.Values.{is_thin, kind_of}
 use Rattle.cyc_lower.specs.Slots.{Starts, slot_of, with_counter, counter_of, field_of, global_of}
-use Rattle.cyc_lower.specs.ValueCode.{unary_instruction, behind_left, operand_or, code_unless, slot_or, code_unless_slot, left_with, next_slot, move_of, reached_operand, followed_operand, span_in, conversion_code, span_of, null_of, count_code, low_byte, compute_code, pointer_code, test_code, copy_code, addressed_by, word_by_word, load_word, global_code, loaded_code, kind_behind, address_of_code, keeps_words, converts_there, passed_words, all_passed, kind_passed, kinds_passed, converted_by, moved_by, followed_by, element_by, tested_by}
+use Rattle.cyc_lower.specs.ValueCode.{unary_instruction, behind_left, operand_or, code_unless, slot_or, code_unless_slot, left_with, next_slot, move_of, reached_operand, followed_operand, span_in, conversion_code, span_of, null_of, count_code, low_byte, compute_code, pointer_code, test_code, copy_code, addressed_by, word_by_word, load_word, global_code, loaded_code, kind_behind, address_of_code, keeps_words, converts_there, passed_words, all_passed, kind_passed, kinds_passed, brought_by, converted_by, moved_by, followed_by, element_by, tested_by}
 use Rattle.cyc_lower.specs.ObjectCode.{stored_by, object_code, array_code, free_code}
 use Rattle.cyc_lower.specs.ControlCode.{closing_code, counter_operand}
 
@@ -171,12 +171,15 @@ abbrev mutual
   -- the value comes to slot t and is converted there
   pub converted_code : (starts : Starts) → Converted → (p t : ℕ) → List Instruction
   converted_code starts (Convert from to a) p t =
-      expression_code starts a p t t ++ conversion_code starts from to (span_of a) (operands.Slot t) (p + length (expression_code starts a p t t))
+      brought_by from to (operand_of starts a) (expression_code starts a p (value_slot starts a t) t) (value_operand starts a t) (expression_code starts a p t t) t
+      ++ conversion_code starts from to (span_of a) (operands.Slot t) (p + length (brought_by from to (operand_of starts a) (expression_code starts a p (value_slot starts a t) t) (value_operand starts a t) (expression_code starts a p t t) t))
 
   -- the value is converted where it is
   pub converted_operand_code : (starts : Starts) → Converted → (p t : ℕ) → List Instruction
   converted_operand_code starts (Convert from to a) p t =
-      converted_by starts (source_of starts (Convert from to a)) (expression_code starts a p (source_slot starts (Convert from to a) t) t) from to (span_of a) (converted_operand starts (Convert from to a) t) p
+      converted_by starts (source_of starts (Convert from to a))
+      (brought_by from to (operand_of starts a) (expression_code starts a p (value_slot starts a t) t) (value_operand starts a t) (expression_code starts a p (source_slot starts (Convert from to a) t) t) (source_slot starts (Convert from to a) t))
+      from to (span_of a) (converted_operand starts (Convert from to a) t) p
 
   -- the arguments of `putchar`, of which there is one
   pub printed_code : (starts : Starts) → Arguments → (p t : ℕ) → List Instruction
@@ -188,8 +191,10 @@ abbrev mutual
   pub initial_code : (starts : Starts) → Converted → (p d t : ℕ) → List Instruction
   initial_code starts (Convert from to a) p d t =
       if converts_there from to
-      then expression_code starts a p d t
-      else moved_by starts (source_of starts (Convert from to a)) (expression_code starts a p (source_slot starts (Convert from to a) t) t) from to (span_of a) (converted_operand starts (Convert from to a) t) p d
+      then brought_by from to (operand_of starts a) (expression_code starts a p (value_slot starts a t) t) (value_operand starts a t) (expression_code starts a p d t) d
+      else moved_by starts (source_of starts (Convert from to a))
+      (brought_by from to (operand_of starts a) (expression_code starts a p (value_slot starts a t) t) (value_operand starts a t) (expression_code starts a p (source_slot starts (Convert from to a) t) t) (source_slot starts (Convert from to a) t))
+      from to (span_of a) (converted_operand starts (Convert from to a) t) p d
 
   -- The left operand is l. It is t where an operator is a test, or where the right operand has code.
   pub operations_code : (starts : Starts) → Operations → (p : ℕ) → (l : Operand) → (d t : ℕ) → List Instruction
@@ -212,3 +217,8 @@ abbrev mutual
       ++ operations_code starts os
       (p + length (pointer_code o l (value_operand starts b (behind_left o t)) (code_unless (operand_of starts b) (expression_code starts b p (value_slot starts b (behind_left o t)) (behind_left o t))) (next_slot os d t)))
       (operands.Slot (next_slot os d t)) d t
+
+-- a value that is to be converted comes to slot d, and of an int that becomes a char only its low byte
+abbrev pub brought_code : (starts : Starts) → Converted → (p d t : ℕ) → List Instruction
+brought_code starts (Convert from to a) p d t =
+    brought_by from to (operand_of starts a) (expression_code starts a p (value_slot starts a t) t) (value_operand starts a t) (expression_code starts a p d t) d

@@ -26,7 +26,7 @@ use Rattle.cyc_lower.specs.declared.statements.Exits.{Exits}
 use Rattle.cyc_lower.specs.ValueCode.{slot_types, first_temporary, operand_or, code_unless, slot_or, code_unless_slot, left_with, blocks, move_of, conversion_code, span_of, addressed_by, word_by_word, global_code, passed_words, kind_passed, blank_code}
 use Rattle.cyc_lower.specs.ObjectCode.{stores_code, stored_by, load_at, right_slot}
 use Rattle.cyc_lower.specs.ControlCode.{compared_of, failing_jump, holding_jump, if_code, break_target, continue_target, while_code, named_code, opened_code, closed_code, dynamic_code, leave_code, behind_record, kept_code, tag_operand, handled_code, clause_code, goes_on, outside_loops, inside_loop, inside_try, inside_region}
-use Rattle.cyc_lower.specs.ExpressionCode.{operand_of, value_slot, slot_with, value_operand, source_of, converted_operand, printed_operand, place_operand, place_offset, load_code, expression_code, place_code, converted_operand_code, printed_code, initial_code}
+use Rattle.cyc_lower.specs.ExpressionCode.{operand_of, value_slot, slot_with, value_operand, source_of, converted_operand, printed_operand, place_operand, place_offset, load_code, expression_code, place_code, converted_operand_code, printed_code, initial_code, brought_code}
 
 module _ (starts : Starts) where
   -- an assignment, and the operand where its value stands then
@@ -86,8 +86,8 @@ module _ (starts : Starts) where
   abbrev pub return_code : Option Converted → (p : ℕ) → Exits → (t : ℕ) → List Instruction
   return_code None p exits t = leave_code exits.in_function ++ instructions.Finish t ∷ []
   return_code (Some (Convert from to a)) p exits t =
-      code_unless_slot (source_of starts (Convert from to a)) (expression_code starts a p t t)
-      ++ conversion_code starts from to (span_of a) (operands.Slot (slot_or (source_of starts (Convert from to a)) t)) (p + length (code_unless_slot (source_of starts (Convert from to a)) (expression_code starts a p t t)))
+      code_unless_slot (source_of starts (Convert from to a)) (brought_code starts (Convert from to a) p t t)
+      ++ conversion_code starts from to (span_of a) (operands.Slot (slot_or (source_of starts (Convert from to a)) t)) (p + length (code_unless_slot (source_of starts (Convert from to a)) (brought_code starts (Convert from to a) p t t)))
       ++ leave_code exits.in_function
       ++ instructions.Finish (slot_or (source_of starts (Convert from to a)) t)
       ∷ []

@@ -255,11 +255,6 @@ thinned_code starts kinds.Nullable span (operands.Slot n) p =
     jump_if_zero (operands.Slot n) (p + past_bounded span) ∷ bounded_code starts span n (n + 2) n
 thinned_code starts to span o p = []
 
--- an int becomes a char, which is its low byte
-abbrev pub masked_code : Operand → List Instruction
-masked_code (operands.Slot n) = low_byte (operands.Slot n) n ∷ []
-masked_code (operands.Word n) = []
-
 -- a value has as many words after a conversion as before it
 abbrev pub are_as_wide : (from to : Kind) → Bool
 are_as_wide from to = words_of_kind from == words_of_kind to
@@ -274,11 +269,10 @@ abbrev pub keeps_words : (from to : Kind) → Bool
 keeps_words from to = are_as_wide from to && not (masks from to)
 
 -- A value is converted where it is, and its words stay or not. The cells that it leads to, if it is a pointer to cells, have so many bytes
--- each.
+-- each. An int that becomes a char has lost its other bytes before.
 abbrev pub conversion_by : Starts → (same : Bool) → (to : Kind) → (span : Option ℕ) → Operand → (p : ℕ) → List Instruction
 conversion_by starts true to span o p = tested_code starts to o
 conversion_by starts false kinds.Fat span o p = widened_code o
-conversion_by starts false kinds.Char span o p = masked_code o
 conversion_by starts false to span o p = thinned_code starts to span o p
 
 abbrev pub conversion_code : Starts → (from to : Kind) → (span : Option ℕ) → Operand → (p : ℕ) → List Instruction
@@ -439,10 +433,10 @@ blank_code kind slot = []
 
 -- ---- conversions
 
--- It may come to the slot where it is to be before it is converted: it has the same words, and is not tested there.
+-- It may come to the slot where it is to be before it is converted: it has as many words, and is not tested there.
 abbrev pub converts_there : (from to : Kind) → Bool
 converts_there from kinds.NonNull = false
-converts_there from to = keeps_words from to
+converts_there from to = are_as_wide from to
 
 -- the words that an argument is passed with
 abbrev pub passed_words : Converted → ℕ
@@ -459,6 +453,14 @@ kind_passed (Convert from to a) = to
 abbrev pub kinds_passed : Arguments → List Kind
 kinds_passed NoArguments = []
 kinds_passed (MoreArguments c cs) = kind_passed c ∷ kinds_passed cs
+
+-- code that brings an int, whose low byte comes to slot d
+abbrev pub masked_by : Option Operand → (code : List Instruction) → Operand → (d : ℕ) → List Instruction
+masked_by known code o d = code_unless known code ++ low_byte o d ∷ []
+
+-- code that brings a value to slot d before it is converted, and of an int that becomes a char only its low byte
+abbrev pub brought_by : (from to : Kind) → Option Operand → (code : List Instruction) → Operand → (at_once : List Instruction) → (d : ℕ) → List Instruction
+brought_by from to known code o at_once d = if masks from to then masked_by known code o d else at_once
 
 -- code that brings a value, and its conversion where it is then
 abbrev pub converted_by : Starts → Option Operand → (code : List Instruction) → (from to : Kind) → (span : Option ℕ) → Operand → (p : ℕ) → List Instruction

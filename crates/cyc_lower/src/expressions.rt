@@ -9,7 +9,7 @@ ghost use Rattle.cyc_plain.specs.declared.instruction.Operand.TheVariants as ope
 ghost use Rattle.cyc_plain.specs.declared.instruction.Instruction.TheVariants as instructions;
 ghost use Rattle.cyc_lower.specs.ValueCode.{operand_or, check_code, conversion_code, divisor_code, operator_code, truth_code, copy_code, all_passed, first_two, index_code, pointer_instructions, address_code, addressed_by, reached_operand, code_unless_slot, span_of};
 ghost use Rattle.cyc_lower.specs.ObjectCode.{elements_code, last_element, saved_code};
-ghost use Rattle.cyc_lower.specs.ExpressionCode.{operand_of, left_of, left_slot, value_operand, converted_operand, printed_operand, expression_code, arguments_code, converted_operand_code, printed_code, initial_code, operations_code, made_code, place_operand, place_offset, place_code, pointer_of, pointer_slot};
+ghost use Rattle.cyc_lower.specs.ExpressionCode.{operand_of, left_of, left_slot, value_operand, converted_operand, printed_operand, expression_code, arguments_code, brought_code, converted_operand_code, printed_code, initial_code, operations_code, made_code, place_operand, place_offset, place_code, pointer_of, pointer_slot};
 ghost use Rattle.cyc_lower.specs.Lowering.{assignment_code, assigned_operand, discarded_code};
 ghost use Rattle.cyc_lower.specs.Slots.{with_counter};
 ghost use Rattle.cyc_lower.specs.Emission.{Appends, Gives, HasRoom, HasRoomFor, most_locals, value_code, source_code, slot_code, print_code, converted_slot, converted_slot_code, left_code, operation_code, view_starts, pointer_operation_code};
@@ -20,11 +20,11 @@ use crate::globals::global_of;
 use crate::locals::{counter_of, field_of, slot_of, with_counter};
 use crate::objects::{kinds_passed, last_element};
 use crate::operands::{
-    converts_there, index_of, is_in, keeps_words, kind_at, kind_behind, null_of, operand_of,
+    converts_there, index_of, is_in, keeps_words, kind_at, kind_behind, masks, null_of, operand_of,
     pointer_of, slot_behind, span_in, span_of, takes_operand, value_slot,
 };
 use crate::operators::{
-    binary_operator, left_kind, move_of, pointer_operator, test_jump, unary_instruction,
+    binary_operator, left_kind, low_byte, move_of, pointer_operator, test_jump, unary_instruction,
 };
 use crate::starts::Starts;
 use cyc_frame_count::{words_of, words_of_kind};
@@ -48,8 +48,8 @@ fn place_offset(starts: &Starts, place: &Dereference) -> u32
 }
 
 impl Emitter {
-    /// A conversion of a value where it is: where it may not be null, it is tested, a thin pointer gets the other words of a fat one, a fat
-    /// pointer leads to its cell, and an int that becomes a char keeps its low byte.
+    /// A conversion of a value where it is: where it may not be null, it is tested, a thin pointer gets the other words of a fat one, and a
+    /// fat pointer leads to its cell.
     fn convert(
         &mut self,
         starts: &Starts,
@@ -66,9 +66,6 @@ impl Emitter {
         }
         if matches!(conversion.to, Kind::Fat) {
             return self.widen(value);
-        }
-        if matches!(conversion.to, Kind::Char) {
-            return self.mask(value);
         }
         let span = span_of(&conversion.value);
         self.thin(starts, conversion.to, span, value)
@@ -484,12 +481,7 @@ impl Emitter {
         match callee {
             Callee::Putchar => {
                 let byte = self.print(starts, arguments, free)?;
-                self.emit(Instruction::Binary {
-                    operator: BinaryOperator::And,
-                    destination: slot,
-                    left: byte,
-                    right: Operand::Word { word: 255 },
-                })
+                self.emit(low_byte(byte, slot))
             }
             Callee::Getchar => {
                 self.lower_arguments(starts, arguments, free)?;
@@ -539,11 +531,30 @@ impl Emitter {
     {
         let mut slot = first;
         for argument in arguments {
-            self.lower_expression(starts, &argument.value, slot, slot)?;
+            self.bring(starts, argument, slot, slot)?;
             self.convert(starts, argument, Operand::Slot { number: slot })?;
             slot = slot_behind(slot, argument.to)?;
         }
         Ok(slot - first)
+    }
+
+    /// A value that is to be converted comes to a slot, and of an int that becomes a char only its low byte.
+    #[cycle(expression)]
+    fn bring(
+        &mut self,
+        starts: &Starts,
+        value: &Converted,
+        slot: usize,
+        free: usize,
+    ) -> Result<(), AllocError>
+        requires { free ≤ most_locals + length self.old.code.items }
+        ensures { Appends result self.old self.new (brought_code (view_starts starts.now) (view_converted value.now) (length self.old.code.items) slot free) }
+    {
+        if masks(value.from, value.to) {
+            let whole = self.lower_operand(starts, &value.value, free)?;
+            return self.emit(low_byte(whole, slot));
+        }
+        self.lower_expression(starts, &value.value, slot, free)
     }
 
     /// A value that is to be converted: where it is, or in a temporary where its words change.
@@ -563,7 +574,7 @@ impl Emitter {
         if let Some(null) = null_of(&value.value) {
             return Ok(null);
         }
-        self.lower_expression(starts, &value.value, free, free)?;
+        self.bring(starts, value, free, free)?;
         Ok(Operand::Slot { number: free })
     }
 
@@ -596,7 +607,7 @@ impl Emitter {
         ensures { Appends result self.old self.new (initial_code (view_starts starts.now) (view_converted value.now) (length self.old.code.items) slot free) }
     {
         if converts_there(value.from, value.to) {
-            return self.lower_expression(starts, &value.value, slot, free);
+            return self.bring(starts, value, slot, free);
         }
         let source = self.lower_converted(starts, value, free)?;
         self.emit(move_of(words_of_kind(value.to), slot, source))
@@ -855,7 +866,7 @@ impl Emitter {
                 return Ok(number);
             }
         }
-        self.lower_expression(starts, &value.value, free, free)?;
+        self.bring(starts, value, free, free)?;
         Ok(free)
     }
 

@@ -119,7 +119,7 @@ pub(crate) fn takes_operand(starts: &Starts, operations: &[Operation]) -> bool
 }
 
 /// Whether an int loses all but its low byte by a conversion.
-fn masks(from: Kind, to: Kind) -> bool
+pub(crate) fn masks(from: Kind, to: Kind) -> bool
     ensures { result ≡ masks from to }
 {
     match (from, to) {
@@ -142,7 +142,7 @@ pub(crate) fn converts_there(from: Kind, to: Kind) -> bool
     match to {
         Kind::NonNull => false,
         Kind::Int | Kind::Char | Kind::Nullable | Kind::Fat | Kind::Handle | Kind::Key =>
-            keeps_words(from, to),
+            words_of_kind(from) == words_of_kind(to),
     }
 }
 

@@ -3,7 +3,7 @@
 ghost use Rattle.std.specs.Prelude.{◌≡◌, ◌+◌, ◌≤◌, ◌∷◌, length};
 ghost use Rattle.cyc_types.specs.TypedTreeView.{view_lvalue};
 ghost use Rattle.cyc_meaning.specs.Values.{is_thin};
-ghost use Rattle.cyc_lower.specs.ValueCode.{address_of_code, address_of_global, last_byte_code, masked_code, bounded_code, count_code, past_bounded, thinned_code, followed_code, followed_operand, loaded_code, reached_code, reached_operand, scaled_code, stepped_code, summed_code, bounds_code, widened_code};
+ghost use Rattle.cyc_lower.specs.ValueCode.{address_of_code, address_of_global, last_byte_code, bounded_code, count_code, past_bounded, thinned_code, followed_code, followed_operand, loaded_code, reached_code, reached_operand, scaled_code, stepped_code, summed_code, bounds_code, widened_code};
 ghost use Rattle.cyc_lower.specs.ObjectCode.{saved_code};
 ghost use Rattle.cyc_types.specs.declared.typed.Kind.TheVariants as kinds;
 ghost use Rattle.cyc_plain.specs.declared.instruction.BinaryOperator.TheVariants as plain_binary;
@@ -16,7 +16,7 @@ use crate::emitter::Emitter;
 use crate::globals::global_of;
 use crate::locals::slot_of;
 use crate::operands::{is_thin, reached_operand, slot_behind, variable_bytes};
-use crate::operators::{jump_if_zero, load_of, low_byte, scale_of, store_of};
+use crate::operators::{jump_if_zero, load_of, scale_of, store_of};
 use crate::starts::Starts;
 use cyc_frame_count::words_of_kind;
 use cyc_plain::{BinaryOperator, Comparison, GLOBALS_BASE, Instruction, Operand};
@@ -87,16 +87,6 @@ impl Emitter {
                     word: address_of_global(kind, global_of(starts, number)),
                 },
             }),
-        }
-    }
-
-    /// An int becomes a char, which is its low byte.
-    pub(crate) fn mask(&mut self, value: Operand) -> Result<(), AllocError>
-        ensures { Appends result self.old self.new (masked_code value) }
-    {
-        match value {
-            Operand::Slot { number } => self.emit(low_byte(value, number)),
-            Operand::Word { .. } => Ok(()),
         }
     }
 

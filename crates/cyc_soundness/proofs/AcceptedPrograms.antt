@@ -6,6 +6,7 @@ use Rattle.cyc_syntax.specs.declared.tree.PointerKind.TheVariants as marks
 use Rattle.cyc_types.specs.declared.region.Region.TheVariants.{Heap}
 use Rattle.cyc_types.specs.declared.typed.Kind.TheVariants as kinds
 use Rattle.cyc_types.specs.declared.typed.Callee.TheVariants as callees
+use Rattle.cyc_types.specs.declared.typed.UnaryOperator.TheVariants as unary
 use Rattle.cyc_types.specs.declared.typed.Operator.TheVariants as operators
 use Rattle.cyc_types.specs.declared.typed.PointerOperator.TheVariants as pointers
 use Rattle.cyc_types.specs.Types as types
@@ -158,6 +159,33 @@ address_of_a_parameter = record { structs = []; exceptions = []; globals = []; f
 address_of_a_parameter_ends : status_of (run address_of_a_parameter [] 500) ≡ HasEnded (Returned (pos 5))
 unfolding slt_of sar_of div_of rem_of
 address_of_a_parameter_ends = refl
+
+-- int main(){ char c = 1; char *`main p = &c; *p = 300; return c; }
+abbrev char_by_its_address : t.Program
+char_by_its_address = record { structs = []; exceptions = []; globals = []; functions = (record (function [] []) { locals = (types.Char ∷ (types.Pointer marks.Nullable types.Char Heap) ∷ []); body = (t.MoreItems (t.Declare 0 types.Char (Some (t.Convert kinds.Int kinds.Char (t.Number 1)))) (t.MoreItems (t.Declare 1 (types.Pointer marks.Nullable types.Char Heap) (Some (t.Convert kinds.NonNull kinds.Nullable (t.AddressOf (t.Local here 0) (types.Pointer marks.NonNull types.Char Heap))))) (t.MoreItems (t.Execute (t.Evaluate (t.Store (t.Target kinds.Nullable (t.Copy (t.Local here 1) (types.Pointer marks.Nullable types.Char Heap)) types.Char) (t.Convert kinds.Int kinds.Char (t.Number 300)) (types.Value types.Char)))) (t.MoreItems (t.Execute (t.Return (Some (t.Convert kinds.Char kinds.Int (t.Copy (t.Local here 0) types.Char))))) t.NoItems)))) } ∷ []); main = 0 }
+
+char_by_its_address_ends : status_of (run char_by_its_address [] 500) ≡ HasEnded (Returned (pos 44))
+unfolding slt_of sar_of div_of rem_of
+char_by_its_address_ends = refl
+
+-- int main(){
+--     char ?s = new {for i < 5 : char(i + 254)}; int i = 257; s[1] = i; char ?q = s + 3;
+--     return s[1] * 256 + s[2] + q[1]; }
+abbrev chars_of_an_array : t.Program
+chars_of_an_array = record { structs = []; exceptions = []; globals = []; functions = (record (function [] []) { locals = ((types.Pointer marks.Fat types.Char Heap) ∷ types.Int ∷ (types.Pointer marks.Fat types.Char Heap) ∷ []); body = (t.MoreItems (t.Declare 1 (types.Pointer marks.Fat types.Char Heap) (Some (t.Convert kinds.Fat kinds.Fat (t.New t.OnHeap (t.Array here 0 (t.Number 5) kinds.Char (t.Unary unary.LowByte (t.Binary (t.Counter 0) (t.ThenCompute operators.Add (t.Number 254) t.NoOperations) types.Int))) (types.Pointer marks.Fat types.Char Heap))))) (t.MoreItems (t.Declare 2 types.Int (Some (t.Convert kinds.Int kinds.Int (t.Number 257)))) (t.MoreItems (t.Execute (t.Evaluate (t.Store (t.Element (t.Copy (t.Local here 1) (types.Pointer marks.Fat types.Char Heap)) (t.Number 1) types.Char) (t.Convert kinds.Int kinds.Char (t.Copy (t.Local here 2) types.Int)) (types.Value types.Char)))) (t.MoreItems (t.Declare 3 (types.Pointer marks.Fat types.Char Heap) (Some (t.Convert kinds.Fat kinds.Fat (t.Binary (t.Copy (t.Local here 1) (types.Pointer marks.Fat types.Char Heap)) (t.ThenPointer pointers.AddFat (t.Number 3) t.NoOperations) (types.Pointer marks.Fat types.Char Heap))))) (t.MoreItems (t.Execute (t.Return (Some (t.Convert kinds.Int kinds.Int (t.Binary (t.Binary (t.Unary unary.Widen (t.Load (t.Element (t.Copy (t.Local here 1) (types.Pointer marks.Fat types.Char Heap)) (t.Number 1) types.Char))) (t.ThenCompute operators.Multiply (t.Number 256) t.NoOperations) types.Int) (t.ThenCompute operators.Add (t.Unary unary.Widen (t.Load (t.Element (t.Copy (t.Local here 1) (types.Pointer marks.Fat types.Char Heap)) (t.Number 2) types.Char))) (t.ThenCompute operators.Add (t.Unary unary.Widen (t.Load (t.Element (t.Copy (t.Local here 3) (types.Pointer marks.Fat types.Char Heap)) (t.Number 1) types.Char))) t.NoOperations)) types.Int))))) t.NoItems))))) } ∷ []); main = 0 }
+
+chars_of_an_array_ends : status_of (run chars_of_an_array [] 500) ≡ HasEnded (Returned (pos 258))
+unfolding slt_of sar_of div_of rem_of
+chars_of_an_array_ends = refl
+
+-- struct S { char a; int n; char b; };
+-- int main(){ struct S @s = new S{3, 600, 300}; char x = 9; s->b :=: x; return s->b * 100 + s->a + x - 44; }
+abbrev chars_swapped_in_a_struct : t.Program
+chars_swapped_in_a_struct = record { structs = (record { parameters = 0; fields = (types.Char ∷ types.Int ∷ types.Char ∷ []) } ∷ []); exceptions = []; globals = []; functions = (record (function [] []) { locals = ((types.Pointer marks.NonNull (types.Struct 0 []) Heap) ∷ types.Char ∷ []); body = (t.MoreItems (t.Declare 0 (types.Pointer marks.NonNull (types.Struct 0 []) Heap) (Some (t.Convert kinds.NonNull kinds.NonNull (t.New t.OnHeap (t.Fields (t.MoreArguments (t.Convert kinds.Int kinds.Char (t.Number 3)) (t.MoreArguments (t.Convert kinds.Int kinds.Int (t.Number 600)) (t.MoreArguments (t.Convert kinds.Int kinds.Char (t.Number 300)) t.NoArguments)))) (types.Pointer marks.NonNull (types.Struct 0 []) Heap))))) (t.MoreItems (t.Declare 1 types.Char (Some (t.Convert kinds.Int kinds.Char (t.Number 9)))) (t.MoreItems (t.Execute (t.Swap (t.CellSide (t.Member kinds.NonNull (t.Copy (t.Local here 0) (types.Pointer marks.NonNull (types.Struct 0 []) Heap)) 0 2 types.Char)) (t.VariableSide (t.Local here 1) types.Char))) (t.MoreItems (t.Execute (t.Return (Some (t.Convert kinds.Int kinds.Int (t.Binary (t.Binary (t.Unary unary.Widen (t.Load (t.Member kinds.NonNull (t.Copy (t.Local here 0) (types.Pointer marks.NonNull (types.Struct 0 []) Heap)) 0 2 types.Char))) (t.ThenCompute operators.Multiply (t.Number 100) t.NoOperations) types.Int) (t.ThenCompute operators.Add (t.Unary unary.Widen (t.Load (t.Member kinds.NonNull (t.Copy (t.Local here 0) (types.Pointer marks.NonNull (types.Struct 0 []) Heap)) 0 0 types.Char))) (t.ThenCompute operators.Add (t.Unary unary.Widen (t.Copy (t.Local here 1) types.Char)) (t.ThenCompute operators.Subtract (t.Number 44) t.NoOperations))) types.Int))))) t.NoItems)))) } ∷ []); main = 0 }
+
+chars_swapped_in_a_struct_ends : status_of (run chars_swapped_in_a_struct [] 500) ≡ HasEnded (Returned (pos 903))
+unfolding slt_of sar_of div_of rem_of
+chars_swapped_in_a_struct_ends = refl
 
 -- int main(){ int x = 1; int *`main p = &x; { int y = 7; *p = *p + y; } return x; }
 abbrev outer_seen_from_inside : t.Program

@@ -83,6 +83,16 @@ address_returned_ends : status_of (run address_returned [] 500) ≡ IsDead
 unfolding slt_of sar_of div_of rem_of
 address_returned_ends = refl
 
+-- fault 25 at 1:34
+-- char *`H f(){ char c = 1; return &c; }
+-- int main(){ return *f(); }
+abbrev address_of_a_char_returned : t.Program
+address_of_a_char_returned = record { structs = []; exceptions = []; globals = []; functions = (record (function [] []) { locals = (types.Char ∷ []); body = (t.MoreItems (t.Declare 0 types.Char (Some (t.Convert kinds.Int kinds.Char (t.Number 1)))) (t.MoreItems (t.Execute (t.Return (Some (t.Convert kinds.NonNull kinds.Nullable (t.AddressOf (t.Local here 0) (types.Pointer marks.NonNull types.Char Heap)))))) t.NoItems)) } ∷ record (function [] []) { locals = []; body = (t.MoreItems (t.Execute (t.Return (Some (t.Convert kinds.Char kinds.Int (t.Load (t.Target kinds.Nullable (t.Call (callees.Function 0) t.NoArguments (types.Value (types.Pointer marks.Nullable types.Char Heap))) types.Char)))))) t.NoItems) } ∷ []); main = 1 }
+
+address_of_a_char_returned_ends : status_of (run address_of_a_char_returned [] 500) ≡ IsDead
+unfolding slt_of sar_of div_of rem_of
+address_of_a_char_returned_ends = refl
+
 -- fault 25 at 1:26
 -- int *`H f(int n){ return &n; }
 -- int main(){ return *f(1); }

@@ -28,13 +28,13 @@ use Rattle.cyc_meaning.specs.Step.{target_by, inside, region_end, step}
 use Rattle.cyc_lower.specs.declared.statements.Exits.{Exits}
 use Rattle.cyc_lower.specs.Slots.{slot_of}
 use Rattle.cyc_lower.proofs.slots.Slots.{slot-room, room-inside}
-use Rattle.cyc_lower.proofs.slots.Widths.{HasRoom, Outside, HasLocal, kind_in, kind_positive}
+use Rattle.cyc_lower.proofs.slots.Widths.{HasRoom, Outside, HasLocal, kind_in, kind_positive, keeps_whole}
 use Rattle.cyc_lower.proofs.relation.Moves.{copied_is, copied_elsewhere, put_elsewhere}
-use Rattle.cyc_lower.specs.ValueCode.{converts_there, null_of, keeps_words}
+use Rattle.cyc_lower.specs.ValueCode.{converts_there, null_of, keeps_words, span_of}
 use Rattle.cyc_lower.specs.ControlCode.{counter_operand, break_target, continue_target, inside_loop}
-use Rattle.cyc_lower.specs.ExpressionCode.{operand_of, value_slot}
+use Rattle.cyc_lower.specs.ExpressionCode.{operand_of, value_slot, source_of}
 use Rattle.cyc_lower.specs.Lowering.{scopes_of, results_of, lower_function, lower_program, globals_of}
-use Rattle.cyc_lower.proofs.relation.Stands.{OperandBy, ExpressionAt, InitialAt, InitialBy, ReturnedAt, ItemsAt, BlankAt}
+use Rattle.cyc_lower.proofs.relation.Stands.{OperandBy, ExpressionAt, InitialAt, InitialBy, ReturnedAt, ItemsAt, BlankAt, BroughtAt, ConversionAt}
 use Rattle.cyc_objects.specs.Tables.{Tables, with_row, with_handle, Row}
 use Rattle.cyc_objects.specs.Related.{scopes}
 use Rattle.cyc_objects.specs.Words.{Is}
@@ -52,7 +52,7 @@ use Rattle.cyc_lower.proofs.handler_steps.Handling.{leaving, shared_leaving, rec
 use Rattle.cyc_lower.proofs.region_steps.WaysOut.{leaves_region}
 use Rattle.cyc_lower.proofs.relation.Matched.{IsMatched, silently, by_one, by_two}
 use Rattle.cyc_lower.proofs.handler_steps.ExceptionSteps.{begins, ends, throws_none, throws_some}
-use Rattle.cyc_lower.proofs.value_steps.Evaluations.{IsStep, sources}
+use Rattle.cyc_lower.proofs.value_steps.Evaluations.{IsStep, sources, brings, brings_ahead}
 use Rattle.cyc_lower.proofs.region_steps.RegionSteps.{local_there, opens_region, opens_by, aliases_local, declares_key, closes_region, ends_loan}
 use Rattle.cyc_lower.proofs.relation.Rows.{row-fits, row-variable, char_row}
 use Rattle.cyc_types.specs.declared.typed.Kind.TheVariants as kinds
@@ -79,31 +79,44 @@ module _ (source : Program) (pages calls : ℕ) where
   -- ---- statements
 
   -- a value that is returned comes to a slot, or is in that of a local
-  returned : (tables : Tables) (a : Expression) (same : Bool) (locals : ℕ → Option ℕ) (g p : ℕ) (slots : Words) (frames : List Frame) (k : List Entry) (s m : ℕ)
-      → ReturnedAt (code_of source g) (bounds_at source g) (types_on source g k) (if same then operand_of (starts_on source g k) a else null_of a)
-      (ExpressionAt (code_of source g) (bounds_at source g) (types_on source g k) a (top source g k) (top source g k) p m) (top source g k) s p m
-      → Holds tables slots (floor source g k) (held k) → ValueStack source g locals (given_at source g a) (operands.Slot s) m frames k → EvaluatingAt source tables a locals g p slots frames k
-  returned tables NullPointer false locals g p slots frames k s m (is, at) holds stack =
-      into_slot (top source g k) m at holds (in_temporary (omega arith) (subst (λ x. ValueStack source g locals (given_at source g NullPointer) (operands.Slot x) m frames k) is stack))
-  returned tables a false locals g p slots frames k s m (is, at) holds stack =
-      into_slot (top source g k) m at holds (in_temporary (omega arith) (subst (λ x. ValueStack source g locals (given_at source g a) (operands.Slot x) m frames k) is stack))
-  returned tables a true locals g p slots frames k s m at holds stack = by (operand_of (starts_on source g k) a) refl at
+  returned : (tables : Tables) (from to : Kind) (a : Expression) (locals : ℕ → Option ℕ) (g p : ℕ) (slots : Words) (frames : List Frame) (k : List Entry) (s m q : ℕ)
+      → ReturnedAt (code_of source g) (bounds_at source g) (types_on source g k) (source_of (starts_on source g k) (Convert from to a))
+      (BroughtAt (code_of source g) (bounds_at source g) (types_on source g k) (Convert from to a) (top source g k) (top source g k) p m) (top source g k) s p m
+      → ConversionAt (code_of source g) (bounds_at source g) (types_on source g k) from to (span_of a) (operands.Slot s) (top source g k) m q
+      → Holds tables slots (floor source g k) (held k) → ValueStack source g locals to (operands.Slot s) q frames k
+      → EvaluatingAt source tables a locals g p slots frames (Needs (ConvertTo from to (target_by a)) ∷ k)
+  returned tables from to a locals g p slots frames k s m q at at_to holds stack = by (keeps_words from to) refl at
     where
       computed : Type 0
-      computed = ExpressionAt (code_of source g) (bounds_at source g) (types_on source g k) a (top source g k) (top source g k) p m
+      computed = BroughtAt (code_of source g) (bounds_at source g) (types_on source g k) (Convert from to a) (top source g k) (top source g k) p m
 
-      brought : s ≡ top source g k → computed → EvaluatingAt source tables a locals g p slots frames k
-      brought is at = into_slot (top source g k) m at holds (in_temporary (omega arith) (subst (λ x. ValueStack source g locals (given_at source g a) (operands.Slot x) m frames k) is stack))
+      evaluated : Type 0
+      evaluated = EvaluatingAt source tables a locals g p slots frames (Needs (ConvertTo from to (target_by a)) ∷ k)
 
-      by : (known : Option Operand) → operand_of (starts_on source g k) a ≡ known
-          → ReturnedAt (code_of source g) (bounds_at source g) (types_on source g k) known computed (top source g k) s p m → EvaluatingAt source tables a locals g p slots frames k
-      by None none (is, at) = brought is at
-      by (Some (operands.Word n)) known (is, at) = brought is at
-      by (Some (operands.Slot n)) known (is, end) =
+      brought : s ≡ top source g k → computed → evaluated
+      brought is at =
+          brings source pages calls tables from to a k locals g p slots frames m q at
+          (subst (λ x. ConversionAt (code_of source g) (bounds_at source g) (types_on source g k) from to (span_of a) (operands.Slot x) (top source g k) m q) is at_to) holds
+          (subst (λ x. ValueStack source g locals to (operands.Slot x) q frames k) is stack)
+
+      null_brought : (x : Expression) → ReturnedAt (code_of source g) (bounds_at source g) (types_on source g k) (null_of x) computed (top source g k) s p m → evaluated
+      null_brought NullPointer (is, at) = brought is at
+      null_brought x (is, at) = brought is at
+
+      by_operand : (known : Option Operand) → operand_of (starts_on source g k) a ≡ known → keeps_words from to ≡ true
+          → ReturnedAt (code_of source g) (bounds_at source g) (types_on source g k) known computed (top source g k) s p m → evaluated
+      by_operand None none keeps (is, at) = brought is at
+      by_operand (Some (operands.Word n)) known keeps (is, at) = brought is at
+      by_operand (Some (operands.Slot n)) known keeps (is, end) =
           as_operand (operands.Slot s) m
           (subst (λ x. OperandBy (code_of source g) (bounds_at source g) (types_on source g k) x
           (ExpressionAt (code_of source g) (bounds_at source g) (types_on source g k) a (value_slot (starts_on source g k) a (top source g k)) (top source g k) p m)
-          (value_slot (starts_on source g k) a (top source g k)) (operands.Slot s) p m) (sym known) (ap operands.Slot is, end)) holds stack
+          (value_slot (starts_on source g k) a (top source g k)) (operands.Slot s) p m) (sym known) (ap operands.Slot is, end)) holds (inr (q, keeps_whole from to keeps, at_to, stack))
+
+      by : (same : Bool) → keeps_words from to ≡ same
+          → ReturnedAt (code_of source g) (bounds_at source g) (types_on source g k) (if same then operand_of (starts_on source g k) a else null_of a) computed (top source g k) s p m → evaluated
+      by true keeps at = by_operand (operand_of (starts_on source g k) a) refl keeps at
+      by false changes at = null_brought a at
 
   pub executing : (s : Statement) (k : List Entry) (e : Environment) (w : World) (c : Configuration) → IsNested k e w → IsStep source pages calls (Executing s) k e w c
   executing (Block r js) k e w c nested well (shared, facts, (exits, q, items, stack)) =
@@ -135,7 +148,7 @@ module _ (source : Program) (pages calls : ℕ) where
       (λ handlers stand marks_there marked. (shared_leaving source pages calls false k e w c shared, (facts.0, stand), m, marks_there, marked, (exits, q, s, here, stack)))
   executing (typed.Return (Some (Convert from to a))) k e w c nested well (shared, facts, (exits, q, (s, m, r, u, at_a, at_to, leave, here, wide, kind_is), stack)) =
       silently source pages calls (Running (Executing (typed.Return (Some (Convert from to a)))) k e w) (Running (Evaluating a) (Needs (ConvertTo from to (target_by a)) ∷ Needs Return ∷ k) e w) (plain.Running c) refl
-      (shared, facts, returned shared.tables a (keeps_words from to) e.locals c.active.function c.active.next c.active.slots c.frames (Needs (ConvertTo from to (target_by a)) ∷ Needs Return ∷ k) s m at_a tt (r, at_to, (exits, q, s, u, refl, leave, here, (wide, kind_is), stack)))
+      (shared, facts, returned shared.tables from to a e.locals c.active.function c.active.next c.active.slots c.frames (Needs Return ∷ k) s m r at_a at_to tt (exits, q, s, u, refl, leave, here, (wide, kind_is), stack))
       (omega arith)
   executing Break k e w c nested well (shared, facts, (exits, q, (m, (r, closing, marks), here), stack)) =
       leaving source pages calls true (Executing Break) Breaking k k e w c exits.in_loop r m refl shared (omega arith) (record_left source c.active.function exits q c.frames k stack).0 closing marks facts.1
@@ -351,11 +364,11 @@ module _ (source : Program) (pages calls : ℕ) where
   initial_by true n ty from to a js k e w c exits m q lands shared facts room of_type (wide, at_a) items stack =
       let g = c.active.function in
       let inside = slot-room (types_at source g) n (room-inside (types_at source g) n to room) in
-      (shared, facts, into_slot (slot_of (starts_at source g) n) m at_a tt (in_local (omega (arith, inside, room, wide)) (lands, wide, (exits, q, refl, room, of_type, items, stack))))
+      (shared, facts, brings_ahead source pages calls shared.tables from to a (Needs (Initialise n (kind_of ty) js) ∷ k) e.locals g c.active.next c.active.slots c.frames (slot_of (starts_at source g) n) m lands wide (omega (arith, inside, room)) at_a tt (exits, q, refl, room, of_type, items, stack))
   initial_by false n ty from to a js k e w c exits m q lands shared facts room of_type (o, s, r, at_a, at_to, move, end) items stack =
       let g = c.active.function in
       let rest = subst (λ p. ItemsAt (code_of source g) (bounds_at source g) (types_at source g) js exits (floor source g k) p q) (sym end) items in
-      (shared, facts, sources source pages calls shared.tables from to a (Needs (ConvertTo from to (target_by a)) ∷ Needs (Initialise n (kind_of ty) js) ∷ k) e w c o s at_a tt (r, at_to, (exits, q, move, room, of_type, rest, stack)))
+      (shared, facts, sources source pages calls shared.tables from to a (Needs (Initialise n (kind_of ty) js) ∷ k) e w c o s r at_a at_to tt (exits, q, move, room, of_type, rest, stack))
 
   initial : (n : ℕ) (ty : Ty) (from to : Kind) (a : Expression) (js : Items) (k : List Entry) (e : Environment) (w : World) (c : Configuration) (exits : Exits) (m q : ℕ)
       → (shared : SharedAt source pages calls k e w c) → DataIn source shared.tables c.active.slots k e w c

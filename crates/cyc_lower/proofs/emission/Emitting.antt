@@ -44,10 +44,10 @@ use Rattle.cyc_plain.specs.declared.instruction.Instruction.{Instruction}
 use Rattle.cyc_plain.specs.declared.instruction.Instruction.TheVariants as instructions
 use Rattle.cyc_lower.specs.Slots.{with_counter, slot_of, Starts, global_of}
 use Rattle.cyc_lower.specs.declared.operands.Condition.{Condition}
-use Rattle.cyc_lower.specs.ValueCode.{passed_words, kind_passed, all_passed, kinds_passed, load_of, converts_there, converted_by, moved_by, move_of, operand_or, code_unless, left_with, low_byte, next_slot, operator_code, compute_code, test_jump, truth_code, test_code, copy_code, binary_operator, behind_left, pointer_instructions, address_code, addressed_by, jump_if_zero, reached_code, count_code, span_of, followed_code, span_in, code_unless_slot, global_code, word_by_word}
+use Rattle.cyc_lower.specs.ValueCode.{passed_words, kind_passed, all_passed, kinds_passed, load_of, converts_there, converted_by, moved_by, move_of, operand_or, code_unless, left_with, low_byte, next_slot, operator_code, compute_code, test_jump, truth_code, test_code, copy_code, binary_operator, behind_left, pointer_instructions, address_code, addressed_by, jump_if_zero, reached_code, count_code, span_of, followed_code, span_in, code_unless_slot, global_code, word_by_word, masked_by, masks}
 use Rattle.cyc_lower.specs.ObjectCode.{measured_code, asked_code, begun_code, written_code, filled_code, restarted_code, ended_code, elements_code, last_element, object_code, saved_code}
 use Rattle.cyc_lower.specs.ControlCode.{failing_jump}
-use Rattle.cyc_lower.specs.ExpressionCode.{source_of, source_slot, operand_of, left_of, slot_with, left_slot, value_operand, converted_operand, printed_operand, load_code, expression_code, value_slot, arguments_code, converted_code, converted_operand_code, printed_code, initial_code, operations_code, made_code, place_operand, place_offset, place_code, pointer_of}
+use Rattle.cyc_lower.specs.ExpressionCode.{source_of, source_slot, operand_of, left_of, slot_with, left_slot, value_operand, converted_operand, printed_operand, load_code, expression_code, value_slot, arguments_code, converted_code, converted_operand_code, printed_code, initial_code, operations_code, made_code, place_operand, place_offset, place_code, pointer_of, brought_code}
 use Rattle.cyc_lower.specs.Lowering.{assignment_code, assigned_operand, discarded_code, store_address_code, store_code}
 use Rattle.cyc_lower.specs.Emission.{most_locals, value_code, print_code, left_code, takes_operand, HasRoom, operation_code}
 use Rattle.cyc_lower.proofs.slots.Widths.{kind_positive}
@@ -367,6 +367,11 @@ module _ (starts : Starts) where
       let front = code_unless_slot (pointer_of starts a i) (expression_code starts a p t t) in
       behind front _ (behind (code_unless (operand_of starts i) (expression_code starts i (p + length front) (value_slot starts i (t + 3)) (t + 3))) _ (omega arith))
 
+  brought_by_some : (masking : Bool) (known : Option Operand) (at_once inner : List Instruction) (o : Operand) (d : ℕ) → 0 < length at_once
+      → 0 < length (if masking then masked_by known inner o d else at_once)
+  brought_by_some true known at_once inner o d some = behind (code_unless known inner) (low_byte o d ∷ []) (omega arith)
+  brought_by_some false known at_once inner o d some = some
+
   mutual
     pub expression_some : (a : Expression) (p d t : ℕ) → 0 < length (expression_code starts a p d t)
     expression_some (Number n) p d t = omega arith
@@ -410,7 +415,8 @@ module _ (starts : Starts) where
     initial_some : (c : Converted) (p d t : ℕ) → 0 < length (initial_code starts c p d t)
     initial_some (Convert from to a) p d t =
         let slot = source_slot starts (Convert from to a) t in
-        initial_by (converts_there from to) (source_of starts (Convert from to a)) (expression_code starts a p d t) (expression_code starts a p slot t) from to (span_of a) (converted_operand starts (Convert from to a) t) p d (expression_some a p d t)
+        initial_by (converts_there from to) (source_of starts (Convert from to a)) (brought_code starts (Convert from to a) p d t) (brought_code starts (Convert from to a) p slot t) from to (span_of a) (converted_operand starts (Convert from to a) t) p d
+        (brought_by_some (masks from to) (operand_of starts a) (expression_code starts a p d t) (expression_code starts a p (value_slot starts a t) t) (value_operand starts a t) d (expression_some a p d t))
 
   -- arguments: the state is the slot of the next
   abbrev pub all_arguments : List ConvertedCode → (p t : ℕ) → List Instruction

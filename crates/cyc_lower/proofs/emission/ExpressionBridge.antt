@@ -19,15 +19,15 @@ use Rattle.cyc_meaning.specs.Values.{kind_of, is_thin, words_of_kind}
 use Rattle.cyc_meaning.specs.FrameCount.{operand_words}
 use Rattle.cyc_objects.proofs.NumberLemmas.{slice_get-there}
 use Rattle.cyc_lower.specs.Slots.{counted, Types, starts_of, slot_of, global_of}
-use Rattle.cyc_lower.specs.ValueCode.{converts_there, passed_words, operand_or, code_unless, code_unless_slot, next_slot, check_code, conversion_code, operator_code, truth_code, low_byte, test_code, is_in, copy_code, behind_left, pointer_code, pointer_instructions, address_code, count_code, span_of, loaded_code, kinds_passed, reached_code, followed_code, span_in, global_code, kind_behind, kind_passed, address_of_global}
+use Rattle.cyc_lower.specs.ValueCode.{converts_there, passed_words, operand_or, code_unless, code_unless_slot, next_slot, check_code, conversion_code, operator_code, truth_code, low_byte, test_code, is_in, copy_code, behind_left, pointer_code, pointer_instructions, address_code, count_code, span_of, loaded_code, kinds_passed, reached_code, followed_code, span_in, global_code, kind_behind, kind_passed, address_of_global, masks}
 use Rattle.cyc_lower.specs.ObjectCode.{begun_code, filled_code, ended_code, elements_code, object_code, free_code, saved_code}
-use Rattle.cyc_lower.specs.ExpressionCode.{source_of, source_slot, operand_of, left_of, value_slot, left_slot, value_operand, converted_operand, printed_operand, expression_code, arguments_code, converted_code, converted_operand_code, printed_code, initial_code, operations_code, made_code, place_operand, place_offset, place_code, pointer_of, pointer_slot}
-use Rattle.cyc_lower.proofs.relation.Stands.{ExpressionAt, InitialAt, ConvertedAt, ConvertedOperandAt, PrintedAt, ArgumentsAt, OperationsAt, MadeAt, PlaceAt, LastByteAt}
+use Rattle.cyc_lower.specs.ExpressionCode.{source_of, source_slot, operand_of, left_of, value_slot, left_slot, value_operand, converted_operand, printed_operand, expression_code, arguments_code, converted_code, converted_operand_code, printed_code, initial_code, operations_code, made_code, place_operand, place_offset, place_code, pointer_of, pointer_slot, brought_code}
+use Rattle.cyc_lower.proofs.relation.Stands.{ExpressionAt, InitialAt, ConvertedAt, ConvertedOperandAt, PrintedAt, ArgumentsAt, OperationsAt, MadeAt, PlaceAt, LastByteAt, BroughtAt}
 use Rattle.cyc_lower.proofs.slots.Widths.{kind_few, type_words}
 use Rattle.cyc_lower.proofs.slots.CellBytes.{passed_slots, passed_many}
 use Rattle.cyc_lower.proofs.relation.Fitting.{FitsCell, FitsObject, Fits, FitsConverted, FitArguments, FitOperations}
 use Rattle.cyc_lower.proofs.place_steps.Sources.{stored_apart}
-use Rattle.cyc_lower.proofs.emission.OperandBridge.{cut, BlocksStand, operand_by, returned_by, right_by, IsLeft, next_left, first_left, freed_stands, check_stands, reached_stands, followed_stands, in_slots, source_brought, conversion_stands, operator_stands, pointer_stands, global_stands, count_stands, load_stands, saved_stands, object_stands, begun_stands, filled_stands, copy_by, address_stands, loaded_stands, initial_by, last_byte_stands}
+use Rattle.cyc_lower.proofs.emission.OperandBridge.{cut, BlocksStand, operand_by, returned_by, right_by, IsLeft, next_left, first_left, freed_stands, check_stands, reached_stands, followed_stands, in_slots, source_brought, conversion_stands, operator_stands, pointer_stands, global_stands, count_stands, load_stands, saved_stands, object_stands, begun_stands, filled_stands, copy_by, address_stands, loaded_stands, initial_by, last_byte_stands, brought_by}
 use Rattle.cyc_types.specs.declared.typed.UnaryOperator.TheVariants as unary
 use Rattle.cyc_types.specs.declared.typed.Kind.{Kind}
 
@@ -291,23 +291,23 @@ module _ (code : List Instruction) (b : Numbering) where
 
     pub initial_stands : (types : Types) (raised : BlocksStand code types.raises) → (c : Converted) (d t p q : ℕ) → FitsConverted b types c → p + length (initial_code (starts_of types) c p d t) ≡ q → HasAt code p (initial_code (starts_of types) c p d t) → InitialAt code b types c d t p q
     initial_stands types raised (Convert from to a) d t p q (kind, wide, numbered) end has =
-        initial_by code b types raised (converts_there from to) from to a d t p q kind wide refl (λ slot r e h. expression_stands types raised a slot t p r numbered e h) end has
+        initial_by code b types raised (converts_there from to) from to a d t p q kind wide refl (λ slot r e h. brought_by code b types raised (masks from to) a slot t p r (λ s u f g. expression_stands types raised a s t p u numbered f g) e h) end has
 
     converted_stands : (types : Types) (raised : BlocksStand code types.raises) → (c : Converted) (t p q : ℕ) → FitsConverted b types c → p + length (converted_code (starts_of types) c p t) ≡ q → HasAt code p (converted_code (starts_of types) c p t) → ConvertedAt code b types c t p q
     converted_stands types raised (Convert from to a) t p q (kind, wide, numbered) end has =
-        let front = expression_code (starts_of types) a p t t in
+        let front = brought_code (starts_of types) (Convert from to a) p t t in
         let back = conversion_code (starts_of types) from to (span_of a) (operands.Slot t) (p + length front) in
-        (p + length front, expression_stands types raised a t t p (p + length front) numbered refl (has_front code p front back has), conversion_stands code b types raised from to (span_of a) (operands.Slot t) t (p + length front) q wide (λ narrow. refl) (cut p q front back end) (has_back code p front back has))
+        (p + length front, brought_by code b types raised (masks from to) a t t p (p + length front) (λ s u f g. expression_stands types raised a s t p u numbered f g) refl (has_front code p front back has), conversion_stands code b types raised from to (span_of a) (operands.Slot t) t (p + length front) q wide (λ narrow. refl) (cut p q front back end) (has_back code p front back has))
 
     pub converted_operand_stands : (types : Types) (raised : BlocksStand code types.raises) → (c : Converted) (t p q : ℕ) → FitsConverted b types c → p + length (converted_operand_code (starts_of types) c p t) ≡ q → HasAt code p (converted_operand_code (starts_of types) c p t) → ConvertedOperandAt code b types c t (converted_operand (starts_of types) c t) p q
     converted_operand_stands types raised (Convert from to a) t p q (kind, wide, numbered) end has =
         let slot = source_slot (starts_of types) (Convert from to a) t in
         let known = source_of (starts_of types) (Convert from to a) in
-        let inner = expression_code (starts_of types) a p slot t in
+        let inner = brought_code (starts_of types) (Convert from to a) p slot t in
         let front = code_unless known inner in
         let m = p + length front in
         let back = conversion_code (starts_of types) from to (span_of a) (converted_operand (starts_of types) (Convert from to a) t) m in
-        (m, operand_by code b types raised known _ inner slot p m refl (has_front code p front back has) (λ e h. expression_stands types raised a slot t p m numbered e h), conversion_stands code b types raised from to (span_of a) (converted_operand (starts_of types) (Convert from to a) t) t m q wide (λ narrow. source_brought code b types raised from to a t kind narrow) (cut p q front back end) (has_back code p front back has))
+        (m, operand_by code b types raised known _ inner slot p m refl (has_front code p front back has) (λ e h. brought_by code b types raised (masks from to) a slot t p m (λ s u f g. expression_stands types raised a s t p u numbered f g) e h), conversion_stands code b types raised from to (span_of a) (converted_operand (starts_of types) (Convert from to a) t) t m q wide (λ narrow. source_brought code b types raised from to a t kind narrow) (cut p q front back end) (has_back code p front back has))
 
     pub printed_stands : (types : Types) (raised : BlocksStand code types.raises) → (cs : Arguments) (o : Operand) (t p q : ℕ) → argument_count cs ≡ 1 → FitArguments b types cs → p + length (printed_code (starts_of types) cs p t) ≡ q → HasAt code p (printed_code (starts_of types) cs p t) → PrintedAt code b types cs t (printed_operand (starts_of types) cs o t) p q
     printed_stands types raised NoArguments o t p q single numbered end has = absurd (omega (arith, single))
@@ -394,3 +394,7 @@ module _ (code : List Instruction) (b : Numbering) where
           pointer_stands code b types raised o l r t next m s left (cut p s operand (pointer_instructions o l r next) refl) (has_back code p operand _ front_has),
           operations_stand types raised os (operands.Slot next) d t s q (words_of ty) ty rest (next_left code b types raised os d t) (cut p q both back end) (has_back code p both back has),
         )
+
+  pub brought_stands : (types : Types) (raised : BlocksStand code types.raises) → (c : Converted) (d t p q : ℕ) → FitsConverted b types c → p + length (brought_code (starts_of types) c p d t) ≡ q → HasAt code p (brought_code (starts_of types) c p d t) → BroughtAt code b types c d t p q
+  brought_stands types raised (Convert from to a) d t p q (kind, wide, numbered) end has =
+      brought_by code b types raised (masks from to) a d t p q (λ slot r e h. expression_stands types raised a slot t p r numbered e h) end has

@@ -19,10 +19,10 @@ use Rattle.cyc_plain.specs.declared.instruction.Instruction.{Instruction}
 use Rattle.cyc_store.specs.declared.range.TheConstants.{HEAP, UNIQUE}
 use Rattle.cyc_lower.specs.declared.statements.Exits.{Exits}
 use Rattle.cyc_lower.specs.Slots.{with_counter, Starts, slot_of, global_of}
-use Rattle.cyc_lower.specs.ValueCode.{first_temporary, keeps_words, masked_code, kind_behind, last_byte_code, kind_passed, converts_there, passed_words, operand_or, code_unless, code_unless_slot, left_with, next_slot, converted_by, conversion_code, divisor_code, operator_code, pointer_instructions, first_two, copy_code, address_code, behind_left, checked_code, null_of, span_of, span_in, followed_operand, followed_code, conversion_by, widened_code, count_code, loaded_code, slot_or, kinds_passed, thinned_code, bounded_code, past_bounded, reached_operand, reached_code, word_by_word, load_word, global_code}
+use Rattle.cyc_lower.specs.ValueCode.{first_temporary, keeps_words, kind_behind, last_byte_code, kind_passed, converts_there, passed_words, operand_or, code_unless, code_unless_slot, left_with, next_slot, converted_by, conversion_code, divisor_code, operator_code, pointer_instructions, first_two, copy_code, address_code, behind_left, checked_code, null_of, span_of, span_in, followed_operand, followed_code, conversion_by, widened_code, count_code, loaded_code, slot_or, kinds_passed, thinned_code, bounded_code, past_bounded, reached_operand, reached_code, word_by_word, load_word, global_code, masks}
 use Rattle.cyc_lower.specs.ObjectCode.{begun_code, filled_code, elements_code, ended_code, object_code, right_slot, saved_code, stores_code}
 use Rattle.cyc_lower.specs.ControlCode.{outside_loops, if_code, while_code, failing_jump, holding_jump, compared_of, inside_loop, leave_code, try_code, clause_code, break_target, continue_target, kept_code, restored_code, behind_record, inside_try, inside_region, opened_code, closed_code}
-use Rattle.cyc_lower.specs.ExpressionCode.{operand_of, left_of, value_slot, slot_with, left_slot, value_operand, source_of, source_slot, converted_operand, load_code, place_operand, place_offset, expression_code, place_code, made_code, arguments_code, converted_code, converted_operand_code, printed_code, initial_code, operations_code, pointer_of}
+use Rattle.cyc_lower.specs.ExpressionCode.{operand_of, left_of, value_slot, slot_with, left_slot, value_operand, source_of, source_slot, converted_operand, load_code, place_operand, place_offset, expression_code, place_code, made_code, arguments_code, converted_code, converted_operand_code, printed_code, initial_code, operations_code, pointer_of, brought_code}
 use Rattle.cyc_lower.specs.Lowering.{raises_of, body_code, assignment_code, discarded_code, pair_code, condition_code, return_code, declaration_code, statement_code, items_code, condition_of, side_code, swap_code, thrown_code, caught_code, clauses_code, starts_with, read_side, write_side, exchange_code}
 use Rattle.cyc_plain.specs.declared.instruction.Instruction.TheVariants as instructions
 use Rattle.cyc_meaning.specs.Values.{is_thin, kind_of, words_of_kind}
@@ -158,7 +158,6 @@ module _ (starts : Starts) (raises : ℕ) where
   conversion_by_long true kinds.NonNull span o r p q same = refl
   conversion_by_long true to span o r p q same = refl
   conversion_by_long false kinds.Fat span o r p q same = λ i. length (widened_code (same i))
-  conversion_by_long false kinds.Char span o r p q same = λ i. length (masked_code (same i))
   conversion_by_long false to span o r p q same = thinned_long to span o p q ∙ (λ i. length (thinned_code other to span (same i) q))
 
   conversion_long : (from to : Kind) (span : Option ℕ) (o r : Operand) (p q : ℕ) → o ≡ r → length (conversion_code starts from to span o p) ≡ length (conversion_code other from to span r q)
@@ -199,6 +198,11 @@ module _ (starts : Starts) (raises : ℕ) where
   operand_by : (a : Expression) (p q t : ℕ) → length (expression_code starts a p (value_slot starts a t) t) ≡ length (expression_code other a q (value_slot other a t) t)
       → length (code_unless (operand_of starts a) (expression_code starts a p (value_slot starts a t) t)) ≡ length (code_unless (operand_of other a) (expression_code other a q (value_slot other a t) t))
   operand_by a p q t long = unless_long _ _ _ _ (same_operand a) long
+
+  -- a value that is to be converted
+  brought_long : (from to : Kind) (a : Expression) (p q d e t : ℕ) → length (expression_code starts a p (value_slot starts a t) t) ≡ length (expression_code other a q (value_slot other a t) t)
+      → length (expression_code starts a p d t) ≡ length (expression_code other a q e t) → length (brought_code starts (Convert from to a) p d t) ≡ length (brought_code other (Convert from to a) q e t)
+  brought_long from to a p q d e t operand at_once = either_long (masks from to) _ _ _ _ (joined _ _ _ _ (operand_by a p q t operand) refl) at_once
 
 module _ (raises : ℕ) where
   mutual
@@ -267,11 +271,11 @@ module _ (raises : ℕ) where
     arguments_long starts (MoreArguments c cs) p q t = joined _ _ _ _ (converted_long starts c p q t) (arguments_long starts cs _ _ (t + passed_words c))
 
     converted_long : (starts : Starts) → (c : Converted) (p q t : ℕ) → length (converted_code starts c p t) ≡ length (converted_code (other starts raises) c q t)
-    converted_long starts (Convert from to a) p q t = joined _ _ _ _ (expression_long starts a p q t t t refl) (conversion_long starts raises from to (span_of a) (operands.Slot t) (operands.Slot t) _ _ refl)
+    converted_long starts (Convert from to a) p q t = joined _ _ _ _ (brought_long starts raises from to a p q t t t (expression_long starts a p q _ _ t (same_slot starts raises a t)) (expression_long starts a p q t t t refl)) (conversion_long starts raises from to (span_of a) (operands.Slot t) (operands.Slot t) _ _ refl)
 
     converted_operand_long : (starts : Starts) → (c : Converted) (p q t : ℕ) → length (converted_operand_code starts c p t) ≡ length (converted_operand_code (other starts raises) c q t)
     converted_operand_long starts (Convert from to a) p q t =
-        converted_by_long starts raises _ _ _ _ from to (span_of a) _ _ p q (same_source starts raises (Convert from to a)) (expression_long starts a p q _ _ t (same_source_slot starts raises (Convert from to a) t)) (same_converted starts raises (Convert from to a) t)
+        converted_by_long starts raises _ _ _ _ from to (span_of a) _ _ p q (same_source starts raises (Convert from to a)) (brought_long starts raises from to a p q _ _ t (expression_long starts a p q _ _ t (same_slot starts raises a t)) (expression_long starts a p q _ _ t (same_source_slot starts raises (Convert from to a) t))) (same_converted starts raises (Convert from to a) t)
 
     printed_long : (starts : Starts) → (cs : Arguments) (p q t : ℕ) → length (printed_code starts cs p t) ≡ length (printed_code (other starts raises) cs q t)
     printed_long starts NoArguments p q t = refl
@@ -279,9 +283,9 @@ module _ (raises : ℕ) where
 
     initial_long : (starts : Starts) → (c : Converted) (p q d e t : ℕ) → d ≡ e → length (initial_code starts c p d t) ≡ length (initial_code (other starts raises) c q e t)
     initial_long starts (Convert from to a) p q d e t same =
-        either_long (converts_there from to) _ _ _ _ (expression_long starts a p q d e t same)
+        either_long (converts_there from to) _ _ _ _ (brought_long starts raises from to a p q d e t (expression_long starts a p q _ _ t (same_slot starts raises a t)) (expression_long starts a p q d e t same))
         (joined _ _ _ _
-        (converted_by_long starts raises _ _ _ _ from to (span_of a) _ _ p q (same_source starts raises (Convert from to a)) (expression_long starts a p q _ _ t (same_source_slot starts raises (Convert from to a) t)) (same_converted starts raises (Convert from to a) t)) refl)
+        (converted_by_long starts raises _ _ _ _ from to (span_of a) _ _ p q (same_source starts raises (Convert from to a)) (brought_long starts raises from to a p q _ _ t (expression_long starts a p q _ _ t (same_slot starts raises a t)) (expression_long starts a p q _ _ t (same_source_slot starts raises (Convert from to a) t))) (same_converted starts raises (Convert from to a) t)) refl)
 
     operations_long : (starts : Starts) → (os : Operations) (p q : ℕ) (l m : Operand) (d e t : ℕ) → l ≡ m → d ≡ e → length (operations_code starts os p l d t) ≡ length (operations_code (other starts raises) os q m e t)
     operations_long starts NoOperations p q l m d e t left same = refl
@@ -320,7 +324,7 @@ module _ (starts : Starts) (raises : ℕ) where
   return_long : (v : Option Converted) (p q head : ℕ) (exits : Exits) (t : ℕ) → length (return_code starts v p exits t) ≡ length (return_code (other starts raises) v q (record exits { head = head }) t)
   return_long None p q head exits t = refl
   return_long (Some (Convert from to a)) p q head exits t =
-      joined _ _ _ _ (joined _ _ _ _ (joined _ _ _ _ (unless_slot_long _ _ _ _ (same_source starts raises (Convert from to a)) (expression_long raises starts a p q t t t refl)) (conversion_long starts raises from to (span_of a) _ _ _ _ (λ i. operands.Slot (slot_or (same_source starts raises (Convert from to a) i) t)))) refl) refl
+      joined _ _ _ _ (joined _ _ _ _ (joined _ _ _ _ (unless_slot_long _ _ _ _ (same_source starts raises (Convert from to a)) (brought_long starts raises from to a p q t t t (expression_long raises starts a p q _ _ t (same_slot starts raises a t)) (expression_long raises starts a p q t t t refl))) (conversion_long starts raises from to (span_of a) _ _ _ _ (λ i. operands.Slot (slot_or (same_source starts raises (Convert from to a) i) t)))) refl) refl
 
   declaration_long : (n : ℕ) (ty : Ty) (v : Option Converted) (p q t : ℕ) → length (declaration_code starts n ty v p t) ≡ length (declaration_code (other starts raises) n ty v q t)
   declaration_long n ty None p q t = refl

@@ -23,11 +23,11 @@ use Rattle.cyc_plain.proofs.Straight.{has_front, has_back}
 use Rattle.cyc_store.specs.declared.range.TheConstants.{MOST_BLOCK_WORDS}
 use Rattle.cyc_meaning.specs.Values.{words_of_kind, bytes_of_kind, begins, behind, is_thin, number_of_kind}
 use Rattle.cyc_lower.specs.Slots.{Types, starts_of, slot_of, global_of}
-use Rattle.cyc_lower.specs.ValueCode.{converts_there, moved_by, move_of, operand_or, code_unless, slot_or, code_unless_slot, left_with, next_slot, check_code, conversion_code, divisor_code, checked_code, operator_code, is_in, pointer_operator, index_code, pointer_instructions, address_code, raising, blocks, guard_code, jump_if_zero, count_code, span_of, null_of, tested_code, widened_code, conversion_by, bounds_code, stepped_code, scaled_code, summed_code, bounded_code, past_bounded, thinned_code, reached_code, followed_code, word_by_word, load_word, store_word, global_code, keeps_words, masked_code, last_byte_code, blank_code, load_of}
+use Rattle.cyc_lower.specs.ValueCode.{converts_there, moved_by, move_of, operand_or, code_unless, slot_or, code_unless_slot, left_with, next_slot, check_code, conversion_code, divisor_code, checked_code, operator_code, is_in, pointer_operator, index_code, pointer_instructions, address_code, raising, blocks, guard_code, jump_if_zero, count_code, span_of, null_of, tested_code, widened_code, conversion_by, bounds_code, stepped_code, scaled_code, summed_code, bounded_code, past_bounded, thinned_code, reached_code, followed_code, word_by_word, load_word, store_word, global_code, keeps_words, last_byte_code, blank_code, load_of, masked_by, low_byte}
 use Rattle.cyc_lower.specs.ObjectCode.{most_elements, begun_code, filled_code, stores_code, cells_code, slots_of_kinds, object_code, free_code, saved_code, sized_code}
 use Rattle.cyc_lower.specs.ControlCode.{counter_operand}
-use Rattle.cyc_lower.specs.ExpressionCode.{source_of, source_slot, operand_of, left_of, value_slot, slot_with, left_slot, value_operand, converted_operand, load_code, expression_code}
-use Rattle.cyc_lower.proofs.relation.Stands.{BegunAt, FilledAt, OperandBy, CheckAt, ConversionBy, ConversionAt, DivisorAt, CheckedAt, OperatorAt, LoadAt, CopyBy, ExpressionAt, InitialBy, ReturnedAt, FirstTwoAt, IndexAt, PointerAt, StoresAt, CellsAt, ObjectAt, AddressAt, GuardAt, FreedAt, CountAt, TestedAt, WidenedAt, LoadedBy, SavedAt, BoundsAt, SteppedAt, ScaledAt, SummedAt, ThinnedAt, ReachedAt, FollowedAt, EachAt, GlobalAt, MaskedAt, SizedAt, LastByteAt, BlankAt}
+use Rattle.cyc_lower.specs.ExpressionCode.{source_of, source_slot, operand_of, left_of, value_slot, slot_with, left_slot, value_operand, converted_operand, load_code, expression_code, brought_code}
+use Rattle.cyc_lower.proofs.relation.Stands.{BegunAt, FilledAt, OperandBy, CheckAt, ConversionBy, ConversionAt, DivisorAt, CheckedAt, OperatorAt, LoadAt, CopyBy, ExpressionAt, InitialBy, ReturnedAt, FirstTwoAt, IndexAt, PointerAt, StoresAt, CellsAt, ObjectAt, AddressAt, GuardAt, FreedAt, CountAt, TestedAt, WidenedAt, LoadedBy, SavedAt, BoundsAt, SteppedAt, ScaledAt, SummedAt, ThinnedAt, ReachedAt, FollowedAt, EachAt, GlobalAt, SizedAt, LastByteAt, BlankAt, BroughtAt, BroughtBy}
 use Rattle.cyc_lower.proofs.emission.Lengths.{past_long}
 use Rattle.cyc_lower.specs.Lowerable.{is_converted, is_pointer}
 use Rattle.cyc_lower.proofs.slots.Widths.{given, changes}
@@ -249,9 +249,9 @@ module _ (code : List Instruction) (b : Numbering) (types : Types) (raised : Blo
   thinned_stands kinds.Handle span o t p q thin brought end has = absurd (let f : false ≡ true = thin in cc)
   thinned_stands kinds.Key span o t p q thin brought end has = absurd (let f : false ≡ true = thin in cc)
 
-  masked_stands : (o : Operand) (t p q : ℕ) → IsBrought kinds.Char o t → p + length (masked_code o) ≡ q → HasAt code p (masked_code o) → MaskedAt code b types o t p q
-  masked_stands (operands.Slot n) t p q brought end (here, none) = (brought, here, end)
-  masked_stands (operands.Word w) t p q brought end has = absurd brought
+  char_stands : (o : Operand) (t p q : ℕ) → IsBrought kinds.Char o t → p + 0 ≡ q → (o ≡ operands.Slot t) × (p ≡ q)
+  char_stands (operands.Slot n) t p q brought end = (ap operands.Slot brought, omega (arith, end))
+  char_stands (operands.Word w) t p q brought end = absurd brought
 
   not_changed : (to : Kind) → number_of_kind to ≢ 6 → is_pointer to ≡ false → (to ≡ kinds.Char) ⊎ (is_pointer to ≡ true) → ⊥
   not_changed to other plain changed = elim changed [
@@ -263,7 +263,7 @@ module _ (code : List Instruction) (b : Numbering) (types : Types) (raised : Blo
       → p + length (conversion_by (starts_of types) same to span o p) ≡ q → HasAt code p (conversion_by (starts_of types) same to span o p) → ConversionBy code b types same to span o t p q
   conversion_by_stands true to span o t p q known brought end has = tested_stands to o p q end has
   conversion_by_stands false kinds.Fat span o t p q known brought end has = widened_stands o t p q (brought refl) end has
-  conversion_by_stands false kinds.Char span o t p q known brought end has = masked_stands o t p q (brought refl) end has
+  conversion_by_stands false kinds.Char span o t p q known brought end has = char_stands o t p q (brought refl) end
   conversion_by_stands false kinds.NonNull span o t p q known brought end has = thinned_stands kinds.NonNull span o t p q refl (brought refl) end has
   conversion_by_stands false kinds.Nullable span o t p q known brought end has = thinned_stands kinds.Nullable span o t p q refl (brought refl) end has
   conversion_by_stands false kinds.Int span o t p q known brought end has = absurd (not_changed kinds.Int (λ e. let f : 0 ≡ 6 = e in omega (arith, f)) refl (known refl))
@@ -437,17 +437,32 @@ module _ (code : List Instruction) (b : Numbering) (types : Types) (raised : Blo
   words_kept : (from to : Kind) (a : Expression) → from ≡ given b.functions a → converts_there from to ≡ true → words_of_kind (given b.functions a) ≡ words_of_kind to
   words_kept from to a kind lands = ap words_of_kind (sym kind) ∙ as_wide from to lands
 
-  pub initial_by : (there : Bool) (from to : Kind) (a : Expression) (d t p q : ℕ) → from ≡ given b.functions a → is_converted from to ≡ true → converts_there from to ≡ there
+  -- an int that becomes a char is an operand, and its low byte comes to a slot
+  pub brought_by : (masking : Bool) (a : Expression) (d t p q : ℕ)
       → ((slot r : ℕ) → p + length (expression_code (starts_of types) a p slot t) ≡ r → HasAt code p (expression_code (starts_of types) a p slot t) → ExpressionAt code b types a slot t p r)
-      → p + length (if there then expression_code (starts_of types) a p d t else moved_by (starts_of types) (source_of (starts_of types) (Convert from to a)) (expression_code (starts_of types) a p (source_slot (starts_of types) (Convert from to a) t) t) from to (span_of a) (converted_operand (starts_of types) (Convert from to a) t) p d) ≡ q
-      → HasAt code p (if there then expression_code (starts_of types) a p d t else moved_by (starts_of types) (source_of (starts_of types) (Convert from to a)) (expression_code (starts_of types) a p (source_slot (starts_of types) (Convert from to a) t) t) from to (span_of a) (converted_operand (starts_of types) (Convert from to a) t) p d)
+      → p + length (if masking then masked_by (operand_of (starts_of types) a) (expression_code (starts_of types) a p (value_slot (starts_of types) a t) t) (value_operand (starts_of types) a t) d else expression_code (starts_of types) a p d t) ≡ q
+      → HasAt code p (if masking then masked_by (operand_of (starts_of types) a) (expression_code (starts_of types) a p (value_slot (starts_of types) a t) t) (value_operand (starts_of types) a t) d else expression_code (starts_of types) a p d t)
+      → BroughtBy code b types masking (operand_of (starts_of types) a) (λ r. ExpressionAt code b types a (value_slot (starts_of types) a t) t p r) (value_slot (starts_of types) a t) (ExpressionAt code b types a d t p q) d p q
+  brought_by true a d t p q stands end has =
+      let slot = value_slot (starts_of types) a t in
+      let inner = expression_code (starts_of types) a p slot t in
+      let front = code_unless (operand_of (starts_of types) a) inner in
+      let m = p + length front in
+      let (here, none) = has_back code p front _ has in
+      (value_operand (starts_of types) a t, m, operand_by (operand_of (starts_of types) a) _ inner slot p m refl (has_front code p front _ has) (λ e h. stands slot m e h), here, cut p q front _ end)
+  brought_by false a d t p q stands end has = stands d q end has
+
+  pub initial_by : (there : Bool) (from to : Kind) (a : Expression) (d t p q : ℕ) → from ≡ given b.functions a → is_converted from to ≡ true → converts_there from to ≡ there
+      → ((slot r : ℕ) → p + length (brought_code (starts_of types) (Convert from to a) p slot t) ≡ r → HasAt code p (brought_code (starts_of types) (Convert from to a) p slot t) → BroughtAt code b types (Convert from to a) slot t p r)
+      → p + length (if there then brought_code (starts_of types) (Convert from to a) p d t else moved_by (starts_of types) (source_of (starts_of types) (Convert from to a)) (brought_code (starts_of types) (Convert from to a) p (source_slot (starts_of types) (Convert from to a) t) t) from to (span_of a) (converted_operand (starts_of types) (Convert from to a) t) p d) ≡ q
+      → HasAt code p (if there then brought_code (starts_of types) (Convert from to a) p d t else moved_by (starts_of types) (source_of (starts_of types) (Convert from to a)) (brought_code (starts_of types) (Convert from to a) p (source_slot (starts_of types) (Convert from to a) t) t) from to (span_of a) (converted_operand (starts_of types) (Convert from to a) t) p d)
       → InitialBy code b types there from to a d t p q
   initial_by true from to a d t p q kind wide lands stands end has = (words_kept from to a kind lands, stands d q end has)
   initial_by false from to a d t p q kind wide lands stands end has =
       let known = source_of (starts_of types) (Convert from to a) in
       let slot = source_slot (starts_of types) (Convert from to a) t in
       let o = converted_operand (starts_of types) (Convert from to a) t in
-      let inner = expression_code (starts_of types) a p slot t in
+      let inner = brought_code (starts_of types) (Convert from to a) p slot t in
       let front = code_unless known inner in
       let m = p + length front in
       let conversion = conversion_code (starts_of types) from to (span_of a) o m in

@@ -19,7 +19,7 @@ use Rattle.cyc_lower.specs.Slots.{Types, starts_of, slot_of, global_of}
 use Rattle.cyc_lower.specs.ValueCode.{passed_words, move_of, operand_or, slot_or, code_unless_slot, left_with, conversion_code, failing_comparison, address_code, span_of, global_code, kind_passed}
 use Rattle.cyc_lower.specs.ObjectCode.{right_slot, saved_code, load_at}
 use Rattle.cyc_lower.specs.ControlCode.{compared_or, compared_of, failing_jump, holding_jump, break_target, continue_target, body_target, inside_loop, leave_code, other_jump, clause_code, kept_code, kept_code_in, restored_code, restored_code_in, behind_record, inside_try, closed_code, handlers_code, marks_code, try_code, opened_code, inside_region, dynamic_code}
-use Rattle.cyc_lower.specs.ExpressionCode.{source_of, operand_of, value_slot, slot_with, value_operand, converted_operand, printed_operand, expression_code, converted_operand_code, printed_code, place_operand, place_offset, place_code}
+use Rattle.cyc_lower.specs.ExpressionCode.{source_of, operand_of, value_slot, slot_with, value_operand, converted_operand, printed_operand, expression_code, converted_operand_code, printed_code, place_operand, place_offset, place_code, brought_code}
 use Rattle.cyc_lower.specs.Lowering.{assignment_code, assigned_operand, discarded_code, first_operand, first_code, second_code, pair_code, condition_code, condition_of, return_code, declaration_code, statement_code, items_code, results_of, side_code, read_side, write_side, exchange_code, swap_code, thrown_code, thrown_operand, caught_code, clauses_code}
 use Rattle.cyc_lower.specs.declared.statements.Exits.{Exits}
 use Rattle.cyc_lower.specs.declared.statements.Opened.{Opened}
@@ -29,7 +29,7 @@ use Rattle.cyc_lower.proofs.slots.Widths.{kind_of_result, passed_kind, type_word
 use Rattle.cyc_lower.proofs.relation.Fitting.{FitsPlace, Fits, FitsConverted, FitsReturn, FitsInitial, FitsStatement, FitItems, FitsSide, FitsThrown, FitsCaught, FitClauses}
 use Rattle.cyc_lower.proofs.place_steps.Sources.{stored_apart}
 use Rattle.cyc_lower.proofs.emission.OperandBridge.{cut, BlocksStand, operand_by, returned_by, right_by, left_first, returned_brought, conversion_stands, each_stands, global_stands, load_stands, stores_stand, saved_stands, address_stands, blank_stands}
-use Rattle.cyc_lower.proofs.emission.ExpressionBridge.{expression_stands, place_stands, initial_stands, converted_operand_stands, printed_stands}
+use Rattle.cyc_lower.proofs.emission.ExpressionBridge.{expression_stands, place_stands, initial_stands, converted_operand_stands, printed_stands, brought_stands}
 
 module _ (code : List Instruction) (b : Numbering) (types : Types) (raised : BlocksStand code types.raises) where
   assignment_stands : (l : Lvalue) (c : Converted) (t p q : ℕ) → FitsPlace b types l (passed_kind c) → FitsConverted b types c → p + length (assignment_code (starts_of types) l c p t) ≡ q → HasAt code p (assignment_code (starts_of types) l c p t) → AssignmentAt code b types l c (assigned_operand (starts_of types) l c t) t p q
@@ -156,7 +156,7 @@ module _ (code : List Instruction) (b : Numbering) (types : Types) (raised : Blo
       (t, p + length leave, leave_stands exits.in_function p (p + length leave) refl (has_front code p leave _ has), here)
   return_stands (Some (Convert from to a)) exits t p q numbered end has =
       let known = source_of (starts_of types) (Convert from to a) in
-      let inner = expression_code (starts_of types) a p t t in
+      let inner = brought_code (starts_of types) (Convert from to a) p t t in
       let front = code_unless_slot known inner in
       let m = p + length front in
       let s = slot_or known t in
@@ -174,7 +174,7 @@ module _ (code : List Instruction) (b : Numbering) (types : Types) (raised : Blo
         m,
         r,
         u,
-        returned_by code b types raised known _ inner t p m refl (has_front code p front conversion has_both) (λ e h. expression_stands code b types raised a t t p m fitting e h),
+        returned_by code b types raised known _ inner t p m refl (has_front code p front conversion has_both) (λ e h. brought_stands code b types raised (Convert from to a) t t p m (from_is, wide, fitting) e h),
         conversion_stands code b types raised from to (span_of a) (operands.Slot s) t m r wide (λ narrow. returned_brought code b types raised from to a t narrow) (cut p r front conversion refl) (has_back code p front conversion has_both),
         leave_stands exits.in_function r u (cut p u both leave refl) (has_back code p both leave has_left),
         here,

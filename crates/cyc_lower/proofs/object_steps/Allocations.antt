@@ -51,7 +51,7 @@ use Rattle.cyc_lower.proofs.object_steps.Asking.{past_pages, by_asking, by_full}
 use Rattle.cyc_lower.proofs.place_steps.WideCells.{store_links, store_path, store_last, shared_stored, data_stored, stored as stored_there, above_stored, frames_stored}
 use Rattle.cyc_lower.proofs.place_steps.CellWrites.{SameVariables, data_beside, cell_is_there, saves_there, shared_saved, data_saved, with_word, above_there, frames_there}
 use Rattle.cyc_lower.proofs.relation.Matched.{IsMatched, below, silently, by_one, shared_within}
-use Rattle.cyc_lower.proofs.value_steps.Evaluations.{IsStep, made_moved}
+use Rattle.cyc_lower.proofs.value_steps.Evaluations.{IsStep, made_moved, brings}
 use Rattle.cyc_lower.proofs.relation.Known.{row-made_there}
 use Rattle.cyc_lower.proofs.relation.Leads.{AreNamed}
 use Rattle.cyc_lower.proofs.relation.Moving.{made_moves}
@@ -383,8 +383,8 @@ module _ (source : Program) (pages calls : ℕ) where
       (Running (Evaluating a) (Needs (ConvertTo from to (target_by a)) ∷ Needs (MakeFields owner (v ∷ earlier) cs) ∷ k) e w) (plain.Running c) refl (
         shared,
         facts,
-        into_slot (height (floor source g k) (v ∷ earlier ++ held k)) s at_a (subst (IsIn shared.tables v c.active.slots) there is, holds)
-            (in_temporary (omega arith) (r, at_to, (handle, d, p, q, all, owned, refl, at_cs, object, kinds_reversed v earlier (to ∷ kinds_passed cs) ∙ kinds_are, lands))),
+        brings source pages calls shared.tables from to a (Needs (MakeFields owner (v ∷ earlier) cs) ∷ k) e.locals g c.active.next c.active.slots c.frames s r at_a at_to (subst (IsIn shared.tables v c.active.slots) there is, holds)
+            (handle, d, p, q, all, owned, refl, at_cs, object, kinds_reversed v earlier (to ∷ kinds_passed cs) ∙ kinds_are, lands),
       )
       (omega arith)
 

@@ -26,7 +26,7 @@ use Rattle.cyc_lower.proofs.relation.Moves.{put_elsewhere}
 use Rattle.cyc_lower.proofs.relation.HeldValues.{held, Holds, callers}
 use Rattle.cyc_lower.proofs.relation.Relation.{types_on, starts_on, Matches, DataIn, SharedAt, in_temporary, in_local, LandsStack, HandsOnStack, Related, code_of, bounds_at, top, floor, AheadStack, types_at, starts_at}
 use Rattle.cyc_lower.proofs.relation.Data.{height-least, floor-least, Holds-same, data_written}
-use Rattle.cyc_lower.proofs.relation.Stands.{OperandBy, ExpressionAt, ConvertedOperandAt, LoadedBy, SavedAt}
+use Rattle.cyc_lower.proofs.relation.Stands.{OperandBy, ExpressionAt, ConvertedOperandAt, LoadedBy, SavedAt, BroughtAt}
 use Rattle.cyc_lower.proofs.place_steps.CellReads.{cell_reads, read_there, one_there, one_is, IsRead as IsCellRead, IsOwn, AreSame}
 use Rattle.cyc_lower.proofs.place_steps.AddressSteps.{Brought, in_slot, by_word, brought}
 use Rattle.cyc_lower.proofs.place_steps.SwapSteps.{left_found, right_found}
@@ -108,13 +108,13 @@ module _ (source : Program) (pages calls : ℕ) where
       let entries = right_side from to a peek (Thin object offset) k in (
         shared,
         facts,
-        sources source pages calls shared.tables from to a entries e w c x m
+        sources source pages calls shared.tables from to a (Needs (StoreCell peek (Thin object offset)) ∷ k) e w c x m u
             (subst
             (λ p. OperandBy (code_of source g) (bounds_at source g) (types_on source g k) (source_of (starts_on source g k) (Convert from to a))
-            (ExpressionAt (code_of source g) (bounds_at source g) (types_on source g k) a (source_slot (starts_on source g k) (Convert from to a) (top source g entries)) (top source g entries) p m)
+            (BroughtAt (code_of source g) (bounds_at source g) (types_on source g k) (Convert from to a) (source_slot (starts_on source g k) (Convert from to a) (top source g entries)) (top source g entries) p m)
             (source_slot (starts_on source g k) (Convert from to a) (top source g entries)) x p m)
             (sym start) at_a)
-            (points, holds) (u, at_to, (q, store, hands)),
+            at_to (points, holds) (q, store, hands),
       )
 
   stores_to : (from to : Kind) (a : Expression) (peek : Option ℕ) (object offset : ℕ) (k : List Entry) (e : Environment) (w : World) (c : Configuration) (s : ℕ)
@@ -142,7 +142,7 @@ module _ (source : Program) (pages calls : ℕ) where
   -- a value that is ahead in a slot is that of a local
   ahead_slot : (g : ℕ) (locals : ℕ → Option ℕ) (kind : Kind) (d q : ℕ) (frames : List Frame) (k : List Entry) → AheadStack source g locals kind d q frames k
       → (number : ℕ) × (slot_of (starts_at source g) number ≡ d) × HasRoom (types_at source g) number kind
-  ahead_slot g locals kind d q frames (Needs (ConvertTo from to target) ∷ k) (quiet, wide, stack) =
+  ahead_slot g locals kind d q frames (Needs (ConvertTo from to target) ∷ k) (quiet, whole, wide, stack) =
       let (number, start, room) = ahead_slot g locals to d q frames k stack in (number, start, omega (arith, wide, room))
   ahead_slot g locals kind d q frames (Needs (Operate unary.Widen) ∷ k) (one, stack) =
       let (number, start, room) = ahead_slot g locals kinds.Int d q frames k stack in (number, start, omega (arith, one, room))

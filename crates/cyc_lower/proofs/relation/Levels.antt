@@ -33,7 +33,9 @@ module _ (source : Program) where
   mutual
     value_arrays : (g : ℕ) (locals : ℕ → Option ℕ) (kind : Kind) (o : Operand) (p : ℕ) (frames : List Frame) (k : List Entry) → ValueStack source g locals kind o p frames k → AllCount k
     value_arrays g locals kind o p frames [] stack = absurd stack
-    value_arrays g locals kind o p frames (Needs (ConvertTo from to target) ∷ k) (q, at, stack) = value_arrays g locals to o q frames k stack
+    value_arrays g locals kind o p frames (Needs (ConvertTo from to target) ∷ k) (inl (d, is, at, lands)) =
+        by_lands source lands (λ stack. value_arrays g locals kinds.Char (operands.Slot d) (p + 1) frames k stack) (λ stack. ahead_arrays g locals kinds.Char d (p + 1) frames k stack)
+    value_arrays g locals kind o p frames (Needs (ConvertTo from to target) ∷ k) (inr (q, whole, at, stack)) = value_arrays g locals to o q frames k stack
     value_arrays g locals kind o p frames (Needs (Operate unary.Widen) ∷ k) stack = value_arrays g locals kinds.Int o p frames k stack
     value_arrays g locals kind o p frames (Needs (Operate u) ∷ k) (to_slot (d, at, lands)) =
         by_lands source lands (λ stack. value_arrays g locals (unary_kind u) (operands.Slot d) (p + 1) frames k stack) (λ stack. ahead_arrays g locals (unary_kind u) d (p + 1) frames k stack)
@@ -120,7 +122,7 @@ module _ (source : Program) where
     dropped_arrays g p frames k stack = absurd stack
 
     ahead_arrays : (g : ℕ) (locals : ℕ → Option ℕ) (kind : Kind) (n p : ℕ) (frames : List Frame) (k : List Entry) → AheadStack source g locals kind n p frames k → AllCount k
-    ahead_arrays g locals kind n p frames (Needs (ConvertTo from to target) ∷ k) (quiet, wide, stack) = ahead_arrays g locals to n p frames k stack
+    ahead_arrays g locals kind n p frames (Needs (ConvertTo from to target) ∷ k) (quiet, whole, wide, stack) = ahead_arrays g locals to n p frames k stack
     ahead_arrays g locals kind n p frames (Needs (Operate unary.Widen) ∷ k) (one, stack) = ahead_arrays g locals kinds.Int n p frames k stack
     ahead_arrays g locals kind n p frames (Needs (Chain NoOperations) ∷ k) stack = ahead_arrays g locals kind n p frames k stack
     ahead_arrays g locals kind n p frames (Needs (BesideHandle region) ∷ k) stack = ahead_arrays g locals kind n p frames k stack

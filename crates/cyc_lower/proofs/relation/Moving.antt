@@ -115,8 +115,10 @@ module _ (source : Program) where
   mutual
     pub value_moves : (g : ℕ) (locals : ℕ → Option ℕ) (kind : Kind) (o : Operand) (p : ℕ) (frames others : List Frame) → Like frames others → (k : List Entry) → ValueStack source g locals kind o p frames k → ValueStack source g locals kind o p others k
     value_moves g locals kind o p frames others like [] stack = absurd stack
-    value_moves g locals kind o p frames others like (Needs (ConvertTo from to target) ∷ k) (q, at, stack) =
-        (q, at, value_moves g locals to o q frames others like k stack)
+    value_moves g locals kind o p frames others like (Needs (ConvertTo from to target) ∷ k) (inl (d, is, at, lands)) =
+        inl (d, is, at, lands_move (λ stack. value_moves g locals kinds.Char (operands.Slot d) (p + 1) frames others like k stack) (λ stack. ahead_moves g locals kinds.Char d (p + 1) frames others like k stack) lands)
+    value_moves g locals kind o p frames others like (Needs (ConvertTo from to target) ∷ k) (inr (q, whole, at, stack)) =
+        inr (q, whole, at, value_moves g locals to o q frames others like k stack)
     value_moves g locals kind o p frames others like (Needs (Operate unary.Widen) ∷ k) stack = value_moves g locals kinds.Int o p frames others like k stack
     value_moves g locals kind o p frames others like (Needs (Operate u) ∷ k) (to_slot (d, at, lands)) =
         to_slot (d, at, lands_move (λ stack. value_moves g locals (unary_kind u) (operands.Slot d) (p + 1) frames others like k stack) (λ stack. ahead_moves g locals (unary_kind u) d (p + 1) frames others like k stack) lands)
@@ -217,8 +219,8 @@ module _ (source : Program) where
     dropped_moves g p frames others like k stack = absurd stack
 
     pub ahead_moves : (g : ℕ) (locals : ℕ → Option ℕ) (kind : Kind) (n p : ℕ) (frames others : List Frame) → Like frames others → (k : List Entry) → AheadStack source g locals kind n p frames k → AheadStack source g locals kind n p others k
-    ahead_moves g locals kind n p frames others like (Needs (ConvertTo from to target) ∷ k) (quiet, wide, stack) =
-        (quiet, wide, ahead_moves g locals to n p frames others like k stack)
+    ahead_moves g locals kind n p frames others like (Needs (ConvertTo from to target) ∷ k) (quiet, whole, wide, stack) =
+        (quiet, whole, wide, ahead_moves g locals to n p frames others like k stack)
     ahead_moves g locals kind n p frames others like (Needs (Operate unary.Widen) ∷ k) (one, stack) =
         (one, ahead_moves g locals kinds.Int n p frames others like k stack)
     ahead_moves g locals kind n p frames others like (Needs (Chain NoOperations) ∷ k) stack = ahead_moves g locals kind n p frames others like k stack

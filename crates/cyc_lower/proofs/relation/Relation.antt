@@ -43,7 +43,7 @@ use Rattle.cyc_lower.specs.declared.statements.Exits.{Exits}
 use Rattle.cyc_lower.specs.declared.statements.Opened.{Opened}
 use Rattle.cyc_meaning.specs.Pointers.{result_kind as operator_kind}
 use Rattle.cyc_lower.specs.Slots.{Types, Starts, starts_of, slot_of, global_of, global_types}
-use Rattle.cyc_lower.specs.ValueCode.{failing_comparison, move_of, low_byte, converts_there, all_passed, kinds_passed, slot_types, followed_operand, reached_operand, unary_instruction}
+use Rattle.cyc_lower.specs.ValueCode.{failing_comparison, move_of, low_byte, masks, converts_there, all_passed, kinds_passed, slot_types, followed_operand, reached_operand, unary_instruction}
 use Rattle.cyc_lower.specs.ObjectCode.{right_slot}
 use Rattle.cyc_lower.specs.ControlCode.{opposite, compared_of, break_target, continue_target, body_target, outside_loops, tag_operand, nothing_opened, with_handler, with_mark, inside_try, inside_region}
 use Rattle.cyc_lower.specs.ExpressionCode.{operand_of}
@@ -309,8 +309,11 @@ module _ (source : Program) where
   abbrev mutual
     pub ValueStack : (g : ℕ) → (ℕ → Option ℕ) → Kind → Operand → (p : ℕ) → List Frame → List Entry → Type 0
     ValueStack g locals kind o p frames [] = ⊥
+    -- an int becomes a char as it comes to another slot, and any other value stays where it is
     ValueStack g locals kind o p frames (Needs (ConvertTo from to target) ∷ k) =
-        (q : ℕ) × ConversionAt (code_of g) (bounds_at g) (types_on g k) from to (option_map bytes_of_kind target) o (top g k) p q × ValueStack g locals to o q frames k
+        ((d : ℕ) × (to ≡ kinds.Char) × At (code_of g) p (low_byte o d)
+        × Lands (base_of g) (top g k) d 1 (ValueStack g locals kinds.Char (operands.Slot d) (p + 1) frames k) (AheadStack g locals kinds.Char d (p + 1) frames k))
+        ⊎ ((q : ℕ) × (masks from to ≡ false) × ConversionAt (code_of g) (bounds_at g) (types_on g k) from to (option_map bytes_of_kind target) o (top g k) p q × ValueStack g locals to o q frames k)
     -- a char that serves as an int stays where it is
     ValueStack g locals kind o p frames (Needs (Operate unary.Widen) ∷ k) = ValueStack g locals kinds.Int o p frames k
     ValueStack g locals kind o p frames (Needs (Operate operator) ∷ k) =
@@ -460,7 +463,8 @@ module _ (source : Program) where
 
     -- the same for a value that stands already in the slot n of a local, which is about to get it
     pub AheadStack : (g : ℕ) → (ℕ → Option ℕ) → Kind → (n p : ℕ) → List Frame → List Entry → Type 0
-    AheadStack g locals kind n p frames (Needs (ConvertTo from to target) ∷ k) = (converts_there from to ≡ true) × (words_of_kind kind ≡ words_of_kind to) × AheadStack g locals to n p frames k
+    AheadStack g locals kind n p frames (Needs (ConvertTo from to target) ∷ k) =
+        (converts_there from to ≡ true) × (masks from to ≡ false) × (words_of_kind kind ≡ words_of_kind to) × AheadStack g locals to n p frames k
     AheadStack g locals kind n p frames (Needs (Operate unary.Widen) ∷ k) = (words_of_kind kind ≡ 1) × AheadStack g locals kinds.Int n p frames k
     AheadStack g locals kind n p frames (Needs (Chain NoOperations) ∷ k) = AheadStack g locals kind n p frames k
     AheadStack g locals kind n p frames (Needs (BesideHandle region) ∷ k) = AheadStack g locals kind n p frames k

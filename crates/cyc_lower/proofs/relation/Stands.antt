@@ -31,7 +31,7 @@ use Rattle.cyc_meaning.specs.Values.{is_thin, words_of_kind, bytes_of_kind, begi
 use Rattle.cyc_lower.specs.declared.statements.Exits.{Exits}
 use Rattle.cyc_lower.specs.declared.statements.Opened.{Opened}
 use Rattle.cyc_lower.specs.Slots.{counted, Types, starts_of, slot_of, field_of, global_of}
-use Rattle.cyc_lower.specs.ValueCode.{binary_operator, failing_comparison, left_with, next_slot, is_in, move_of, test_jump, converts_there, passed_words, all_passed, kinds_passed, low_byte, behind_left, pointer_operator, raising, jump_if_zero, span_of, span_in, followed_operand, scale_of, reached_operand, load_word, store_word, address_of_global, unary_instruction, keeps_words, kind_passed, load_of, store_of}
+use Rattle.cyc_lower.specs.ValueCode.{binary_operator, failing_comparison, left_with, next_slot, is_in, move_of, test_jump, converts_there, passed_words, all_passed, kinds_passed, low_byte, behind_left, pointer_operator, raising, jump_if_zero, span_of, span_in, followed_operand, scale_of, reached_operand, load_word, store_word, address_of_global, unary_instruction, keeps_words, masks, kind_passed, load_of, store_of}
 use Rattle.cyc_lower.specs.ObjectCode.{most_elements, slots_of_kinds, right_slot, load_at}
 use Rattle.cyc_lower.specs.ControlCode.{opposite, compared_of, break_target, continue_target, body_target, inside_loop, inside_try, behind_record_in, tag_operand, other_jump, goes_on, inside_region}
 use Rattle.cyc_lower.specs.ExpressionCode.{operand_of, source_of, source_slot, left_of, value_slot, slot_with, left_slot, pointer_of}
@@ -100,6 +100,11 @@ module _ (code : List Instruction) (bounds : Numbering) (types : Types) where
   OperandBy (Some known) computed slot o p q = (o ≡ known) × (p ≡ q)
   OperandBy None computed slot o p q = (o ≡ operands.Slot slot) × computed
 
+  -- an int that becomes a char is an operand, of which the low byte comes to slot d; any other value comes there as it is
+  abbrev pub BroughtBy : (masking : Bool) → Option Operand → (computed : (r : ℕ) → Type 0) → (slot : ℕ) → (at_once : Type 0) → (d p q : ℕ) → Type 0
+  BroughtBy masking known computed slot at_once d p q =
+      EitherBy masking ((o : Operand) × (r : ℕ) × OperandBy known (computed r) slot o p r × At code r (low_byte o d) × (r + 1 ≡ q)) at_once
+
   -- a value that is only wanted in slots stands in those of a local, or comes to some
   abbrev pub ReturnedAt : Option Operand → (computed : Type 0) → (slot s : ℕ) → (p q : ℕ) → Type 0
   ReturnedAt (Some (operands.Slot n)) computed slot s p q = (s ≡ n) × (p ≡ q)
@@ -165,18 +170,13 @@ module _ (code : List Instruction) (bounds : Numbering) (types : Types) where
   ThinnedAt kinds.Nullable span (operands.Slot n) t p q = (n ≡ t) × ReachedBy (λ x. x ≡ q) span n (n + 2) n p q
   ThinnedAt to span o t p q = ⊥
 
-  -- an int that becomes a char is in slot t
-  abbrev pub MaskedAt : Operand → (t p q : ℕ) → Type 0
-  MaskedAt (operands.Slot n) t p q = (n ≡ t) × At code p (low_byte (operands.Slot n) n) × (p + 1 ≡ q)
-  MaskedAt (operands.Word w) t p q = ⊥
-
   abbrev pub ConversionBy : (same : Bool) → (to : Kind) → (span : Option ℕ) → Operand → (t p q : ℕ) → Type 0
   ConversionBy true to span o t p q = TestedAt to o p q
   ConversionBy false kinds.Fat span o t p q = WidenedAt o t p q
-  ConversionBy false kinds.Char span o t p q = MaskedAt o t p q
+  ConversionBy false kinds.Char span o t p q = (o ≡ operands.Slot t) × (p ≡ q)
   ConversionBy false to span o t p q = ThinnedAt to span o t p q
 
-  -- a value is converted where it is, which is slot t where its words change
+  -- a value is converted where it is, which is slot t where its words change, as those of a char have by then
   abbrev pub ConversionAt : (from to : Kind) → (span : Option ℕ) → Operand → (t p q : ℕ) → Type 0
   ConversionAt from to span o t p q = ConversionBy (keeps_words from to) to span o t p q
 
@@ -373,19 +373,19 @@ module _ (code : List Instruction) (bounds : Numbering) where
     -- the value comes to slot d, converted
     pub InitialAt : (types : Types) → Converted → (d t p q : ℕ) → Type 0
     InitialAt types (Convert from to a) d t p q =
-        EitherBy code bounds types (converts_there from to) ((words_of_kind (given bounds.functions a) ≡ words_of_kind to) × ExpressionAt types a d t p q)
+        EitherBy code bounds types (converts_there from to) ((words_of_kind (given bounds.functions a) ≡ words_of_kind to) × BroughtBy code bounds types (masks from to) (operand_of (starts_of types) a) (λ r. ExpressionAt types a (value_slot (starts_of types) a t) t p r) (value_slot (starts_of types) a t) (ExpressionAt types a d t p q) d p q)
         ((o : Operand) × (m : ℕ) × (r : ℕ)
-        × OperandBy code bounds types (source_of (starts_of types) (Convert from to a)) (ExpressionAt types a (source_slot (starts_of types) (Convert from to a) t) t p m) (source_slot (starts_of types) (Convert from to a) t) o p m
+        × OperandBy code bounds types (source_of (starts_of types) (Convert from to a)) (BroughtBy code bounds types (masks from to) (operand_of (starts_of types) a) (λ r. ExpressionAt types a (value_slot (starts_of types) a t) t p r) (value_slot (starts_of types) a t) (ExpressionAt types a (source_slot (starts_of types) (Convert from to a) t) t p m) (source_slot (starts_of types) (Convert from to a) t) p m) (source_slot (starts_of types) (Convert from to a) t) o p m
         × ConversionAt code bounds types from to (span_of a) o t m r × At code r (move_of (words_of_kind to) d o) × (r + 1 ≡ q))
 
     -- the value comes to slot t and is converted there
     pub ConvertedAt : (types : Types) → Converted → (t p q : ℕ) → Type 0
-    ConvertedAt types (Convert from to a) t p q = (m : ℕ) × ExpressionAt types a t t p m × ConversionAt code bounds types from to (span_of a) (operands.Slot t) t m q
+    ConvertedAt types (Convert from to a) t p q = (m : ℕ) × BroughtBy code bounds types (masks from to) (operand_of (starts_of types) a) (λ r. ExpressionAt types a (value_slot (starts_of types) a t) t p r) (value_slot (starts_of types) a t) (ExpressionAt types a t t p m) t p m × ConversionAt code bounds types from to (span_of a) (operands.Slot t) t m q
 
     -- the value is converted where it is
     pub ConvertedOperandAt : (types : Types) → Converted → (t : ℕ) → Operand → (p q : ℕ) → Type 0
     ConvertedOperandAt types (Convert from to a) t o p q =
-        (m : ℕ) × OperandBy code bounds types (source_of (starts_of types) (Convert from to a)) (ExpressionAt types a (source_slot (starts_of types) (Convert from to a) t) t p m) (source_slot (starts_of types) (Convert from to a) t) o p m
+        (m : ℕ) × OperandBy code bounds types (source_of (starts_of types) (Convert from to a)) (BroughtBy code bounds types (masks from to) (operand_of (starts_of types) a) (λ r. ExpressionAt types a (value_slot (starts_of types) a t) t p r) (value_slot (starts_of types) a t) (ExpressionAt types a (source_slot (starts_of types) (Convert from to a) t) t p m) (source_slot (starts_of types) (Convert from to a) t) p m) (source_slot (starts_of types) (Convert from to a) t) o p m
         × ConversionAt code bounds types from to (span_of a) o t m q
 
     -- the only argument of `putchar`
@@ -421,12 +421,17 @@ module _ (code : List Instruction) (bounds : Numbering) (types : Types) where
   abbrev pub ElementsAt : Expression → Kind → (t d h r s q : ℕ) → Type 0
   ElementsAt a kind t d h r s q = ElementsBy code bounds types (ExpressionAt code bounds (counted types (t + 2)) a (t + 3) (t + 3) (h + 1) r) kind t d h r s q
 
+  -- a value comes to slot d before it is converted, and of an int that becomes a char only its low byte
+  abbrev pub BroughtAt : Converted → (d t p q : ℕ) → Type 0
+  BroughtAt (Convert from to a) d t p q =
+      BroughtBy code bounds types (masks from to) (operand_of (starts_of types) a) (λ r. ExpressionAt code bounds types a (value_slot (starts_of types) a t) t p r) (value_slot (starts_of types) a t) (ExpressionAt code bounds types a d t p q) d p q
+
   -- a value that comes to slot d, where it is told whether it does so before it is converted
   abbrev pub InitialBy : Bool → (from to : Kind) → Expression → (d t p q : ℕ) → Type 0
   InitialBy there from to a d t p q =
-      EitherBy code bounds types there ((words_of_kind (given bounds.functions a) ≡ words_of_kind to) × ExpressionAt code bounds types a d t p q)
+      EitherBy code bounds types there ((words_of_kind (given bounds.functions a) ≡ words_of_kind to) × BroughtAt (Convert from to a) d t p q)
       ((o : Operand) × (m : ℕ) × (r : ℕ)
-      × OperandBy code bounds types (source_of (starts_of types) (Convert from to a)) (ExpressionAt code bounds types a (source_slot (starts_of types) (Convert from to a) t) t p m) (source_slot (starts_of types) (Convert from to a) t) o p m
+      × OperandBy code bounds types (source_of (starts_of types) (Convert from to a)) (BroughtAt (Convert from to a) (source_slot (starts_of types) (Convert from to a) t) t p m) (source_slot (starts_of types) (Convert from to a) t) o p m
       × ConversionAt code bounds types from to (span_of a) o t m r × At code r (move_of (words_of_kind to) d o) × (r + 1 ≡ q))
 
   -- where the value of an expression stands that is an operand
@@ -543,7 +548,7 @@ module _ (code : List Instruction) (bounds : Numbering) (types : Types) where
   abbrev pub ReturnAt : Option Converted → Exits → (t p : ℕ) → Type 0
   ReturnAt None exits t p = (s : ℕ) × (m : ℕ) × LeaveAt exits.in_function p m × At code m (instructions.Finish s)
   ReturnAt (Some (Convert from to a)) exits t p =
-      (s : ℕ) × (m : ℕ) × (r : ℕ) × (u : ℕ) × ReturnedAt code bounds types (source_of (starts_of types) (Convert from to a)) (ExpressionAt code bounds types a t t p m) t s p m × ConversionAt code bounds types from to (span_of a) (operands.Slot s) t m r
+      (s : ℕ) × (m : ℕ) × (r : ℕ) × (u : ℕ) × ReturnedAt code bounds types (source_of (starts_of types) (Convert from to a)) (BroughtAt (Convert from to a) t t p m) t s p m × ConversionAt code bounds types from to (span_of a) (operands.Slot s) t m r
       × LeaveAt exits.in_function r u × At code u (instructions.Finish s) × (results_of bounds.result ≡ words_of_kind to) × (to ≡ kind_of_result bounds.result)
 
   abbrev pub DeclarationAt : ℕ → Kind → Option Converted → (t p q : ℕ) → Type 0

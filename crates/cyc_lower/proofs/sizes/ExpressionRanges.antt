@@ -21,10 +21,10 @@ use Rattle.cyc_meaning.specs.FrameCount.{result_words, operand_words, converted_
 use Rattle.cyc_meaning.specs.Pointers.{result_kind as operator_kind}
 use Rattle.cyc_objects.proofs.NumberLemmas.{slice_get-there}
 use Rattle.cyc_lower.specs.Slots.{counted, starts_of, slot_of, Types, global_of}
-use Rattle.cyc_lower.specs.ValueCode.{converts_there, passed_words, all_passed, kinds_passed, operand_or, code_unless, code_unless_slot, next_slot, check_code, conversion_code, operator_code, truth_code, low_byte, test_code, is_in, copy_code, behind_left, pointer_code, count_code, span_of, loaded_code, reached_code, followed_code, span_in, global_code, unary_instruction, kind_behind}
+use Rattle.cyc_lower.specs.ValueCode.{converts_there, passed_words, all_passed, kinds_passed, operand_or, code_unless, code_unless_slot, next_slot, check_code, conversion_code, operator_code, truth_code, low_byte, test_code, is_in, copy_code, behind_left, pointer_code, count_code, span_of, loaded_code, reached_code, followed_code, span_in, global_code, unary_instruction, kind_behind, masks}
 use Rattle.cyc_lower.specs.ObjectCode.{begun_code, filled_code, ended_code, elements_code, object_code, free_code}
 use Rattle.cyc_lower.specs.ControlCode.{closing_code}
-use Rattle.cyc_lower.specs.ExpressionCode.{source_of, source_slot, operand_of, left_of, value_slot, left_slot, value_operand, converted_operand, printed_operand, expression_code, arguments_code, converted_code, converted_operand_code, printed_code, initial_code, operations_code, made_code, place_operand, place_offset, place_code, pointer_of, pointer_slot}
+use Rattle.cyc_lower.specs.ExpressionCode.{source_of, source_slot, operand_of, left_of, value_slot, left_slot, value_operand, converted_operand, printed_operand, expression_code, arguments_code, converted_code, converted_operand_code, printed_code, initial_code, operations_code, made_code, place_operand, place_offset, place_code, pointer_of, pointer_slot, brought_code}
 use Rattle.cyc_lower.specs.Lowering.{results_of, store_code}
 use Rattle.cyc_lower.proofs.slots.Widths.{kind_positive, kind_few, result_kind, passed_kind, words_in, chain_kind, made_kind, type_words}
 use Rattle.cyc_lower.proofs.slots.CellBytes.{passed_slots}
@@ -32,7 +32,7 @@ use Rattle.cyc_lower.proofs.relation.Fitting.{FitsCell, Fits, FitsConverted, Fit
 use Rattle.cyc_lower.proofs.slots.Slots.{words_positive, starts-are, words-there}
 use Rattle.cyc_plain.proofs.Placed.{below_of_get}
 use Rattle.cyc_lower.proofs.sizes.RangeLemmas.{operand_positive, converted_least, passed_is, arguments_words, made_needs, result_least, levels_inside, IsKnown, AreGlobals}
-use Rattle.cyc_lower.proofs.sizes.ValueRanges.{AreIn, append, unless_in, unless_slot_in, kind_at, HasOperand, assigned_kind, operator_few, stored_kind, given_needs, slot_fits, value_room, value_in, source_fits, brought_room, converted_room, printed_value_in, next_in, LeftIn, next_left_in, first_left_in, has_room, left_room, left_slot_in, left_in, free_in, check_in, reached_in, followed_in, conversion_in, operator_in, assigned_in, load_in, copy_in, pointer_copied, count_in, test_in, filled_in, object_in, loaded_in, own_needed, pointer_room, place_operand_in, addressed_in, stored_in, right_in, initial_by, unary_in, last_byte_in, begun_in}
+use Rattle.cyc_lower.proofs.sizes.ValueRanges.{AreIn, append, unless_in, unless_slot_in, kind_at, HasOperand, assigned_kind, operator_few, stored_kind, given_needs, slot_fits, value_room, value_in, source_fits, brought_room, converted_room, printed_value_in, next_in, LeftIn, next_left_in, first_left_in, has_room, left_room, left_slot_in, left_in, free_in, check_in, reached_in, followed_in, conversion_in, operator_in, assigned_in, load_in, copy_in, pointer_copied, count_in, test_in, filled_in, object_in, loaded_in, own_needed, pointer_room, place_operand_in, addressed_in, stored_in, right_in, initial_by, unary_in, last_byte_in, begun_in, brought_by}
 
 module _ (program : PlainProgram) (r : Routine) (b : Numbering) (called : (n : ℕ) (s : Signature) → slice_get b.functions n ≡ Some s → IsKnown program n s) (results : r.results ≡ results_of b.result) where
   mutual
@@ -263,13 +263,13 @@ module _ (program : PlainProgram) (r : Routine) (b : Numbering) (called : (n : �
 
     pub initial_in : (types : Types) (locals : (n : ℕ) → n < b.locals → slot_of (starts_of types) n + words_in types.locals n ≤ r.slots) (levels : (l slot : ℕ) → slice_get types.counters l ≡ Some slot → slot < r.slots) (globals : AreGlobals program types.globals) (behind : types.raises + 4 < length r.code) → (c : Converted) (p d t : ℕ) → FitsConverted b types c → d + words_of_kind (passed_kind c) ≤ r.slots → t + converted_words c ≤ r.slots → t + converted_need c ≤ r.slots → p + length (initial_code (starts_of types) c p d t) < length r.code → AreIn program r b types locals levels globals called results behind (initial_code (starts_of types) c p d t)
     initial_in types locals levels globals behind (Convert from to a) p d t (kind, wide, numbered) room free few short =
-        initial_by program r b types locals levels globals called results behind (converts_there from to) from to a p d t kind wide numbered room free refl (λ slot fits less. expression_in types locals levels globals behind a p slot t numbered fits few less) short
+        initial_by program r b types locals levels globals called results behind (converts_there from to) from to a p d t kind wide numbered room free refl (λ slot fits less. brought_by program r b types locals levels globals called results behind (masks from to) a p slot t numbered fits (omega (arith, free, ap words_of_kind kind)) (λ s within shorter. expression_in types locals levels globals behind a p s t numbered within few shorter) less) short
 
     converted_in : (types : Types) (locals : (n : ℕ) → n < b.locals → slot_of (starts_of types) n + words_in types.locals n ≤ r.slots) (levels : (l slot : ℕ) → slice_get types.counters l ≡ Some slot → slot < r.slots) (globals : AreGlobals program types.globals) (behind : types.raises + 4 < length r.code) → (c : Converted) (p t : ℕ) → FitsConverted b types c → t + converted_words c ≤ r.slots → t + converted_need c ≤ r.slots → p + length (converted_code (starts_of types) c p t) < length r.code → AreIn program r b types locals levels globals called results behind (converted_code (starts_of types) c p t)
     converted_in types locals levels globals behind (Convert from to a) p t (kind, wide, numbered) room few short =
-        let front = expression_code (starts_of types) a p t t in
+        let front = brought_code (starts_of types) (Convert from to a) p t t in
         let back = conversion_code (starts_of types) from to (span_of a) (operands.Slot t) (p + length front) in
-        append program r b types locals levels globals called results behind front back (expression_in types locals levels globals behind a p t t numbered (omega (arith, room, ap words_of_kind kind)) few (omega (arith, short, length-append front back)))
+        append program r b types locals levels globals called results behind front back (brought_by program r b types locals levels globals called results behind (masks from to) a p t t numbered (omega (arith, room, ap words_of_kind kind)) (omega (arith, room, ap words_of_kind kind)) (λ s within shorter. expression_in types locals levels globals behind a p s t numbered within few shorter) (omega (arith, short, length-append front back)))
         (conversion_in program r b types locals levels globals called results behind from to (span_of a) (operands.Slot t) (p + length front) (omega (arith, room)) (omega (arith, short, length-append front back)))
 
     pub converted_operand_in : (types : Types) (locals : (n : ℕ) → n < b.locals → slot_of (starts_of types) n + words_in types.locals n ≤ r.slots) (levels : (l slot : ℕ) → slice_get types.counters l ≡ Some slot → slot < r.slots) (globals : AreGlobals program types.globals) (behind : types.raises + 4 < length r.code) → (c : Converted) (p t : ℕ) → FitsConverted b types c → t + converted_words c ≤ r.slots → t + converted_need c ≤ r.slots → p + length (converted_operand_code (starts_of types) c p t) < length r.code → AreIn program r b types locals levels globals called results behind (converted_operand_code (starts_of types) c p t)
@@ -277,11 +277,11 @@ module _ (program : PlainProgram) (r : Routine) (b : Numbering) (called : (n : �
         let known = source_of (starts_of types) (Convert from to a) in
         let slot = source_slot (starts_of types) (Convert from to a) t in
         let o = converted_operand (starts_of types) (Convert from to a) t in
-        let inner = expression_code (starts_of types) a p slot t in
+        let inner = brought_code (starts_of types) (Convert from to a) p slot t in
         let front = code_unless known inner in
         let back = conversion_code (starts_of types) from to (span_of a) o (p + length front) in
         append program r b types locals levels globals called results behind front back
-        (unless_in program r b types locals levels globals called results behind known inner p (omega (arith, short, length-append front back)) (λ less. expression_in types locals levels globals behind a p slot t numbered (source_fits program r b types locals levels globals called results behind from to a t (kind, wide, numbered) room) few less))
+        (unless_in program r b types locals levels globals called results behind known inner p (omega (arith, short, length-append front back)) (λ less. brought_by program r b types locals levels globals called results behind (masks from to) a p slot t numbered (source_fits program r b types locals levels globals called results behind from to a t (kind, wide, numbered) room) (omega (arith, room, ap words_of_kind kind)) (λ s within shorter. expression_in types locals levels globals behind a p s t numbered within few shorter) less))
         (conversion_in program r b types locals levels globals called results behind from to (span_of a) o (p + length front) (brought_room program r b types locals levels globals called results behind (Convert from to a) t (kind, wide, numbered) room) (omega (arith, short, length-append front back)))
 
     -- the arguments of `putchar`, which all are evaluated with the same temporaries
@@ -360,3 +360,7 @@ module _ (program : PlainProgram) (r : Routine) (b : Numbering) (called : (n : �
         append program r b types locals levels globals called results behind front back
         (right_in program r b types locals levels globals called results behind o a ty p l next t left numbered wide next_room all inside (omega (arith, few)) (omega (arith, short, long)) (λ slot fits less. expression_in types locals levels globals behind a p slot (behind_left o t) numbered fits (omega (arith, few, wide)) less))
         (operations_in types locals levels globals behind os ty (operator_kind o) (p + length front) (operands.Slot next) d t (words_of ty) rest room (next_left_in program r b types locals levels globals called results behind os ty d t (words_of ty) rest (omega (arith, few))) next_few (words_positive ty) (omega (arith, few)) (omega (arith, short, long)))
+
+  pub brought_in : (types : Types) (locals : (n : ℕ) → n < b.locals → slot_of (starts_of types) n + words_in types.locals n ≤ r.slots) (levels : (l slot : ℕ) → slice_get types.counters l ≡ Some slot → slot < r.slots) (globals : AreGlobals program types.globals) (behind : types.raises + 4 < length r.code) → (from to : Kind) (a : Expression) (p d t : ℕ) → FitsConverted b types (Convert from to a) → d + words_of_kind (kind_at program r b types locals levels globals called results behind a) ≤ r.slots → t + converted_words (Convert from to a) ≤ r.slots → t + expression_need a ≤ r.slots → p + length (brought_code (starts_of types) (Convert from to a) p d t) < length r.code → AreIn program r b types locals levels globals called results behind (brought_code (starts_of types) (Convert from to a) p d t)
+  brought_in types locals levels globals behind from to a p d t (kind, wide, numbered) room free few short =
+      brought_by program r b types locals levels globals called results behind (masks from to) a p d t numbered room (omega (arith, free, ap words_of_kind kind)) (λ slot fits less. expression_in types locals levels globals behind a p slot t numbered fits few less) short

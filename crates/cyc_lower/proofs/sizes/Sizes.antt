@@ -36,10 +36,10 @@ use Rattle.cyc_store.specs.declared.range.TheConstants.{HEAP, UNIQUE}
 use Rattle.cyc_meaning.specs.Values.{kind_of, words_of_kind, begins, behind, bytes_from, words_for, is_thin}
 use Rattle.cyc_lower.proofs.slots.Widths.{kind_few, type_words}
 use Rattle.cyc_lower.proofs.slots.CellBytes.{passed_slots}
-use Rattle.cyc_lower.specs.ValueCode.{converts_there, passed_words, all_passed, kinds_passed, converted_by, moved_by, move_of, binary_operator, operand_or, code_unless, slot_or, code_unless_slot, next_slot, conversion_code, divisor_code, checked_code, operator_code, truth_code, low_byte, test_code, is_in, copy_code, failing_comparison, left_with, first_temporary, jump_if_zero, jump_if_nonzero, behind_left, pointer_code, pointer_operator, index_of, first_two, pointer_instructions, address_code, blocks, element_by, count_code, span_of, tested_code, widened_code, conversion_by, tested_by, check_code, loaded_code, bounds_code, stepped_code, scaled_code, summed_code, bounded_code, past_bounded, thinned_code, reached_code, followed_code, followed_operand, followed_by, span_in, reached_operand, word_by_word, load_word, store_word, global_code, keeps_words, masked_code, load_of, store_of, unary_instruction, last_byte_code, blank_code, kind_behind, kind_passed, scale_of}
+use Rattle.cyc_lower.specs.ValueCode.{converts_there, passed_words, all_passed, kinds_passed, converted_by, moved_by, move_of, binary_operator, operand_or, code_unless, slot_or, code_unless_slot, next_slot, conversion_code, divisor_code, checked_code, operator_code, truth_code, low_byte, test_code, is_in, copy_code, failing_comparison, left_with, first_temporary, jump_if_zero, jump_if_nonzero, behind_left, pointer_code, pointer_operator, index_of, first_two, pointer_instructions, address_code, blocks, element_by, count_code, span_of, tested_code, widened_code, conversion_by, tested_by, check_code, loaded_code, bounds_code, stepped_code, scaled_code, summed_code, bounded_code, past_bounded, thinned_code, reached_code, followed_code, followed_operand, followed_by, span_in, reached_operand, word_by_word, load_word, store_word, global_code, keeps_words, load_of, store_of, unary_instruction, last_byte_code, blank_code, kind_behind, kind_passed, scale_of, masks, masked_by}
 use Rattle.cyc_lower.specs.ObjectCode.{begun_code, filled_code, ended_code, elements_code, stores_code, cells_code, slots_of_kinds, object_code, free_code, right_slot, saved_code, load_at, measured_code, sized_code}
 use Rattle.cyc_lower.specs.ControlCode.{compared_or, failing_jump, holding_jump, break_target, continue_target, body_target, outside_loops, inside_loop, leave_code, tag_operand, other_jump, clause_code, opened_code, closed_code, named_code, dynamic_code, closing_code, handlers_code, marks_code, kept_code, kept_code_in, restored_code, restored_code_in, behind_record, inside_try, inside_region}
-use Rattle.cyc_lower.specs.ExpressionCode.{source_of, source_slot, operand_of, left_of, value_slot, left_slot, value_operand, converted_operand, printed_operand, load_code, expression_code, arguments_code, converted_code, converted_operand_code, printed_code, initial_code, operations_code, slot_with, made_code, place_operand, place_offset, place_code, pointer_of, pointer_slot}
+use Rattle.cyc_lower.specs.ExpressionCode.{source_of, source_slot, operand_of, left_of, value_slot, left_slot, value_operand, converted_operand, printed_operand, load_code, expression_code, arguments_code, converted_code, converted_operand_code, printed_code, initial_code, operations_code, slot_with, made_code, place_operand, place_offset, place_code, pointer_of, pointer_slot, brought_code}
 use Rattle.cyc_lower.specs.Lowering.{assignment_code, discarded_code, first_code, second_code, pair_code, condition_code, condition_of, return_code, declaration_code, statement_code, items_code, lower_function, store_address_code, side_code, read_side, write_side, exchange_code, swap_code, caught_code, clauses_code, starts_with, raises_of}
 use Rattle.cyc_meaning.specs.Operators.{null_exception}
 use Rattle.cyc_lower.specs.Lowered.{size_per_weight}
@@ -120,18 +120,19 @@ thinned_size starts kinds.Nullable span (operands.Slot n) p =
     omega (arith, cons (jump_if_zero (operands.Slot n) (p + past_bounded span)) (bounded_code starts span n (n + 2) n), bounded_size starts span n (n + 2) n)
 thinned_size starts to span o p = omega arith
 
-masked_size : (o : Operand) → code_size (masked_code o) ≤ 11
-masked_size (operands.Slot n) = omega arith
-masked_size (operands.Word n) = omega arith
-
 conversion_by_size : (starts : Starts) (wide : Bool) (to : Kind) (span : Option ℕ) (o : Operand) (p : ℕ) → code_size (conversion_by starts wide to span o p) ≤ 44
 conversion_by_size starts true to span o p = omega (arith, tested_size starts to o)
 conversion_by_size starts false kinds.Fat span o p = omega (arith, widened_size o)
-conversion_by_size starts false kinds.Char span o p = omega (arith, masked_size o)
 conversion_by_size starts false to span o p = thinned_size starts to span o p
 
-conversion_size : (starts : Starts) (from to : Kind) (span : Option ℕ) (o : Operand) (p : ℕ) → code_size (conversion_code starts from to span o p) ≤ 44
-conversion_size starts from to span o p = conversion_by_size starts (keeps_words from to) to span o p
+-- what takes the low byte of an int that becomes a char
+abbrev masking_size : (from to : Kind) → ℕ
+masking_size from to = if masks from to then 11 else 0
+
+-- which has no other code
+conversion_size : (starts : Starts) (from to : Kind) (span : Option ℕ) (o : Operand) (p : ℕ) → masking_size from to + code_size (conversion_code starts from to span o p) ≤ 44
+conversion_size starts kinds.Int kinds.Char span o p = omega arith
+conversion_size starts from to span o p = omega (arith, conversion_by_size starts (keeps_words from to) to span o p)
 
 divisor_size : (starts : Starts) (o : Operand) → code_size (divisor_code starts o) ≤ 18
 divisor_size starts (operands.Word (suc n)) = omega arith
@@ -187,7 +188,15 @@ address_size : (o : Operand) (bytes d : ℕ) → code_size (address_code o bytes
 address_size o zero d = omega (arith, copied_address_size o d)
 address_size o (suc bytes) d = omega arith
 
-converted_by_size : (starts : Starts) (known : Option Operand) (inner : List Instruction) (from to : Kind) (span : Option ℕ) (o : Operand) (p bound : ℕ) → code_size inner ≤ bound → code_size (converted_by starts known inner from to span o p) ≤ bound + 44
+brought_by_size : (from to : Kind) (known : Option Operand) (inner at_once : List Instruction) (o : Operand) (d bound : ℕ) → code_size inner ≤ bound → code_size at_once ≤ bound
+    → code_size (if masks from to then masked_by known inner o d else at_once) ≤ bound + masking_size from to
+brought_by_size from to known inner at_once o d bound few other = by (masks from to)
+  where
+    by : (masking : Bool) → code_size (if masking then masked_by known inner o d else at_once) ≤ bound + (if masking then 11 else 0)
+    by true = omega (arith, both (code_unless known inner) (low_byte o d ∷ []), unless_size known inner, few)
+    by false = omega (arith, other)
+
+converted_by_size : (starts : Starts) (known : Option Operand) (inner : List Instruction) (from to : Kind) (span : Option ℕ) (o : Operand) (p bound : ℕ) → code_size inner ≤ bound + masking_size from to → code_size (converted_by starts known inner from to span o p) ≤ bound + 44
 converted_by_size starts known inner from to span o p bound few =
     let front = code_unless known inner in
     omega (arith, both front (conversion_code starts from to span o (p + length front)), unless_size known inner, few, conversion_size starts from to span o (p + length front))
@@ -204,9 +213,9 @@ followed_by_size starts known inner thin span o t bound few =
 tested_by_size : (starts : Starts) (known : Option Operand) (inner : List Instruction) (o : Operand) (bound : ℕ) → code_size inner ≤ bound → code_size (tested_by starts known inner o) ≤ bound + 18
 tested_by_size starts known inner o bound few = omega (arith, both (code_unless known inner) (check_code starts null_exception o), unless_size known inner, few)
 
-initial_by_size : (starts : Starts) (there : Bool) (known : Option Operand) (at_once inner : List Instruction) (from to : Kind) (span : Option ℕ) (o : Operand) (p d bound : ℕ) → code_size at_once ≤ bound → code_size inner ≤ bound
+initial_by_size : (starts : Starts) (there : Bool) (known : Option Operand) (at_once inner : List Instruction) (from to : Kind) (span : Option ℕ) (o : Operand) (p d bound : ℕ) → code_size at_once ≤ bound + masking_size from to → code_size inner ≤ bound + masking_size from to
     → code_size (if there then at_once else moved_by starts known inner from to span o p d) ≤ bound + 64
-initial_by_size starts true known at_once inner from to span o p d bound few other = omega (arith, few)
+initial_by_size starts true known at_once inner from to span o p d bound few other = omega (arith, few, conversion_size starts from to span o p)
 initial_by_size starts false known at_once inner from to span o p d bound few other =
     omega (
       arith,
@@ -589,19 +598,19 @@ mutual
   initial_size : (starts : Starts) → (c : Converted) (p d t : ℕ) → code_size (initial_code starts c p d t) ≤ size_per_weight * converted_weight c + 64
   initial_size starts (Convert from to a) p d t =
       let slot = source_slot starts (Convert from to a) t in
-      initial_by_size starts (converts_there from to) (source_of starts (Convert from to a)) (expression_code starts a p d t) (expression_code starts a p slot t) from to (span_of a) (converted_operand starts (Convert from to a) t) p d
-      (size_per_weight * expression_weight a) (expression_size starts a p d t) (expression_size starts a p slot t)
+      initial_by_size starts (converts_there from to) (source_of starts (Convert from to a)) (brought_code starts (Convert from to a) p d t) (brought_code starts (Convert from to a) p slot t) from to (span_of a) (converted_operand starts (Convert from to a) t) p d
+      (size_per_weight * expression_weight a) (brought_by_size from to (operand_of starts a) (expression_code starts a p (value_slot starts a t) t) (expression_code starts a p d t) (value_operand starts a t) d (size_per_weight * expression_weight a) (expression_size starts a p (value_slot starts a t) t) (expression_size starts a p d t)) (brought_by_size from to (operand_of starts a) (expression_code starts a p (value_slot starts a t) t) (expression_code starts a p slot t) (value_operand starts a t) slot (size_per_weight * expression_weight a) (expression_size starts a p (value_slot starts a t) t) (expression_size starts a p slot t))
 
   converted_size : (starts : Starts) → (c : Converted) (p t : ℕ) → code_size (converted_code starts c p t) ≤ size_per_weight * converted_weight c + 44
   converted_size starts (Convert from to a) p t =
-      let front = expression_code starts a p t t in
-      omega (arith, both front (conversion_code starts from to (span_of a) (operands.Slot t) (p + length front)), expression_size starts a p t t, conversion_size starts from to (span_of a) (operands.Slot t) (p + length front))
+      let front = brought_code starts (Convert from to a) p t t in
+      omega (arith, both front (conversion_code starts from to (span_of a) (operands.Slot t) (p + length front)), brought_by_size from to (operand_of starts a) (expression_code starts a p (value_slot starts a t) t) (expression_code starts a p t t) (value_operand starts a t) t (size_per_weight * expression_weight a) (expression_size starts a p (value_slot starts a t) t) (expression_size starts a p t t), conversion_size starts from to (span_of a) (operands.Slot t) (p + length front))
 
   converted_operand_size : (starts : Starts) → (c : Converted) (p t : ℕ) → code_size (converted_operand_code starts c p t) ≤ size_per_weight * converted_weight c + 44
   converted_operand_size starts (Convert from to a) p t =
       let slot = source_slot starts (Convert from to a) t in
-      converted_by_size starts (source_of starts (Convert from to a)) (expression_code starts a p slot t) from to (span_of a) (converted_operand starts (Convert from to a) t) p
-      (size_per_weight * expression_weight a) (expression_size starts a p slot t)
+      converted_by_size starts (source_of starts (Convert from to a)) (brought_code starts (Convert from to a) p slot t) from to (span_of a) (converted_operand starts (Convert from to a) t) p
+      (size_per_weight * expression_weight a) (brought_by_size from to (operand_of starts a) (expression_code starts a p (value_slot starts a t) t) (expression_code starts a p slot t) (value_operand starts a t) slot (size_per_weight * expression_weight a) (expression_size starts a p (value_slot starts a t) t) (expression_size starts a p slot t))
 
   printed_size : (starts : Starts) → (cs : Arguments) (p t : ℕ) → code_size (printed_code starts cs p t) ≤ size_per_weight * arguments_weight cs + 44
   printed_size starts NoArguments p t = omega arith
@@ -717,7 +726,7 @@ module _ (starts : Starts) where
   return_size None p exits t = omega (arith, both (leave_code exits.in_function) (instructions.Finish t ∷ []), leave_size exits.in_function)
   return_size (Some (Convert from to a)) p exits t =
       let known = source_of starts (Convert from to a) in
-      let inner = expression_code starts a p t t in
+      let inner = brought_code starts (Convert from to a) p t t in
       let front = code_unless_slot known inner in
       let s = slot_or known t in
       let conversion = conversion_code starts from to (span_of a) (operands.Slot s) (p + length front) in
@@ -727,7 +736,7 @@ module _ (starts : Starts) where
         both (front ++ conversion) (leave_code exits.in_function),
         both front conversion,
         unless_slot_size known inner,
-        expression_size starts a p t t,
+        brought_by_size from to (operand_of starts a) (expression_code starts a p (value_slot starts a t) t) (expression_code starts a p t t) (value_operand starts a t) t (size_per_weight * expression_weight a) (expression_size starts a p (value_slot starts a t) t) (expression_size starts a p t t),
         conversion_size starts from to (span_of a) (operands.Slot s) (p + length front),
         leave_size exits.in_function,
       )

@@ -23,7 +23,7 @@ use Rattle.cyc_lower.specs.Slots.{starts_of, slot_of, Types, global_of}
 use Rattle.cyc_lower.specs.ValueCode.{passed_words, operand_or, slot_or, code_unless_slot, left_with, conversion_code, failing_comparison, span_of, null_of, word_by_word, global_code, keeps_words}
 use Rattle.cyc_lower.specs.ObjectCode.{right_slot, load_at}
 use Rattle.cyc_lower.specs.ControlCode.{compared_or, failing_jump, holding_jump, body_target, inside_loop, leave_code, tag_operand, clause_code, opened_code, closed_code, named_code, dynamic_code, handlers_code, marks_code, kept_code, kept_code_in, restored_code, restored_code_in, behind_record, behind_record_in, inside_try, inside_region, outermost}
-use Rattle.cyc_lower.specs.ExpressionCode.{source_of, operand_of, value_slot, slot_with, value_operand, converted_operand, printed_operand, expression_code, converted_operand_code, printed_code}
+use Rattle.cyc_lower.specs.ExpressionCode.{source_of, operand_of, value_slot, slot_with, value_operand, converted_operand, printed_operand, expression_code, converted_operand_code, printed_code, brought_code}
 use Rattle.cyc_lower.specs.Lowering.{spare_slots, assignment_code, discarded_code, first_operand, first_code, second_code, pair_code, condition_code, condition_of, return_code, declaration_code, statement_code, items_code, results_of, side_code, read_side, write_side, exchange_code, swap_code, thrown_code, thrown_operand, caught_code, clauses_code}
 use Rattle.cyc_lower.proofs.slots.Widths.{kind_positive, kind_few, type_words, passed_kind, words_in, HasRoom, keeps_wide}
 use Rattle.cyc_lower.proofs.relation.Fitting.{FitsPlace, Fits, FitsConverted, FitsReturn, FitsInitial, FitsStatement, FitItems, FitsSide, FitsThrown, FitsCaught, FitClauses}
@@ -33,7 +33,7 @@ use Rattle.cyc_lower.proofs.slots.Slots.{words_positive, global-room, global-ins
 use Rattle.cyc_lower.specs.declared.statements.Opened.{Opened}
 use Rattle.cyc_lower.proofs.sizes.RangeLemmas.{operand_positive, converted_few, results_few, IsKnown, AreGlobals}
 use Rattle.cyc_lower.proofs.sizes.ValueRanges.{AreIn, append, unless_in, unless_slot_in, kind_at, HasOperand, slot_fits, value_room, value_in, converted_room, printed_value_in, move_in, slot_with_in, left_with_in, conversion_in, loads_in, global_in, assigned_in, stores_in, addressed_in, stored_in, load_of_in, blank_in}
-use Rattle.cyc_lower.proofs.sizes.ExpressionRanges.{expression_in, place_in, initial_in, converted_operand_in, printed_in}
+use Rattle.cyc_lower.proofs.sizes.ExpressionRanges.{expression_in, place_in, initial_in, converted_operand_in, printed_in, brought_in}
 
 module _ (program : PlainProgram) (r : Routine) (b : Numbering) (types : Types) (locals : (n : ℕ) → n < b.locals → slot_of (starts_of types) n + words_in types.locals n ≤ r.slots) (levels : (l slot : ℕ) → slice_get types.counters l ≡ Some slot → slot < r.slots) (globals : AreGlobals program types.globals) (called : (n : ℕ) (s : Signature) → slice_get b.functions n ≡ Some s → IsKnown program n s) (results : r.results ≡ results_of b.result) (behind : types.raises + 4 < length r.code) (no_return : All (λ i. is_return i ≡ false) r.code) where
   assignment_in : (l : Lvalue) (c : Converted) (p t : ℕ) → FitsPlace b types l (passed_kind c) → FitsConverted b types c → t + converted_words c ≤ r.slots → t + converted_need c ≤ r.slots → p + length (assignment_code (starts_of types) l c p t) < length r.code → AreIn program r b types locals levels globals called results behind (assignment_code (starts_of types) l c p t)
@@ -170,7 +170,7 @@ module _ (program : PlainProgram) (r : Routine) (b : Numbering) (types : Types) 
       let c = Convert from to a in
       let known = source_of (starts_of types) c in
       let s = slot_or known t in
-      let inner = expression_code (starts_of types) a p t t in
+      let inner = brought_code (starts_of types) c p t t in
       let front = code_unless_slot known inner in
       let conversion = conversion_code (starts_of types) from to (span_of a) (operands.Slot s) (p + length front) in
       let leave = leave_code exits.in_function in
@@ -178,17 +178,18 @@ module _ (program : PlainProgram) (r : Routine) (b : Numbering) (types : Types) 
       let long : length (((front ++ conversion) ++ leave) ++ back) ≡ length (front ++ conversion) + length leave + 1
       = length-append ((front ++ conversion) ++ leave) back ∙ ap (λ (n : ℕ). n + 1) (length-append (front ++ conversion) leave) in
       let long_front = length-append front conversion in
-      let (words, kind, is) = value_of b.result numbered in
+      let (words, fits) = value_of b.result numbered in
+      let (kind, wide, is) = fits in
       let there : s + converted_words c ≤ r.slots = returned_in (keeps_words from to) kind is refl in
       append program r b types locals levels globals called results behind ((front ++ conversion) ++ leave) back
       (append program r b types locals levels globals called results behind (front ++ conversion) leave
-      (append program r b types locals levels globals called results behind front conversion (unless_slot_in program r b types locals levels globals called results behind known inner p (omega (arith, short, long, long_front)) (λ less. expression_in program r b called results types locals levels globals behind a p t t is (omega (arith, few, kind_few (kind_at program r b types locals levels globals called results behind a))) (omega (arith, few)) less))
+      (append program r b types locals levels globals called results behind front conversion (unless_slot_in program r b types locals levels globals called results behind known inner p (omega (arith, short, long, long_front)) (λ less. brought_in program r b called results types locals levels globals behind from to a p t t fits (omega (arith, few, kind_few (kind_at program r b types locals levels globals called results behind a))) (omega (arith, few, converted_few c)) (omega (arith, few)) less))
       (conversion_in program r b types locals levels globals called results behind from to (span_of a) (operands.Slot s) (p + length front) there (omega (arith, short, long, long_front))))
       (leave_in exits.in_function outside.1)) (omega (arith, there, results, words), tt)
     where
-      value_of : (result : Option Ty) → FitsReturn b types result (Some (Convert from to a)) → (results_of result ≡ words_of_kind to) × (from ≡ kind_at program r b types locals levels globals called results behind a) × Fits b types a
+      value_of : (result : Option Ty) → FitsReturn b types result (Some (Convert from to a)) → (results_of result ≡ words_of_kind to) × FitsConverted b types (Convert from to a)
       value_of None numbered = absurd numbered
-      value_of (Some ty) (same, (kind, wide, numbered)) = (sym (type_words ty) ∙ ap words_of_kind (sym same), kind, numbered)
+      value_of (Some ty) (same, fits) = (sym (type_words ty) ∙ ap words_of_kind (sym same), fits)
 
       slot_there : (known : Option Operand) → HasOperand program r b types locals levels globals called results behind (operand_or known t) (converted_words (Convert from to a)) → slot_or known t + converted_words (Convert from to a) ≤ r.slots
       slot_there (Some (operands.Slot n)) inside = inside

@@ -33,10 +33,10 @@ use Rattle.cyc_meaning.specs.Values.{kind_of, words_of_kind, begins, behind as c
 use Rattle.cyc_meaning.specs.FrameCount.{operand_words, converted_words, argument_words, expression_need, dereference_need, operations_need, place_words}
 use Rattle.cyc_meaning.specs.Pointers.{result_kind as operator_kind}
 use Rattle.cyc_lower.specs.Slots.{starts_of, slot_of, Types, global_of}
-use Rattle.cyc_lower.specs.ValueCode.{converts_there, passed_words, moved_by, move_of, binary_operator, operand_or, code_unless, slot_or, code_unless_slot, left_with, next_slot, check_code, conversion_code, divisor_code, checked_code, operator_code, truth_code, test_code, copy_code, pointer_operator, left_kind, behind_left, pointer_code, index_code, pointer_instructions, address_code, addressed_by, guard_code, count_code, span_of, null_of, tested_code, widened_code, conversion_by, bounds_code, stepped_code, scaled_code, summed_code, bounded_code, thinned_code, reached_code, followed_code, followed_operand, span_in, reached_operand, word_by_word, load_word, store_word, global_code, keeps_words, masked_code, scale_of, load_of, store_of, kind_passed, unary_instruction, last_byte_code, blank_code}
+use Rattle.cyc_lower.specs.ValueCode.{converts_there, passed_words, moved_by, move_of, binary_operator, operand_or, code_unless, slot_or, code_unless_slot, left_with, next_slot, check_code, conversion_code, divisor_code, checked_code, operator_code, truth_code, test_code, copy_code, pointer_operator, left_kind, behind_left, pointer_code, index_code, pointer_instructions, address_code, addressed_by, guard_code, count_code, span_of, null_of, tested_code, widened_code, conversion_by, bounds_code, stepped_code, scaled_code, summed_code, bounded_code, thinned_code, reached_code, followed_code, followed_operand, span_in, reached_operand, word_by_word, load_word, store_word, global_code, keeps_words, scale_of, load_of, store_of, kind_passed, unary_instruction, last_byte_code, blank_code, masked_by, low_byte}
 use Rattle.cyc_lower.specs.ObjectCode.{stores_code, cells_code, slots_of_kinds, object_code, free_code, saved_code, measured_code, sized_code, asked_code, begun_code, filled_code, most_elements}
 use Rattle.cyc_lower.specs.ControlCode.{counter_operand}
-use Rattle.cyc_lower.specs.ExpressionCode.{source_of, source_slot, operand_of, left_of, value_slot, slot_with, left_slot, value_operand, converted_operand, printed_operand, load_code, expression_code, converted_operand_code, place_operand, place_offset, place_code, pointer_slot}
+use Rattle.cyc_lower.specs.ExpressionCode.{source_of, source_slot, operand_of, left_of, value_slot, slot_with, left_slot, value_operand, converted_operand, printed_operand, load_code, expression_code, brought_code, converted_operand_code, place_operand, place_offset, place_code, pointer_slot}
 use Rattle.cyc_lower.specs.Lowering.{results_of, store_address_code, store_code}
 use Rattle.cyc_lower.proofs.slots.Widths.{kind_positive, kind_few, type_words, result_kind, given, passed_kind, words_in, chain_kind, wide_kind, same_kind, more_words, HasGlobal, keeps_wide, changes_words}
 use Rattle.cyc_lower.proofs.relation.Fitting.{FitsPlace, FitsCell, Fits, FitsConverted, FitArguments, FitOperations}
@@ -358,15 +358,11 @@ module _ (program : PlainProgram) (r : Routine) (b : Numbering) (types : Types) 
   thinned_in kinds.Nullable span (operands.Slot n) p inside short = ((omega (arith, inside), tt, omega (arith, short, past_long (starts_of types) span n (n + 2) n)), bounded_in span n (n + 2) n (omega (arith, inside)) (omega (arith, inside)) inside)
   thinned_in to span o p inside short = tt
 
-  masked_in : (o : Operand) → HasOperand o 1 → AreIn (masked_code o)
-  masked_in (operands.Slot n) inside = ((omega (arith, inside), omega (arith, inside), tt), tt)
-  masked_in (operands.Word w) inside = tt
-
-  -- an int becomes a char in one word, and a fat pointer is converted in three
+  -- a fat pointer is converted in three words
   conversion_by_in : (same : Bool) (to : Kind) (span : Option ℕ) (o : Operand) (p words : ℕ) → words_of_kind to ≤ words → (same ≡ false → (to ≡ kinds.Char) ⊎ (3 ≤ words)) → HasOperand o words
       → p + length (conversion_by (starts_of types) same to span o p) < length r.code → AreIn (conversion_by (starts_of types) same to span o p)
   conversion_by_in true to span o p words least three inside short = tested_in to o (operand_in o to (less_operand o words (words_of_kind to) least inside))
-  conversion_by_in false kinds.Char span o p words least three inside short = masked_in o (less_operand o words 1 least inside)
+  conversion_by_in false kinds.Char span o p words least three inside short = tt
   conversion_by_in false kinds.Fat span o p words least three inside short = widened_in o (less_operand o words 3 least inside)
   conversion_by_in false to span o p words least three inside short = elim (three refl) [
     | inl char ↦ absurd (let f : to ≡ kinds.Char = char in cc)
@@ -646,16 +642,31 @@ module _ (program : PlainProgram) (r : Routine) (b : Numbering) (types : Types) 
       (unless_in (operand_of (starts_of types) a) inner p (omega (arith, short, length-append operand back)) (λ less. computed slot (slot_fits a u numbered free) less))
       (pointer_in o l m d room all inside (value_in a u numbered free))
 
-  pub initial_by : (there : Bool) (from to : Kind) (a : Expression) (p d t : ℕ) → from ≡ kind_at a → is_converted from to ≡ true → Fits b types a → d + words_of_kind to ≤ r.slots → t + converted_words (Convert from to a) ≤ r.slots → converts_there from to ≡ there
+  -- an int that becomes a char is an operand, and its low byte comes to a slot
+  pub brought_by : (masking : Bool) (a : Expression) (p d t : ℕ) → Fits b types a → d + words_of_kind (kind_at a) ≤ r.slots → t + words_of_kind (kind_at a) ≤ r.slots
       → ((slot : ℕ) → slot + words_of_kind (kind_at a) ≤ r.slots → p + length (expression_code (starts_of types) a p slot t) < length r.code → AreIn (expression_code (starts_of types) a p slot t))
-      → p + length (if there then expression_code (starts_of types) a p d t else moved_by (starts_of types) (source_of (starts_of types) (Convert from to a)) (expression_code (starts_of types) a p (source_slot (starts_of types) (Convert from to a) t) t) from to (span_of a) (converted_operand (starts_of types) (Convert from to a) t) p d) < length r.code
-      → AreIn (if there then expression_code (starts_of types) a p d t else moved_by (starts_of types) (source_of (starts_of types) (Convert from to a)) (expression_code (starts_of types) a p (source_slot (starts_of types) (Convert from to a) t) t) from to (span_of a) (converted_operand (starts_of types) (Convert from to a) t) p d)
+      → p + length (if masking then masked_by (operand_of (starts_of types) a) (expression_code (starts_of types) a p (value_slot (starts_of types) a t) t) (value_operand (starts_of types) a t) d else expression_code (starts_of types) a p d t) < length r.code
+      → AreIn (if masking then masked_by (operand_of (starts_of types) a) (expression_code (starts_of types) a p (value_slot (starts_of types) a t) t) (value_operand (starts_of types) a t) d else expression_code (starts_of types) a p d t)
+  brought_by true a p d t numbered room free inside short =
+      let slot = value_slot (starts_of types) a t in
+      let inner = expression_code (starts_of types) a p slot t in
+      let front = code_unless (operand_of (starts_of types) a) inner in
+      let back = low_byte (value_operand (starts_of types) a t) d ∷ [] in
+      append front back
+      (unless_in (operand_of (starts_of types) a) inner p (omega (arith, short, length-append front back)) (λ less. inside slot (slot_fits a t numbered free) less))
+      ((omega (arith, room, kind_positive (kind_at a)), value_in a t numbered free, tt), tt)
+  brought_by false a p d t numbered room free inside short = inside d room short
+
+  pub initial_by : (there : Bool) (from to : Kind) (a : Expression) (p d t : ℕ) → from ≡ kind_at a → is_converted from to ≡ true → Fits b types a → d + words_of_kind to ≤ r.slots → t + converted_words (Convert from to a) ≤ r.slots → converts_there from to ≡ there
+      → ((slot : ℕ) → slot + words_of_kind (kind_at a) ≤ r.slots → p + length (brought_code (starts_of types) (Convert from to a) p slot t) < length r.code → AreIn (brought_code (starts_of types) (Convert from to a) p slot t))
+      → p + length (if there then brought_code (starts_of types) (Convert from to a) p d t else moved_by (starts_of types) (source_of (starts_of types) (Convert from to a)) (brought_code (starts_of types) (Convert from to a) p (source_slot (starts_of types) (Convert from to a) t) t) from to (span_of a) (converted_operand (starts_of types) (Convert from to a) t) p d) < length r.code
+      → AreIn (if there then brought_code (starts_of types) (Convert from to a) p d t else moved_by (starts_of types) (source_of (starts_of types) (Convert from to a)) (brought_code (starts_of types) (Convert from to a) p (source_slot (starts_of types) (Convert from to a) t) t) from to (span_of a) (converted_operand (starts_of types) (Convert from to a) t) p d)
   initial_by true from to a p d t kind wide numbered room free lands inside short = inside d (omega (arith, room, ap words_of_kind kind, as_wide from to lands)) short
   initial_by false from to a p d t kind wide numbered room free lands inside short =
       let c = Convert from to a in
       let known = source_of (starts_of types) c in
       let slot = source_slot (starts_of types) c t in
-      let inner = expression_code (starts_of types) a p slot t in
+      let inner = brought_code (starts_of types) c p slot t in
       let o = converted_operand (starts_of types) c t in
       let front = code_unless known inner in
       let conversion = conversion_code (starts_of types) from to (span_of a) o (p + length front) in

@@ -35,10 +35,10 @@ use Rattle.cyc_words.proofs.Lists.{all_append}
 use Rattle.cyc_types.specs.Types.{words_of, Ty}
 use Rattle.cyc_store.specs.declared.range.TheConstants.{HEAP, UNIQUE}
 use Rattle.cyc_meaning.specs.Values.{words_of_kind, bytes_of_kind, begins, behind, bytes_from, words_for, is_thin, kind_of}
-use Rattle.cyc_lower.specs.ValueCode.{converts_there, passed_words, kinds_passed, converted_by, moved_by, move_of, operand_or, code_unless, slot_or, code_unless_slot, left_with, next_slot, check_code, conversion_code, divisor_code, checked_code, operator_code, truth_code, test_code, is_in, copy_code, failing_comparison, first_temporary, behind_left, pointer_code, index_of, first_two, pointer_instructions, address_code, addressed_by, guard_code, blocks, element_by, count_code, span_of, null_of, tested_code, widened_code, conversion_by, tested_by, bounds_code, stepped_code, scaled_code, summed_code, bounded_code, thinned_code, reached_code, followed_code, followed_operand, followed_by, span_in, reached_operand, word_by_word, load_word, store_word, global_code, keeps_words, masked_code, scale_of, load_of, store_of, unary_instruction, last_byte_code, blank_code, kind_behind, kind_passed, variable_bytes}
+use Rattle.cyc_lower.specs.ValueCode.{converts_there, passed_words, kinds_passed, converted_by, moved_by, move_of, operand_or, code_unless, slot_or, code_unless_slot, left_with, next_slot, check_code, conversion_code, divisor_code, checked_code, operator_code, truth_code, test_code, is_in, copy_code, failing_comparison, first_temporary, behind_left, pointer_code, index_of, first_two, pointer_instructions, address_code, addressed_by, guard_code, blocks, element_by, count_code, span_of, null_of, tested_code, widened_code, conversion_by, tested_by, bounds_code, stepped_code, scaled_code, summed_code, bounded_code, thinned_code, reached_code, followed_code, followed_operand, followed_by, span_in, reached_operand, word_by_word, load_word, store_word, global_code, keeps_words, scale_of, load_of, store_of, unary_instruction, last_byte_code, blank_code, kind_behind, kind_passed, variable_bytes, masks, masked_by, low_byte}
 use Rattle.cyc_lower.specs.ObjectCode.{begun_code, filled_code, ended_code, elements_code, stores_code, cells_code, slots_of_kinds, object_code, right_slot, saved_code, asked_code, load_at, measured_code, sized_code, most_elements}
 use Rattle.cyc_lower.specs.ControlCode.{counter_operand, compared_or, compared_of, outside_loops, inside_loop, leave_code, clause_code, opened_code, closed_code, named_code, dynamic_code, handlers_code, marks_code, kept_code, kept_code_in, restored_code, restored_code_in, behind_record, inside_try, inside_region}
-use Rattle.cyc_lower.specs.ExpressionCode.{source_of, source_slot, operand_of, left_of, value_slot, left_slot, value_operand, converted_operand, printed_operand, load_code, expression_code, arguments_code, converted_code, converted_operand_code, printed_code, initial_code, operations_code, slot_with, made_code, place_operand, place_offset, place_code, pointer_of, pointer_slot}
+use Rattle.cyc_lower.specs.ExpressionCode.{source_of, source_slot, operand_of, left_of, value_slot, left_slot, value_operand, converted_operand, printed_operand, load_code, expression_code, arguments_code, converted_code, converted_operand_code, printed_code, initial_code, operations_code, slot_with, made_code, place_operand, place_offset, place_code, pointer_of, pointer_slot, brought_code}
 use Rattle.cyc_lower.specs.Lowering.{assignment_code, discarded_code, first_code, second_code, pair_code, condition_code, condition_of, return_code, declaration_code, statement_code, items_code, initial_word, lower_function, lower_program, store_address_code, store_code, caught_code, clauses_code, function_code, side_code, read_side, write_side, exchange_code, swap_code, globals_of, lower_globals, starts_with, raises_of, scopes_of}
 use Rattle.cyc_lower.proofs.slots.Widths.{kind_few, type_words}
 use Rattle.cyc_lower.proofs.slots.CellBytes.{begins_within, behind_within, bytes_within, passed_slots}
@@ -144,14 +144,9 @@ thinned_words starts kinds.NonNull span (operands.Slot n) p =
 thinned_words starts kinds.Nullable span (operands.Slot n) p = ((tt, omega arith), bounded_words starts span n (n + 2) n)
 thinned_words starts to span o p = tt
 
-masked_words : (o : Operand) → HaveWords (masked_code o)
-masked_words (operands.Slot n) = ((tt, omega arith), tt)
-masked_words (operands.Word n) = tt
-
 conversion_by_words : (starts : Starts) (wide : Bool) (to : Kind) (span : Option ℕ) (o : Operand) (p : ℕ) → IsOfWord o → HaveWords (conversion_by starts wide to span o p)
 conversion_by_words starts true to span o p word = tested_words starts to o word
 conversion_by_words starts false kinds.Fat span o p word = widened_words o
-conversion_by_words starts false kinds.Char span o p word = masked_words o
 conversion_by_words starts false to span o p word = thinned_words starts to span o p
 
 conversion_words : (starts : Starts) (from to : Kind) (span : Option ℕ) (o : Operand) (p : ℕ) → IsOfWord o → HaveWords (conversion_code starts from to span o p)
@@ -240,6 +235,10 @@ element_by_words starts there front known inner span n o t first second word =
 
 tested_by_words : (starts : Starts) (known : Option Operand) (inner : List Instruction) (o : Operand) → HaveWords inner → IsOfWord o → HaveWords (tested_by starts known inner o)
 tested_by_words starts known inner o all word = append (code_unless known inner) (check_code starts null_exception o) (unless_words known inner all) (check_words starts null_exception o word)
+
+brought_by_words : (masking : Bool) (known : Option Operand) (inner at_once : List Instruction) (o : Operand) (d : ℕ) → HaveWords inner → HaveWords at_once → IsOfWord o → HaveWords (if masking then masked_by known inner o d else at_once)
+brought_by_words true known inner at_once o d all other word = append (code_unless known inner) (low_byte o d ∷ []) (unless_words known inner all) ((word, omega arith), tt)
+brought_by_words false known inner at_once o d all other word = other
 
 initial_by_words : (starts : Starts) (there : Bool) (known : Option Operand) (at_once inner : List Instruction) (from to : Kind) (span : Option ℕ) (o : Operand) (p d : ℕ) → HaveWords at_once → HaveWords inner → IsOfWord o
     → HaveWords (if there then at_once else moved_by starts known inner from to span o p d)
@@ -553,18 +552,19 @@ mutual
   initial_words : (starts : Starts) → (c : Converted) (p d t : ℕ) → IsOfWordsConverted c → HaveWords (initial_code starts c p d t)
   initial_words starts (Convert from to a) p d t words =
       let slot = source_slot starts (Convert from to a) t in
-      initial_by_words starts (converts_there from to) (source_of starts (Convert from to a)) (expression_code starts a p d t) (expression_code starts a p slot t) from to (span_of a) (converted_operand starts (Convert from to a) t) p d
-      (expression_words starts a p d t words) (expression_words starts a p slot t words) (converted_word starts (Convert from to a) t words)
+      initial_by_words starts (converts_there from to) (source_of starts (Convert from to a)) (brought_code starts (Convert from to a) p d t) (brought_code starts (Convert from to a) p slot t) from to (span_of a) (converted_operand starts (Convert from to a) t) p d
+      (brought_by_words (masks from to) (operand_of starts a) (expression_code starts a p (value_slot starts a t) t) (expression_code starts a p d t) (value_operand starts a t) d (expression_words starts a p (value_slot starts a t) t words) (expression_words starts a p d t words) (known_word starts a (value_slot starts a t) words)) (brought_by_words (masks from to) (operand_of starts a) (expression_code starts a p (value_slot starts a t) t) (expression_code starts a p slot t) (value_operand starts a t) slot (expression_words starts a p (value_slot starts a t) t words) (expression_words starts a p slot t words) (known_word starts a (value_slot starts a t) words)) (converted_word starts (Convert from to a) t words)
 
   converted_words : (starts : Starts) → (c : Converted) (p t : ℕ) → IsOfWordsConverted c → HaveWords (converted_code starts c p t)
   converted_words starts (Convert from to a) p t words =
-      let q = p + length (expression_code starts a p t t) in
-      append (expression_code starts a p t t) (conversion_code starts from to (span_of a) (operands.Slot t) q) (expression_words starts a p t t words) (conversion_words starts from to (span_of a) (operands.Slot t) q tt)
+      let front = brought_code starts (Convert from to a) p t t in
+      let q = p + length front in
+      append front (conversion_code starts from to (span_of a) (operands.Slot t) q) (brought_by_words (masks from to) (operand_of starts a) (expression_code starts a p (value_slot starts a t) t) (expression_code starts a p t t) (value_operand starts a t) t (expression_words starts a p (value_slot starts a t) t words) (expression_words starts a p t t words) (known_word starts a (value_slot starts a t) words)) (conversion_words starts from to (span_of a) (operands.Slot t) q tt)
 
   converted_operand_words : (starts : Starts) → (c : Converted) (p t : ℕ) → IsOfWordsConverted c → HaveWords (converted_operand_code starts c p t)
   converted_operand_words starts (Convert from to a) p t words =
       let slot = source_slot starts (Convert from to a) t in
-      converted_by_words starts (source_of starts (Convert from to a)) (expression_code starts a p slot t) from to (span_of a) (converted_operand starts (Convert from to a) t) p (expression_words starts a p slot t words) (converted_word starts (Convert from to a) t words)
+      converted_by_words starts (source_of starts (Convert from to a)) (brought_code starts (Convert from to a) p slot t) from to (span_of a) (converted_operand starts (Convert from to a) t) p (brought_by_words (masks from to) (operand_of starts a) (expression_code starts a p (value_slot starts a t) t) (expression_code starts a p slot t) (value_operand starts a t) slot (expression_words starts a p (value_slot starts a t) t words) (expression_words starts a p slot t words) (known_word starts a (value_slot starts a t) words)) (converted_word starts (Convert from to a) t words)
 
   printed_words : (starts : Starts) → (cs : Arguments) (p t : ℕ) → AreOfWordsArguments cs → HaveWords (printed_code starts cs p t)
   printed_words starts NoArguments p t words = tt
@@ -701,13 +701,13 @@ module _ (starts : Starts) where
   return_words None p exits t words = append (leave_code exits.in_function) _ (leave_words exits.in_function) (tt, tt)
   return_words (Some (Convert from to a)) p exits t words =
       let known = source_of starts (Convert from to a) in
-      let inner = expression_code starts a p t t in
+      let inner = brought_code starts (Convert from to a) p t t in
       let front = code_unless_slot known inner in
       let s = slot_or known t in
       let conversion = conversion_code starts from to (span_of a) (operands.Slot s) (p + length front) in
       append ((front ++ conversion) ++ leave_code exits.in_function) _
       (append (front ++ conversion) (leave_code exits.in_function)
-      (append front conversion (unless_slot_words known inner (expression_words starts a p t t words)) (conversion_words starts from to (span_of a) (operands.Slot s) (p + length front) tt)) (leave_words exits.in_function))
+      (append front conversion (unless_slot_words known inner (brought_by_words (masks from to) (operand_of starts a) (expression_code starts a p (value_slot starts a t) t) (expression_code starts a p t t) (value_operand starts a t) t (expression_words starts a p (value_slot starts a t) t words) (expression_words starts a p t t words) (known_word starts a (value_slot starts a t) words))) (conversion_words starts from to (span_of a) (operands.Slot s) (p + length front) tt)) (leave_words exits.in_function))
       (tt, tt)
 
   declaration_words : (n : ℕ) (ty : Ty) (v : Option Converted) (p t : ℕ) → IsOfWordsInitial v → HaveWords (declaration_code starts n ty v p t)

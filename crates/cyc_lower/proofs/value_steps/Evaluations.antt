@@ -36,18 +36,18 @@ use Rattle.cyc_lower.specs.Slots.{slot_of, field_in, global_of, Types, starts_of
 use Rattle.cyc_meaning.specs.Places.{locates_member}
 use Rattle.cyc_lower.proofs.place_steps.PlaceWords.{field_bytes, add_is}
 use Rattle.cyc_lower.proofs.slots.Slots.{slot-room, slot-low, words-there, words_positive, kind-there}
-use Rattle.cyc_lower.proofs.slots.Widths.{kind_positive, type_words, made_kind, HasRoom, Outside}
+use Rattle.cyc_lower.proofs.slots.Widths.{keeps_whole, kind_positive, type_words, made_kind, HasRoom, Outside}
 use Rattle.cyc_lower.proofs.relation.Moves.{moved_slots, moves, put_elsewhere, moved_elsewhere, moved_is}
-use Rattle.cyc_lower.specs.ValueCode.{failing_comparison, converts_there, all_passed, kinds_passed, move_of, left_with, null_of, followed_operand, span_in, operand_or, reached_operand, load_word, address_of_global, keeps_words, variable_bytes}
+use Rattle.cyc_lower.specs.ValueCode.{failing_comparison, converts_there, masks, span_of, all_passed, kinds_passed, move_of, left_with, null_of, followed_operand, span_in, operand_or, reached_operand, load_word, address_of_global, keeps_words, variable_bytes}
 use Rattle.cyc_lower.specs.ControlCode.{counter_operand, compared_or, compared_of}
 use Rattle.cyc_lower.specs.ExpressionCode.{operand_of, value_slot, source_of, source_slot, slot_with, pointer_of}
 use Rattle.cyc_lower.specs.Lowering.{lower_program}
 use Rattle.cyc_lower.proofs.relation.Weights.{weight, stack_weight, expression_weight, arguments_weight, object_weight}
-use Rattle.cyc_lower.proofs.relation.Stands.{CopyBy, CopyAt, OperandBy, InitialBy, ExpressionAt, ArgumentsAt, ObjectAt, MadeAt, ValueAt, PairAt, ConditionAt, AssignmentAt, PrintedAt, DiscardedAt, StoredAt, LoadedAt, ReturnedAt, ReachedAt, EachAt, LastByteAt}
+use Rattle.cyc_lower.proofs.relation.Stands.{CopyBy, CopyAt, OperandBy, InitialBy, BroughtAt, ConversionAt, ExpressionAt, ArgumentsAt, ObjectAt, MadeAt, ValueAt, PairAt, ConditionAt, AssignmentAt, PrintedAt, DiscardedAt, StoredAt, LoadedAt, ReturnedAt, ReachedAt, EachAt, LastByteAt}
 use Rattle.cyc_objects.specs.Tables.{Tables}
 use Rattle.cyc_objects.specs.Words.{Is, Points}
 use Rattle.cyc_lower.proofs.relation.HeldValues.{counters_of, IsIn, words_held, height, Holds, held, kept, contents, IsHandleOf, IsLow, callers, AreCounted}
-use Rattle.cyc_lower.proofs.relation.Relation.{types_on, starts_on, types_at, starts_at, given_at, called_at, in_temporary, in_local, drops, leaves, copies, prints_only, gives_byte, DataIn, SharedAt, CallAt, to_slot, to_jump, ValueStack, PlaceStack, ConditionStack, DroppedStack, AheadStack, LandsStack, LandsMade, HandsOnStack, PrintsStack, RightAt, EvaluatingAt, as_operand, into_slot, for_effect, as_right, as_condition, in_operand, ahead, with_left, Related, Matches, code_of, bounds_at, top, floor, ReadyAt}
+use Rattle.cyc_lower.proofs.relation.Relation.{types_on, starts_on, types_at, starts_at, given_at, called_at, in_temporary, in_local, drops, leaves, copies, prints_only, gives_byte, DataIn, SharedAt, CallAt, to_slot, to_jump, ValueStack, PlaceStack, ConditionStack, DroppedStack, AheadStack, LandsStack, LandsMade, HandsOnStack, PrintsStack, RightAt, EvaluatingAt, as_operand, into_slot, for_effect, as_right, as_condition, in_operand, ahead, with_left, Related, Matches, code_of, bounds_at, top, floor, ReadyAt, base_of}
 use Rattle.cyc_lower.proofs.object_steps.Handles.{kept_holds, kept_low}
 use Rattle.cyc_lower.proofs.relation.Data.{height-least, Holds-same, Holds-above, floor-least, data_written}
 use Rattle.cyc_types.specs.Numbered.{Numbering}
@@ -230,6 +230,30 @@ module _ (source : Program) (pages calls : ℕ) where
   reads tables (Unary unary.Widen a) o k e w c known plain well count facts heap = absurd plain
   reads tables a o k e w c known plain well count facts heap = absurd (none-some o known)
 
+  -- ---- values that are converted where they come to
+
+  -- a value comes to the next temporary and is converted there
+  pub brings : (t : Tables) (from to : Kind) (a : Expression) (k : List Entry) (locals : ℕ → Option ℕ) (g p : ℕ) (slots : Words) (frames : List Frame) (m q : ℕ)
+      → BroughtAt (code_of source g) (bounds_at source g) (types_on source g k) (Convert from to a) (top source g k) (top source g k) p m
+      → ConversionAt (code_of source g) (bounds_at source g) (types_on source g k) from to (span_of a) (operands.Slot (top source g k)) (top source g k) m q
+      → Holds t slots (floor source g k) (held k) → ValueStack source g locals to (operands.Slot (top source g k)) q frames k
+      → EvaluatingAt source t a locals g p slots frames (Needs (ConvertTo from to (target_by a)) ∷ k)
+  brings t kinds.Int kinds.Char a k locals g p slots frames m q (o, r, at_a, here, end) (same, there) holds stack =
+      as_operand o r at_a holds
+      (inl (top source g k, refl, here, in_temporary (omega arith) (subst (λ x. ValueStack source g locals kinds.Char (operands.Slot (top source g k)) x frames k) (sym (end ∙ there)) stack)))
+  brings t from to a k locals g p slots frames m q at_a at_to holds stack = into_slot (top source g k) m at_a holds (in_temporary (omega arith) (inr (q, refl, at_to, stack)))
+
+  -- a value comes to the slots of a local that is about to get it, where it raises nothing
+  pub brings_ahead : (t : Tables) (from to : Kind) (a : Expression) (k : List Entry) (locals : ℕ → Option ℕ) (g p : ℕ) (slots : Words) (frames : List Frame) (d m : ℕ)
+      → converts_there from to ≡ true → words_of_kind (given_at source g a) ≡ words_of_kind to → d + words_of_kind to ≤ base_of source g
+      → BroughtAt (code_of source g) (bounds_at source g) (types_on source g k) (Convert from to a) d (top source g k) p m
+      → Holds t slots (floor source g k) (held k) → AheadStack source g locals to d m frames k
+      → EvaluatingAt source t a locals g p slots frames (Needs (ConvertTo from to (target_by a)) ∷ k)
+  brings_ahead t kinds.Int kinds.Char a k locals g p slots frames d m lands wide below (o, r, at_a, here, end) holds stack =
+      as_operand o r at_a holds (inl (d, refl, here, in_local below (subst (λ x. AheadStack source g locals kinds.Char d x frames k) (sym end) stack)))
+  brings_ahead t from to a k locals g p slots frames d m lands wide below at_a holds stack =
+      into_slot d m at_a holds (in_local (omega (arith, below, wide)) (lands, refl, wide, stack))
+
   -- ---- calls
 
   -- the next argument is evaluated, or the call is made
@@ -257,9 +281,9 @@ module _ (source : Program) (pages calls : ℕ) where
         ),
       )
   passes_related callees.Getchar before (MoreArguments (Convert from to a) cs) k e w c d m q all shared facts (r, (s, at_a, at_to), at) call long holds lands =
-      (shared, facts, into_slot (height (floor source c.active.function k) (before ++ held k)) s at_a holds (in_temporary (omega arith) (r, at_to, (d, m, q, all, refl, at, call, long, lands))))
+      (shared, facts, brings shared.tables from to a (Needs (Pass callees.Getchar before cs) ∷ k) e.locals c.active.function c.active.next c.active.slots c.frames s r at_a at_to holds (d, m, q, all, refl, at, call, long, lands))
   passes_related (callees.Function n) before (MoreArguments (Convert from to a) cs) k e w c d m q all shared facts (r, (s, at_a, at_to), at) call long holds lands =
-      (shared, facts, into_slot (height (floor source c.active.function k) (before ++ held k)) s at_a holds (in_temporary (omega arith) (r, at_to, (d, m, q, all, refl, at, call, long, lands))))
+      (shared, facts, brings shared.tables from to a (Needs (Pass (callees.Function n) before cs) ∷ k) e.locals c.active.function c.active.next c.active.slots c.frames s r at_a at_to holds (d, m, q, all, refl, at, call, long, lands))
 
   pub passes_weight : (f : Callee) (before : List Kinded) (cs : Arguments) (k : List Entry) (e : Environment) (w : World) → weight (passes f before cs k e w) ≤ arguments_weight cs + stack_weight k
   passes_weight f before NoArguments k e w = omega arith
@@ -288,33 +312,62 @@ module _ (source : Program) (pages calls : ℕ) where
       )
       (omega (arith, found.some))
 
+  -- null that is converted is an operand
+  brings_null : (t : Tables) (from to : Kind) (k : List Entry) (e : Environment) (w : World) (c : Configuration) (o : Operand) (m q : ℕ)
+      → o ≡ operands.Word 0 → c.active.next ≡ m
+      → ConversionAt (code_of source c.active.function) (bounds_at source c.active.function) (types_on source c.active.function k) from to (span_of typed.NullPointer) o (top source c.active.function k) m q
+      → Holds t c.active.slots (floor source c.active.function k) (held k) → ValueStack source c.active.function e.locals to o q c.frames k
+      → EvaluatingAt source t typed.NullPointer e.locals c.active.function c.active.next c.active.slots c.frames (Needs (ConvertTo from to (target_by typed.NullPointer)) ∷ k)
+  brings_null t kinds.Int kinds.Char k e w c o m q is end (same, there) holds stack = absurd (let f : operands.Word 0 ≡ operands.Slot (top source c.active.function k) = sym is ∙ same in cc)
+  brings_null t from to k e w c o m q is end at_to holds stack = as_operand o m (is, end) holds (inr (q, refl, at_to, stack))
+
   -- a value whose words change is brought to a temporary, but null
-  brought : (t : Tables) (a : Expression) (k : List Entry) (e : Environment) (w : World) (c : Configuration) (o : Operand) (m : ℕ)
+  brought : (t : Tables) (from to : Kind) (a : Expression) (k : List Entry) (e : Environment) (w : World) (c : Configuration) (o : Operand) (m q : ℕ)
       → OperandBy (code_of source c.active.function) (bounds_at source c.active.function) (types_on source c.active.function k) (null_of a)
-      (ExpressionAt (code_of source c.active.function) (bounds_at source c.active.function) (types_on source c.active.function k) a (top source c.active.function k) (top source c.active.function k) c.active.next m)
+      (BroughtAt (code_of source c.active.function) (bounds_at source c.active.function) (types_on source c.active.function k) (Convert from to a) (top source c.active.function k) (top source c.active.function k) c.active.next m)
       (top source c.active.function k) o c.active.next m
-      → Holds t c.active.slots (floor source c.active.function k) (held k) → ValueStack source c.active.function e.locals (given_at source c.active.function a) o m c.frames k
-      → EvaluatingAt source t a e.locals c.active.function c.active.next c.active.slots c.frames k
-  brought t typed.NullPointer k e w c o m at holds stack = as_operand o m at holds stack
-  brought t a k e w c o m (is, at) holds stack =
-      into_slot (top source c.active.function k) m at holds (in_temporary (omega arith) (subst (λ x. ValueStack source c.active.function e.locals (given_at source c.active.function a) x m c.frames k) is stack))
+      → ConversionAt (code_of source c.active.function) (bounds_at source c.active.function) (types_on source c.active.function k) from to (span_of a) o (top source c.active.function k) m q
+      → Holds t c.active.slots (floor source c.active.function k) (held k) → ValueStack source c.active.function e.locals to o q c.frames k
+      → EvaluatingAt source t a e.locals c.active.function c.active.next c.active.slots c.frames (Needs (ConvertTo from to (target_by a)) ∷ k)
+  brought t from to typed.NullPointer k e w c o m q (is, end) at_to holds stack = brings_null t from to k e w c o m q is end at_to holds stack
+  brought t from to a k e w c o m q (is, at) at_to holds stack =
+      brings t from to a k e.locals c.active.function c.active.next c.active.slots c.frames m q at
+      (subst (λ x. ConversionAt (code_of source c.active.function) (bounds_at source c.active.function) (types_on source c.active.function k) from to (span_of a) x (top source c.active.function k) m q) is at_to) holds
+      (subst (λ x. ValueStack source c.active.function e.locals to x q c.frames k) is stack)
+
+  -- of what masks nothing the code is that of the expression
+  plain_operand : (from to : Kind) (a : Expression) (k : List Entry) (c : Configuration) (slot : ℕ) (o : Operand) (m : ℕ) → masks from to ≡ false
+      → OperandBy (code_of source c.active.function) (bounds_at source c.active.function) (types_on source c.active.function k) (operand_of (starts_on source c.active.function k) a)
+      (BroughtAt (code_of source c.active.function) (bounds_at source c.active.function) (types_on source c.active.function k) (Convert from to a) slot (top source c.active.function k) c.active.next m) slot o c.active.next m
+      → OperandBy (code_of source c.active.function) (bounds_at source c.active.function) (types_on source c.active.function k) (operand_of (starts_on source c.active.function k) a)
+      (ExpressionAt (code_of source c.active.function) (bounds_at source c.active.function) (types_on source c.active.function k) a slot (top source c.active.function k) c.active.next m) slot o c.active.next m
+  plain_operand kinds.Int kinds.Char a k c slot o m whole at = absurd (let f : true ≡ false = whole in cc)
+  plain_operand from to a k c slot o m whole at = at
 
   -- a value that is to be converted: in an operand, or in a temporary where its words change
-  pub sources : (t : Tables) (from to : Kind) (a : Expression) (k : List Entry) (e : Environment) (w : World) (c : Configuration) (o : Operand) (m : ℕ)
+  pub sources : (t : Tables) (from to : Kind) (a : Expression) (k : List Entry) (e : Environment) (w : World) (c : Configuration) (o : Operand) (m q : ℕ)
       → OperandBy (code_of source c.active.function) (bounds_at source c.active.function) (types_on source c.active.function k) (source_of (starts_on source c.active.function k) (Convert from to a))
-      (ExpressionAt (code_of source c.active.function) (bounds_at source c.active.function) (types_on source c.active.function k) a (source_slot (starts_on source c.active.function k) (Convert from to a) (top source c.active.function k)) (top source c.active.function k) c.active.next m)
+      (BroughtAt (code_of source c.active.function) (bounds_at source c.active.function) (types_on source c.active.function k) (Convert from to a) (source_slot (starts_on source c.active.function k) (Convert from to a) (top source c.active.function k)) (top source c.active.function k) c.active.next m)
       (source_slot (starts_on source c.active.function k) (Convert from to a) (top source c.active.function k)) o c.active.next m
-      → Holds t c.active.slots (floor source c.active.function k) (held k) → ValueStack source c.active.function e.locals (given_at source c.active.function a) o m c.frames k
-      → EvaluatingAt source t a e.locals c.active.function c.active.next c.active.slots c.frames k
-  sources t from to a k e w c o m at holds stack = by (keeps_words from to) at
+      → ConversionAt (code_of source c.active.function) (bounds_at source c.active.function) (types_on source c.active.function k) from to (span_of a) o (top source c.active.function k) m q
+      → Holds t c.active.slots (floor source c.active.function k) (held k) → ValueStack source c.active.function e.locals to o q c.frames k
+      → EvaluatingAt source t a e.locals c.active.function c.active.next c.active.slots c.frames (Needs (ConvertTo from to (target_by a)) ∷ k)
+  sources t from to a k e w c o m q at at_to holds stack = by (keeps_words from to) refl at
     where
-      by : (same : Bool)
+      -- the code that brings it to a slot, where that is no operand
+      Code : (slot : ℕ) → Type 0
+      Code slot = BroughtAt (code_of source c.active.function) (bounds_at source c.active.function) (types_on source c.active.function k) (Convert from to a) slot (top source c.active.function k) c.active.next m
+
+      by : (same : Bool) → keeps_words from to ≡ same
           → OperandBy (code_of source c.active.function) (bounds_at source c.active.function) (types_on source c.active.function k) (if same then operand_of (starts_on source c.active.function k) a else null_of a)
-          (ExpressionAt (code_of source c.active.function) (bounds_at source c.active.function) (types_on source c.active.function k) a (if same then value_slot (starts_on source c.active.function k) a (top source c.active.function k) else top source c.active.function k) (top source c.active.function k) c.active.next m)
+          (Code (if same then value_slot (starts_on source c.active.function k) a (top source c.active.function k) else top source c.active.function k))
           (if same then value_slot (starts_on source c.active.function k) a (top source c.active.function k) else top source c.active.function k) o c.active.next m
-          → EvaluatingAt source t a e.locals c.active.function c.active.next c.active.slots c.frames k
-      by true at = as_operand o m at holds stack
-      by false at = brought t a k e w c o m at holds stack
+          → EvaluatingAt source t a e.locals c.active.function c.active.next c.active.slots c.frames (Needs (ConvertTo from to (target_by a)) ∷ k)
+      by true keeps at =
+          let slot = value_slot (starts_on source c.active.function k) a (top source c.active.function k) in
+          let whole = keeps_whole from to keeps in
+          as_operand o m (plain_operand from to a k c slot o m whole at) holds (inr (q, whole, at_to, stack))
+      by false changes at = brought t from to a k e w c o m q at at_to holds stack
 
   -- what is assigned to a local comes to its slots at once, or is moved there once it is converted
   assigns_local : (there : Bool) (n : ℕ) (from to : Kind) (a : Expression) (k : List Entry) (e : Environment) (w : World) (c : Configuration) (object : ℕ) (o : Operand) (m : ℕ)
@@ -329,12 +382,12 @@ module _ (source : Program) (pages calls : ℕ) where
       let inside = slot-room (types_on source g k) n (facts.0.2.within n object found).0 in (
         shared,
         facts,
-        into_slot (slot_of (starts_on source g k) n) m at_a holds
-            (in_local (omega (arith, inside, room, wide)) (lands, wide, (n, object, refl, found, refl, room, subst (λ x. HandsOnStack source g e.locals to x m c.frames k) there hands))),
+        brings_ahead shared.tables from to a (Needs (Store (Thin object 0)) ∷ k) e.locals g c.active.next c.active.slots c.frames (slot_of (starts_on source g k) n) m lands wide (omega (arith, inside, room)) at_a holds
+            (n, object, refl, found, refl, room, subst (λ x. HandsOnStack source g e.locals to x m c.frames k) there hands),
       )
   assigns_local false n from to a k e w c object o m lands found shared facts holds there room (x, r, s, at_a, at_to, move, end) hands =
       let place : Lvalue = Local (record { line = 0; column = 0 }) n in
-      (shared, facts, sources shared.tables from to a (Needs (ConvertTo from to (target_by a)) ∷ Needs (Store (Thin object 0)) ∷ k) e w c x r at_a holds (s, at_to, (place, o, m, (move, end, there, room), (object, refl, found), hands)))
+      (shared, facts, sources shared.tables from to a (Needs (Store (Thin object 0)) ∷ k) e w c x r s at_a at_to holds (place, o, m, (move, end, there, room), (object, refl, found), hands))
 
   -- a place is assigned, and then the value of the assignment is handed on
   assigns : (l : Lvalue) (from to : Kind) (a : Expression) (t : ValueType) (k : List Entry) (e : Environment) (w : World) (c : Configuration) (object : Option ℕ) (o : Operand) (m : ℕ)
@@ -353,7 +406,7 @@ module _ (source : Program) (pages calls : ℕ) where
       silently source pages calls (Running (Evaluating (Assign (Global n) (Convert from to a) t)) k e w)
       (Running (Evaluating a) (Needs (ConvertTo from to (target_by a)) ∷ Needs (Store (Thin object 0)) ∷ k) e w) (plain.Running c)
       (ap (λ x. assigned x (Convert from to a) k e w) found)
-      (shared, facts, sources shared.tables from to a (Needs (ConvertTo from to (target_by a)) ∷ Needs (Store (Thin object 0)) ∷ k) e w c o r at_a holds (s, at_to, (Global n, o, m, (store, refl, room), (object, refl, found), hands)))
+      (shared, facts, sources shared.tables from to a (Needs (Store (Thin object 0)) ∷ k) e w c o r s at_a at_to holds (Global n, o, m, (store, refl, room), (object, refl, found), hands))
       (omega arith)
 
   -- a cell that is stored to: its place is found first
@@ -374,7 +427,7 @@ module _ (source : Program) (pages calls : ℕ) where
   prints (MoreArguments (Convert from to a) NoArguments) t k e w c o m (well, shared, facts, holds, names) (s, at_a, at_to) (write, stack) =
       silently source pages calls (Running (Evaluating (Call callees.Putchar (MoreArguments (Convert from to a) NoArguments) t)) k e w)
       (Running (Evaluating a) (Needs (ConvertTo from to (target_by a)) ∷ Needs (Pass callees.Putchar [] NoArguments) ∷ k) e w) (plain.Running c) refl
-      (shared, facts, sources shared.tables from to a (Needs (ConvertTo from to (target_by a)) ∷ Needs (Pass callees.Putchar [] NoArguments) ∷ k) e w c o s at_a holds (m, at_to, (refl, refl, write, stack)))
+      (shared, facts, sources shared.tables from to a (Needs (Pass callees.Putchar [] NoArguments) ∷ k) e w c o s m at_a at_to holds (refl, refl, write, stack))
       (omega arith)
   prints (MoreArguments c' (MoreArguments c'' cs)) t k e w c o m known at stack = absurd at
 
@@ -438,8 +491,8 @@ module _ (source : Program) (pages calls : ℕ) where
       silently source pages calls (Running focus k₀ e w) (Running (Evaluating a) (Needs (ConvertTo from to (target_by a)) ∷ Needs (MakeFields owner [] cs) ∷ k) e w) (plain.Running c) does (
         shared,
         facts,
-        into_slot (top source c.active.function k) s at_a holds
-            (in_temporary (omega arith) (r, at_to, (handle, d, p, q, to ∷ kinds_passed cs, owned, refl, at_cs, object, refl, lands))),
+        brings shared.tables from to a (Needs (MakeFields owner [] cs) ∷ k) e.locals c.active.function c.active.next c.active.slots c.frames s r at_a at_to holds
+            (handle, d, p, q, to ∷ kinds_passed cs, owned, refl, at_cs, object, refl, lands),
       )
       (omega (arith, lighter))
   made_of focus k₀ owner handle (typed.Array p level n kind a) k e w c d q does lighter owned shared facts holds (m, h, r, s, at_n, begun, level_is, at_a) lands =

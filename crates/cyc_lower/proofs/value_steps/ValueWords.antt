@@ -185,12 +185,12 @@ module _ (t : Tables) where
 -- a value that is converted where it is to be has as many words before
 pub as_wide : (from to : Kind) → converts_there from to ≡ true → words_of_kind from ≡ words_of_kind to
 as_wide from kinds.NonNull quiet = absurd (let f : false ≡ true = quiet in cc)
-as_wide from kinds.Int quiet = keeps_wide from kinds.Int quiet
-as_wide from kinds.Char quiet = keeps_wide from kinds.Char quiet
-as_wide from kinds.Nullable quiet = keeps_wide from kinds.Nullable quiet
-as_wide from kinds.Fat quiet = keeps_wide from kinds.Fat quiet
-as_wide from kinds.Handle quiet = keeps_wide from kinds.Handle quiet
-as_wide from kinds.Key quiet = keeps_wide from kinds.Key quiet
+as_wide from kinds.Int quiet = eqb-true (words_of_kind from) (words_of_kind kinds.Int) quiet
+as_wide from kinds.Char quiet = eqb-true (words_of_kind from) (words_of_kind kinds.Char) quiet
+as_wide from kinds.Nullable quiet = eqb-true (words_of_kind from) (words_of_kind kinds.Nullable) quiet
+as_wide from kinds.Fat quiet = eqb-true (words_of_kind from) (words_of_kind kinds.Fat) quiet
+as_wide from kinds.Handle quiet = eqb-true (words_of_kind from) (words_of_kind kinds.Handle) quiet
+as_wide from kinds.Key quiet = eqb-true (words_of_kind from) (words_of_kind kinds.Key) quiet
 
 -- what is left of a word by its low 8 bits
 pub low_byte_of : (a : ℕ) → bit_and a 255 ≡ a % 256

@@ -52,11 +52,11 @@ use Rattle.cyc_lower.specs.Slots.{slot_of, Types, global_of, global_types}
 use Rattle.cyc_lower.proofs.slots.Slots.{slot-room, room-inside, global-inside}
 use Rattle.cyc_lower.proofs.slots.Widths.{kind_positive, same_kind, HasRoom, Outside, chain_kind, wide_kind, made_kind, keeps_wide, keeps_whole, changes_wide, kind_in}
 use Rattle.cyc_lower.proofs.relation.Moves.{moved_slots, moves, put_elsewhere, moved_elsewhere, moved_is}
-use Rattle.cyc_lower.specs.ValueCode.{binary_operator, failing_comparison, next_slot, is_in, jump_if_zero, jump_if_nonzero, move_of, converts_there, followed_operand, unary_instruction, keeps_words, masks, store_of}
+use Rattle.cyc_lower.specs.ValueCode.{binary_operator, failing_comparison, next_slot, is_in, jump_if_zero, jump_if_nonzero, move_of, converts_there, followed_operand, unary_instruction, keeps_words, masks, store_of, low_byte}
 use Rattle.cyc_lower.specs.ControlCode.{body_target, tag_operand}
 use Rattle.cyc_lower.specs.ExpressionCode.{operand_of, value_slot}
 use Rattle.cyc_lower.specs.Lowering.{lower_program}
-use Rattle.cyc_lower.proofs.relation.Stands.{OperandBy, CopyBy, CopyAt, CheckAt, CheckedAt, OperatorAt, TruthAt, ExpressionAt, OperationsAt, GuardAt, TestedAt, ConversionBy, StoresAt, FollowedAt, MadeAt, MaskedAt}
+use Rattle.cyc_lower.proofs.relation.Stands.{OperandBy, CopyBy, CopyAt, CheckAt, CheckedAt, OperatorAt, TruthAt, ExpressionAt, OperationsAt, GuardAt, TestedAt, ConversionBy, StoresAt, FollowedAt, MadeAt}
 use Rattle.cyc_objects.specs.Tables.{Tables}
 use Rattle.cyc_objects.specs.Words.{Points, Is}
 use Rattle.cyc_objects.proofs.Pointers.{pointer-word}
@@ -205,77 +205,88 @@ module _ (source : Program) (pages calls : ℕ) where
   converted_leads from to target v k e w well =
       (and_parts (is_kind v.kind from) (leads_to w target (followed v.value)) (is_fitting (is_kind v.kind from && leads_to w target (followed v.value)) (computed to (conversion to v.value) k e w) w well)).1
 
-  -- an int that becomes a char keeps its low byte
-  masked : (from : Kind) (target : Option Kind) (i : Kind) (v : Value) (o : Operand) (q : ℕ) (k : List Entry) (e : Environment) (w : World) (c : Configuration)
+  -- an int that becomes a char keeps its low byte, which comes to a slot
+  masked : (from : Kind) (target : Option Kind) (i : Kind) (v : Value) (o : Operand) (d : ℕ) (k : List Entry) (e : Environment) (w : World) (c : Configuration)
       → step source (Running (Given (of_kind i v)) (Needs (ConvertTo from kinds.Char target) ∷ k) e w) ≡ computed kinds.Char (conversion kinds.Char v) k e w → IsWell (computed kinds.Char (conversion kinds.Char v) k e w)
-      → Stands (of_kind i v) o k e w c
-      → MaskedAt (code_of source c.active.function) (bounds_at source c.active.function) (types_on source c.active.function k) o (top source c.active.function k) c.active.next q
-      → ValueStack source c.active.function e.locals kinds.Char o q c.frames k → GoesBehind (of_kind i v) (Needs (ConvertTo from kinds.Char target) ∷ k) e w c
-  masked from target i (Int a) (operands.Slot n) q k e w c does well (shared, facts, is, holds) (there, here, end) stack =
-      let word = bit_and (c.active.slots n) 255 in
-      let same : word ≡ a % 256 = low_byte_of (c.active.slots n) ∙ ap (λ x. x % 256) (int_at shared.tables i a c.active.slots n is) in
+      → Stands (of_kind i v) o k e w c → At (code_of source c.active.function) c.active.next (low_byte o d)
+      → LandsStack source c.active.function e.locals kinds.Char d (c.active.next + 1) c.frames k → GoesBehind (of_kind i v) (Needs (ConvertTo from kinds.Char target) ∷ k) e w c
+  masked from target i (Int a) o d k e w c does well (shared, facts, is, holds) here lands =
+      let word = bit_and (operand_word c.active.slots o) 255 in
+      let same : word ≡ a % 256 = low_byte_of (operand_word c.active.slots o) ∙ ap (λ x. x % 256) (int_is shared.tables i a c.active.slots o is) in
       by_one source pages calls does shared here
-      (λ choice. landed_char source pages calls (a % 256) word n k e w c q same (omega arith) shared facts holds end (in_temporary (omega (arith, there)) stack))
-  masked from target i (Int a) (operands.Word x) q k e w c does well stands at stack = absurd at
-  masked from target i v o q k e w c does well stands at stack = absurd (well refl)
+      (λ choice. landed_char source pages calls (a % 256) word d k e w c (c.active.next + 1) same (omega arith) shared facts holds refl lands)
+  masked from target i v o d k e w c does well stands here lands = absurd (well refl)
+
+  -- nothing else becomes one and changes its words
+  never_char : (t : Tables) (i : Kind) (v : Value) (slots : Words) (o : Operand) (k : List Entry) (e : Environment) (w : World)
+      → keeps_words i kinds.Char ≡ false → masks i kinds.Char ≡ false → IsWell (computed kinds.Char (conversion kinds.Char v) k e w) → IsIn t (of_kind i v) slots o → ⊥
+  never_char t kinds.Int (Int a) slots o k e w changes whole well is = let f : true ≡ false = whole in cc
+  never_char t kinds.Char (Int a) slots o k e w changes whole well is = let f : true ≡ false = changes in cc
+  never_char t i (Int a) slots o k e w changes whole well is = let (words, p, same, is_it) = in_words t (of_kind i (Int a)) slots o is in is_it
+  never_char t i v slots o k e w changes whole well is = well refl
 
   -- where it keeps its words, or gets more, or fewer
-  converts_by : (same : Bool) (from to : Kind) (target : Option Kind) (v : Kinded) (o : Operand) (q : ℕ) (k : List Entry) (e : Environment) (w : World) (c : Configuration) → keeps_words from to ≡ same
+  converts_by : (same : Bool) (from to : Kind) (target : Option Kind) (v : Kinded) (o : Operand) (q : ℕ) (k : List Entry) (e : Environment) (w : World) (c : Configuration) → keeps_words from to ≡ same → masks from to ≡ false
       → step source (Running (Given v) (Needs (ConvertTo from to target) ∷ k) e w) ≡ computed to (conversion to v.value) k e w → leads_to w target (followed v.value) ≡ true → v.kind ≡ from → IsWell (computed to (conversion to v.value) k e w)
       → Stands v o k e w c
       → ConversionBy (code_of source c.active.function) (bounds_at source c.active.function) (types_on source c.active.function k) same to (option_map bytes_of_kind target) o (top source c.active.function k) c.active.next q
       → ValueStack source c.active.function e.locals to o q c.frames k → GoesBehind v (Needs (ConvertTo from to target) ∷ k) e w c
-  converts_by true from to target v o q k e w c keeps does leads kind well stands at stack =
-      converted from to target v.kind v.value o k e w c well does (ap (λ i. masks i to) kind ∙ keeps_whole from to keeps) (ap words_of_kind kind ∙ keeps_wide from to keeps) stands (q, at, stack)
-  converts_by false from kinds.Fat target v o q k e w c changes does leads kind well (shared, facts, is, holds) at stack =
+  converts_by true from to target v o q k e w c keeps whole does leads kind well stands at stack =
+      converted from to target v.kind v.value o k e w c well does (ap (λ i. masks i to) kind ∙ whole) (ap words_of_kind kind ∙ keeps_wide from to keeps) stands (q, at, stack)
+  converts_by false from kinds.Fat target v o q k e w c changes whole does leads kind well (shared, facts, is, holds) at stack =
       let narrow = changes_wide from kinds.Fat refl changes in
       widens source pages calls from target v o q k e w c does well (λ three. eqb-false (words_of_kind from) 3 narrow (ap words_of_kind (sym kind) ∙ three)) shared facts is holds at stack
-  converts_by false from kinds.Char target v o q k e w c changes does leads kind well stands at stack = masked from target v.kind v.value o q k e w c does well stands at stack
-  converts_by false from kinds.NonNull target v o q k e w c changes does leads kind well (shared, facts, is, holds) at stack =
+  converts_by false from kinds.Char target v o q k e w c changes whole does leads kind well (shared, facts, is, holds) at stack =
+      absurd (never_char shared.tables v.kind v.value c.active.slots o k e w (ap (λ i. keeps_words i kinds.Char) kind ∙ changes) (ap (λ i. masks i kinds.Char) kind ∙ whole) well is)
+  converts_by false from kinds.NonNull target v o q k e w c changes whole does leads kind well (shared, facts, is, holds) at stack =
       narrows source pages calls from kinds.NonNull target v o q k e w c does leads (kind ∙ wide_kind from (changes_wide from kinds.NonNull refl changes)) shared facts is holds at stack
-  converts_by false from kinds.Nullable target v o q k e w c changes does leads kind well (shared, facts, is, holds) at stack =
+  converts_by false from kinds.Nullable target v o q k e w c changes whole does leads kind well (shared, facts, is, holds) at stack =
       narrows source pages calls from kinds.Nullable target v o q k e w c does leads (kind ∙ wide_kind from (changes_wide from kinds.Nullable refl changes)) shared facts is holds at stack
-  converts_by false from to target v o q k e w c changes does leads kind well stands at stack = absurd at
+  converts_by false from to target v o q k e w c changes whole does leads kind well stands at stack = absurd at
 
   converts : (from to : Kind) (target : Option Kind) (v : Kinded) (o : Operand) (k : List Entry) (e : Environment) (w : World) (c : Configuration)
       → IsWell (step source (Running (Given v) (Needs (ConvertTo from to target) ∷ k) e w)) → Stands v o k e w c
       → ValueStack source c.active.function e.locals v.kind o c.active.next c.frames (Needs (ConvertTo from to target) ∷ k) → GoesBehind v (Needs (ConvertTo from to target) ∷ k) e w c
-  converts from to target v o k e w c well stands (q, at, stack) =
-      converts_by (keeps_words from to) from to target v o q k e w c refl (converts_kind from to target v k e w well) (converted_leads from to target v k e w well) (converted_from from to target v k e w well)
+  converts from to target v o k e w c well stands (inl (d, is, here, lands)) =
+      let well_char = subst (λ x. IsWell (step source (Running (Given v) (Needs (ConvertTo from x target) ∷ k) e w))) is well in
+      let does = converts_kind from kinds.Char target v k e w well_char in
+      subst (λ x. GoesBehind v (Needs (ConvertTo from x target) ∷ k) e w c) (sym is)
+      (masked from target v.kind v.value o d k e w c does (subst IsWell does well_char) stands here lands)
+  converts from to target v o k e w c well stands (inr (q, whole, at, stack)) =
+      converts_by (keeps_words from to) from to target v o q k e w c refl whole (converts_kind from to target v k e w well) (converted_leads from to target v k e w well) (converted_from from to target v k e w well)
       (subst IsWell (converts_kind from to target v k e w well) well) stands at stack
 
   -- a conversion that raises nothing, of a value in the slots of a local that is about to get it
   converted_ahead : (t : Tables) (from to i : Kind) (v : Value) (words : Words) (n : ℕ) (k : List Entry) (e : Environment) (w : World)
-      → IsWell (computed to (conversion to v) k e w) → converts_there from to ≡ true → i ≡ from → words_of_kind i ≡ words_of_kind to → Is t i v words n
+      → IsWell (computed to (conversion to v) k e w) → converts_there from to ≡ true → masks i to ≡ false → words_of_kind i ≡ words_of_kind to → Is t i v words n
       → (computed to (conversion to v) k e w ≡ Running (Given (of_kind to v)) k e w) × Is t to v words n
-  converted_ahead t from kinds.Char kinds.Char (Int a) words n k e w well quiet kind wide is =
+  converted_ahead t from kinds.Char kinds.Char (Int a) words n k e w well quiet whole wide is =
       let low : a % 256 ≡ a = omega (arith, is.1) in
       (ap (λ x. Running (Given (of_kind kinds.Char (Int x))) k e w) low, is)
-  converted_ahead t from kinds.Char kinds.Int (Int a) words n k e w well quiet kind wide is =
-      let masking : converts_there kinds.Int kinds.Char ≡ true = ap (λ (x : Kind). converts_there x kinds.Char) kind ∙ quiet in
-      absurd (let f : false ≡ true = masking in cc)
-  converted_ahead t from kinds.Char i (Int a) words n k e w well quiet kind wide is = absurd is
-  converted_ahead t from kinds.NonNull i v words n k e w well quiet kind wide is = absurd (let f : false ≡ true = quiet in cc)
-  converted_ahead t from kinds.Int i (Int a) words n k e w well quiet kind wide is = (refl, kept_at t i kinds.Int (Int a) words n refl is)
-  converted_ahead t from kinds.Nullable i Null words n k e w well quiet kind wide is = (refl, kept_at t i kinds.Nullable Null words n refl is)
-  converted_ahead t from kinds.Fat i Null words n k e w well quiet kind wide is = (refl, kept_at t i kinds.Fat Null words n refl is)
-  converted_ahead t from kinds.Nullable i (Thin object offset) words n k e w well quiet kind wide is = (refl, kept_at t i kinds.Nullable (Thin object offset) words n refl is)
-  converted_ahead t from kinds.Fat i (Thin object offset) words n k e w well quiet kind wide is = absurd (not_widened t i object offset words n is wide)
-  converted_ahead t from kinds.Nullable i (Fat object start many index) words n k e w well quiet kind wide is = absurd (not_narrowed t i object start many index words n is wide)
-  converted_ahead t from kinds.Fat i (Fat object start many index) words n k e w well quiet kind wide is = (refl, kept_at t i kinds.Fat (Fat object start many index) words n refl is)
-  converted_ahead t from kinds.Handle i (Handle region) words n k e w well quiet kind wide is = (refl, kept_at t i kinds.Handle (Handle region) words n refl is)
-  converted_ahead t from kinds.Key i (Key region) words n k e w well quiet kind wide is = (refl, kept_at t i kinds.Key (Key region) words n refl is)
-  converted_ahead t from to i v words n k e w well quiet kind wide is = absurd (well refl)
+  converted_ahead t from kinds.Char kinds.Int (Int a) words n k e w well quiet whole wide is = absurd (let f : true ≡ false = whole in cc)
+  converted_ahead t from kinds.Char i (Int a) words n k e w well quiet whole wide is = absurd is
+  converted_ahead t from kinds.NonNull i v words n k e w well quiet whole wide is = absurd (let f : false ≡ true = quiet in cc)
+  converted_ahead t from kinds.Int i (Int a) words n k e w well quiet whole wide is = (refl, kept_at t i kinds.Int (Int a) words n refl is)
+  converted_ahead t from kinds.Nullable i Null words n k e w well quiet whole wide is = (refl, kept_at t i kinds.Nullable Null words n refl is)
+  converted_ahead t from kinds.Fat i Null words n k e w well quiet whole wide is = (refl, kept_at t i kinds.Fat Null words n refl is)
+  converted_ahead t from kinds.Nullable i (Thin object offset) words n k e w well quiet whole wide is = (refl, kept_at t i kinds.Nullable (Thin object offset) words n refl is)
+  converted_ahead t from kinds.Fat i (Thin object offset) words n k e w well quiet whole wide is = absurd (not_widened t i object offset words n is wide)
+  converted_ahead t from kinds.Nullable i (Fat object start many index) words n k e w well quiet whole wide is = absurd (not_narrowed t i object start many index words n is wide)
+  converted_ahead t from kinds.Fat i (Fat object start many index) words n k e w well quiet whole wide is = (refl, kept_at t i kinds.Fat (Fat object start many index) words n refl is)
+  converted_ahead t from kinds.Handle i (Handle region) words n k e w well quiet whole wide is = (refl, kept_at t i kinds.Handle (Handle region) words n refl is)
+  converted_ahead t from kinds.Key i (Key region) words n k e w well quiet whole wide is = (refl, kept_at t i kinds.Key (Key region) words n refl is)
+  converted_ahead t from to i v words n k e w well quiet whole wide is = absurd (well refl)
 
   -- its kind is the one that it is converted from, and it has as many words behind
   converts_ahead : (t : Tables) (from to : Kind) (target : Option Kind) (v : Kinded) (n : ℕ) (k : List Entry) (e : Environment) (w : World) (c : Configuration)
-      → IsWell (step source (Running (Given v) (Needs (ConvertTo from to target) ∷ k) e w)) → converts_there from to ≡ true → Is t v.kind v.value c.active.slots n
+      → IsWell (step source (Running (Given v) (Needs (ConvertTo from to target) ∷ k) e w)) → converts_there from to ≡ true → masks from to ≡ false → Is t v.kind v.value c.active.slots n
       → (step source (Running (Given v) (Needs (ConvertTo from to target) ∷ k) e w) ≡ Running (Given (of_kind to v.value)) k e w) × Is t to v.value c.active.slots n
       × (words_of_kind v.kind ≡ words_of_kind to)
-  converts_ahead t from to target v n k e w c well quiet is =
+  converts_ahead t from to target v n k e w c well quiet whole is =
       let does = converts_kind from to target v k e w well in
-      let wide = ap words_of_kind (converted_from from to target v k e w well) ∙ as_wide from to quiet in
-      let (goes, now) = converted_ahead t from to v.kind v.value c.active.slots n k e w (subst IsWell does well) quiet (converted_from from to target v k e w well) wide is in
+      let kind = converted_from from to target v k e w well in
+      let wide = ap words_of_kind kind ∙ as_wide from to quiet in
+      let (goes, now) = converted_ahead t from to v.kind v.value c.active.slots n k e w (subst IsWell does well) quiet (ap (λ i. masks i to) kind ∙ whole) wide is in
       (does ∙ goes, now, wide)
 
   -- ---- operators
@@ -1226,8 +1237,8 @@ module _ (source : Program) (pages calls : ℕ) where
       → ((m : ℕ) → Outside n (words_of_kind v.kind) m → old m ≡ c.active.slots m) → DataIn source shared.tables old k e w c
       → Is shared.tables v.kind v.value c.active.slots n → Holds shared.tables c.active.slots (floor source c.active.function k) (kept k)
       → AheadStack source c.active.function e.locals v.kind n c.active.next c.frames k → GoesBehind v k e w c
-  ahead_given v n old (Needs (ConvertTo from to target) ∷ k) e w c well shared same facts is holds (quiet, wide, stack) =
-      let (does, now, wide) = converts_ahead shared.tables from to target v n k e w c well quiet is in
+  ahead_given v n old (Needs (ConvertTo from to target) ∷ k) e w c well shared same facts is holds (quiet, whole, wide, stack) =
+      let (does, now, wide) = converts_ahead shared.tables from to target v n k e w c well quiet whole is in
       silently source pages calls (Running (Given v) (Needs (ConvertTo from to target) ∷ k) e w) (Running (Given (of_kind to v.value)) k e w) (plain.Running c) does
       (shared, ahead n (old, subst (λ many. (m : ℕ) → Outside n many m → old m ≡ c.active.slots m) wide same, facts) now (kept_holds _ _ _ k holds) stack)
       (omega arith)

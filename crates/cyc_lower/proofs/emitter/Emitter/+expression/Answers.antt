@@ -1,4 +1,4 @@
-use Rattle.std.proofs.Common.{◌≡◌, ℕ, ◌+◌, ◌-◌, ◌++◌, List, drop, length, set, ap, sym, subst, ◌∙◌, arith}
+use Rattle.std.proofs.Common.{◌≡◌, ℕ, ◌+◌, ◌-◌, ◌++◌, List, [], ◌∷◌, drop, length, set, ap, sym, subst, ◌∙◌, arith}
 use Rattle.std.proofs.lemmas.Result.{on_ok_weaker}
 use borrow.Author.Rules.{rules, get_or_read}
 use Rattle.cyc_types.specs.declared.ty.Ty.TheFolds as types
@@ -6,13 +6,13 @@ use Rattle.cyc_types.specs.declared.typed.Dereference.TheFolds as expressions
 use Rattle.cyc_types.specs.declared.typed.Operation.{Operation}
 use Rattle.cyc_types.specs.declared.typed.Converted.{Converted as ConvertedCode}
 use Rattle.cyc_meaning.specs.Values.{words_of_kind}
-use Rattle.cyc_types.specs.TypedTreeView.{view_dereference, view_expression, operations_of, arguments_of}
+use Rattle.cyc_types.specs.TypedTreeView.{view_dereference, view_expression, operations_of, arguments_of, view_converted}
 use Rattle.cyc_plain.specs.declared.instruction.Operand.{Operand}
 use Rattle.cyc_plain.specs.declared.instruction.Operand.TheVariants as operands
 use Rattle.cyc_plain.specs.declared.instruction.Instruction.TheVariants as instructions
 use Rattle.cyc_plain.specs.declared.instruction.Instruction.{Instruction}
 use Rattle.cyc_lower.specs.ValueCode.{copy_code, conversion_code, test_jump, next_slot, span_of, all_passed, kinds_passed}
-use Rattle.cyc_lower.specs.ExpressionCode.{value_operand, expression_code}
+use Rattle.cyc_lower.specs.ExpressionCode.{value_operand, expression_code, brought_code}
 use Rattle.cyc_lower.specs.Emission.{Gives, left_code, HasRoom, operation_code, view_starts}
 use Rattle.cyc_lower.proofs.emission.Emitting.{Remains, all_arguments, one_argument, next_argument, arguments_lower, all_operations, one_operation, next_operation, operations_lower, goes_on, joined, passed_on, made_putchar, made_call, made_called, made_fields, made_binary, room_behind, made_left_alone, made_left_first, made_compute, made_test, room_after, slot_by_count, made_print, made_assigned, room_for_right, made_stored, made_elements, made_left_operand}
 use Rattle.cyc_lower.proofs.emitter.Emitter.+expression.Goals.{lower_left-then-is_empty, lower_left-else-is_empty, lower_operations-then-behind-eq0, lower_operations-else-behind-eq0}
@@ -24,13 +24,13 @@ pub lower_arguments-loop-argument-preserved : goal.lower_arguments-loop-argument
 lower_arguments-loop-argument-preserved t c =
     let old = c.args.self.now.code.items in
     let code = c.loop-argument.self.code.items in
-    let made = c.lower_expression.new.self.code.items in
+    let made = c.bring.new.self.code.items in
     let new = c.convert.new.self.code.items in
     let slot = c.loop-argument.slot in
     let i = c.loop-argument.argument-index in
     let x = c.argument-item.result in
     let words = passed_on c.args.arguments.now i slot c.args.first x c.loop-argument-test.true c.argument-item.is c.loop-argument.invariant.2 in
-    let added = joined code (expression_code (view_starts c.args.starts.now) (view_expression x.value) (length code) slot slot) (λ (p : ℕ). conversion_code (view_starts c.args.starts.now) x.from x.to (span_of (view_expression x.value)) (operands.Slot slot) p) made new c.in_ok-lower_expression.ensures c.in_ok-convert.ensures in
+    let added = joined code (brought_code (view_starts c.args.starts.now) (view_converted x) (length code) slot slot) (λ (p : ℕ). conversion_code (view_starts c.args.starts.now) x.from x.to (span_of (view_expression x.value)) (operands.Slot slot) p) made new c.in_ok-bring.ensures c.in_ok-convert.ensures in
     let next = c.in_ok-slot.ensures in (
       subst (λ (n : ℕ). Remains (all_arguments (view_starts c.args.starts.now)) old c.args.arguments.now c.args.first (i + 1) new n) (sym next.0)
           (goes_on (all_arguments (view_starts c.args.starts.now)) (one_argument (view_starts c.args.starts.now)) (next_argument (view_starts c.args.starts.now)) (arguments_lower (view_starts c.args.starts.now)) old c.args.arguments.now c.args.first i code new slot x c.loop-argument-test.true c.argument-item.is added c.loop-argument.invariant.0),
@@ -41,7 +41,8 @@ lower_arguments-loop-argument-preserved t c =
 pub call-returns-in_ok-byte-in-Putchar : goal.call-returns-in_ok-byte-in-Putchar
 call-returns-in_ok-byte-in-Putchar t c =
     on_ok_weaker c.emit.result
-    (made_putchar (view_starts c.args.starts.now) c.args.callee c.args.arguments.now c.args.self.now.code.items c.print.new.self.code.items c.emit.new.self.code.items c.args.slot c.args.free c.in_ok-byte-in-Putchar.byte c.in-Putchar.is c.in_ok-byte-in-Putchar.ensures.0 c.in_ok-byte-in-Putchar.ensures.1)
+    (λ made. made_putchar (view_starts c.args.starts.now) c.args.callee c.args.arguments.now c.args.self.now.code.items c.print.new.self.code.items c.emit.new.self.code.items c.args.slot c.args.free c.in_ok-byte-in-Putchar.byte c.in-Putchar.is c.in_ok-byte-in-Putchar.ensures.0 c.in_ok-byte-in-Putchar.ensures.1
+    (made ∙ ap (λ i. c.print.new.self.code.items ++ i ∷ []) c.low_byte.ensures))
     c.emit.ensures
 
 pub call-returns-in_ok-count-in-Function : goal.call-returns-in_ok-count-in-Function
