@@ -3,9 +3,12 @@
 
 ghost use Rattle.std.specs.Prelude.{◌≡◌, ℕ, ◌+◌, List, ◌++◌, length};
 ghost use Rattle.std.specs.List.{range_with_len, flat_map};
+ghost use Rattle.std.specs.List.Sorted.{IsPermutation};
 ghost use Rattle.cyc_isa.specs.Encoding.{word_of};
 ghost use Rattle.cyc_words.specs.Simulation.{IsLawful};
 ghost use Rattle.cyc_select.specs.Labelled.{Labelled};
+ghost use Rattle.cyc_select.specs.declared.code.Line.{Line};
+ghost use Rattle.cyc_asm.specs.Order.{arranged};
 ghost use Rattle.cyc_asm.specs.Text.{IsTextOf, nothing, own};
 ghost use Rattle.cyc_asm.specs.Machine.{Runs};
 ghost use Rattle.cyc_machine.specs.WorldMachine.{world_machine};
@@ -13,6 +16,11 @@ ghost use Rattle.cyc_machine.specs.WorldMachine.{world_machine};
 /// The word of an empty delay slot is 0.
 pub fn slots_are_empty()
     ensures { word_of nothing ≡ 0 }
+{}
+
+/// The order in which the lines of code stand has each of them once.
+pub fn orders_have_each_line()
+    ensures { (code : List Line) → IsPermutation code (arranged code) }
 {}
 
 /// However the lines of code are shared out, each word of its text is one line's own.

@@ -109,7 +109,7 @@ fn moves_behind(line: &Line, behind: &Line) -> bool
     }
 }
 
-/// Whether it may move behind the branch or jump behind those, too.
+/// Whether it may as well be executed behind so many lines and the branch or jump behind those.
 fn comes_down(lines: &[Line], named: &[bool], from: usize, count: usize) -> bool
     requires within { from + count + 1 < length lines.now }
     requires named { AreNamed lines.now (length lines.now) named.now }
@@ -131,7 +131,8 @@ fn sink(lines: &mut [Line], from: usize, count: usize)
     }
 }
 
-/// Fills the slot of the branch or jump of this number, where it is empty and an instruction fills it that has so many to pass.
+/// Brings the instruction that has so many to pass down to the branch or jump of this number, where it fills the slot that
+/// would be empty.
 fn try_past(lines: &mut [Line], named: &[bool], number: usize, count: usize)
     requires within { number < length lines.old }
     requires named { AreNamed lines.old (length lines.old) named.now }
@@ -146,7 +147,8 @@ fn try_past(lines: &mut [Line], named: &[bool], number: usize, count: usize)
     }
 }
 
-/// Fills the slot of the branch or jump of this number, where it is empty and an instruction fills it that has one or two to pass.
+/// Brings the instruction that has one to pass, or else two, down to the branch or jump of this number, where it fills the slot
+/// that would be empty.
 fn settle(lines: &mut [Line], named: &[bool], number: usize)
     requires within { number < length lines.old }
     requires named { AreNamed lines.old (length lines.old) named.now }
