@@ -54,7 +54,8 @@ use Rattle.cyc_select.proofs.relation.Matches.{At, Ready, Matches, Reached}
 use Rattle.cyc_select.proofs.steps.Simple.{address_goes, move_goes, unary_goes, binary_goes, divide_goes, jump_goes, branch_goes, read_goes, write_goes, load_global_goes, count_lexical_goes, store_global_goes, uncaught_goes}
 use Rattle.cyc_select.proofs.steps.Accesses.{move_words_goes, load_goes, store_goes, load_byte_goes, store_byte_goes}
 use Rattle.cyc_select.proofs.steps.Requests.{ask_goes}
-use Rattle.cyc_select.proofs.steps.Handlers.{catch_goes, leave_goes, throw_goes, try_goes}
+use Rattle.cyc_select.proofs.steps.Handlers.{catch_goes, leave_goes, try_goes}
+use Rattle.cyc_select.proofs.steps.Throws.{throw_goes}
 use Rattle.cyc_select.proofs.steps.Calls.{length_ordinary, call_last}
 use Rattle.cyc_select.proofs.steps.Passing.{call_goes}
 use Rattle.cyc_select.proofs.steps.Returns.{return_goes, behind_goes}
