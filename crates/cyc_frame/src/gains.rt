@@ -8,12 +8,11 @@ use std::alloc::{AllocError, Global};
 /// How often the least gain is doubled at most, until no more slots have it than are looked at.
 const MOST_DOUBLINGS: u32 = 64;
 
-/// How often the code reads, writes and passes a slot, by a guess of how often each place is executed.
+/// How often the code reads and writes a slot, by a guess of how often each place is executed.
 #[derive(Clone, Copy)]
 struct Gain {
     reads: u64,
     writes: u64,
-    passes: u64,
 }
 
 /// What registers for the slots of a function would gain.
@@ -165,12 +164,6 @@ impl Gains {
         }
     }
 
-    fn pass(&mut self, slot: usize, weight: u64) {
-        if let Some(gain) = self.slots.get_mut(slot) {
-            gain.passes = gain.passes.saturating_add(weight);
-        }
-    }
-
     /// An instruction that is executed so often.
     fn add(&mut self, instruction: Instruction, weight: u64) {
         let (first, second) = operands_of(instruction);
@@ -190,16 +183,7 @@ impl Gains {
                     self.write(destination.saturating_add(word), weight);
                 }
             }
-            Instruction::Call {
-                arguments,
-                count,
-                ..
-            } => {
-                for word in 0..count {
-                    self.pass(arguments.saturating_add(word), weight);
-                }
-                self.calls = self.calls.saturating_add(weight);
-            }
+            Instruction::Call { .. } => self.calls = self.calls.saturating_add(weight),
             _ => {}
         }
     }
@@ -250,11 +234,7 @@ impl Gains {
     /// What a register alone would save at most.
     fn most_at(&self, slot: usize) -> u64 {
         match self.slots.get(slot) {
-            Some(gain) => {
-                gain.reads
-                    .saturating_add(gain.writes)
-                    .saturating_sub(gain.passes)
-            }
+            Some(gain) => gain.reads.saturating_add(gain.writes),
             None => 0,
         }
     }
@@ -380,7 +360,6 @@ pub(crate) fn gains_of(alloc: Global, function: &Function) -> Result<Gains, Allo
     let none = Gain {
         reads: 0,
         writes: 0,
-        passes: 0,
     };
     let mut gains = Gains {
         slots: vec![in alloc; none; function.slots]?,

@@ -8,4 +8,6 @@ pub mod Calls
 pub mod Passing
 pub mod Copies
 pub mod Returns
+pub mod Records
 pub mod Handlers
+pub mod Throws

@@ -3,7 +3,7 @@
 --
 -- Frames grow downward from the end of the stack. The return address of the call that starts the program is 0. Which
 -- registers have what is in the module `constants`.
-use Rattle.std.specs.Prelude.{ℕ, zero, suc, ◌+◌, ◌-◌, ◌*◌, ◌/◌, ◌%◌, ◌^◌, ◌==◌, ◌&&◌, Bool, true, false, not, nat_lt, if◌then◌else◌, List, [], ◌∷◌, ◌++◌, length, map, sum_by, take, Option, Some, None}
+use Rattle.std.specs.Prelude.{ℕ, zero, suc, ◌+◌, ◌-◌, ◌*◌, ◌/◌, ◌%◌, ◌^◌, ◌==◌, ◌&&◌, ◌||◌, Bool, true, false, not, nat_lt, if◌then◌else◌, List, [], ◌∷◌, ◌++◌, length, map, sum_by, take, Option, Some, None}
 use Rattle.cyc_isa.specs.Decoding.{register_of, shift_amount_of, trap_code_of}
 use Rattle.cyc_isa.specs.declared.instr.Instr.{Instr}
 use Rattle.cyc_isa.specs.declared.instr.Instr.TheVariants as machine
@@ -450,29 +450,71 @@ operator_code frame here operator destination left right =
     then divide_code frame here (part_of operator) destination left right
     else ordinary (plan_code frame (binary_plan operator left right) destination)
 
--- A slot that a register alone has comes into its word in memory, where it is passed.
-abbrev pub spill : Frame → (slot : ℕ) → List Instr
-spill frame slot = if is_kept frame slot then [] else store_slot frame (made_in frame slot) slot ∷ []
+-- whether one of the first parameters comes by this register
+abbrev pub is_taken : (callee : Frame) → (slot register : ℕ) → Bool
+is_taken callee zero register = false
+is_taken callee (suc slot) register = is_taken callee slot register || made_in callee slot == register
 
-abbrev pub spills : Frame → (slot count : ℕ) → List Instr
-spills frame slot zero = []
-spills frame slot (suc count) = spill frame slot ++ spills frame (suc slot) count
+-- The register that an argument is passed from: its own, unless a parameter before comes by that. Elsewhere it is passed from
+-- memory.
+abbrev pub free_register : Option ℕ → (callee : Frame) → (slot : ℕ) → Option ℕ
+free_register None callee slot = None
+free_register (Some register) callee slot = if is_taken callee slot register then None else Some register
 
-abbrev pub spill_count : Frame → (slot : ℕ) → ℕ
-spill_count frame slot = if is_kept frame slot then 0 else 1
+abbrev pub passed_from : (caller callee : Frame) → (source slot : ℕ) → Option ℕ
+passed_from caller callee source slot = free_register (value_register caller source) callee slot
 
-abbrev pub spills_count : Frame → (slot count : ℕ) → ℕ
-spills_count frame slot zero = 0
-spills_count frame slot (suc count) = spill_count frame slot + spills_count frame (suc slot) count
+-- A slot that a register alone has comes into its word in memory, where it is passed from there.
+abbrev pub spill_from : Option ℕ → (caller : Frame) → (source : ℕ) → List Instr
+spill_from None caller source = if is_kept caller source then [] else store_slot caller (made_in caller source) source ∷ []
+spill_from (Some register) caller source = []
 
--- Arguments from the caller's slots to the first slots of the callee, whose frame is the current one already. Each comes
--- by the register that the callee has it in.
+abbrev pub spill : (caller callee : Frame) → (source slot : ℕ) → List Instr
+spill caller callee source slot = spill_from (passed_from caller callee source slot) caller source
+
+abbrev pub spills : (caller callee : Frame) → (source slot count : ℕ) → List Instr
+spills caller callee source slot zero = []
+spills caller callee source slot (suc count) =
+    spill caller callee source slot ++ spills caller callee (suc source) (suc slot) count
+
+abbrev pub spill_count_from : Option ℕ → (caller : Frame) → (source : ℕ) → ℕ
+spill_count_from None caller source = if is_kept caller source then 0 else 1
+spill_count_from (Some register) caller source = 0
+
+abbrev pub spill_count : (caller callee : Frame) → (source slot : ℕ) → ℕ
+spill_count caller callee source slot = spill_count_from (passed_from caller callee source slot) caller source
+
+abbrev pub spills_count : (caller callee : Frame) → (source slot count : ℕ) → ℕ
+spills_count caller callee source slot zero = 0
+spills_count caller callee source slot (suc count) =
+    spill_count caller callee source slot + spills_count caller callee (suc source) (suc slot) count
+
+-- Arguments from the caller's slots to the first slots of the callee, whose frame is the current one already. One that is
+-- passed from memory comes by the register that the callee has it in.
+abbrev pub pass_from : Option ℕ → (caller callee : Frame) → (source slot : ℕ) → List Instr
+pass_from None caller callee source slot =
+    load (made_in callee slot) (4 * callee.words + slot_offset caller source) ∷ keep_code callee slot
+pass_from (Some register) caller callee source slot = give_code callee register slot
+
+abbrev pub pass : (caller callee : Frame) → (source slot : ℕ) → List Instr
+pass caller callee source slot = pass_from (passed_from caller callee source slot) caller callee source slot
+
 abbrev pub copies : (caller callee : Frame) → (source slot count : ℕ) → List Instr
 copies caller callee source slot zero = []
 copies caller callee source slot (suc count) =
-    load (made_in callee slot) (4 * callee.words + slot_offset caller source)
-    ∷ store_slot callee (made_in callee slot) slot
-    ∷ copies caller callee (suc source) (suc slot) count
+    pass caller callee source slot ++ copies caller callee (suc source) (suc slot) count
+
+abbrev pub pass_count_from : Option ℕ → (callee : Frame) → (slot : ℕ) → ℕ
+pass_count_from None callee slot = keep_count callee slot + 1
+pass_count_from (Some register) callee slot = give_count callee slot
+
+abbrev pub pass_count : (caller callee : Frame) → (source slot : ℕ) → ℕ
+pass_count caller callee source slot = pass_count_from (passed_from caller callee source slot) callee slot
+
+abbrev pub copies_count : (caller callee : Frame) → (source slot count : ℕ) → ℕ
+copies_count caller callee source slot zero = 0
+copies_count caller callee source slot (suc count) =
+    pass_count caller callee source slot + copies_count caller callee (suc source) (suc slot) count
 
 -- the registers of what a function returns
 abbrev pub result_registers : ℕ → List ℕ
@@ -535,7 +577,8 @@ body_count program frames function (plain.Jump target) = 1
 body_count program frames function (plain.Branch comparison left right target) =
     test_count (frame_at frames function) (test_of comparison left right) + 1
 body_count program frames function (plain.Call callee arguments count result) =
-    spills_count (frame_at frames function) arguments count + 7 + 2 * count
+    spills_count (frame_at frames function) (frame_at frames callee) arguments 0 count + 7
+    + copies_count (frame_at frames function) (frame_at frames callee) arguments 0 count
 body_count program frames function (plain.Return value) =
     ending_count program function + (routine_at program function).results + 2
 body_count program frames function (plain.ReadByte destination) = 2 + give_count (frame_at frames function) destination
@@ -808,8 +851,8 @@ body program frames function here (plain.Jump target) =
 body program frames function here (plain.Branch comparison left right target) =
     branch_code (frame_at frames function) (test_of comparison left right) (instruction_line program frames function target)
 body program frames function here (plain.Call callee arguments count result) =
-    ordinary (spills (frame_at frames function) arguments count)
-    ++ calling_code (frame_at frames function) (frame_at frames callee) (here + spills_count (frame_at frames function) arguments count) (function_line program frames callee) arguments count
+    ordinary (spills (frame_at frames function) (frame_at frames callee) arguments 0 count)
+    ++ calling_code (frame_at frames function) (frame_at frames callee) (here + spills_count (frame_at frames function) (frame_at frames callee) arguments 0 count) (function_line program frames callee) arguments count
 body program frames function here (plain.Return value) =
     returning_code (function == program.main) (frame_at frames function) here value (routine_at program function).results
 body program frames function here (plain.ReadByte destination) =

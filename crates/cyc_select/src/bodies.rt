@@ -71,8 +71,8 @@ impl Emitter {
             } => {
                 let callee = tables.frame(function);
                 let label = tables.start(function);
-                let spilled = here + spills_count(frame, arguments, count);
-                self.spills(frame, arguments, count)?;
+                let spilled = here + spills_count(frame, callee, arguments, count);
+                self.spills(frame, callee, arguments, count)?;
                 self.call(frame, callee, spilled, label, arguments, count)
             }
             Instruction::Return { value } => {

@@ -1,6 +1,6 @@
 //! The lines of calls and returns, and of moves of several words.
 ghost use Rattle.std.specs.Prelude.{◌≡◌, ◌+◌, ◌*◌, ◌<◌, ◌≤◌, [], ◌∷◌, ◌++◌, true, length, OnOk};
-ghost use Rattle.cyc_select.specs.Selection.{load, store_slot, made_in, slot_offset, spill, spills, copies, ordinary, load_all, load_words, store_all, moves, all_moved, move_words, calling_code, returned_code, ending_code, returning_code};
+ghost use Rattle.cyc_select.specs.Selection.{pass, spill, spills, copies, ordinary, load_all, load_words, store_all, moves, all_moved, move_words, calling_code, returned_code, ending_code, returning_code};
 ghost use Rattle.cyc_select.specs.Emission.{AddsLines, IsReached, AreReached, most_lines, enter_code};
 
 use crate::code::Line;
@@ -10,7 +10,7 @@ use crate::instructions::{
     add_immediate, load, load_slot, load_word, minus, offset_of, pop_frame, push_frame, small,
     store, store_slot, syscall,
 };
-use crate::operands::{is_kept, made_in};
+use crate::operands::{is_kept, made_in, passed_from};
 use cyc_frame::{Frame, MOST_FRAME_WORDS, is_crossing};
 use cyc_isa::BranchOp;
 use cyc_machine::constants::{ARGUMENT, END_FULL, END_RETURNED, RETURN_ADDRESS, SERVICE};
@@ -21,8 +21,8 @@ use std::alloc::AllocError;
 pub(crate) const RESULTS: [u8; 3] = [FIRST_RESULT, SECOND_RESULT, THIRD_RESULT];
 
 impl Emitter {
-    /// One argument, from the caller's slot to the callee's, whose frame is the current one already. It comes by the
-    /// register that the callee has it in.
+    /// One argument, from the caller's slot to the callee's, whose frame is the current one already. One that is passed
+    /// from memory comes by the register that the callee has it in.
     fn argument(
         &mut self,
         caller: &Frame,
@@ -33,36 +33,51 @@ impl Emitter {
         requires words { callee.now.words ≤ MOST_FRAME_WORDS }
         requires source { IsReached caller.now source }
         requires target { IsReached callee.now slot }
-        ensures { AddsLines result self.old self.new (ordinary (load (made_in callee.now slot) (4 * callee.now.words + slot_offset caller.now source) ∷ store_slot callee.now (made_in callee.now slot) slot ∷ [])) }
+        ensures { AddsLines result self.old self.new (ordinary (pass caller.now callee.now source slot)) }
     {
-        let offset = offset_of(callee.words) + offset_of(caller.first_slot + source);
-        let target = made_in(callee, slot);
-        self.ordinary(&[load(target, offset), store_slot(callee, target, slot)])
+        match passed_from(caller, callee, source, slot) {
+            Some(register) => self.give(callee, register, slot),
+            None => {
+                let offset = offset_of(callee.words) + offset_of(caller.first_slot + source);
+                self.ordinary(&[load(made_in(callee, slot), offset)])?;
+                self.keep(callee, slot)
+            }
+        }
     }
 
-    /// A slot that a register alone has comes into its word in memory, from where it is passed.
-    fn spill(&mut self, frame: &Frame, slot: usize) -> Result<(), AllocError>
-        requires { IsReached frame.now slot }
-        ensures { AddsLines result self.old self.new (ordinary (spill frame.now slot)) }
+    /// A slot that a register alone has comes into its word in memory, where it is passed from there.
+    fn spill(
+        &mut self,
+        caller: &Frame,
+        callee: &Frame,
+        source: usize,
+        slot: usize,
+    ) -> Result<(), AllocError>
+        requires { IsReached caller.now source }
+        ensures { AddsLines result self.old self.new (ordinary (spill caller.now callee.now source slot)) }
     {
-        if is_kept(frame, slot) {
+        if let Some(_) = passed_from(caller, callee, source, slot) {
             return Ok(());
         }
-        self.ordinary(&[store_slot(frame, made_in(frame, slot), slot)])
+        if is_kept(caller, source) {
+            return Ok(());
+        }
+        self.ordinary(&[store_slot(caller, made_in(caller, source), source)])
     }
 
     /// All such slots, of so many.
     pub(crate) fn spills(
         &mut self,
-        frame: &Frame,
-        slot: usize,
+        caller: &Frame,
+        callee: &Frame,
+        source: usize,
         count: usize,
     ) -> Result<(), AllocError>
-        requires { AreReached frame.now slot count }
-        ensures { AddsLines result self.old self.new (ordinary (spills frame.now slot count)) }
+        requires { AreReached caller.now source count }
+        ensures { AddsLines result self.old self.new (ordinary (spills caller.now callee.now source 0 count)) }
     {
-        for word in 0..count {
-            self.spill(frame, slot + word)?;
+        for slot in 0..count {
+            self.spill(caller, callee, source + slot, slot)?;
         }
         Ok(())
     }

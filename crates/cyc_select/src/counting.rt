@@ -1,18 +1,18 @@
 //! How many lines each instruction has, and which number the first of them has.
-ghost use Rattle.std.specs.Prelude.{◌≡◌, ◌+◌, ◌<◌, ◌≤◌, length, map, sum_by, All, IfOk};
+ghost use Rattle.std.specs.Prelude.{◌≡◌, ◌+◌, ◌*◌, ◌<◌, ◌≤◌, length, map, sum_by, All, IfOk};
 ghost use Rattle.cyc_plain.specs.Program.{routine_of, routine_at, instruction_size, size};
 ghost use Rattle.cyc_plain.specs.WellFormed.{IsPlain, IsInRange};
 ghost use Rattle.cyc_frame.specs.Layout.{AreFrames, frame_at};
 ghost use Rattle.cyc_frame.specs.declared.home.TheConstants.{MOST_BOTH};
-ghost use Rattle.cyc_select.specs.Selection.{reload_count, spill_count, spills_count, moves_count, move_words_count, operator_count, ending_count, body_count, behind_count, count_of};
+ghost use Rattle.cyc_select.specs.Selection.{reload_count, spill_count, spills_count, pass_count, copies_count, moves_count, move_words_count, operator_count, ending_count, body_count, behind_count, count_of};
 ghost use Rattle.cyc_select.specs.Emission.{AreFew, most_lines, instruction_lines, function_starts};
 
 use crate::asking::ask_count;
 use crate::constants::START_LINES;
 use crate::memory::address_count;
 use crate::operands::{
-    give_count, is_kept, keep_count, load_count, move_count, operand_count, reload_count,
-    word_count,
+    give_count, is_kept, keep_count, load_count, move_count, operand_count, passed_from,
+    reload_count, word_count,
 };
 use crate::operators::{Parts, is_tested, plan_count, test_count};
 use crate::plan::{binary_plan, test_of, unary_plan};
@@ -89,25 +89,62 @@ fn move_words_count(frame: &Frame, destination: usize, source: usize, count: usi
     }
 }
 
-fn spill_count(frame: &Frame, slot: usize) -> usize
-    ensures value { result ≡ spill_count frame.now slot }
+fn spill_count(caller: &Frame, callee: &Frame, source: usize, slot: usize) -> usize
+    ensures value { result ≡ spill_count caller.now callee.now source slot }
     ensures few { result ≤ 1 }
 {
-    if is_kept(frame, slot) { 0 } else { 1 }
+    match passed_from(caller, callee, source, slot) {
+        Some(_) => 0,
+        None => { if is_kept(caller, source) { 0 } else { 1 } }
+    }
 }
 
-/// Before a call, the lines that bring what it passes into memory.
+/// Before a call, the lines that bring into memory what it passes from there.
 #[tactic(auto, using(crate::proofs::emission::Counts::spills_next))]
-pub(crate) fn spills_count(frame: &Frame, slot: usize, count: usize) -> usize
-    requires { slot + count ≤ MOST_FRAME_WORDS }
-    ensures value { result ≡ spills_count frame.now slot count }
+pub(crate) fn spills_count(caller: &Frame, callee: &Frame, source: usize, count: usize) -> usize
+    requires { source + count ≤ MOST_FRAME_WORDS }
+    ensures value { result ≡ spills_count caller.now callee.now source 0 count }
     ensures few { result ≤ MOST_FRAME_WORDS }
 {
     let mut lines = 0;
     for word in 0..count {
-        lines += spill_count(frame, slot + word);
+        lines += spill_count(caller, callee, source + word, word);
     }
     lines
+}
+
+fn pass_count(caller: &Frame, callee: &Frame, source: usize, slot: usize) -> usize
+    ensures value { result ≡ pass_count caller.now callee.now source slot }
+    ensures few { result ≤ 2 }
+{
+    match passed_from(caller, callee, source, slot) {
+        Some(_) => give_count(callee, slot),
+        None => keep_count(callee, slot) + 1,
+    }
+}
+
+/// In a call, the lines that bring the arguments to the callee's slots.
+#[tactic(auto, using(crate::proofs::emission::Counts::copies_next))]
+fn copies_count(caller: &Frame, callee: &Frame, source: usize, count: usize) -> usize
+    requires { source + count ≤ MOST_FRAME_WORDS }
+    ensures value { result ≡ copies_count caller.now callee.now source 0 count }
+    ensures few { result ≤ 2 * MOST_FRAME_WORDS }
+{
+    let mut lines = 0;
+    for word in 0..count {
+        lines += pass_count(caller, callee, source + word, word);
+    }
+    lines
+}
+
+/// The lines of a call up to where it leaves for the callee.
+fn call_count(caller: &Frame, callee: &Frame, arguments: usize, count: usize) -> usize
+    requires { arguments + count ≤ MOST_FRAME_WORDS }
+    ensures { result ≡ spills_count caller.now callee.now arguments 0 count + 7 + copies_count caller.now callee.now arguments 0 count }
+{
+    spills_count(caller, callee, arguments, count)
+        + 7
+        + copies_count(caller, callee, arguments, count)
 }
 
 /// The lines of a return.
@@ -189,10 +226,11 @@ fn body_count(plain: &Plain, frames: &[Frame], function: usize, instruction: Ins
             ..
         } => test_count(frame, test_of(comparison, left, right)) + 1,
         Instruction::Call {
+            function: callee,
             arguments,
             count,
             ..
-        } => spills_count(frame, arguments, count) + 7 + 2 * count,
+        } => call_count(frame, frame_in(plain, frames, callee), arguments, count),
         Instruction::Return { .. } => return_count(plain, function),
         Instruction::ReadByte { destination } => 2 + give_count(frame, destination),
         Instruction::LoadGlobal { destination, .. } => 2 + keep_count(frame, destination),

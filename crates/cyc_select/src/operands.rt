@@ -2,7 +2,7 @@
 ghost use Rattle.std.specs.Prelude.{◌≡◌, ◌≤◌, length, OnOk};
 ghost use Rattle.cyc_frame.specs.Homes.{home_of, both_count};
 ghost use Rattle.cyc_frame.specs.declared.home.TheConstants.{MOST_BOTH};
-ghost use Rattle.cyc_select.specs.Selection.{ordinary, value_register, is_kept, made_in, keep_code, keep_count, give_code, give_count, bring_code, bring_all, move_count, reload, reloads, reload_count, word_code, load_code, operand_code, operand_register, word_count, load_count, operand_count};
+ghost use Rattle.cyc_select.specs.Selection.{ordinary, value_register, is_kept, made_in, keep_code, keep_count, give_code, give_count, bring_code, bring_all, is_taken, passed_from, move_count, reload, reloads, reload_count, word_code, load_code, operand_code, operand_register, word_count, load_count, operand_count};
 ghost use Rattle.cyc_select.specs.Emission.{AddsLines, IsReached, AreReached, IsFound};
 
 use crate::constants::{FIRST, ZERO};
@@ -52,6 +52,34 @@ pub(crate) fn made_in(frame: &Frame, slot: usize) -> u8
     match value_register(frame, slot) {
         Some(register) => register,
         None => FIRST,
+    }
+}
+
+/// Whether one of the first parameters comes by this register.
+#[tactic(auto, using(crate::proofs::emission::Counts::taken_next))]
+fn is_taken(callee: &Frame, slot: usize, register: u8) -> bool
+    ensures { result ≡ is_taken callee.now slot register }
+{
+    let mut taken = false;
+    for parameter in 0..slot {
+        taken = taken || made_in(callee, parameter) == register;
+    }
+    taken
+}
+
+/// The register that an argument is passed from, if it is passed from one.
+pub(crate) fn passed_from(caller: &Frame, callee: &Frame, source: usize, slot: usize) -> Option<u8>
+    ensures { result ≡ passed_from caller.now callee.now source slot }
+{
+    match value_register(caller, source) {
+        Some(register) => {
+            if is_taken(callee, slot, register) {
+                None
+            } else {
+                Some(register)
+            }
+        }
+        None => None,
     }
 }
 

@@ -1,6 +1,6 @@
 -- How many lines operands, plans and tests have, as they are counted: so many, and few.
 use Rattle.std.proofs.Common.{◌≡◌, ℕ, zero, suc, ◌+◌, ◌-◌, ◌*◌, ◌%◌, ◌^◌, ◌<◌, ◌≤◌, Bool, true, false, List, [], ◌∷◌, length, Option, None, Some, refl, sym, ap, ◌∙◌, arith, length-append}
-use Rattle.std.specs.Prelude.{◌==◌, nat_lt, if◌then◌else◌}
+use Rattle.std.specs.Prelude.{◌==◌, ◌||◌, nat_lt, if◌then◌else◌}
 use Rattle.std.proofs.lemmas.Bool.{false≢true}
 use Rattle.cyc_isa.specs.declared.instr.Instr.{Instr}
 use Rattle.cyc_isa.specs.declared.instr.ArithmeticOp.{ArithmeticOp}
@@ -27,7 +27,7 @@ use Rattle.cyc_select.specs.declared.plan.Test.{Test}
 use Rattle.cyc_select.specs.declared.plan.Test.TheVariants as tests
 use Rattle.cyc_select.specs.Plans.{arithmetic_plan, immediate_plan, immediate_or, zero_plan, differs_plan, equal_plan, unary_plan, binary_plan}
 use Rattle.cyc_select.specs.Numbers.{fits_signed, negated_half, is_word, is_zero_word}
-use Rattle.cyc_select.specs.Selection.{value_register, is_kept, fetch_from, fetch_count, keep_code, keep_count, give_to, give_code, give_count_to, give_count, bring_code, bring_all, gives_count, move_to, move_count_to, move_count, moves_count, move_words_count, spill, spills, spill_count, spills_count, load_words, load_all, store_all, moves, all_moved, moved_code, result_registers, argument_code, argument_count, service_number, answer_code, small, or_immediate, load_upper, constant, is_tested, word_code, load_code, operand_code, operand_register, made_in, operation_code, outcome_code, operands_code, operation_of, computed_code, plan_code, test_code, loads_code, divided_code, store_slot, add_immediate, minus, word_count, load_count, operand_count, far_plan, address_code, address_count, operation_count, outcome_count, count_of_operation, plan_count, test_count, divide_count, operator_count, regions_code, regions_count}
+use Rattle.cyc_select.specs.Selection.{value_register, is_kept, fetch_from, fetch_count, keep_code, keep_count, give_to, give_code, give_count_to, give_count, bring_code, bring_all, gives_count, move_to, move_count_to, move_count, moves_count, move_words_count, is_taken, passed_from, spill_from, spill, spills, spill_count_from, spill_count, spills_count, pass_from, pass, copies, pass_count_from, pass_count, copies_count, load_words, load_all, store_all, moves, all_moved, moved_code, result_registers, argument_code, argument_count, service_number, answer_code, small, or_immediate, load_upper, constant, is_tested, word_code, load_code, operand_code, operand_register, made_in, operation_code, outcome_code, operands_code, operation_of, computed_code, plan_code, test_code, loads_code, divided_code, store_slot, add_immediate, minus, word_count, load_count, operand_count, far_plan, address_code, address_count, operation_count, outcome_count, count_of_operation, plan_count, test_count, divide_count, operator_count, regions_code, regions_count}
 use Rattle.cyc_select.proofs.relation.Values.{memory_kept}
 
 -- ---- few
@@ -382,29 +382,75 @@ moves_next f destination source count word below =
     ∙ ap (λ (n : ℕ). move_count f (destination + word) (operands.Slot (source + word)) + moves_count f n (suc (source + word)) (count - (word + 1))) to
     ∙ ap (λ (n : ℕ). move_count f (destination + word) (operands.Slot (source + word)) + moves_count f (destination + (word + 1)) n (count - (word + 1))) from
 
-pub length_spills : (f : Frame) (slot count : ℕ) → length (spills f slot count) ≡ spills_count f slot count
-length_spills f slot zero = refl
-length_spills f slot (suc count) = omega (arith, length-append (spill f slot) (spills f (suc slot) count), one (is_kept f slot), length_spills f (suc slot) count)
+pub length_spills : (caller callee : Frame) (source slot count : ℕ) → length (spills caller callee source slot count) ≡ spills_count caller callee source slot count
+length_spills caller callee source slot zero = refl
+length_spills caller callee source slot (suc count) =
+    omega (arith, length-append (spill caller callee source slot) (spills caller callee (suc source) (suc slot) count), one (passed_from caller callee source slot), length_spills caller callee (suc source) (suc slot) count)
   where
-    one : (b : Bool) → length (if b then [] else store_slot f (made_in f slot) slot ∷ []) ≡ (if b then 0 else 1)
-    one true = refl
-    one false = refl
+    unkept : (b : Bool) → length (if b then [] else store_slot caller (made_in caller source) source ∷ []) ≡ (if b then 0 else 1)
+    unkept true = refl
+    unkept false = refl
 
-pub spills_few : (f : Frame) (slot count : ℕ) → spills_count f slot count ≤ count
-spills_few f slot zero = omega arith
-spills_few f slot (suc count) = omega (arith, one (is_kept f slot), spills_few f (suc slot) count)
+    one : (o : Option ℕ) → length (spill_from o caller source) ≡ spill_count_from o caller source
+    one None = unkept (is_kept caller source)
+    one (Some register) = refl
+
+pub spills_few : (caller callee : Frame) (source slot count : ℕ) → spills_count caller callee source slot count ≤ count
+spills_few caller callee source slot zero = omega arith
+spills_few caller callee source slot (suc count) = omega (arith, one (passed_from caller callee source slot), spills_few caller callee (suc source) (suc slot) count)
   where
-    one : (b : Bool) → (if b then 0 else 1) ≤ 1
-    one true = omega arith
-    one false = omega arith
+    unkept : (b : Bool) → (if b then 0 else 1) ≤ 1
+    unkept true = omega arith
+    unkept false = omega arith
+
+    one : (o : Option ℕ) → spill_count_from o caller source ≤ 1
+    one None = unkept (is_kept caller source)
+    one (Some register) = omega arith
 
 -- one slot more
-pub spills_next : (f : Frame) (slot count word : ℕ) → word < count
-    → spills_count f (slot + word) (count - word) ≡ spill_count f (slot + word) + spills_count f (slot + (word + 1)) (count - (word + 1))
-spills_next f slot count word below =
+pub spills_next : (caller callee : Frame) (source count word : ℕ) → word < count
+    → spills_count caller callee (source + word) word (count - word)
+    ≡ spill_count caller callee (source + word) word + spills_count caller callee (source + (word + 1)) (word + 1) (count - (word + 1))
+spills_next caller callee source count word below =
     let left : count - word ≡ suc (count - (word + 1)) = omega (arith, below) in
-    let to : suc (slot + word) ≡ slot + (word + 1) = omega arith in
-    ap (spills_count f (slot + word)) left ∙ ap (λ (n : ℕ). spill_count f (slot + word) + spills_count f n (count - (word + 1))) to
+    let from : suc (source + word) ≡ source + (word + 1) = omega arith in
+    let to : suc word ≡ word + 1 = omega arith in
+    ap (spills_count caller callee (source + word) word) left
+    ∙ ap (λ (n : ℕ). spill_count caller callee (source + word) word + spills_count caller callee n (suc word) (count - (word + 1))) from
+    ∙ ap (λ (n : ℕ). spill_count caller callee (source + word) word + spills_count caller callee (source + (word + 1)) n (count - (word + 1))) to
+
+pub length_copies : (caller callee : Frame) (source slot count : ℕ) → length (copies caller callee source slot count) ≡ copies_count caller callee source slot count
+length_copies caller callee source slot zero = refl
+length_copies caller callee source slot (suc count) =
+    omega (arith, length-append (pass caller callee source slot) (copies caller callee (suc source) (suc slot) count), one (passed_from caller callee source slot), length_copies caller callee (suc source) (suc slot) count)
+  where
+    one : (o : Option ℕ) → length (pass_from o caller callee source slot) ≡ pass_count_from o callee slot
+    one None = let e : suc (length (keep_code callee slot)) ≡ keep_count callee slot + 1 = omega (arith, length_keep callee slot) in e
+    one (Some register) = length_give callee register slot
+
+pub copies_few : (caller callee : Frame) (source slot count : ℕ) → copies_count caller callee source slot count ≤ 2 * count
+copies_few caller callee source slot zero = omega arith
+copies_few caller callee source slot (suc count) = omega (arith, one (passed_from caller callee source slot), copies_few caller callee (suc source) (suc slot) count)
+  where
+    one : (o : Option ℕ) → pass_count_from o callee slot ≤ 2
+    one None = omega (arith, keep_few callee slot)
+    one (Some register) = give_small callee slot
+
+-- one argument more
+pub copies_next : (caller callee : Frame) (source count word : ℕ) → word < count
+    → copies_count caller callee (source + word) word (count - word)
+    ≡ pass_count caller callee (source + word) word + copies_count caller callee (source + (word + 1)) (word + 1) (count - (word + 1))
+copies_next caller callee source count word below =
+    let left : count - word ≡ suc (count - (word + 1)) = omega (arith, below) in
+    let from : suc (source + word) ≡ source + (word + 1) = omega arith in
+    let to : suc word ≡ word + 1 = omega arith in
+    ap (copies_count caller callee (source + word) word) left
+    ∙ ap (λ (n : ℕ). pass_count caller callee (source + word) word + copies_count caller callee n (suc word) (count - (word + 1))) from
+    ∙ ap (λ (n : ℕ). pass_count caller callee (source + word) word + copies_count caller callee (source + (word + 1)) n (count - (word + 1))) to
+
+-- one parameter more
+pub taken_next : (callee : Frame) (slot register : ℕ) → is_taken callee (slot + 1) register ≡ (is_taken callee slot register || made_in callee slot == register)
+taken_next callee slot register = ap (λ (n : ℕ). is_taken callee n register) (let e : slot + 1 ≡ suc slot = omega arith in e)
 
 -- no more registers than words
 pub registers_few : (count : ℕ) → length (result_registers count) ≤ count

@@ -1,5 +1,5 @@
 -- Lines that are made piece by piece.
-use Rattle.std.proofs.Common.{◌≡◌, ℕ, suc, ◌+◌, ◌-◌, ◌*◌, ◌<◌, List, [], ◌∷◌, ◌++◌, length, drop, refl, sym, ap, ◌∙◌, append_assoc, arith}
+use Rattle.std.proofs.Common.{◌≡◌, ℕ, suc, ◌+◌, ◌-◌, ◌<◌, List, [], ◌∷◌, ◌++◌, length, drop, refl, sym, ap, ◌∙◌, append_assoc, arith}
 use Rattle.std.specs.Prelude.{sum_by}
 use Rattle.std.proofs.lemmas.List.{drop_more}
 use Rattle.std.proofs.lemmas.List.Sums.{sum_by-drop_more}
@@ -11,24 +11,7 @@ use Rattle.cyc_frame.specs.declared.home.Home.{Home}
 use Rattle.cyc_frame.specs.declared.home.Home.TheVariants as homes
 use Rattle.cyc_select.specs.declared.code.Line.TheVariants as lines
 use Rattle.cyc_select.specs.declared.code.Line.{Line}
-use Rattle.cyc_select.specs.Selection.{made_in, value_register, load, store_slot, slot_offset, copies, spill, spills, move_to, moves, reload, reloads_from, ordinary}
-
--- one argument more is copied
-pub copied : (caller callee : Frame) (source slot count : ℕ) (all old new : List Line) → slot < count
-    → new ≡ old ++ ordinary (load (made_in callee slot) (4 * callee.words + slot_offset caller (source + slot)) ∷ store_slot callee (made_in callee slot) slot ∷ [])
-    → old ++ ordinary (copies caller callee (source + slot) slot (count - slot)) ≡ all
-    → new ++ ordinary (copies caller callee (source + (slot + 1)) (slot + 1) (count - (slot + 1))) ≡ all
-copied caller callee source slot count all old new below is before =
-    let one = ordinary (load (made_in callee slot) (4 * callee.words + slot_offset caller (source + slot)) ∷ store_slot callee (made_in callee slot) slot ∷ []) in
-    let left : count - slot ≡ suc (count - (slot + 1)) = omega arith in
-    let next : suc (source + slot) ≡ source + (slot + 1) = omega arith in
-    let slots : suc slot ≡ slot + 1 = omega arith in
-    ap (λ (l : List Line). l ++ ordinary (copies caller callee (source + (slot + 1)) (slot + 1) (count - (slot + 1)))) is
-    ∙ append_assoc old one (ordinary (copies caller callee (source + (slot + 1)) (slot + 1) (count - (slot + 1))))
-    ∙ ap (λ (n : ℕ). old ++ (one ++ ordinary (copies caller callee n (slot + 1) (count - (slot + 1))))) (sym next)
-    ∙ ap (λ (n : ℕ). old ++ (one ++ ordinary (copies caller callee (suc (source + slot)) n (count - (slot + 1))))) (sym slots)
-    ∙ ap (λ (n : ℕ). old ++ ordinary (copies caller callee (source + slot) slot n)) (sym left)
-    ∙ before
+use Rattle.cyc_select.specs.Selection.{value_register, pass, copies, spill, spills, move_to, moves, reload, reloads_from, ordinary}
 
 -- what comes next is made, and the rest of the whole is left
 pub goes_on : {A : Type 0} (all old new next rest whole : List A) → new ≡ old ++ next → whole ≡ next ++ rest → old ++ whole ≡ all → new ++ rest ≡ all
@@ -57,19 +40,40 @@ moved_next frame destination source count word all old new below is before =
     ∙ ap (λ (n : ℕ). ordinary one ++ ordinary (moves frame (destination + (word + 1)) n (count - (word + 1)))) from)
     before
 
+-- one argument more is passed
+pub copied : (caller callee : Frame) (source slot count : ℕ) (all old new : List Line) → slot < count
+    → new ≡ old ++ ordinary (pass caller callee (source + slot) slot)
+    → old ++ ordinary (copies caller callee (source + slot) slot (count - slot)) ≡ all
+    → new ++ ordinary (copies caller callee (source + (slot + 1)) (slot + 1) (count - (slot + 1))) ≡ all
+copied caller callee source slot count all old new below is before =
+    let one : List Instr = pass caller callee (source + slot) slot in
+    let left : count - slot ≡ suc (count - (slot + 1)) = omega (arith, below) in
+    let from : suc (source + slot) ≡ source + (slot + 1) = omega arith in
+    let to : suc slot ≡ slot + 1 = omega arith in
+    goes_on all old new (ordinary one) (ordinary (copies caller callee (source + (slot + 1)) (slot + 1) (count - (slot + 1))))
+    (ordinary (copies caller callee (source + slot) slot (count - slot))) is
+    (ap (λ (n : ℕ). ordinary (copies caller callee (source + slot) slot n)) left
+    ∙ ordinary_append one (copies caller callee (suc (source + slot)) (suc slot) (count - (slot + 1)))
+    ∙ ap (λ (n : ℕ). ordinary one ++ ordinary (copies caller callee n (suc slot) (count - (slot + 1)))) from
+    ∙ ap (λ (n : ℕ). ordinary one ++ ordinary (copies caller callee (source + (slot + 1)) n (count - (slot + 1)))) to)
+    before
+
 -- one slot more is spilled
-pub spilled_next : (frame : Frame) (slot count word : ℕ) (all old new : List Line) → word < count
-    → new ≡ old ++ ordinary (spill frame (slot + word))
-    → old ++ ordinary (spills frame (slot + word) (count - word)) ≡ all
-    → new ++ ordinary (spills frame (slot + (word + 1)) (count - (word + 1))) ≡ all
-spilled_next frame slot count word all old new below is before =
-    let left : count - word ≡ suc (count - (word + 1)) = omega (arith, below) in
-    let to : suc (slot + word) ≡ slot + (word + 1) = omega arith in
-    goes_on all old new (ordinary (spill frame (slot + word))) (ordinary (spills frame (slot + (word + 1)) (count - (word + 1))))
-    (ordinary (spills frame (slot + word) (count - word))) is
-    (ap (λ (n : ℕ). ordinary (spills frame (slot + word) n)) left
-    ∙ ordinary_append (spill frame (slot + word)) (spills frame (suc (slot + word)) (count - (word + 1)))
-    ∙ ap (λ (n : ℕ). ordinary (spill frame (slot + word)) ++ ordinary (spills frame n (count - (word + 1)))) to)
+pub spilled_next : (caller callee : Frame) (source count slot : ℕ) (all old new : List Line) → slot < count
+    → new ≡ old ++ ordinary (spill caller callee (source + slot) slot)
+    → old ++ ordinary (spills caller callee (source + slot) slot (count - slot)) ≡ all
+    → new ++ ordinary (spills caller callee (source + (slot + 1)) (slot + 1) (count - (slot + 1))) ≡ all
+spilled_next caller callee source count slot all old new below is before =
+    let one : List Instr = spill caller callee (source + slot) slot in
+    let left : count - slot ≡ suc (count - (slot + 1)) = omega (arith, below) in
+    let from : suc (source + slot) ≡ source + (slot + 1) = omega arith in
+    let to : suc slot ≡ slot + 1 = omega arith in
+    goes_on all old new (ordinary one) (ordinary (spills caller callee (source + (slot + 1)) (slot + 1) (count - (slot + 1))))
+    (ordinary (spills caller callee (source + slot) slot (count - slot))) is
+    (ap (λ (n : ℕ). ordinary (spills caller callee (source + slot) slot n)) left
+    ∙ ordinary_append one (spills caller callee (suc (source + slot)) (suc slot) (count - (slot + 1)))
+    ∙ ap (λ (n : ℕ). ordinary one ++ ordinary (spills caller callee n (suc slot) (count - (slot + 1)))) from
+    ∙ ap (λ (n : ℕ). ordinary one ++ ordinary (spills caller callee (source + (slot + 1)) n (count - (slot + 1)))) to)
     before
 
 -- one register more is read again

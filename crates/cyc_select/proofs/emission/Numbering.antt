@@ -21,7 +21,7 @@ use Rattle.cyc_select.specs.declared.constants.TheConstants.{START_LINES}
 use Rattle.cyc_select.specs.Selection.{reload_count, ending_count, count_of, function_count, functions_count, function_line, instruction_line, code_lines, function_lines}
 use Rattle.cyc_select.specs.Plans.{test_of}
 use Rattle.cyc_select.specs.Emission.{AreReached, AreFew, most_lines, instruction_lines, function_starts, AreReady, AreTables}
-use Rattle.cyc_select.proofs.emission.Counts.{move_small, move_words_small, spills_few, give_small, keep_few, argument_small, regions_small, gives_small, word_small, load_small, operand_small, address_small, unary_small, test_small, operator_small}
+use Rattle.cyc_select.proofs.emission.Counts.{move_small, move_words_small, spills_few, copies_few, give_small, keep_few, argument_small, regions_small, gives_small, word_small, load_small, operand_small, address_small, unary_small, test_small, operator_small}
 
 abbrev no_frame : Frame
 no_frame = record { words = 0; return_address = 0; first_slot = 0; homes = [] }
@@ -51,7 +51,7 @@ count_small program frames function fit few (plain.Unary operator destination op
 count_small program frames function fit few (plain.Binary operator destination left right) = omega (arith, operator_small (frame_at frames function) operator destination left right, operator_fits operator)
 count_small program frames function fit few (plain.Jump target) = omega arith
 count_small program frames function fit few (plain.Branch comparison left right target) = omega (arith, test_small (frame_at frames function) (test_of comparison left right))
-count_small program frames function fit few (plain.Call f a n r) = omega (arith, few f, fit, spills_few (frame_at frames function) a n)
+count_small program frames function fit few (plain.Call f a n r) = omega (arith, few f, fit, spills_few (frame_at frames function) (frame_at frames f) a 0 n, copies_few (frame_at frames function) (frame_at frames f) a 0 n)
 count_small program frames function fit few (plain.Return v) = omega (arith, few function, ending_small program function)
 count_small program frames function fit few (plain.ReadByte destination) = omega (arith, give_small (frame_at frames function) destination)
 count_small program frames function fit few (plain.WriteByte source) = omega (arith, load_small source)

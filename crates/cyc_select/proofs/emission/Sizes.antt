@@ -33,8 +33,7 @@ use Rattle.cyc_select.specs.Selected.{words_at}
 use Rattle.cyc_select.specs.Selection.{arithmetic_of, multiply_divide_of, move_from_of, slot_offset, recorded_code, caught_code, reload_count, value_register, move_to, keep_code, give_code, moved_code, reloads, opened_code, made_in, ordinary, argument_code, service_number, answer_code, unwound_code, address_code, at_address, copies, bring_all, upper_of_global, at_global, word_code, load_code, load_count, operand_code, operand_register, plan_code, test_code, branch_line, branch_code, quotient_code, divided_code, divide_code, is_tested, part_of, result_registers, ending_code, operator_code, body, behind, count_of, function_count, function_line, instruction_line, code_lines, function_lines, small, syscall, store, add_immediate, minus, push_frame, load, regions_code, load_at, store_at, spills, spills_count, calling_code}
 use Rattle.cyc_isa.specs.Decoding.{register_of}
 use Rattle.cyc_isa.specs.declared.instr.BranchOp.TheVariants as branch
-use Rattle.cyc_select.proofs.steps.Calls.{length-copies}
-use Rattle.cyc_select.proofs.emission.Counts.{length_keep, length_give, length_move, length_moved, length_spills, spills_few, move_words_small, keep_few, give_small, move_small, argument_small, regions_small, gives_small, length_argument, length_answer, length_regions, length_results, length_registers, word_small, load_small, operand_small, address_small, plan_small, unary_small, test_small, length_word, length_load, length_operand, length_address, length_plan, length_test, length_divided}
+use Rattle.cyc_select.proofs.emission.Counts.{length_keep, length_give, length_move, length_moved, length_spills, spills_few, length_copies, copies_few, move_words_small, keep_few, give_small, move_small, argument_small, regions_small, gives_small, length_argument, length_answer, length_regions, length_results, length_registers, word_small, load_small, operand_small, address_small, plan_small, unary_small, test_small, length_word, length_load, length_operand, length_address, length_plan, length_test, length_divided}
 use Rattle.cyc_select.proofs.steps.Returns.{loaded, length_loaded}
 use Rattle.cyc_select.proofs.emission.Numbering.{ReadsFew}
 use Rattle.cyc_select.proofs.relation.Values.{length_reloads}
@@ -112,20 +111,20 @@ module _ (program : Program) (frames : List Frame) (reads_few : (function : ℕ)
   body_words function here (plain.Jump target) = omega arith
   body_words function here (plain.Branch comparison left right target) = omega (arith, test_words (frame_at frames function) (test_of comparison left right) (instruction_line program frames function target))
   body_words function here (plain.Call callee arguments count result) =
-      let spilled : ℕ = here + spills_count (frame_at frames function) arguments count in
+      let spilled : ℕ = here + spills_count (frame_at frames function) (frame_at frames callee) arguments 0 count in
       let calling : List Line = calling_code (frame_at frames function) (frame_at frames callee) spilled (function_line program frames callee) arguments count in
-      let front = sum_by-append words_of (ordinary (spills (frame_at frames function) arguments count)) calling in
-      let spill_words = words_ordinary (spills (frame_at frames function) arguments count) in
+      let front = sum_by-append words_of (ordinary (spills (frame_at frames function) (frame_at frames callee) arguments 0 count)) calling in
+      let spill_words = words_ordinary (spills (frame_at frames function) (frame_at frames callee) arguments 0 count) in
       let first : List Line = lines.Branch (conditions.Registers branch.NotEqual (register_of CALLS) (register_of 0)) (spilled + 3) ∷ ordinary (small 2 11 ∷ syscall ∷ store RETURN_ADDRESS (4 * (frame_at frames function).return_address) ∷ add_immediate CALLS CALLS (minus 1) ∷ push_frame (frame_at frames callee) ∷ []) in
       let passed = words_ordinary (copies (frame_at frames function) (frame_at frames callee) arguments 0 count) in
-      let long = length-copies (frame_at frames function) (frame_at frames callee) arguments 0 count in
+      let long = length_copies (frame_at frames function) (frame_at frames callee) arguments 0 count in
       let a = sum_by-append words_of (lines.Branch (conditions.Registers branch.NotEqual (register_of CALLS) (register_of 0)) (spilled + 3) ∷ ordinary (small 2 11 ∷ syscall ∷ store RETURN_ADDRESS (4 * (frame_at frames function).return_address) ∷ add_immediate CALLS CALLS (minus 1) ∷ push_frame (frame_at frames callee) ∷ [])) (ordinary (copies (frame_at frames function) (frame_at frames callee) arguments 0 count) ++ lines.Call (function_line program frames callee) ∷ []) in
       let b = sum_by-append words_of (ordinary (copies (frame_at frames function) (frame_at frames callee) arguments 0 count)) (lines.Call (function_line program frames callee) ∷ []) in
       let kept = words_ordinary (load RETURN_ADDRESS (4 * (frame_at frames function).return_address) ∷ add_immediate CALLS CALLS 1 ∷ (bring_all true (frame_at frames function) result (result_registers (routine_at program callee).results) ++ reloads (frame_at frames function))) in
       let both = length-append (bring_all true (frame_at frames function) result (result_registers (routine_at program callee).results)) (reloads (frame_at frames function)) in
       let stores = length_results (frame_at frames function) result (result_registers (routine_at program callee).results) in
       let registers = length_registers (routine_at program callee).results (few_results callee) in
-      omega (arith, front, spill_words, length_spills (frame_at frames function) arguments count, spills_few (frame_at frames function) arguments count, passed, long, a, b, kept, both, stores, registers, few_results callee, length_reloads (frame_at frames function), reads_few function)
+      omega (arith, front, spill_words, length_spills (frame_at frames function) (frame_at frames callee) arguments 0 count, spills_few (frame_at frames function) (frame_at frames callee) arguments 0 count, copies_few (frame_at frames function) (frame_at frames callee) arguments 0 count, passed, long, a, b, kept, both, stores, registers, few_results callee, length_reloads (frame_at frames function), reads_few function)
   body_words function here (plain.Return value) =
       let e = ending_code (function == program.main) (frame_at frames function) here value in
       let a = sum_by-append words_of (ending_code (function == program.main) (frame_at frames function) here value ++ ordinary (loaded (frame_at frames function) value (routine_at program function).results)) (lines.Return ∷ []) in

@@ -48,7 +48,7 @@ use Rattle.cyc_select.specs.declared.plan.Test.TheVariants as tests
 use Rattle.cyc_select.specs.Plans.{unary_plan, binary_plan, test_of}
 use Rattle.cyc_select.specs.Labelled.{Labelled, IsFormed, IsFormedLine}
 use Rattle.cyc_select.specs.Numbers.{fits_signed, is_zero_word}
-use Rattle.cyc_select.specs.Selection.{value_register, is_kept, load_from, fetch_from, move_to, keep_code, give_to, give_code, bring_code, bring_all, load_words, reloads_from, reloads, opened_code, made_in, slot_offset, ordinary, result_registers, argument_code, service_number, answer_code, unwound_code, far_plan, address_code, near_half, at_address, copies, load_all, store_all, moves, all_moved, store_slot, pop_frame, load_upper, constant, or_immediate, is_tested, part_of, plan_count, small, syscall, add_immediate, minus, upper_of_global, at_global, word_code, load_code, load_count, operand_code, operand_register, operands_code, operation_code, outcome_code, operation_of, computed_code, plan_code, test_code, branch_line, quotient_code, loads_code, divided_code, divide_code, divide_count, ending_code, ending_count, operator_code, operator_count, body, behind, body_count, count_of, function_count, functions_count, function_line, instruction_line, code_lines, function_lines, start_lines, select_of, regions_code, load_at, store_at, spill, spills, spills_count, calling_code}
+use Rattle.cyc_select.specs.Selection.{value_register, passed_from, spill_from, pass_from, pass, is_kept, load_from, fetch_from, move_to, keep_code, give_to, give_code, bring_code, bring_all, load_words, reloads_from, reloads, opened_code, made_in, slot_offset, ordinary, result_registers, argument_code, service_number, answer_code, unwound_code, far_plan, address_code, near_half, at_address, copies, load_all, store_all, moves, all_moved, store_slot, pop_frame, load_upper, constant, or_immediate, is_tested, part_of, plan_count, small, syscall, add_immediate, minus, upper_of_global, at_global, word_code, load_code, load_count, operand_code, operand_register, operands_code, operation_code, outcome_code, operation_of, computed_code, plan_code, test_code, branch_line, quotient_code, loads_code, divided_code, divide_code, divide_count, ending_code, ending_count, operator_code, operator_count, body, behind, body_count, count_of, function_count, functions_count, function_line, instruction_line, code_lines, function_lines, start_lines, select_of, regions_code, load_at, store_at, spill, spills, spills_count, calling_code}
 use Rattle.cyc_select.proofs.layout.Lines.{line_first}
 use Rattle.cyc_select.proofs.values.Plans.{AllOfTest, all_unary, all_binary, all_test}
 use Rattle.cyc_select.proofs.emission.Counts.{operation_some, move_some, move_words_some, give_some, length_registers, answer_few, service_small}
@@ -236,25 +236,40 @@ module _ (program : Program) (well : IsWellFormed program) (words : HasWords pro
         one true = ((refl, slot_fits slot (omega (arith, fits))), tt)
         one false = give_formed source slot (omega (arith, fits))
 
-    spills_formed : (slot count : ℕ) → slot + count ≤ slots → Formed (ordinary (spills frame slot count))
-    spills_formed slot zero fits = tt
-    spills_formed slot (suc count) fits = formed_append (spill frame slot) (spills frame (suc slot) count) (one (is_kept frame slot)) (spills_formed (suc slot) count (omega (arith, fits)))
+    spills_formed : (callee : Frame) (source slot count : ℕ) → source + count ≤ slots → Formed (ordinary (spills frame callee source slot count))
+    spills_formed callee source slot zero fits = tt
+    spills_formed callee source slot (suc count) fits =
+        formed_append (spill frame callee source slot) (spills frame callee (suc source) (suc slot) count) (one (passed_from frame callee source slot)) (spills_formed callee (suc source) (suc slot) count (omega (arith, fits)))
       where
-        one : (b : Bool) → Formed (ordinary (if b then [] else store_slot frame (made_in frame slot) slot ∷ []))
-        one true = tt
-        one false = ((refl, slot_fits slot (omega (arith, fits))), tt)
+        unkept : (b : Bool) → Formed (ordinary (if b then [] else store_slot frame (made_in frame source) source ∷ []))
+        unkept true = tt
+        unkept false = ((refl, slot_fits source (omega (arith, fits))), tt)
+
+        one : (o : Option ℕ) → Formed (ordinary (spill_from o frame source))
+        one None = unkept (is_kept frame source)
+        one (Some register) = tt
 
     copies_formed : (callee : Frame) (callee_slots : ℕ) → callee.words ≤ 256 → ((slot : ℕ) → slot < callee_slots → slot_word callee slot < callee.words)
         → (source slot count : ℕ) → source + count ≤ slots → slot + count ≤ callee_slots → Formed (ordinary (copies frame callee source slot count))
     copies_formed callee callee_slots small inside source slot zero source_fits slot_fits = tt
     copies_formed callee callee_slots small inside source slot (suc count) source_fits slot_fits =
-        let f = fit.each function known in (
-          (refl, omega (arith, f.inside source (omega (arith, source_fits)), f.within, f.small, small)),
-          (
-            (refl, omega (arith, inside slot (omega (arith, slot_fits)), small)),
-            copies_formed callee callee_slots small inside (suc source) (suc slot) count (omega (arith, source_fits)) (omega (arith, slot_fits)),
-          ),
-        )
+        formed_append (pass frame callee source slot) (copies frame callee (suc source) (suc slot) count) (one (passed_from frame callee source slot))
+        (copies_formed callee callee_slots small inside (suc source) (suc slot) count (omega (arith, source_fits)) (omega (arith, slot_fits)))
+      where
+        its_fit : slot_offset callee slot < 2 ^ 16
+        its_fit = omega (arith, inside slot (omega (arith, slot_fits)), small)
+
+        kept : (b : Bool) → Formed (ordinary (if b then store_slot callee (made_in callee slot) slot ∷ [] else []))
+        kept true = ((refl, its_fit), tt)
+        kept false = tt
+
+        given : (o : Option ℕ) (register : ℕ) → Formed (ordinary (give_to o callee register slot))
+        given None register = ((refl, its_fit), tt)
+        given (Some own) register = ((refl, tt), kept (is_kept callee slot))
+
+        one : (o : Option ℕ) → Formed (ordinary (pass_from o frame callee source slot))
+        one None = let f = fit.each function known in ((refl, omega (arith, f.inside source (omega (arith, source_fits)), f.within, f.small, small)), kept (is_kept callee slot))
+        one (Some register) = given (value_register callee slot) register
 
     regions_formed : (request : Request) → Formed (ordinary (regions_code request))
     regions_formed (requests.OpenLexical destination) = ((refl, (omega arith)), tt)
@@ -446,9 +461,9 @@ module _ (program : Program) (well : IsWellFormed program) (words : HasWords pro
         (branch_formed test (instruction_line program frames function target) (target_known function target below), tt)
     body_formed (plain.Call callee arguments count result) n in_range fits long =
         let its = fit.each callee in_range.function_in_range in
-        let spilled : ℕ = n + spills_count frame arguments count in
-        all_append (IsFormedLine (length (select_of program frames).lines)) (ordinary (spills frame arguments count)) (calling_code frame (frame_at frames callee) spilled (function_line program frames callee) arguments count)
-        (spills_formed arguments count in_range.arguments_in_range) (
+        let spilled : ℕ = n + spills_count frame (frame_at frames callee) arguments 0 count in
+        all_append (IsFormedLine (length (select_of program frames).lines)) (ordinary (spills frame (frame_at frames callee) arguments 0 count)) (calling_code frame (frame_at frames callee) spilled (function_line program frames callee) arguments count)
+        (spills_formed (frame_at frames callee) arguments 0 count in_range.arguments_in_range) (
           (omega (arith, long)),
           (
             (refl, (omega arith)),

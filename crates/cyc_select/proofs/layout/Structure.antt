@@ -1,5 +1,5 @@
 -- The code of a program, put together: how long its parts are, and where each stands.
-use Rattle.std.proofs.Common.{◌≡◌, ℕ, zero, suc, ◌+◌, ◌*◌, ◌<◌, ◌≤◌, Bool, true, false, List, [], ◌∷◌, ◌++◌, length, take, Some, None, slice_get, refl, subst, ◌∙◌, arith, length-append, append_assoc}
+use Rattle.std.proofs.Common.{◌≡◌, ℕ, zero, suc, ◌+◌, ◌<◌, ◌≤◌, Bool, true, false, List, [], ◌∷◌, ◌++◌, length, take, Some, None, slice_get, refl, subst, ◌∙◌, arith, length-append, append_assoc}
 use Rattle.std.specs.Prelude.{sum_by, ◌==◌, if◌then◌else◌, slice_index_or}
 use Rattle.std.proofs.lemmas.List.Sums.{sum_by-cons}
 use Rattle.cyc_plain.specs.declared.instruction.Instruction.{Instruction}
@@ -26,9 +26,9 @@ use Rattle.cyc_select.specs.declared.code.Line.TheVariants as lines
 use Rattle.cyc_select.specs.declared.plan.Plan.{Plan}
 use Rattle.cyc_select.specs.Labelled.{Labelled}
 use Rattle.cyc_select.specs.Plans.{unary_plan, binary_plan, test_of}
-use Rattle.cyc_select.specs.Selection.{value_register, move_to, keep_code, keep_count, give_code, give_count, moved_code, reloads, reload_count, opened_code, made_in, ordinary, argument_code, service_number, answer_code, unwound_code, address_code, at_address, copies, bring_all, small, syscall, upper_of_global, at_global, word_code, load_code, load_count, operand_code, operand_register, plan_code, plan_count, test_code, branch_line, quotient_code, divided_code, divide_code, divide_count, is_tested, part_of, result_registers, ending_code, ending_count, operator_code, operator_count, body, behind, body_count, behind_count, count_of, function_count, functions_count, function_line, instruction_line, code_lines, function_lines, start_lines, select_of, regions_code, load_at, store_at, address_count, operand_count, spills, spills_count, calling_code}
-use Rattle.cyc_select.proofs.steps.Calls.{length_ordinary, length-copies}
-use Rattle.cyc_select.proofs.emission.Counts.{length_keep, length_give, length_move, length_moved, length_spills, length_argument, length_answer, length_regions, length_results, length_registers, length_word, length_load, length_operand, length_address, length_plan, length_test, length_divided}
+use Rattle.cyc_select.specs.Selection.{value_register, copies_count, move_to, keep_code, keep_count, give_code, give_count, moved_code, reloads, reload_count, opened_code, made_in, ordinary, argument_code, service_number, answer_code, unwound_code, address_code, at_address, copies, bring_all, small, syscall, upper_of_global, at_global, word_code, load_code, load_count, operand_code, operand_register, plan_code, plan_count, test_code, branch_line, quotient_code, divided_code, divide_code, divide_count, is_tested, part_of, result_registers, ending_code, ending_count, operator_code, operator_count, body, behind, body_count, behind_count, count_of, function_count, functions_count, function_line, instruction_line, code_lines, function_lines, start_lines, select_of, regions_code, load_at, store_at, address_count, operand_count, spills, spills_count, calling_code}
+use Rattle.cyc_select.proofs.steps.Calls.{length_ordinary}
+use Rattle.cyc_select.proofs.emission.Counts.{length_keep, length_give, length_move, length_moved, length_spills, length_copies, length_argument, length_answer, length_regions, length_results, length_registers, length_word, length_load, length_operand, length_address, length_plan, length_test, length_divided}
 use Rattle.cyc_select.proofs.steps.Returns.{loaded, length_loaded}
 use Rattle.cyc_select.proofs.relation.Values.{length_reloads}
 use Rattle.cyc_select.proofs.effects.Walks.{Stands, stands_front, stands_back}
@@ -82,14 +82,14 @@ module _ (program : Program) (frames : List Frame) (few_results : (function : �
       let last : List Line = branch_line (frame_at frames function) (test_of comparison left right) (instruction_line program frames function target) ∷ [] in
       omega (arith, length-append (ordinary (test_code (frame_at frames function) (test_of comparison left right))) last, length_ordinary (test_code (frame_at frames function) (test_of comparison left right)), length_test (frame_at frames function) (test_of comparison left right))
   length_body function here (plain.Call callee arguments count result) =
-      let spilled : ℕ = here + spills_count (frame_at frames function) arguments count in
+      let spilled : ℕ = here + spills_count (frame_at frames function) (frame_at frames callee) arguments 0 count in
       let calling : List Line = calling_code (frame_at frames function) (frame_at frames callee) spilled (function_line program frames callee) arguments count in
       let whole = length-append (ordinary (copies (frame_at frames function) (frame_at frames callee) arguments 0 count)) (lines.Call (function_line program frames callee) ∷ []) in
       let parts = length_ordinary (copies (frame_at frames function) (frame_at frames callee) arguments 0 count) in
-      let copied = length-copies (frame_at frames function) (frame_at frames callee) arguments 0 count in
-      let e : suc (suc (suc (suc (suc (suc (length (ordinary (copies (frame_at frames function) (frame_at frames callee) arguments 0 count) ++ lines.Call (function_line program frames callee) ∷ []))))))) ≡ 7 + 2 * count = omega (arith, whole, parts, copied) in
-      let called : length calling ≡ 7 + 2 * count = e in
-      omega (arith, length-append (ordinary (spills (frame_at frames function) arguments count)) calling, length_ordinary (spills (frame_at frames function) arguments count), length_spills (frame_at frames function) arguments count, called)
+      let copied = length_copies (frame_at frames function) (frame_at frames callee) arguments 0 count in
+      let e : suc (suc (suc (suc (suc (suc (length (ordinary (copies (frame_at frames function) (frame_at frames callee) arguments 0 count) ++ lines.Call (function_line program frames callee) ∷ []))))))) ≡ 7 + copies_count (frame_at frames function) (frame_at frames callee) arguments 0 count = omega (arith, whole, parts, copied) in
+      let called : length calling ≡ 7 + copies_count (frame_at frames function) (frame_at frames callee) arguments 0 count = e in
+      omega (arith, length-append (ordinary (spills (frame_at frames function) (frame_at frames callee) arguments 0 count)) calling, length_ordinary (spills (frame_at frames function) (frame_at frames callee) arguments 0 count), length_spills (frame_at frames function) (frame_at frames callee) arguments 0 count, called)
   length_body function here (plain.Return value) =
       let front = length-append (ending_code (function == program.main) (frame_at frames function) here value) (ordinary (loaded (frame_at frames function) value (routine_at program function).results)) in
       let all = length-append (ending_code (function == program.main) (frame_at frames function) here value ++ ordinary (loaded (frame_at frames function) value (routine_at program function).results)) (lines.Return ∷ []) in

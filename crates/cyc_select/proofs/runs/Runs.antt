@@ -38,7 +38,7 @@ use Rattle.cyc_select.specs.Machine.{State, Running, Ended, IsReturnPoint, machi
 use Rattle.cyc_select.specs.declared.constants.TheConstants.{HANDLERS}
 use Rattle.cyc_select.specs.declared.code.Line.{Line}
 use Rattle.cyc_select.specs.declared.code.Line.TheVariants as lines
-use Rattle.cyc_select.specs.Selection.{reload_count, recorded_code, caught_code, opened_code, body, behind, body_count, behind_count, ordinary, spills, spills_count, calling_code, function_line, divide_code, divide_count, plan_code, plan_count, is_tested, part_of, count_of, operator_count, instruction_line}
+use Rattle.cyc_select.specs.Selection.{reload_count, recorded_code, caught_code, opened_code, body, behind, body_count, behind_count, ordinary, spills, spills_count, copies_count, calling_code, function_line, divide_code, divide_count, plan_code, plan_count, is_tested, part_of, count_of, operator_count, instruction_line}
 use Rattle.cyc_select.proofs.emission.Counts.{length_spills}
 use Rattle.cyc_select.proofs.layout.Lines.{line_next}
 use Rattle.cyc_select.specs.Numbers.{is_plain_divisor}
@@ -54,7 +54,8 @@ use Rattle.cyc_select.proofs.relation.Matches.{At, Ready, Matches, Reached}
 use Rattle.cyc_select.proofs.steps.Simple.{address_goes, move_goes, unary_goes, binary_goes, divide_goes, jump_goes, branch_goes, read_goes, write_goes, load_global_goes, count_lexical_goes, store_global_goes, uncaught_goes}
 use Rattle.cyc_select.proofs.steps.Accesses.{move_words_goes, load_goes, store_goes, load_byte_goes, store_byte_goes}
 use Rattle.cyc_select.proofs.steps.Requests.{ask_goes}
-use Rattle.cyc_select.proofs.steps.Handlers.{catch_goes, leave_goes, throw_goes, try_goes}
+use Rattle.cyc_select.proofs.steps.Handlers.{catch_goes, leave_goes, try_goes}
+use Rattle.cyc_select.proofs.steps.Throws.{throw_goes}
 use Rattle.cyc_select.proofs.steps.Calls.{length_ordinary, call_last}
 use Rattle.cyc_select.proofs.steps.Passing.{call_goes}
 use Rattle.cyc_select.proofs.steps.Returns.{return_goes, behind_goes}
@@ -111,13 +112,13 @@ module _ (program : Program) (well : IsWellFormed program) (words : HasWords pro
       → IsReturnPoint code (behind_line program frames function index callee arguments count result)
   returns_to function index callee arguments count result at =
       let line : ℕ = instruction_line program frames function index in
-      let spilled : ℕ = line + spills_count (frame_at frames function) arguments count in
+      let spilled : ℕ = line + spills_count (frame_at frames function) (frame_at frames callee) arguments 0 count in
       let calling : List Line = calling_code (frame_at frames function) (frame_at frames callee) spilled (function_line program frames callee) arguments count in
-      let before : List Instr = spills (frame_at frames function) arguments count in
-      let long_spills : length (ordinary before) ≡ spills_count (frame_at frames function) arguments count = length_ordinary before ∙ length_spills (frame_at frames function) arguments count in
+      let before : List Instr = spills (frame_at frames function) (frame_at frames callee) arguments 0 count in
+      let long_spills : length (ordinary before) ≡ spills_count (frame_at frames function) (frame_at frames callee) arguments 0 count = length_ordinary before ∙ length_spills (frame_at frames function) (frame_at frames callee) arguments 0 count in
       record {
         inside = below_of_get code.lines _ _ (behind_stands function index callee arguments count result at).0;
-        call = spilled + 6 + 2 * count;
+        call = spilled + 6 + copies_count (frame_at frames function) (frame_at frames callee) arguments 0 count;
         label = function_line program frames callee;
         behind = omega arith;
         calls = call_last code (frame_at frames function) (frame_at frames callee) spilled (function_line program frames callee) arguments count

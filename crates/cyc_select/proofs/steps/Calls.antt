@@ -1,11 +1,11 @@
 -- Calls: a new frame below the caller's, or the end of a run that has no room for one.
-use Rattle.std.proofs.Common.{◌≡◌, ◌≢◌, ℕ, zero, suc, ◌+◌, ◌-◌, ◌*◌, ◌%◌, ◌<◌, ◌≤◌, Bool, false, not, List, [], ◌∷◌, ◌++◌, length, Some, slice_get, refl, sym, ap, subst, ◌∙◌, arith, inl, inr}
+use Rattle.std.proofs.Common.{◌≡◌, ◌≢◌, ℕ, suc, ◌+◌, ◌-◌, ◌*◌, ◌%◌, ◌<◌, ◌≤◌, Bool, false, not, List, [], ◌∷◌, ◌++◌, length, Some, None, slice_get, refl, sym, ap, subst, ◌∙◌, arith, inl, inr}
 use Rattle.std.specs.Prelude.{◌==◌, if◌then◌else◌, nat_le}
 use Rattle.std.proofs.lemmas.Bool.{cases_eq, cases_lt, eq-eqb, ne_eqb, and_right, lt-leb}
 use Rattle.cyc_select.specs.declared.constants.TheConstants.{CALLS, FRAME, HANDLERS, REGIONS}
 use Rattle.cyc_machine.specs.declared.constants.TheConstants.{RETURN_ADDRESS}
 use Rattle.cyc_words.specs.Ending.{Full}
-use Rattle.cyc_words.specs.Word.{add_of, sign_extended}
+use Rattle.cyc_words.specs.Word.{IsWord, add_of, sign_extended}
 use Rattle.cyc_isa.specs.declared.instr.Instr.{Instr}
 use Rattle.cyc_isa.specs.declared.instr.BranchOp.TheVariants as branch
 use Rattle.cyc_isa.specs.Decoding.{register_of}
@@ -29,8 +29,9 @@ use Rattle.cyc_select.specs.declared.code.Line.TheVariants as lines
 use Rattle.cyc_select.specs.Labelled.{Labelled, IsFormed, AreAddresses}
 use Rattle.cyc_select.specs.Machine as labelled
 use Rattle.cyc_select.specs.Machine.{State, Running, Ended}
-use Rattle.cyc_select.specs.Selection.{value_register, slot_offset, small, minus, store, add_immediate, push_frame, copies, ordinary, syscall, calling_code, function_line, instruction_line}
+use Rattle.cyc_select.specs.Selection.{value_register, is_kept, passed_from, copies_count, slot_offset, small, minus, store, add_immediate, push_frame, copies, ordinary, syscall, calling_code, function_line, instruction_line}
 use Rattle.cyc_select.proofs.relation.Cells.{IsCell}
+use Rattle.cyc_select.proofs.emission.Counts.{length_copies}
 use Rattle.cyc_select.proofs.layout.Lines.{line_first}
 use Rattle.cyc_select.proofs.values.Operations.{add_small, take_small}
 use Rattle.cyc_select.proofs.relation.Values.{Caches}
@@ -44,22 +45,15 @@ pub length_ordinary : (is : List Instr) → length (ordinary is) ≡ length is
 length_ordinary [] = refl
 length_ordinary (i ∷ is) = ap suc (length_ordinary is)
 
-pub length-copies : (caller callee : Frame) (source slot count : ℕ) → length (copies caller callee source slot count) ≡ 2 * count
-length-copies caller callee source slot zero = refl
-length-copies caller callee source slot (suc count) =
-    let rest = length-copies caller callee (suc source) (suc slot) count in
-    let e : suc (suc (length (copies caller callee (suc source) (suc slot) count))) ≡ 2 * suc count = omega (arith, rest) in
-    e
-
 -- the last of the lines of a call
 pub call_last : (code : Labelled) (caller callee : Frame) (here label arguments count : ℕ) → Stands code here (calling_code caller callee here label arguments count)
-    → slice_get code.lines (here + 6 + 2 * count) ≡ Some (lines.Call label)
+    → slice_get code.lines (here + 6 + copies_count caller callee arguments 0 count) ≡ Some (lines.Call label)
 call_last code caller callee here label arguments count stands =
     let passed : List Instr = copies caller callee arguments 0 count in
     let entry : List Instr = small 2 11 ∷ syscall ∷ store RETURN_ADDRESS (4 * caller.return_address) ∷ add_immediate CALLS CALLS (minus 1) ∷ push_frame callee ∷ [] in
     let at_passed : Stands code (here + 6) (ordinary passed ++ lines.Call label ∷ []) =
     stands_back code here (lines.Branch (conditions.Registers branch.NotEqual (register_of CALLS) (register_of 0)) (here + 3) ∷ ordinary entry) (ordinary passed ++ lines.Call label ∷ []) stands in
-    let long : length (ordinary passed) ≡ 2 * count = length_ordinary passed ∙ length-copies caller callee arguments 0 count in
+    let long : length (ordinary passed) ≡ copies_count caller callee arguments 0 count = length_ordinary passed ∙ length_copies caller callee arguments 0 count in
     subst (λ (n : ℕ). slice_get code.lines (here + 6 + n) ≡ Some (lines.Call label)) long (stands_back code (here + 6) (ordinary passed) (lines.Call label ∷ []) at_passed).0
 
 module _ (program : Program) (well : IsWellFormed program) (frames : List Frame) (fit : AreFrames program frames) (code : Labelled) (formed : IsFormed code) (addresses : ℕ → ℕ) (pages calls : ℕ) (few : calls ≤ 4096)
@@ -70,8 +64,11 @@ module _ (program : Program) (well : IsWellFormed program) (frames : List Frame)
     (in_range : IsCallInRange program (routine_at program c.active.function) callee arguments count result)
     (inside : behind_line program frames c.active.function c.active.next callee arguments count result < length code.lines)
     (stands : Stands code here (calling_code (frame_at frames c.active.function) (frame_at frames callee) here (function_line program frames callee) arguments count))
-    (here_is : here + (7 + 2 * count) ≡ behind_line program frames c.active.function c.active.next callee arguments count result)
-    (there : (slot : ℕ) → slot < count → w.words (base + slot_offset (frame_at frames c.active.function) (arguments + slot)) ≡ c.active.slots (arguments + slot)) where
+    (here_is : here + (7 + copies_count (frame_at frames c.active.function) (frame_at frames callee) arguments 0 count) ≡ behind_line program frames c.active.function c.active.next callee arguments count result)
+    (there : (slot : ℕ) → slot < count → passed_from (frame_at frames c.active.function) (frame_at frames callee) (arguments + slot) slot ≡ None
+    → w.words (base + slot_offset (frame_at frames c.active.function) (arguments + slot)) ≡ c.active.slots (arguments + slot))
+    (held : (slot k : ℕ) → slot < count → passed_from (frame_at frames c.active.function) (frame_at frames callee) (arguments + slot) slot ≡ Some k
+    → (8 ≤ k) × (k < 24) × (r k ≡ c.active.slots (arguments + slot)) × IsWord (c.active.slots (arguments + slot))) where
   abbrev mine : Frame
   mine = frame_at frames c.active.function
 
@@ -142,12 +139,12 @@ module _ (program : Program) (well : IsWellFormed program) (frames : List Frame)
         refl,
       )
 
-  full_goes : (d : labelled.Configuration) → r CALLS ≡ 0 → AtLine (here + 1) r w d → Goes 0 (suc here) (here + (7 + 2 * count)) (Running d)
+  full_goes : (d : labelled.Configuration) → r CALLS ≡ 0 → AtLine (here + 1) r w d → Goes 0 (suc here) (here + (7 + copies_count (frame_at frames c.active.function) (frame_at frames callee) arguments 0 count)) (Running d)
   full_goes d none later =
-      walk_few code formed addresses globals_length (words_per_call * calls) 0 (1 + 1) (suc here) (here + (7 + 2 * count)) c.output _ (Running d) (omega arith)
-      (walk_block code formed addresses globals_length (words_per_call * calls) (small 2 11 ∷ []) 1 (here + 1) (suc here) (here + (7 + 2 * count)) c.output c.input _ r w d later (at_full.0, tt) (refl, tt) (omega arith)
+      walk_few code formed addresses globals_length (words_per_call * calls) 0 (1 + 1) (suc here) (here + (7 + copies_count (frame_at frames c.active.function) (frame_at frames callee) arguments 0 count)) c.output _ (Running d) (omega arith)
+      (walk_block code formed addresses globals_length (words_per_call * calls) (small 2 11 ∷ []) 1 (here + 1) (suc here) (here + (7 + copies_count (frame_at frames c.active.function) (frame_at frames callee) arguments 0 count)) c.output c.input _ r w d later (at_full.0, tt) (refl, tt) (omega arith)
       (λ e after.
-      walk_full code formed addresses globals_length (words_per_call * calls) (here + 1 + 1) (here + 1 + 1) (here + (7 + 2 * count)) c.output c.input _ (after_r (small 2 11 ∷ []) r w) w e after at_full.1.0 (omega arith) (omega arith)
+      walk_full code formed addresses globals_length (words_per_call * calls) (here + 1 + 1) (here + 1 + 1) (here + (7 + copies_count (frame_at frames c.active.function) (frame_at frames callee) arguments 0 count)) c.output c.input _ (after_r (small 2 11 ∷ []) r w) w e after at_full.1.0 (omega arith) (omega arith)
       (ap (λ (x : ℕ). add_of x (sign_extended 11)) s.zero_is ∙ add_small 0 11 (omega arith) (omega arith))
       (full_step none)))
 
@@ -196,13 +193,19 @@ module _ (program : Program) (well : IsWellFormed program) (frames : List Frame)
     s1 = subst (λ (x : Contents). Standing program frames addresses pages calls c r x base (r RETURN_ADDRESS) (suc (length c.frames)) c.active.slots) (sym saved)
         (standing_return program well frames fit addresses pages calls few c r w base (r RETURN_ADDRESS) (suc (length c.frames)) c.active.slots s (r RETURN_ADDRESS) refl)
 
-    -- the arguments are in memory as before
-    argument_there : (slot : ℕ) → slot < count → w1.words (base + slot_offset mine (arguments + slot)) ≡ c.active.slots (arguments + slot)
-    argument_there slot below =
+    -- the arguments are in memory and in registers as before
+    argument_there : (slot : ℕ) → slot < count → passed_from mine its (arguments + slot) (0 + slot) ≡ None → w1.words (base + slot_offset mine (arguments + slot)) ≡ c.active.slots (arguments + slot)
+    argument_there slot below none =
         ap (λ (m : Contents). m.words (base + slot_offset mine (arguments + slot))) saved
         ∙ (put-other w.words (base + 4 * mine.return_address) (base + slot_offset mine (arguments + slot)) (r RETURN_ADDRESS)
         (λ e. (fit.each c.active.function s.known).beside (arguments + slot) (omega (arith, below, in_range.arguments_in_range)) (omega (arith, e)))
-        ∙ there slot below)
+        ∙ there slot below (ap (passed_from mine its (arguments + slot)) (let e : slot ≡ 0 + slot = omega arith in e) ∙ none))
+
+    argument_held : (slot k : ℕ) → slot < count → passed_from mine its (arguments + slot) (0 + slot) ≡ Some k
+        → (8 ≤ k) × (k < 24) × (r1 k ≡ c.active.slots (arguments + slot)) × IsWord (c.active.slots (arguments + slot))
+    argument_held slot k below some =
+        let (k_low, high, is, fits) = held slot k below (ap (passed_from mine its (arguments + slot)) (let e : slot ≡ 0 + slot = omega arith in e) ∙ some) in
+        (k_low, high, put-other (put r CALLS _) FRAME k _ (λ e. absurd (omega (arith, e, high))) ∙ (put-other r CALLS k _ (λ e. absurd (omega (arith, e, high))) ∙ is), fits)
 
     callee_cell : (word : ℕ) → word < its.words → IsCell globals_length (words_per_call * calls) (low + 4 * word)
     callee_cell word below = inr ((omega (arith, low_is, here_lies.2)), (omega (arith, low_is, here_lies.1, deeper, room)), (omega (arith, low_is, here_lies.0, below)))
@@ -210,15 +213,16 @@ module _ (program : Program) (well : IsWellFormed program) (frames : List Frame)
     caller_cell : (slot : ℕ) → slot < (routine_at program c.active.function).slots → IsCell globals_length (words_per_call * calls) (base + slot_offset mine slot)
     caller_cell slot below = word_cell program well frames fit addresses pages calls few c r w base (r RETURN_ADDRESS) (suc (length c.frames)) c.active.slots s (slot_word mine slot) ((fit.each c.active.function s.known).inside slot below)
 
-    copied_now : Copied globals_length (words_per_call * calls) mine its low base arguments 0 count r1 w1
+    copied_now : Copied globals_length (words_per_call * calls) mine its low base c.active.slots arguments 0 count r1 w1
     copied_now =
         let frame = fit.each callee in_range.function_in_range in
         let own = fit.each c.active.function s.known in
         copied_all globals_length (words_per_call * calls) mine its (routine_at program c.active.function).slots (routine_at program callee).slots low base low_is
         (omega (arith, frame.within, frame.small)) (omega (arith, own.within, own.small)) (omega (arith, here_lies.0)) own.inside frame.inside frame.apart
         caller_cell (λ slot below. callee_cell (slot_word its slot) (frame.inside slot below)) its_right.low its_right.high
-        arguments 0 count r1 w1 entered_base in_range.arguments_in_range
+        c.active.slots arguments 0 count r1 w1 s.zero_is entered_base in_range.arguments_in_range
         (let takes = in_range.takes in let parameters = (well.functions callee no_routine in_range.function_in_range).parameters in omega (arith, takes, parameters))
+        argument_there argument_held
 
     abbrev r2 : Words
     r2 = after_r passed r1 w1
@@ -240,7 +244,7 @@ module _ (program : Program) (well : IsWellFormed program) (frames : List Frame)
     }
 
     line_is : here + 3 + 3 + length passed + 1 ≡ behind_line program frames c.active.function c.active.next callee arguments count result
-    line_is = omega (arith, length-copies mine its arguments 0 count, here_is)
+    line_is = omega (arith, length_copies mine its arguments 0 count, here_is)
 
     above_kept : (a : ℕ) → base ≤ a → w2.words a ≡ w1.words a
     above_kept a over = copied_now.outside a (inr over)
@@ -256,9 +260,8 @@ module _ (program : Program) (well : IsWellFormed program) (frames : List Frame)
       | inl argument ↦
           let zero_slot : slot ≡ 0 + slot = omega arith in
           ap (λ (x : ℕ). w2.words (low + slot_offset its x)) zero_slot
-          ∙ (copied_now.inside slot argument
-          ∙ (argument_there slot argument
-          ∙ sym (ap (copied c.active.slots arguments count choice.contents 0) zero_slot ∙ copied-inside c.active.slots choice.contents arguments count 0 slot argument)))
+          ∙ (copied_now.inside slot argument (ap (is_kept its) (sym zero_slot) ∙ slot_kept)
+          ∙ sym (ap (copied c.active.slots arguments count choice.contents 0) zero_slot ∙ copied-inside c.active.slots choice.contents arguments count 0 slot argument))
       | inr new ↦ sym (copied-above c.active.slots choice.contents arguments count 0 slot (omega (arith, new)))
     ]
 
@@ -316,8 +319,7 @@ module _ (program : Program) (well : IsWellFormed program) (frames : List Frame)
         ∙ (copied_now.values slot k below (ap (value_register its) (sym zero_slot) ∙ has)
         (λ i i_below there.
         its_right.parameters slot i k has (ap (value_register its) (let e : i ≡ 0 + i = omega arith in e) ∙ there) (let takes = in_range.takes in omega (arith, takes, i_below)) wanted)
-        ∙ (argument_there slot below
-        ∙ sym (ap (copied c.active.slots arguments count choice.contents 0) zero_slot ∙ copied-inside c.active.slots choice.contents arguments count 0 slot below)))
+        ∙ sym (ap (copied c.active.slots arguments count choice.contents 0) zero_slot ∙ copied-inside c.active.slots choice.contents arguments count 0 slot below))
 
     -- its slots lie below the caller's
     new_below : IsBelow program callee (low + 4 * its.first_slot) c.active.base
@@ -345,31 +347,31 @@ module _ (program : Program) (well : IsWellFormed program) (frames : List Frame)
           caches = entered_caches;
         }))
 
-    room_goes : (d : labelled.Configuration) → AtLine (here + 3) r w d → Goes 0 (suc here) (here + (7 + 2 * count)) (Running d)
+    room_goes : (d : labelled.Configuration) → AtLine (here + 3) r w d → Goes 0 (suc here) (here + (7 + copies_count (frame_at frames c.active.function) (frame_at frames callee) arguments 0 count)) (Running d)
     room_goes d later =
-        walk_few code formed addresses globals_length (words_per_call * calls) 0 (3 + (length passed + 1)) (suc here) (here + (7 + 2 * count)) c.output _ (Running d) (omega arith)
-        (walk_block code formed addresses globals_length (words_per_call * calls) entry (length passed + 1) (here + 3) (suc here) (here + (7 + 2 * count)) c.output c.input _ r w d later
+        walk_few code formed addresses globals_length (words_per_call * calls) 0 (3 + (length passed + 1)) (suc here) (here + (7 + copies_count (frame_at frames c.active.function) (frame_at frames callee) arguments 0 count)) c.output _ (Running d) (omega arith)
+        (walk_block code formed addresses globals_length (words_per_call * calls) entry (length passed + 1) (here + 3) (suc here) (here + (7 + copies_count (frame_at frames c.active.function) (frame_at frames callee) arguments 0 count)) c.output c.input _ r w d later
         (stands_front code (here + 3) (ordinary entry) (ordinary passed ++ call_line) at_entry)
         (return_cell program well frames fit addresses pages calls few c r w base (r RETURN_ADDRESS) (suc (length c.frames)) c.active.slots s, (refl, (refl, tt))) (omega arith)
         (λ e after.
-        walk_block code formed addresses globals_length (words_per_call * calls) passed 1 (here + 3 + 3) (here + 3 + 3) (here + (7 + 2 * count)) c.output c.input _ r1 w1 e after
+        walk_block code formed addresses globals_length (words_per_call * calls) passed 1 (here + 3 + 3) (here + 3 + 3) (here + (7 + copies_count (frame_at frames c.active.function) (frame_at frames callee) arguments 0 count)) c.output c.input _ r1 w1 e after
         (stands_front code (here + 3 + 3) (ordinary passed) call_line at_passed) copied_now.safe (omega arith)
         (λ f there.
-        walk_call code formed addresses globals_length (words_per_call * calls) 0 (here + 3 + 3 + length passed) (here + 3 + 3 + length passed) (here + (7 + 2 * count)) c.output c.input _ r2 w2 f (function_line program frames callee) there at_call (omega arith)
+        walk_call code formed addresses globals_length (words_per_call * calls) 0 (here + 3 + 3 + length passed) (here + 3 + 3 + length passed) (here + (7 + copies_count (frame_at frames c.active.function) (frame_at frames callee) arguments 0 count)) c.output c.input _ r2 w2 f (function_line program frames callee) there at_call (omega arith)
         (omega (arith, ap addresses line_is, lie.below (behind_line program frames c.active.function c.active.next callee arguments count result) inside))
         (λ g called.
-        walk_end code formed addresses globals_length (words_per_call * calls) (suc (here + 3 + 3 + length passed)) (here + (7 + 2 * count)) c.output _ (Running g) (omega (arith, length-copies mine its arguments 0 count))
+        walk_end code formed addresses globals_length (words_per_call * calls) (suc (here + 3 + 3 + length passed)) (here + (7 + copies_count (frame_at frames c.active.function) (frame_at frames callee) arguments 0 count)) c.output _ (Running g) (omega (arith, length_copies mine its arguments 0 count))
         (enters g called)))))
 
-  pub calling_goes : Goes 1 here (here + (7 + 2 * count)) (Running run)
+  pub calling_goes : Goes 1 here (here + (7 + copies_count (frame_at frames c.active.function) (frame_at frames callee) arguments 0 count)) (Running run)
   calling_goes = elim (cases_eq (r CALLS) 0) [
     | inl none ↦
         let stays : (if not (r CALLS == r 0) then here + 3 else here + 1) ≡ here + 1 = ap (λ (b : Bool). if not b then here + 3 else here + 1) (eq-eqb (r CALLS) (r 0) (none ∙ sym s.zero_is)) in
-        walk_branch code formed addresses globals_length (words_per_call * calls) 0 here here (here + (7 + 2 * count)) c.output c.input _ r w run (conditions.Registers branch.NotEqual (register_of CALLS) (register_of 0)) (here + 3) (here + 1) now stands.0 (omega arith) stays
+        walk_branch code formed addresses globals_length (words_per_call * calls) 0 here here (here + (7 + copies_count (frame_at frames c.active.function) (frame_at frames callee) arguments 0 count)) c.output c.input _ r w run (conditions.Registers branch.NotEqual (register_of CALLS) (register_of 0)) (here + 3) (here + 1) now stands.0 (omega arith) stays
         (λ d later. full_goes d none later)
     | inr other ↦
         let leaps : (if not (r CALLS == r 0) then here + 3 else here + 1) ≡ here + 3 = ap (λ (b : Bool). if not b then here + 3 else here + 1) (ne_eqb (r CALLS) (r 0) (λ e. other (e ∙ s.zero_is))) in
-        walk_branch code formed addresses globals_length (words_per_call * calls) 0 here here (here + (7 + 2 * count)) c.output c.input _ r w run (conditions.Registers branch.NotEqual (register_of CALLS) (register_of 0)) (here + 3) (here + 3) now stands.0 (omega arith) leaps
+        walk_branch code formed addresses globals_length (words_per_call * calls) 0 here here (here + (7 + copies_count (frame_at frames c.active.function) (frame_at frames callee) arguments 0 count)) c.output c.input _ r w run (conditions.Registers branch.NotEqual (register_of CALLS) (register_of 0)) (here + 3) (here + 3) now stands.0 (omega arith) leaps
         (λ d later. room_goes (positive (r CALLS) other) d later)
   ]
     where

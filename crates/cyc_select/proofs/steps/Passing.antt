@@ -1,9 +1,10 @@
--- Calls from their first line on: what they pass comes into memory before.
+-- Calls from their first line on: what they pass from memory comes there before.
 use Rattle.std.proofs.Common.{◌≡◌, ℕ, zero, suc, ◌+◌, ◌*◌, ◌%◌, ◌<◌, ◌≤◌, Bool, true, false, List, [], ◌∷◌, ◌++◌, length, Option, Some, None, refl, sym, ap, subst, ◌∙◌, arith, inl, inr}
 use Rattle.std.specs.Prelude.{if◌then◌else◌}
 use Rattle.std.proofs.lemmas.Bool.{cases_eq}
 use Rattle.cyc_select.specs.declared.constants.TheConstants.{FRAME}
 use Rattle.cyc_machine.specs.declared.constants.TheConstants.{RETURN_ADDRESS}
+use Rattle.cyc_words.specs.Word.{IsWord}
 use Rattle.cyc_isa.specs.declared.instr.Instr.{Instr}
 use Rattle.cyc_isa.specs.Effect.{memory_address}
 use Rattle.cyc_machine.specs.State.{globals_length, words_per_call}
@@ -20,9 +21,10 @@ use Rattle.cyc_frame.specs.Frame.{Frame}
 use Rattle.cyc_select.specs.Labelled.{Labelled, IsFormed, AreAddresses}
 use Rattle.cyc_select.specs.Machine as labelled
 use Rattle.cyc_select.specs.Machine.{Running}
-use Rattle.cyc_select.specs.Selection.{value_register, is_kept, made_in, slot_offset, store_slot, spill, spills, spills_count, ordinary, calling_code, function_line, instruction_line, body, body_count}
+use Rattle.cyc_select.specs.Selection.{value_register, is_kept, made_in, slot_offset, store_slot, passed_from, spill_from, spill, spills, spills_count, copies_count, ordinary, calling_code, function_line, instruction_line, body, body_count}
 use Rattle.cyc_select.proofs.values.Blocks.{safe_append}
 use Rattle.cyc_select.proofs.steps.Calls.{length_ordinary, calling_goes}
+use Rattle.cyc_select.proofs.steps.Copies.{is_free}
 use Rattle.cyc_select.proofs.emission.Counts.{length_spills}
 use Rattle.cyc_select.proofs.steps.Returns.{same_slots}
 use Rattle.cyc_select.proofs.relation.Standing.{Standing, behind_line, slot_address, slot_cell, standing_slot}
@@ -32,7 +34,7 @@ use Rattle.cyc_select.proofs.effects.Views.{Contents, written}
 use Rattle.cyc_select.proofs.effects.Walks.{Stands, stands_front, stands_back, after_r, after_w, after_r-append, after_w-append, AreSafe, Walk, now_at, now_is, walk_few, walk_from, walk_block}
 
 module _ (program : Program) (well : IsWellFormed program) (frames : List Frame) (fit : AreFrames program frames) (addresses : ℕ → ℕ) (pages calls : ℕ) (few : calls ≤ 4096)
-    (c : Configuration) (r : Words) (base back depth : ℕ) (known : c.active.function < length program.functions) where
+    (c : Configuration) (r : Words) (base back depth callee : ℕ) (known : c.active.function < length program.functions) where
   abbrev frame : Frame
   frame = frame_at frames c.active.function
 
@@ -46,12 +48,16 @@ module _ (program : Program) (well : IsWellFormed program) (frames : List Frame)
   abbrev IsThere : (m : Contents) (slot : ℕ) → Type 0
   IsThere m slot = m.words (base + slot_offset (frame_at frames c.active.function) slot) ≡ c.active.slots slot
 
-  record AreSpilled (is : List Instr) (m : Contents) (slot count : ℕ) : Type 0 where
+  -- where an argument comes from
+  abbrev from : (source slot : ℕ) → Option ℕ
+  from source slot = passed_from (frame_at frames c.active.function) (frame_at frames callee) source slot
+
+  record AreSpilled (is : List Instr) (m : Contents) (source slot count : ℕ) : Type 0 where
     pub safe : AreSafe globals_length (words_per_call * calls) is r m
     pub same : after_r is r m ≡ r
     pub standing : StandsIn (after_w is r m)
     pub stay : (a : ℕ) → a < (routine_at program c.active.function).slots → IsThere m a → IsThere (after_w is r m) a
-    pub there : (k : ℕ) → k < count → IsThere (after_w is r m) (slot + k)
+    pub there : (k : ℕ) → k < count → from (source + k) (slot + k) ≡ None → IsThere (after_w is r m) (source + k)
 
   -- the register of a slot without a word in memory has its value
   abbrev HasCached : (slot : ℕ) → Type 0
@@ -69,15 +75,23 @@ module _ (program : Program) (well : IsWellFormed program) (frames : List Frame)
           ap r (let e : made_in (frame_at frames c.active.function) slot % 32 ≡ k = omega (arith, made_is (frame_at frames c.active.function) slot k has, right.high slot k has) in e)
           ∙ cached k has
 
+  -- a slot's word comes into memory, where it is not there
+  record IsSpilled (is : List Instr) (m : Contents) (slot : ℕ) : Type 0 where
+    pub safe : AreSafe globals_length (words_per_call * calls) is r m
+    pub same : after_r is r m ≡ r
+    pub standing : StandsIn (after_w is r m)
+    pub stay : (a : ℕ) → a < (routine_at program c.active.function).slots → IsThere m a → IsThere (after_w is r m) a
+    pub there : IsThere (after_w is r m) slot
+
   one_spilled : (m : Contents) (slot : ℕ) → slot < (routine_at program c.active.function).slots → StandsIn m → HasCached slot
       → (b : Bool) → is_kept (frame_at frames c.active.function) slot ≡ b
-      → AreSpilled (if b then [] else store_slot (frame_at frames c.active.function) (made_in (frame_at frames c.active.function) slot) slot ∷ []) m slot 1
+      → IsSpilled (if b then [] else store_slot (frame_at frames c.active.function) (made_in (frame_at frames c.active.function) slot) slot ∷ []) m slot
   one_spilled m slot below s cached true kept = record {
     safe = tt;
     same = refl;
     standing = s;
     stay = λ a a_below is. is;
-    there = λ k k_below. subst (IsThere m) (let e : slot ≡ slot + k = omega (arith, k_below) in e) (s.holds slot below kept);
+    there = s.holds slot below kept;
   }
   one_spilled m slot below s cached false unkept =
       let at : ℕ = base + slot_offset (frame_at frames c.active.function) slot in
@@ -92,8 +106,7 @@ module _ (program : Program) (well : IsWellFormed program) (frames : List Frame)
         same = refl;
         standing = subst (λ (x : Contents). StandsIn x) (sym puts) in_place;
         stay = λ a a_below is. subst (λ (x : Contents). IsThere x a) (sym puts) (stays a a_below is);
-        there = λ k k_below. subst (λ (x : Contents). IsThere x (slot + k)) (sym puts)
-            (subst (IsThere (written m at word)) (let e : slot ≡ slot + k = omega (arith, k_below) in e) (put-same m.words at word));
+        there = subst (λ (x : Contents). IsThere x slot) (sym puts) (put-same m.words at word);
       }
     where
       same_put : (number : ℕ) → put c.active.slots slot (c.active.slots slot) number ≡ c.active.slots number
@@ -113,17 +126,41 @@ module _ (program : Program) (well : IsWellFormed program) (frames : List Frame)
             ∙ is
       ]
 
-  are_spilled : (m : Contents) (slot count : ℕ) → slot + count ≤ (routine_at program c.active.function).slots → StandsIn m → ((k : ℕ) → k < count → HasCached (slot + k))
-      → AreSpilled (spills (frame_at frames c.active.function) slot count) m slot count
-  are_spilled m slot zero fits s cached = record { safe = tt; same = refl; standing = s; stay = λ a a_below is. is; there = λ k below. absurd (omega (arith, below)) }
-  are_spilled m slot (suc count) fits s cached =
-      let here : slot + 0 ≡ slot = omega arith in
-      let is : List Instr = spill (frame_at frames c.active.function) slot in
-      let js : List Instr = spills (frame_at frames c.active.function) (suc slot) count in
-      let one = one_spilled m slot (omega (arith, fits)) s (subst HasCached here (cached 0 (omega arith))) (is_kept (frame_at frames c.active.function) slot) refl in
+  -- only one that is passed from memory
+  spilled_from : (m : Contents) (source slot : ℕ) → source < (routine_at program c.active.function).slots → StandsIn m → HasCached source
+      → (o : Option ℕ) → from source slot ≡ o → AreSpilled (spill_from o (frame_at frames c.active.function) source) m source slot 1
+  spilled_from m source slot below s cached None none =
+      let one = one_spilled m source below s cached (is_kept (frame_at frames c.active.function) source) refl in
+      record {
+        safe = one.safe;
+        same = one.same;
+        standing = one.standing;
+        stay = one.stay;
+        there = λ k k_below from_memory. subst (IsThere (after_w (spill_from None (frame_at frames c.active.function) source) r m)) (let e : source ≡ source + k = omega (arith, k_below) in e) one.there;
+      }
+  spilled_from m source slot below s cached (Some register) some = record {
+    safe = tt;
+    same = refl;
+    standing = s;
+    stay = λ a a_below is. is;
+    there = λ k k_below none. absurd (let e : None ≡ Some register = sym none ∙ (here k k_below ∙ some) in cc);
+  }
+    where
+      here : (k : ℕ) → k < 1 → from (source + k) (slot + k) ≡ from source slot
+      here zero below = ap (λ (n : ℕ). from n (slot + 0)) (let e : source + 0 ≡ source = omega arith in e) ∙ ap (from source) (let e : slot + 0 ≡ slot = omega arith in e)
+      here (suc k) below = absurd (omega (arith, below))
+
+  are_spilled : (m : Contents) (source slot count : ℕ) → source + count ≤ (routine_at program c.active.function).slots → StandsIn m → ((k : ℕ) → k < count → HasCached (source + k))
+      → AreSpilled (spills (frame_at frames c.active.function) (frame_at frames callee) source slot count) m source slot count
+  are_spilled m source slot zero fits s cached = record { safe = tt; same = refl; standing = s; stay = λ a a_below is. is; there = λ k below none. absurd (omega (arith, below)) }
+  are_spilled m source slot (suc count) fits s cached =
+      let here : source + 0 ≡ source = omega arith in
+      let is : List Instr = spill (frame_at frames c.active.function) (frame_at frames callee) source slot in
+      let js : List Instr = spills (frame_at frames c.active.function) (frame_at frames callee) (suc source) (suc slot) count in
+      let one = spilled_from m source slot (omega (arith, fits)) s (subst HasCached here (cached 0 (omega arith))) (from source slot) refl in
       let m1 : Contents = after_w is r m in
-      let rest = are_spilled m1 (suc slot) count (omega (arith, fits)) one.standing
-      (λ k below. subst HasCached (let e : slot + suc k ≡ suc slot + k = omega arith in e) (cached (suc k) (omega (arith, below)))) in
+      let rest = are_spilled m1 (suc source) (suc slot) count (omega (arith, fits)) one.standing
+      (λ k below. subst HasCached (let e : source + suc k ≡ suc source + k = omega arith in e) (cached (suc k) (omega (arith, below)))) in
       let memory : after_w (is ++ js) r m ≡ after_w js r m1 = after_w-append is js r m ∙ ap (λ (q : Words). after_w js q m1) one.same in
       let at : (a : ℕ) → IsThere (after_w js r m1) a → IsThere (after_w (is ++ js) r m) a = λ a there. subst (λ (x : Contents). IsThere x a) (sym memory) there in
       record {
@@ -131,17 +168,19 @@ module _ (program : Program) (well : IsWellFormed program) (frames : List Frame)
         same = after_r-append is js r m ∙ (ap (λ (q : Words). after_r js q m1) one.same ∙ rest.same);
         standing = subst (λ (x : Contents). StandsIn x) (sym memory) rest.standing;
         stay = λ a a_below there. at a (rest.stay a a_below (one.stay a a_below there));
-        there = there_at slot count m1 (after_w (is ++ js) r m) (omega (arith, fits)) rest at (one.there 0 (omega arith));
+        there = there_at source slot count m1 (after_w (is ++ js) r m) (omega (arith, fits)) rest at (λ none. one.there 0 (omega arith) none);
       }
     where
-      there_at : (slot count : ℕ) (m1 all : Contents) → slot + suc count ≤ (routine_at program c.active.function).slots
-          → (rest : AreSpilled (spills (frame_at frames c.active.function) (suc slot) count) m1 (suc slot) count)
-          → ((a : ℕ) → IsThere (after_w (spills (frame_at frames c.active.function) (suc slot) count) r m1) a → IsThere all a)
-          → IsThere m1 (slot + 0) → (k : ℕ) → k < suc count → IsThere all (slot + k)
-      there_at slot count m1 all fits rest at first zero below = at (slot + 0) (rest.stay (slot + 0) (omega (arith, fits)) first)
-      there_at slot count m1 all fits rest at first (suc k) below =
-          at (slot + suc k)
-          (subst (IsThere (after_w (spills (frame_at frames c.active.function) (suc slot) count) r m1)) (let e : suc slot + k ≡ slot + suc k = omega arith in e) (rest.there k (omega (arith, below))))
+      there_at : (source slot count : ℕ) (m1 all : Contents) → source + suc count ≤ (routine_at program c.active.function).slots
+          → (rest : AreSpilled (spills (frame_at frames c.active.function) (frame_at frames callee) (suc source) (suc slot) count) m1 (suc source) (suc slot) count)
+          → ((a : ℕ) → IsThere (after_w (spills (frame_at frames c.active.function) (frame_at frames callee) (suc source) (suc slot) count) r m1) a → IsThere all a)
+          → (from (source + 0) (slot + 0) ≡ None → IsThere m1 (source + 0)) → (k : ℕ) → k < suc count → from (source + k) (slot + k) ≡ None → IsThere all (source + k)
+      there_at source slot count m1 all fits rest at first zero below none = at (source + 0) (rest.stay (source + 0) (omega (arith, fits)) (first none))
+      there_at source slot count m1 all fits rest at first (suc k) below none =
+          let next : suc source + k ≡ source + suc k = omega arith in
+          at (source + suc k)
+          (subst (IsThere (after_w (spills (frame_at frames c.active.function) (frame_at frames callee) (suc source) (suc slot) count) r m1)) next
+          (rest.there k (omega (arith, below)) (ap (λ (n : ℕ). from n (suc slot + k)) next ∙ (ap (from (source + suc k)) (let e : suc slot + k ≡ slot + suc k = omega arith in e) ∙ none))))
 
 module _ (program : Program) (well : IsWellFormed program) (frames : List Frame) (fit : AreFrames program frames) (code : Labelled) (formed : IsFormed code) (addresses : ℕ → ℕ) (pages calls : ℕ) (few : calls ≤ 4096)
     (lie : AreAddresses code addresses) (c : Configuration) (run : labelled.Configuration) (r : Words) (w : Contents) (base : ℕ)
@@ -159,18 +198,30 @@ module _ (program : Program) (well : IsWellFormed program) (frames : List Frame)
   mine = frame_at frames c.active.function
 
   abbrev before : List Instr
-  before = spills (frame_at frames c.active.function) arguments count
+  before = spills (frame_at frames c.active.function) (frame_at frames callee) arguments 0 count
 
   abbrev spilled : ℕ
-  spilled = here + spills_count mine arguments count
+  spilled = here + spills_count mine (frame_at frames callee) arguments 0 count
 
-  long : length before ≡ spills_count mine arguments count
-  long = length_spills mine arguments count
+  long : length before ≡ spills_count mine (frame_at frames callee) arguments 0 count
+  long = length_spills mine (frame_at frames callee) arguments 0 count
+
+  at_slot : (slot : ℕ) → passed_from mine (frame_at frames callee) (arguments + slot) (0 + slot) ≡ passed_from mine (frame_at frames callee) (arguments + slot) slot
+  at_slot slot = ap (passed_from mine (frame_at frames callee) (arguments + slot)) (let e : 0 + slot ≡ slot = omega arith in e)
+
+  -- what is passed from a register is wanted here
+  held_there : (slot k : ℕ) → slot < count → passed_from mine (frame_at frames callee) (arguments + slot) slot ≡ Some k
+      → (8 ≤ k) × (k < 24) × (r k ≡ c.active.slots (arguments + slot)) × IsWord (c.active.slots (arguments + slot))
+  held_there slot k below some =
+      let right = fit.homes c.active.function s.known in
+      let has = (is_free (value_register mine (arguments + slot)) (frame_at frames callee) slot k some).0 in
+      let is = caches (arguments + slot) k has (0, (plain.Call callee arguments count result, at_i, among arguments count (arguments + slot) (omega arith) (omega (arith, below)))) in
+      (right.low (arguments + slot) k has, right.high (arguments + slot) k has, is, subst IsWord is (now.r_words k))
 
   pub call_goes : Walk code formed addresses globals_length (words_per_call * calls) 1 here (here + body_count program frames c.active.function (plain.Call callee arguments count result)) c.output (Reached program well frames fit code formed addresses pages calls few c) (Running run)
   call_goes =
       let hi : ℕ = here + body_count program frames c.active.function (plain.Call callee arguments count result) in
-      let all = are_spilled program well frames fit addresses pages calls few c r base (r RETURN_ADDRESS) (suc (length c.frames)) s.known w arguments count in_range.arguments_in_range s
+      let all = are_spilled program well frames fit addresses pages calls few c r base (r RETURN_ADDRESS) (suc (length c.frames)) callee s.known w arguments 0 count in_range.arguments_in_range s
       (λ k below n has. caches (arguments + k) n has (0, (plain.Call callee arguments count result, at_i, among arguments count (arguments + k) (omega arith) (omega (arith, below))))) in
       let m : Contents = after_w before r w in
       let next = calling_code mine (frame_at frames callee) spilled (function_line program frames callee) arguments count in
@@ -182,5 +233,6 @@ module _ (program : Program) (well : IsWellFormed program) (frames : List Frame)
       let at_next = now_at code formed addresses globals_length (words_per_call * calls) (here + length before) spilled c.output c.input r m d (omega (arith, long))
       (now_is code formed addresses globals_length (words_per_call * calls) (here + length before) c.output c.input (after_r before r w) m r m d all.same refl later) in
       walk_from code formed addresses globals_length (words_per_call * calls) 1 (here + length before) spilled hi c.output _ (Running d) (omega (arith, long))
-      (subst (λ (n : ℕ). Walk code formed addresses globals_length (words_per_call * calls) 1 spilled n c.output (Reached program well frames fit code formed addresses pages calls few c) (Running d)) (let e : spilled + (7 + 2 * count) ≡ hi = omega arith in e)
-      (calling_goes program well frames fit code formed addresses pages calls few lie c d r m base spilled at_next all.standing callee arguments count result at_i in_range inside stands_next (omega arith) all.there))))
+      (subst (λ (n : ℕ). Walk code formed addresses globals_length (words_per_call * calls) 1 spilled n c.output (Reached program well frames fit code formed addresses pages calls few c) (Running d)) (let e : spilled + (7 + copies_count mine (frame_at frames callee) arguments 0 count) ≡ hi = omega arith in e)
+      (calling_goes program well frames fit code formed addresses pages calls few lie c d r m base spilled at_next all.standing callee arguments count result at_i in_range inside stands_next (omega arith)
+      (λ slot below none. all.there slot below (at_slot slot ∙ none)) held_there))))

@@ -5,4 +5,5 @@ use Rattle.cyc_select.proofs.counting.spills_count.Given as goal
 -- the lines so far, with those of the other slots, are all of them
 abbrev pub invariant-loop-word : goal.invariant-loop-word
 invariant-loop-word l =
-    (l.lines + spills_count l.frame (l.slot + l.word) (l.count - l.word) ≡ spills_count l.frame l.slot l.count) × (l.lines ≤ l.word)
+    (l.lines + spills_count l.caller l.callee (l.source + l.word) l.word (l.count - l.word) ≡ spills_count l.caller l.callee l.source 0 l.count)
+    × (l.lines ≤ l.word)
