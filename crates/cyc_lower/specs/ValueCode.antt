@@ -125,10 +125,10 @@ abbrev pub code_unless_slot : Option Operand → List Instruction → List Instr
 code_unless_slot (Some (operands.Slot n)) code = []
 code_unless_slot o code = code
 
--- A left operand is taken without code only where the right one is too: so nothing between can assign it.
-abbrev pub left_with : (right left : Option Operand) → Option Operand
-left_with (Some o) left = left
-left_with None left = None
+-- A left operand is taken without code only where the right one is simple: so nothing between can assign it.
+abbrev pub left_with : (simple : Bool) → (left : Option Operand) → Option Operand
+left_with true left = left
+left_with false left = None
 
 -- the slot for the value of all before these operators: the destination where none is left
 abbrev pub next_slot : Operations → (d t : ℕ) → ℕ
