@@ -1,5 +1,5 @@
 -- What the code that emits says of itself: what it adds to the code made so far.
-use Rattle.std.specs.Prelude.{◌≡◌, ℕ, suc, ◌+◌, ◌^◌, ◌≤◌, Bool, false, ◌&&◌, is_some, Option, None, IfOk, List, [], ◌∷◌, ◌++◌, length, map, max, Some, option_map, Result, OnOk, slice_get}
+use Rattle.std.specs.Prelude.{◌≡◌, ℕ, suc, ◌+◌, ◌^◌, ◌≤◌, Bool, false, Option, None, IfOk, List, [], ◌∷◌, ◌++◌, length, map, max, Some, option_map, Result, OnOk, slice_get}
 use Rattle.std.specs.declared.alloc.AllocError.{AllocError}
 use Rattle.cyc_types.specs.declared.typed.Operation.{Operation}
 use Rattle.cyc_types.specs.declared.typed.Operation.TheVariants as operation
@@ -85,10 +85,10 @@ module _ (starts : Starts) where
   abbrev pub left_code : Expression → Operations → (p d t : ℕ) → List Instruction
   left_code a os p d t = code_unless (left_of starts a os) (expression_code starts a p (left_slot starts a os d t) t)
 
-  -- a chain that begins so is simple
-  abbrev pub is_simple_chain : Expression → Operations → Bool
-  is_simple_chain a (ThenCompute o b os) = is_some (operand_of starts a) && are_simple starts (ThenCompute o b os)
-  is_simple_chain a os = false
+  -- behind a simple operand a chain is, with these operators
+  abbrev pub is_simple_chain : Operations → Bool
+  is_simple_chain (ThenCompute o b os) = are_simple starts (ThenCompute o b os)
+  is_simple_chain os = false
 
   -- the first of these operators has a simple operand on its right
   abbrev pub takes_operand : Operations → Bool

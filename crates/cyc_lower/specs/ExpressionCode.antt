@@ -32,7 +32,8 @@ module _ (starts : Starts) where
   operand_of (Unary unary.Widen a) = operand_of a
   operand_of a = None
 
-  -- What changes nothing while it is evaluated: an operand without code, or operators on such ones alone.
+  -- What changes nothing while it is evaluated: an operand without code, or operators on such ones alone. The first operand of a chain may
+  -- be one in turn.
   abbrev pub are_simple : Operations → Bool
   are_simple NoOperations = true
   are_simple (ThenCompute o b os) = is_some (operand_of b) && are_simple os
@@ -40,7 +41,7 @@ module _ (starts : Starts) where
 
   abbrev pub is_simple : Expression → Bool
   is_simple (Unary o a) = is_some (operand_of a)
-  is_simple (Binary a (ThenCompute o b os) ty) = is_some (operand_of a) && are_simple (ThenCompute o b os)
+  is_simple (Binary a (ThenCompute o b os) ty) = is_simple a && are_simple (ThenCompute o b os)
   is_simple a = is_some (operand_of a)
 
   abbrev pub left_of : Expression → Operations → Option Operand

@@ -104,25 +104,24 @@ fn are_simple(starts: &Starts, operations: &[Operation]) -> bool
     true
 }
 
-/// Whether a chain of operators is: it begins with an operator on two operands.
-fn is_simple_chain(starts: &Starts, first: &Expr, rest: &[Operation]) -> bool
-    ensures { result ≡ is_simple_chain (view_starts starts.now) (view_expression first.now) (operations_of rest.now) }
+/// Whether a chain of these operators is simple behind an operand that is.
+fn is_simple_chain(starts: &Starts, rest: &[Operation]) -> bool
+    ensures { result ≡ is_simple_chain (view_starts starts.now) (operations_of rest.now) }
 {
     match rest.first() {
-        Some(Operation::Compute { .. }) => {
-            operand_of(starts, first).is_some() && are_simple(starts, rest)
-        }
+        Some(Operation::Compute { .. }) => are_simple(starts, rest),
         _ => false,
     }
 }
 
-/// Whether an expression changes nothing while it is evaluated: it has no code, or operators on operands that have none.
+/// Whether an expression changes nothing while it is evaluated: it has no code, or operators on operands that have none. The first operand
+/// of a chain may be such an expression in turn.
 pub(crate) fn is_simple(starts: &Starts, value: &Expr) -> bool
     ensures { result ≡ is_simple (view_starts starts.now) (view_expression value.now) }
 {
     match value {
         Expr::Unary { operand, .. } => operand_of(starts, operand).is_some(),
-        Expr::Binary { first, rest, .. } => is_simple_chain(starts, first, rest),
+        Expr::Binary { first, rest, .. } => is_simple(starts, first) && is_simple_chain(starts, rest),
         _ => operand_of(starts, value).is_some(),
     }
 }

@@ -111,7 +111,7 @@ module _ (starts : Starts) (raises : ℕ) where
 
   same_simple : (a : Expression) → is_simple starts a ≡ is_simple other a
   same_simple (Unary o a) = λ i. is_some (same_operand a i)
-  same_simple (Binary a (ThenCompute o b os) ty) = λ i. is_some (same_operand a i) && are_same (ThenCompute o b os) i
+  same_simple (Binary a (ThenCompute o b os) ty) = λ i. same_simple a i && are_same (ThenCompute o b os) i
   same_simple a = λ i. is_some (same_operand a i)
 
   same_left : (a : Expression) (os : Operations) → left_of starts a os ≡ left_of other a os

@@ -795,7 +795,7 @@ module _ (source : Program) (pages calls : ℕ) where
   counters_beside t e g o p slots frames (Needs (Operate u) ∷ k) counted (at, beside) = counters_beside t e g (operands.Slot (top source g k)) (p + 1) slots frames k counted beside
   counters_beside t e g o p slots frames k counted beside = absurd beside
 
-  -- the first operand of a right one that is a chain has no code
+  -- the first operand of a right one that is a chain is simple too
   simple_begins : (u : Operator) (a b : Expression) (os : Operations) (ty : Ty) (k : List Entry) (e : Environment) (w : World) (c : Configuration) (r : Operand) (q : ℕ) (shared : SharedAt source pages calls k e w c) → DataIn source shared.tables c.active.slots k e w c
       → is_simple (starts_on source c.active.function k) (Binary a (ThenCompute u b os) ty) ≡ true
       → ValueAt (code_of source c.active.function) (bounds_at source c.active.function) (types_on source c.active.function k) (Binary a (ThenCompute u b os) ty) (top source c.active.function k) r c.active.next q
@@ -804,8 +804,8 @@ module _ (source : Program) (pages calls : ℕ) where
       let g = c.active.function in
       let starts = starts_on source g k in
       let t = top source g k in
-      let first = and_left (is_some (operand_of starts a)) (are_simple starts (ThenCompute u b os)) simple in
-      let rest = and_right (is_some (operand_of starts a)) (are_simple starts (ThenCompute u b os)) simple in
+      let first = and_left (is_simple starts a) (are_simple starts (ThenCompute u b os)) simple in
+      let rest = and_right (is_simple starts a) (are_simple starts (ThenCompute u b os)) simple in
       let second = known_simple starts b (and_left (is_some (operand_of starts b)) (are_simple starts os) rest) in
       let at_left : ValueAt (code_of source g) (bounds_at source g) (types_on source g k) a t l c.active.next m =
       subst (λ (s : Bool). OperandBy (code_of source g) (bounds_at source g) (types_on source g k) (left_with s (operand_of starts a)) (ExpressionAt (code_of source g) (bounds_at source g) (types_on source g k) a (slot_with starts s a t) t c.active.next m) (slot_with starts s a t) l c.active.next m)
@@ -816,7 +816,7 @@ module _ (source : Program) (pages calls : ℕ) where
         as_right (
           l,
           m,
-          known_simple starts a first,
+          first,
           at_left,
           (q, low_here a k c l m at_left, rest, at, subst (λ (x : Operand). BesideAt source shared.tables e.locals g x q c.active.slots c.frames k) r_is beside),
         ),
