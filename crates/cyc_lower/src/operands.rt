@@ -121,7 +121,8 @@ pub(crate) fn is_simple(starts: &Starts, value: &Expr) -> bool
 {
     match value {
         Expr::Unary { operand, .. } => operand_of(starts, operand).is_some(),
-        Expr::Binary { first, rest, .. } => is_simple(starts, first) && is_simple_chain(starts, rest),
+        Expr::Binary { first, rest, .. } => is_simple(starts, first)
+            && is_simple_chain(starts, rest),
         _ => operand_of(starts, value).is_some(),
     }
 }

@@ -1,5 +1,5 @@
 -- Code of conditions that is made piece by piece.
-use Rattle.std.proofs.Common.{◌≡◌, ℕ, suc, ◌+◌, ◌≤◌, List, [], ◌∷◌, ◌++◌, length, Option, Some, None, slice_get, refl, sym, ap, subst, ◌∙◌, arith, append-nil}
+use Rattle.std.proofs.Common.{◌≡◌, ℕ, suc, ◌+◌, List, [], ◌∷◌, ◌++◌, length, Option, Some, slice_get, refl, sym, ap, subst, ◌∙◌, arith, append-nil}
 use Rattle.std.proofs.lemmas.Option.{same_Some}
 use Rattle.cyc_types.specs.declared.typed.Operator.{Operator}
 use Rattle.cyc_types.specs.declared.typed.Expr.{Expr}
@@ -16,10 +16,10 @@ use Rattle.cyc_lower.specs.declared.operands.Condition.{Condition}
 use Rattle.cyc_lower.specs.Slots.{Starts}
 use Rattle.cyc_lower.specs.ValueCode.{operand_or, failing_comparison}
 use Rattle.cyc_lower.specs.ControlCode.{Compared, with_zero, compared_or, compared_of}
-use Rattle.cyc_lower.specs.ExpressionCode.{operand_of, left_of, left_slot, value_operand}
+use Rattle.cyc_lower.specs.ExpressionCode.{left_of, left_slot, value_operand}
 use Rattle.cyc_lower.specs.Lowering.{first_operand, first_code, second_code, pair_code, condition_code, condition_of}
-use Rattle.cyc_lower.specs.Emission.{most_locals, value_code, left_code, zero_condition}
-use Rattle.cyc_lower.proofs.emission.Emitting.{joined, room_behind}
+use Rattle.cyc_lower.specs.Emission.{value_code, left_code, zero_condition}
+use Rattle.cyc_lower.proofs.emission.Emitting.{joined}
 
 -- ---- chains that are tested whole
 

@@ -1,6 +1,6 @@
 -- Code that is made piece by piece: lists of nodes, nodes with lists, and jumps whose targets are written back.
-use Rattle.std.proofs.Common.{◌≡◌, ℕ, zero, suc, ◌+◌, ◌-◌, ◌*◌, ◌%◌, ◌<◌, ◌≤◌, max, Bool, true, false, List, [], ◌∷◌, ◌++◌, length, get_or, drop, set, Option, Some, None, refl, sym, ap, ◌∙◌, arith, append_assoc, append-nil}
-use Rattle.std.specs.Prelude.{◌==◌, is_some, if◌then◌else◌}
+use Rattle.std.proofs.Common.{◌≡◌, ℕ, zero, suc, ◌+◌, ◌-◌, ◌<◌, ◌≤◌, Bool, true, false, List, [], ◌∷◌, ◌++◌, length, get_or, drop, set, Option, None, refl, sym, ap, ◌∙◌, arith, append_assoc, append-nil}
+use Rattle.std.specs.Prelude.{◌==◌, if◌then◌else◌}
 use Rattle.std.proofs.lemmas.Bool.{eqb-true, eq-eqb}
 use Rattle.std.proofs.lemmas.List.{drop_all, drop_more, length-append, length-drop}
 use Rattle.std.proofs.Math.Seq.{set-append_seam}
@@ -39,7 +39,6 @@ use Rattle.cyc_plain.specs.declared.instruction.BinaryOperator.TheVariants as pl
 use Rattle.cyc_plain.specs.declared.instruction.Comparison.TheVariants as comparisons
 use Rattle.cyc_plain.specs.declared.instruction.Operand.{Operand}
 use Rattle.cyc_plain.specs.declared.instruction.Operand.TheVariants as operands
-use Rattle.cyc_plain.specs.declared.instruction.Request.TheVariants as requests
 use Rattle.cyc_plain.specs.declared.instruction.Instruction.{Instruction}
 use Rattle.cyc_plain.specs.declared.instruction.Instruction.TheVariants as instructions
 use Rattle.cyc_lower.specs.Slots.{with_counter, slot_of, Starts, global_of}
@@ -72,10 +71,6 @@ operates : (starts : Starts) (o : Operator) (l r : Operand) (d : ℕ) → 0 < le
 operates starts operators.Divide l r d = behind _ (instructions.Binary (binary_operator operators.Divide) d l r ∷ []) (omega arith)
 operates starts operators.Remainder l r d = behind _ (instructions.Binary (binary_operator operators.Remainder) d l r ∷ []) (omega arith)
 operates starts o l r d = omega arith
-
--- what was added makes the code longer
-pub grown : (old more new : List Instruction) → new ≡ old ++ more → 0 < length more → length old < length new
-grown old more new is some = let e : length new ≡ length (old ++ more) = ap length is in omega (arith, e, length-append old more)
 
 -- ---- lists
 
@@ -596,25 +591,7 @@ module _ (starts : Starts) where
       (e2 ∙ ap (λ (x : Operand). m1 ++ operator_code starts o l x d) (r_is ∙ ap (value_operand starts a) next))
       ∙ ap (λ (x : Operation). old ++ operation_code starts x (length old) l d t) (sym is)
 
-  pointed : (o : PointerOperator) (l r : Operand) (d : ℕ) → 0 < length (pointer_instructions o l r d)
-  pointed pointers.AddFat l r d = omega arith
-  pointed pointers.SubtractFat l r d = omega arith
-  pointed pointers.ThinIsNull l r d = omega arith
-  pointed pointers.ThinIsNotNull l r d = omega arith
-  pointed pointers.FatIsNull l r d = omega arith
-  pointed pointers.FatIsNotNull l r d = omega arith
-  pointed pointers.NullIs l r d = omega arith
-  pointed pointers.NullIsNot l r d = omega arith
-  pointed pointers.EqualThin l r d = omega arith
-  pointed pointers.NotEqualThin l r d = omega arith
-
-  -- where one operator is made, more may follow
-  operates_longer : (x : Operation) (p : ℕ) (l : Operand) (d t : ℕ) → 0 < length (operation_code starts x p l d t)
-  operates_longer (operation.Compute o e) p l d t = behind (value_code starts (view_expression e) p (suc t)) _ (operates starts o l (value_operand starts (view_expression e) (suc t)) d)
-  operates_longer (operation.Test o e) p l d t = omega arith
-  operates_longer (operation.Pointer o e) p l d t = behind (value_code starts (view_expression e) p (behind_left o t)) _ (pointed o l (value_operand starts (view_expression e) (behind_left o t)) d)
-  operates_longer (operation.PointerPeek n o e) p l d t = behind (value_code starts (view_expression e) p (behind_left o t)) _ (pointed o l (value_operand starts (view_expression e) (behind_left o t)) d)
-
+  -- behind one operator there is room for more
   pub room_after : (x : Operation) (old new : List Instruction) (l : Operand) (d t : ℕ) → t ≤ most_locals + length old → new ≡ old ++ operation_code starts x (length old) l d t → t ≤ most_locals + length new
   room_after x old new l d t low is = omega (arith, low, no_shorter_than old _ new is)
 

@@ -8,7 +8,7 @@ use Rattle.cyc_types.specs.declared.typed.Operator.{Operator}
 use Rattle.cyc_types.specs.declared.typed.Operator.TheVariants as operators
 use Rattle.cyc_types.specs.declared.typed.PointerOperator.{PointerOperator}
 use Rattle.cyc_types.specs.declared.typed.PointerOperator.TheVariants as pointers
-use Rattle.cyc_types.specs.TypedTrees.{Counter, Load, Lvalue, Local, Global, Expression, Number, NullPointer, Copy, Binary, Convert, Arguments, NoArguments, MoreArguments, Operations, NoOperations, ThenCompute, Move, Peek, HeapRegion, Unary}
+use Rattle.cyc_types.specs.TypedTrees.{Counter, Lvalue, Local, Global, Expression, Number, NullPointer, Copy, Convert, Operations, NoOperations, ThenCompute, Move, Peek, HeapRegion, Unary}
 use Rattle.cyc_types.specs.Numbered.{Numbering}
 use Rattle.cyc_plain.specs.declared.instruction.BinaryOperator.TheVariants as plain_binary
 use Rattle.cyc_plain.specs.declared.instruction.Comparison.{Comparison}

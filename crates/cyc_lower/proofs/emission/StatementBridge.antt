@@ -4,7 +4,7 @@ use Rattle.cyc_types.specs.declared.typed.Kind.{Kind}
 use Rattle.cyc_types.specs.declared.typed.Kind.TheVariants as kinds
 use Rattle.cyc_types.specs.declared.typed.Callee.TheVariants as callees
 use Rattle.cyc_types.specs.declared.typed.UnaryOperator.TheVariants as unary
-use Rattle.cyc_types.specs.Types.{Ty, words_of}
+use Rattle.cyc_types.specs.Types.{Ty}
 use Rattle.cyc_types.specs.TypedTrees.{Lvalue, Local, Global, Expression, Call, Unary, Binary, Assign, Converted, Convert, NoOperations, ThenCompute, Statement, Block, Empty, Evaluate, If, While, Return, Break, Continue, Items, NoItems, MoreItems, Execute, Declare, Signature, Store, Side, VariableSide, CellSide, Swap, Throw, Try, Clauses, NoClauses, Default, Case, DeclareRegion, OpenRegion, DeclareAlias, DeclareKey}
 use Rattle.cyc_types.specs.Numbered.{Numbering, argument_count}
 use Rattle.cyc_plain.specs.declared.limits.TheConstants.{RECORD_WORDS}
@@ -25,7 +25,7 @@ use Rattle.cyc_lower.specs.declared.statements.Exits.{Exits}
 use Rattle.cyc_lower.specs.declared.statements.Opened.{Opened}
 use Rattle.cyc_lower.proofs.relation.Stands.{PairAt, ConditionAt, AssignmentAt, DiscardedAt, ReturnAt, DeclarationAt, StatementAt, ItemsAt, HasSide, SideAt, ReadAt, WriteAt, SwapAt, LeaveAt, ThrownAt, CaughtAt, ClausesAt, ExchangeAt, ClosedAt, HandlersAt, MarksAt, KeptAt, RestoredAt, OpenedAt, LeftBy}
 use Rattle.cyc_types.specs.typing.Expressions.{type_of_side}
-use Rattle.cyc_lower.proofs.slots.Widths.{kind_of_result, passed_kind, type_words, HasRoom, HasLocal}
+use Rattle.cyc_lower.proofs.slots.Widths.{kind_of_result, passed_kind, type_words, HasLocal}
 use Rattle.cyc_lower.proofs.relation.Fitting.{FitsPlace, Fits, FitsConverted, FitsReturn, FitsInitial, FitsStatement, FitItems, FitsSide, FitsThrown, FitsCaught, FitClauses}
 use Rattle.cyc_lower.proofs.place_steps.Sources.{stored_apart}
 use Rattle.cyc_lower.proofs.emission.OperandBridge.{cut, BlocksStand, operand_by, returned_by, right_by, left_first, returned_brought, conversion_stands, each_stands, global_stands, load_stands, stores_stand, saved_stands, address_stands, blank_stands}

@@ -33,7 +33,7 @@ use Rattle.cyc_plain.specs.State.{Words, Activation, Frame, Configuration}
 use Rattle.cyc_plain.specs.Step.{operand_word, throws}
 use Rattle.cyc_plain.specs.State as plain
 use Rattle.cyc_plain.specs.Straight.{At}
-use Rattle.cyc_meaning.specs.Values.{Fat, Value, Thin, Handle, Operand as Kinded, kinds_of, words_of_kind, bytes_of_kind, is_thin, Int, words_for}
+use Rattle.cyc_meaning.specs.Values.{Fat, Value, Thin, Operand as Kinded, kinds_of, words_of_kind, bytes_of_kind, is_thin, words_for}
 use Rattle.cyc_meaning.specs.Allocation.{writes_from, blanks_of}
 use Rattle.cyc_meaning.specs.State.{Object, World, globals_number, Environment, ConvertTo, Operate, Chain, Apply, ApplyPointer, Follow, LoadFrom, Decide, Store, Pass, PlaceBy, BesideHandle, MakePlain, MakeFields, MakeArray, FillElement, Initialise, Choose, Test, Return, Entry, Needs, NeedsPlace, Discard, Rest, Join, Loop, CloseRegion, CloseLexical, EndLoan, Handler, Caller, Main, calls_in, Focus, Evaluating, Locating, Given, Executing, Proceeding, Calling, Entering, Binding, Writing, Beginning, Repeating, Breaking, Continuing, Returning, Throwing, State, Running, Ended, GivenPlace, FollowMember, TakeAddress, StoreTo, StoreCell, FreeObject, CloseByKey, SwapLeft, SwapRight, Write, Swapping, ThrowWith, Naming, Catching, CountElements, Index, Advance, OpenBy, AliasOf}
 use Rattle.cyc_meaning.specs.Step.{object_of}
@@ -50,7 +50,7 @@ use Rattle.cyc_lower.specs.ExpressionCode.{are_simple, is_simple}
 use Rattle.cyc_lower.specs.Lowering.{results_of, lower_program, raises_of, globals_of, scopes_of}
 use Rattle.cyc_lower.proofs.slots.Widths.{kind_of_result, given, called_kind, HasRoom, Outside, chain_kind, HasGlobal, made_kind, HasLocal, kind_in}
 use Rattle.cyc_lower.proofs.relation.Stands.{BegunAt, ElementsAt, CheckAt, ConversionAt, PlaceAt, OperatorAt, TruthAt, CopyAt, ExpressionAt, ArgumentsAt, OperationsAt, ValueAt, ConditionAt, FailingAt, ComparesAt, DiscardedAt, StatementAt, ItemsAt, PointerAt, CellsAt, ObjectAt, AddressAt, ConvertedOperandAt, FreedAt, HasSide, SideAt, ReadAt, WriteAt, ExchangeAt, LeaveAt, ClausesAt, CountAt, SavedAt, LoadedAt, FollowedAt, ReachedAt, GlobalAt, ClosedAt, MarksAt, RestoredAt, MadeAt, NamedAt}
-use Rattle.cyc_lower.proofs.relation.HeldValues.{IsIn, IsLow, IsParts, words_held, height, Holds, HoldsFrom, held, kept, counters_of, AreCounted, IsHandleOf, IsObject, contents, CallSlots, LocalsHold, GlobalsHold, behind_records, scopes_in, MayBeOpen, Waiting, callers, Newest, IsIntact, IsKept, left_by, handling, homes}
+use Rattle.cyc_lower.proofs.relation.HeldValues.{IsIn, IsLow, IsParts, words_held, height, Holds, HoldsFrom, held, kept, counters_of, AreCounted, IsHandleOf, IsObject, CallSlots, LocalsHold, GlobalsHold, behind_records, scopes_in, MayBeOpen, Waiting, callers, Newest, IsIntact, IsKept, left_by, handling, homes}
 
 -- ---- what is shared
 

@@ -1,5 +1,5 @@
 -- The code of statements names what is there.
-use Rattle.std.proofs.Common.{◌≡◌, ℕ, zero, suc, ◌+◌, ◌-◌, ◌≤◌, ◌<◌, Bool, true, false, [], ◌∷◌, ◌++◌, length, Option, None, Some, slice_get, All, refl, sym, ap, subst, ◌∙◌, arith, length-append, ◌*◌}
+use Rattle.std.proofs.Common.{◌≡◌, ℕ, zero, suc, ◌+◌, ◌≤◌, ◌<◌, Bool, true, false, [], ◌∷◌, ◌++◌, length, Option, None, Some, slice_get, All, refl, sym, ap, subst, ◌∙◌, arith, length-append, ◌*◌}
 use Rattle.cyc_types.specs.declared.typed.Kind.{Kind}
 use Rattle.cyc_types.specs.declared.typed.Kind.TheVariants as kinds
 use Rattle.cyc_types.specs.declared.typed.Callee.TheVariants as callees
@@ -15,7 +15,6 @@ use Rattle.cyc_plain.specs.Program.{Routine, Program as PlainProgram}
 use Rattle.cyc_plain.specs.declared.limits.TheConstants.{RECORD_WORDS}
 use Rattle.cyc_plain.specs.WellFormed.{IsOperand, is_return}
 use Rattle.std.specs.Prelude.{if◌then◌else◌}
-use Rattle.std.proofs.lemmas.Bool.{eqb-true}
 use Rattle.cyc_meaning.specs.Values.{kind_of, words_of_kind}
 use Rattle.cyc_meaning.specs.FrameCount.{converted_words, expression_need, converted_need, initial_need, statement_need, items_need, place_words, side_need, kept_by, kept_by_items, clauses_need, kept_by_clauses, thrown_need}
 use Rattle.cyc_lower.specs.declared.statements.Exits.{Exits}
@@ -27,7 +26,6 @@ use Rattle.cyc_lower.specs.ExpressionCode.{source_of, operand_of, value_slot, sl
 use Rattle.cyc_lower.specs.Lowering.{spare_slots, assignment_code, discarded_code, first_operand, first_code, second_code, pair_code, condition_code, condition_of, return_code, declaration_code, statement_code, items_code, results_of, side_code, read_side, write_side, exchange_code, swap_code, thrown_code, thrown_operand, caught_code, clauses_code}
 use Rattle.cyc_lower.proofs.slots.Widths.{kind_positive, kind_few, type_words, passed_kind, words_in, HasRoom, keeps_wide}
 use Rattle.cyc_lower.proofs.relation.Fitting.{FitsPlace, Fits, FitsConverted, FitsReturn, FitsInitial, FitsStatement, FitItems, FitsSide, FitsThrown, FitsCaught, FitClauses}
-use Rattle.cyc_lower.proofs.sizes.WordLemmas.{no_return}
 use Rattle.cyc_types.specs.typing.Expressions.{type_of_side}
 use Rattle.cyc_lower.proofs.slots.Slots.{words_positive, global-room, global-inside}
 use Rattle.cyc_lower.specs.declared.statements.Opened.{Opened}

@@ -25,7 +25,7 @@ use Rattle.cyc_plain.specs.State.{Words, put, Frame, Configuration}
 use Rattle.cyc_plain.specs.Straight.{At as CodeAt}
 use Rattle.cyc_plain.specs.Step.{Choice, with_slots, advanced, performed, at}
 use Rattle.cyc_plain.proofs.SlotLaws.{put-same}
-use Rattle.cyc_meaning.specs.Values.{Int, Null, Thin, Handle, Operand as Kinded, kind_of, words_of_kind, bytes_of_kind, is_thin, Value}
+use Rattle.cyc_meaning.specs.Values.{Int, Null, Thin, Handle, Operand as Kinded, kind_of, words_of_kind, bytes_of_kind, is_thin}
 use Rattle.cyc_store.specs.declared.range.TheConstants.{HEAP, UNIQUE}
 use Rattle.cyc_meaning.specs.SourceMachine.{status_in}
 use Rattle.cyc_meaning.specs.State.{status_of, InRegion, World, heap_number, Environment, ConvertTo, Operate, Chain, Apply, Store, Pass, PlaceBy, MakePlain, MakeFields, MakeArray, Choose, Test, Follow, LoadFrom, Entry, Needs, NeedsPlace, Discard, Focus, Evaluating, Locating, Given, Running, FollowMember, TakeAddress, StoreTo, Owner, Unique, FreeObject, CloseByKey, CountElements, Index, Advance}
@@ -43,11 +43,11 @@ use Rattle.cyc_lower.specs.ControlCode.{counter_operand, compared_or, compared_o
 use Rattle.cyc_lower.specs.ExpressionCode.{operand_of, value_slot, source_of, source_slot, slot_with, pointer_of, is_simple, are_simple}
 use Rattle.cyc_lower.specs.Lowering.{lower_program}
 use Rattle.cyc_lower.proofs.relation.Weights.{weight, stack_weight, expression_weight, arguments_weight, object_weight}
-use Rattle.cyc_lower.proofs.relation.Stands.{CopyBy, CopyAt, OperandBy, InitialBy, ExpressionAt, ArgumentsAt, ObjectAt, MadeAt, ValueAt, PairAt, ConditionAt, AssignmentAt, PrintedAt, DiscardedAt, StoredAt, LoadedAt, ReturnedAt, ReachedAt, EachAt, LastByteAt}
+use Rattle.cyc_lower.proofs.relation.Stands.{CopyBy, CopyAt, OperandBy, InitialBy, ExpressionAt, ArgumentsAt, ObjectAt, MadeAt, ValueAt, PairAt, ConditionAt, AssignmentAt, PrintedAt, DiscardedAt, StoredAt, ReturnedAt, ReachedAt, EachAt, LastByteAt}
 use Rattle.cyc_objects.specs.Tables.{Tables}
 use Rattle.cyc_objects.specs.Words.{Is, Points}
 use Rattle.cyc_lower.proofs.relation.HeldValues.{counters_of, IsIn, words_held, height, Holds, held, kept, contents, IsHandleOf, IsLow, callers, AreCounted}
-use Rattle.cyc_lower.proofs.relation.Relation.{types_on, starts_on, types_at, starts_at, given_at, called_at, in_temporary, in_local, drops, leaves, copies, prints_only, gives_byte, DataIn, SharedAt, CallAt, to_slot, to_jump, ValueStack, PlaceStack, ConditionStack, DroppedStack, AheadStack, LandsStack, LandsMade, HandsOnStack, PrintsStack, RightAt, EvaluatingAt, as_operand, into_slot, for_effect, as_right, as_condition, in_operand, ahead, with_left, Related, Matches, code_of, bounds_at, top, floor, ReadyAt, BesideAt}
+use Rattle.cyc_lower.proofs.relation.Relation.{types_on, starts_on, types_at, starts_at, given_at, called_at, in_temporary, in_local, drops, leaves, copies, prints_only, gives_byte, DataIn, SharedAt, CallAt, to_slot, to_jump, ValueStack, PlaceStack, ConditionStack, DroppedStack, AheadStack, LandsStack, LandsMade, HandsOnStack, PrintsStack, RightAt, EvaluatingAt, as_operand, into_slot, for_effect, as_right, as_condition, in_operand, ahead, with_left, Related, Matches, code_of, bounds_at, top, floor, BesideAt}
 use Rattle.cyc_lower.proofs.object_steps.Handles.{kept_holds, kept_low}
 use Rattle.cyc_lower.proofs.relation.Data.{height-least, Holds-same, Holds-above, floor-least, data_written}
 use Rattle.cyc_types.specs.Numbered.{Numbering}
@@ -63,7 +63,6 @@ use Rattle.cyc_lower.proofs.relation.Rows.{local-points}
 use Rattle.cyc_plain.proofs.MemoryLaws.{pinned-at, pinned-inside, below-low, below-end}
 use Rattle.cyc_words.specs.Word.{add_of}
 use Rattle.cyc_meaning.specs.Operators.{unary_kind}
-use Rattle.cyc_lower.proofs.value_steps.ValueWords.{of_kind, int_of, int_in}
 use Rattle.cyc_objects.proofs.Pointers.{pointer-word}
 use Rattle.cyc_types.specs.declared.typed.UnaryOperator.{UnaryOperator}
 use Rattle.cyc_words.proofs.Booleans.{and_left, and_right}

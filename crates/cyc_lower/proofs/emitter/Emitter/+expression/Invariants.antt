@@ -1,5 +1,5 @@
 use Rattle.std.specs.Prelude.{◌≡◌, ◌+◌, ◌≤◌, length, drop}
-use Rattle.cyc_types.specs.TypedTreeView.{arguments_of, operations_of}
+use Rattle.cyc_types.specs.TypedTreeView.{arguments_of}
 use Rattle.cyc_plain.specs.declared.instruction.Operand.TheVariants as operands
 use Rattle.cyc_lower.specs.ValueCode.{all_passed}
 use Rattle.cyc_lower.specs.Emission.{most_locals, view_starts}
