@@ -1,5 +1,5 @@
 -- What the code that emits says of itself: what it adds to the code made so far.
-use Rattle.std.specs.Prelude.{◌≡◌, ℕ, suc, ◌+◌, ◌^◌, ◌≤◌, ◌<◌, Bool, false, is_some, Option, None, IfOk, List, [], ◌∷◌, ◌++◌, length, map, max, Some, option_map, Result, OnOk, slice_get}
+use Rattle.std.specs.Prelude.{◌≡◌, ℕ, suc, ◌+◌, ◌^◌, ◌≤◌, Bool, false, Option, IfOk, List, [], ◌∷◌, ◌++◌, length, map, Some, option_map, Result, OnOk, slice_get}
 use Rattle.std.specs.declared.alloc.AllocError.{AllocError}
 use Rattle.cyc_types.specs.declared.typed.Operation.{Operation}
 use Rattle.cyc_types.specs.declared.typed.Operation.TheVariants as operation
@@ -9,7 +9,7 @@ use Rattle.cyc_types.specs.declared.typed.Clause.{Clause}
 use Rattle.cyc_types.specs.declared.typed.Item.TheVariants as item
 use Rattle.cyc_types.specs.Types.{Ty, words_of}
 use Rattle.cyc_types.specs.TypeView.{view_ty}
-use Rattle.cyc_types.specs.TypedTrees.{Expression, Converted, Convert, Arguments, Operations, ThenCompute, Statement, Clauses, Items, Function, type_of, Binary}
+use Rattle.cyc_types.specs.TypedTrees.{Expression, Converted, Convert, Arguments, Operations, ThenCompute, Statement, Clauses, Items, Function, Binary}
 use Rattle.cyc_types.specs.TypedTreeView.{view_struct, view_expression, view_converted, view_statement, clauses_of}
 use Rattle.cyc_plain.specs.declared.instruction.Operand.{Operand}
 use Rattle.cyc_plain.specs.declared.instruction.Operand.TheVariants.{Slot, Word}
@@ -19,9 +19,9 @@ use Rattle.cyc_frame_count.specs.Needs.{most_frame_count}
 use Rattle.cyc_lower.specs.Slots.{Starts, slot_of}
 use Rattle.cyc_lower.specs.ValueCode.{code_unless, slot_or, code_unless_slot, conversion_code, compute_code, test_code, behind_left, pointer_code, span_of}
 use Rattle.cyc_lower.specs.ControlCode.{holding_jump, while_code, inside_loop, tag_operand, clause_code, opened_code, named_code, dynamic_code, inside_region}
-use Rattle.cyc_lower.specs.ExpressionCode.{operand_of, source_of, source_slot, printed_operand, printed_code, left_of, value_slot, left_slot, value_operand, expression_code, brought_code}
+use Rattle.cyc_lower.specs.ExpressionCode.{operand_of, source_of, source_slot, printed_operand, printed_code, left_of, value_slot, left_slot, value_operand, expression_code, brought_code, are_simple, is_simple}
 use Rattle.cyc_lower.specs.Lowering.{condition_code, statement_code, declaration_code, condition_of, thrown_operand, thrown_code, caught_code, items_code, clauses_code}
-use Rattle.cyc_meaning.specs.FrameCount.{operand_words, argument_words, arguments_need, expression_need, initial_need, statement_need, kept_by, frame_count}
+use Rattle.cyc_meaning.specs.FrameCount.{frame_count}
 use Rattle.cyc_plain.specs.declared.instruction.Comparison.{Comparison}
 use Rattle.cyc_lower.specs.declared.emitter.Emitter.{Emitter}
 use Rattle.cyc_lower.specs.declared.starts.Starts.{Starts as StartsCode}
@@ -85,19 +85,15 @@ module _ (starts : Starts) where
   abbrev pub left_code : Expression → Operations → (p d t : ℕ) → List Instruction
   left_code a os p d t = code_unless (left_of starts a os) (expression_code starts a p (left_slot starts a os d t) t)
 
-  -- the first of these operators has an operand without code on its right
+  -- behind a simple operand a chain is, with these operators
+  abbrev pub is_simple_chain : Operations → Bool
+  is_simple_chain (ThenCompute o b os) = are_simple starts (ThenCompute o b os)
+  is_simple_chain os = false
+
+  -- the first of these operators has a simple operand on its right
   abbrev pub takes_operand : Operations → Bool
-  takes_operand (ThenCompute o b os) = is_some (operand_of starts b)
+  takes_operand (ThenCompute o b os) = is_simple starts b
   takes_operand os = false
-
-  -- where operators begin, the first temporary is not too high
-  abbrev pub HasRoom : Operations → (t many : ℕ) → Type 0
-  HasRoom (ThenCompute o b os) t many = operand_of starts b ≡ None → t < most_locals + many
-  HasRoom os t many = t ≤ most_locals + many
-
-  abbrev pub HasRoomFor : Operation → (t many : ℕ) → Type 0
-  HasRoomFor (operation.Compute o e) t many = operand_of starts (view_expression e) ≡ None → t < most_locals + many
-  HasRoomFor o t many = t ≤ most_locals + many
 
   -- an operator on pointers with its right operand
   abbrev pub pointer_operation_code : PointerOperator → Expression → (p : ℕ) → (l : Operand) → (d t : ℕ) → List Instruction

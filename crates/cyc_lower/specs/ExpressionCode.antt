@@ -1,9 +1,9 @@
 -- The code of expressions.
-use Rattle.std.specs.Prelude.{ℕ, suc, ◌+◌, if◌then◌else◌, List, [], ◌∷◌, ◌++◌, length, ◌-◌, Option, None, Some, slice_get}
+use Rattle.std.specs.Prelude.{ℕ, suc, ◌+◌, Bool, true, false, ◌&&◌, is_some, if◌then◌else◌, List, [], ◌∷◌, ◌++◌, length, Option, None, Some, slice_get}
 use Rattle.cyc_types.specs.declared.typed.Callee.TheVariants as callees
 use Rattle.cyc_types.specs.declared.typed.UnaryOperator.TheVariants as unary
 use Rattle.cyc_types.specs.Types.{words_of}
-use Rattle.cyc_types.specs.TypedTrees.{Array, Counter, Load, New, OnHeap, Initial, Plain, Fields, Dereference, Target, Lvalue, Local, Global, Expression, Number, NullPointer, Copy, Call, Unary, Binary, Assign, Converted, Convert, Arguments, NoArguments, MoreArguments, Operations, NoOperations, ThenCompute, ThenTest, ThenPointer, ThenPointerPeek, Word, Function, Move, Peek, AddressOfCell, Store, Member, Element, AsUnique, FreeUnique, NumberOfElements, type_of_place, HeapRegion, AddressOf, FreeKey, ByHandle}
+use Rattle.cyc_types.specs.TypedTrees.{Array, Counter, Load, New, OnHeap, Initial, Plain, Fields, Dereference, Target, Lvalue, Local, Global, Expression, Number, NullPointer, Copy, Call, Unary, Binary, Assign, Converted, Convert, Arguments, NoArguments, MoreArguments, Operations, NoOperations, ThenCompute, ThenTest, ThenPointer, ThenPointerPeek, Move, Peek, AddressOfCell, Store, Member, Element, AsUnique, FreeUnique, NumberOfElements, type_of_place, HeapRegion, AddressOf, FreeKey, ByHandle}
 use Rattle.cyc_plain.specs.declared.instruction.Operand.{Operand}
 use Rattle.cyc_plain.specs.declared.instruction.Operand.TheVariants as operands
 use Rattle.cyc_plain.specs.declared.instruction.Instruction.{Instruction}
@@ -32,8 +32,20 @@ module _ (starts : Starts) where
   operand_of (Unary unary.Widen a) = operand_of a
   operand_of a = None
 
+  -- What changes nothing while it is evaluated: an operand without code, or operators on such ones alone. The first operand of a chain may
+  -- be one in turn.
+  abbrev pub are_simple : Operations → Bool
+  are_simple NoOperations = true
+  are_simple (ThenCompute o b os) = is_some (operand_of b) && are_simple os
+  are_simple os = false
+
+  abbrev pub is_simple : Expression → Bool
+  is_simple (Unary o a) = is_some (operand_of a)
+  is_simple (Binary a (ThenCompute o b os) ty) = is_simple a && are_simple (ThenCompute o b os)
+  is_simple a = is_some (operand_of a)
+
   abbrev pub left_of : Expression → Operations → Option Operand
-  left_of a (ThenCompute o b os) = left_with (operand_of b) (operand_of a)
+  left_of a (ThenCompute o b os) = left_with (is_simple b) (operand_of a)
   left_of a os = None
 
   -- The slot for the value of an expression that is an operand: an assigned local has its value already.
@@ -43,13 +55,13 @@ module _ (starts : Starts) where
   value_slot a t = t
 
   -- the slot for the value of a left operand
-  abbrev pub slot_with : (right : Option Operand) → Expression → (t : ℕ) → ℕ
-  slot_with (Some o) a t = value_slot a t
-  slot_with None a t = t
+  abbrev pub slot_with : (simple : Bool) → Expression → (t : ℕ) → ℕ
+  slot_with true a t = value_slot a t
+  slot_with false a t = t
 
   abbrev pub left_slot : Expression → Operations → (d t : ℕ) → ℕ
   left_slot a NoOperations d t = d
-  left_slot a (ThenCompute o b os) d t = slot_with (operand_of b) a t
+  left_slot a (ThenCompute o b os) d t = slot_with (is_simple b) a t
   left_slot a os d t = t
 
   -- where the value of an expression that is an operand stands
@@ -71,9 +83,9 @@ module _ (starts : Starts) where
   printed_operand NoArguments o t = o
   printed_operand (MoreArguments c cs) o t = printed_operand cs (converted_operand c t) t
 
-  -- where a fat pointer stands while its index is computed: in its local where the index has no code, so that nothing between assigns it
+  -- where a fat pointer stands while its index is computed: in its local where the index is simple, so that nothing between assigns it
   abbrev pub pointer_of : (a i : Expression) → Option Operand
-  pointer_of a i = left_with (operand_of i) (operand_of a)
+  pointer_of a i = left_with (is_simple i) (operand_of a)
 
   abbrev pub pointer_slot : (a i : Expression) → (t : ℕ) → ℕ
   pointer_slot a i t = slot_or (pointer_of a i) t
@@ -196,7 +208,7 @@ abbrev mutual
       (brought_by from to (operand_of starts a) (expression_code starts a p (value_slot starts a t) t) (value_operand starts a t) (expression_code starts a p (source_slot starts (Convert from to a) t) t) (source_slot starts (Convert from to a) t))
       from to (span_of a) (converted_operand starts (Convert from to a) t) p d
 
-  -- The left operand is l. It is t where an operator is a test, or where the right operand has code.
+  -- The left operand is l. It is t where an operator is a test, or where the right operand is not simple.
   pub operations_code : (starts : Starts) → Operations → (p : ℕ) → (l : Operand) → (d t : ℕ) → List Instruction
   operations_code starts NoOperations p l d t = []
   operations_code starts (ThenCompute o b os) p l d t =

@@ -11,7 +11,7 @@ use Rattle.cyc_types.specs.declared.typed.Kind.{Kind}
 use Rattle.cyc_types.specs.declared.typed.Callee.TheVariants as callees
 use Rattle.cyc_types.specs.Types.{Ty, Handle, words_of}
 use Rattle.cyc_types.specs.typing.Expressions.{type_of_side}
-use Rattle.cyc_types.specs.TypedTrees.{Dereference, Lvalue, Local, Global, Expression, Call, Assign, Converted, Convert, Statement, Block, Empty, Evaluate, If, While, Return, Break, Continue, Items, NoItems, MoreItems, Execute, Declare, DeclareRegion, OpenRegion, DeclareAlias, DeclareKey, Constant, Word, Null, GlobalVariable, StructType, Function, Program, Move, Store, Side, VariableSide, CellSide, Swap, Throw, Try, Clauses, NoClauses, Default, Case}
+use Rattle.cyc_types.specs.TypedTrees.{Dereference, Lvalue, Local, Global, Expression, Call, Assign, Converted, Convert, Statement, Block, Empty, Evaluate, If, While, Return, Break, Continue, Items, NoItems, MoreItems, Execute, Declare, DeclareRegion, OpenRegion, DeclareAlias, DeclareKey, Constant, Word, Null, GlobalVariable, StructType, Function, Program, Store, Side, VariableSide, CellSide, Swap, Throw, Try, Clauses, NoClauses, Default, Case}
 use Rattle.cyc_plain.specs.declared.instruction.Operand.{Operand}
 use Rattle.cyc_plain.specs.declared.instruction.Operand.TheVariants as operands
 use Rattle.cyc_plain.specs.declared.instruction.Instruction.{Instruction}
@@ -26,7 +26,7 @@ use Rattle.cyc_lower.specs.declared.statements.Exits.{Exits}
 use Rattle.cyc_lower.specs.ValueCode.{slot_types, first_temporary, operand_or, code_unless, slot_or, code_unless_slot, left_with, blocks, move_of, conversion_code, span_of, addressed_by, word_by_word, global_code, passed_words, kind_passed, blank_code}
 use Rattle.cyc_lower.specs.ObjectCode.{stores_code, stored_by, load_at, right_slot}
 use Rattle.cyc_lower.specs.ControlCode.{compared_of, failing_jump, holding_jump, if_code, break_target, continue_target, while_code, named_code, opened_code, closed_code, dynamic_code, leave_code, behind_record, kept_code, tag_operand, handled_code, clause_code, goes_on, outside_loops, inside_loop, inside_try, inside_region}
-use Rattle.cyc_lower.specs.ExpressionCode.{operand_of, value_slot, slot_with, value_operand, source_of, converted_operand, printed_operand, place_operand, place_offset, load_code, expression_code, place_code, converted_operand_code, printed_code, initial_code, brought_code}
+use Rattle.cyc_lower.specs.ExpressionCode.{operand_of, value_slot, slot_with, value_operand, source_of, converted_operand, printed_operand, place_operand, place_offset, load_code, expression_code, place_code, converted_operand_code, printed_code, initial_code, brought_code, is_simple}
 
 module _ (starts : Starts) where
   -- an assignment, and the operand where its value stands then
@@ -57,13 +57,13 @@ module _ (starts : Starts) where
 
   -- ---- statements
 
-  -- Two operands that are compared, the left one first. It is taken without code only where the right one is too.
+  -- Two operands that are compared, the left one first. It is taken without code only where the right one is simple.
   abbrev pub first_operand : (a b : Expression) → (t : ℕ) → Operand
-  first_operand a b t = operand_or (left_with (operand_of starts b) (operand_of starts a)) (slot_with starts (operand_of starts b) a t)
+  first_operand a b t = operand_or (left_with (is_simple starts b) (operand_of starts a)) (slot_with starts (is_simple starts b) a t)
 
   abbrev pub first_code : (a b : Expression) → (p t : ℕ) → List Instruction
   first_code a b p t =
-      code_unless (left_with (operand_of starts b) (operand_of starts a)) (expression_code starts a p (slot_with starts (operand_of starts b) a t) t)
+      code_unless (left_with (is_simple starts b) (operand_of starts a)) (expression_code starts a p (slot_with starts (is_simple starts b) a t) t)
 
   abbrev pub second_code : Expression → (p t : ℕ) → List Instruction
   second_code b p t = code_unless (operand_of starts b) (expression_code starts b p (value_slot starts b (suc t)) (suc t))

@@ -1,5 +1,5 @@
 -- The code that brings words to slots: of operands, places, operators and conversions.
-use Rattle.std.specs.Prelude.{ℕ, zero, suc, ◌+◌, ◌==◌, Bool, false, not, ◌&&◌, if◌then◌else◌, List, [], ◌∷◌, ◌++◌, length, ◌-◌, Option, None, Some, ◌%◌, ◌^◌, true, option_map, unwrap_or}
+use Rattle.std.specs.Prelude.{ℕ, zero, suc, ◌+◌, ◌==◌, Bool, false, not, ◌&&◌, if◌then◌else◌, List, [], ◌∷◌, ◌++◌, length, Option, None, Some, ◌%◌, ◌^◌, true, option_map, unwrap_or}
 use Rattle.cyc_words.specs.Word.{add_of, mul_of}
 use Rattle.cyc_types.specs.declared.typed.Kind.{Kind}
 use Rattle.cyc_types.specs.declared.typed.Kind.TheVariants as kinds
@@ -12,8 +12,7 @@ use Rattle.cyc_types.specs.declared.typed.PointerOperator.TheVariants as pointer
 use Rattle.cyc_types.specs.declared.typed.LogicalOperator.{LogicalOperator}
 use Rattle.cyc_types.specs.declared.typed.LogicalOperator.TheVariants as logical
 use Rattle.cyc_types.specs.Types.{Ty, Value}
-use Rattle.cyc_types.specs.TypedTrees.{Load, Lvalue, Local, Global, Expression, NullPointer, Unary, Binary, Converted, Convert, Arguments, NoArguments, MoreArguments, Operations, NoOperations, Word, Null, Function, Move, Throw, AddressOf}
-use Rattle.cyc_plain.specs.declared.instruction.UnaryOperator.{UnaryOperator as PlainUnary}
+use Rattle.cyc_types.specs.TypedTrees.{Lvalue, Local, Global, Expression, NullPointer, Converted, Convert, Arguments, NoArguments, MoreArguments, Operations, NoOperations, Function}
 use Rattle.cyc_plain.specs.declared.instruction.UnaryOperator.TheVariants as plain_unary
 use Rattle.cyc_plain.specs.declared.instruction.BinaryOperator.{BinaryOperator as PlainBinary}
 use Rattle.cyc_plain.specs.declared.instruction.BinaryOperator.TheVariants as plain_binary
@@ -125,10 +124,10 @@ abbrev pub code_unless_slot : Option Operand → List Instruction → List Instr
 code_unless_slot (Some (operands.Slot n)) code = []
 code_unless_slot o code = code
 
--- A left operand is taken without code only where the right one is too: so nothing between can assign it.
-abbrev pub left_with : (right left : Option Operand) → Option Operand
-left_with (Some o) left = left
-left_with None left = None
+-- A left operand is taken without code only where the right one is simple: so nothing between can assign it.
+abbrev pub left_with : (simple : Bool) → (left : Option Operand) → Option Operand
+left_with true left = left
+left_with false left = None
 
 -- the slot for the value of all before these operators: the destination where none is left
 abbrev pub next_slot : Operations → (d t : ℕ) → ℕ

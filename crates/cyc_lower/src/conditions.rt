@@ -5,11 +5,11 @@ ghost use Rattle.cyc_lower.specs.Lowering.{condition_of, condition_code};
 ghost use Rattle.cyc_lower.specs.Emission.{Gives, most_locals, value_code, IsChain, zero_condition, view_starts};
 
 use crate::emitter::Emitter;
-use crate::operands::Condition;
+use crate::operands::{Condition, slot_behind};
 use crate::operators::failing_comparison;
 use crate::starts::Starts;
 use cyc_plain::{Comparison, Operand};
-use cyc_types::typed::{Expr, Operation, UnaryOperator};
+use cyc_types::typed::{Expr, Kind, Operation, UnaryOperator};
 use std::alloc::AllocError;
 
 impl Emitter {
@@ -51,7 +51,8 @@ impl Emitter {
         if let Some(Operation::Compute { operator, operand }) = rest.first() {
             if let Some(failing) = failing_comparison(*operator) {
                 let left = self.lower_left(starts, first, rest, free, free)?;
-                let right = self.lower_operand(starts, operand, free + 1)?;
+                let behind = slot_behind(free, Kind::Int)?;
+                let right = self.lower_operand(starts, operand, behind)?;
                 return Ok(Condition {
                     failing,
                     left,

@@ -12,7 +12,7 @@ ghost use Rattle.cyc_lower.specs.ObjectCode.{elements_code, last_element, saved_
 ghost use Rattle.cyc_lower.specs.ExpressionCode.{operand_of, left_of, left_slot, value_operand, converted_operand, printed_operand, expression_code, arguments_code, brought_code, converted_operand_code, printed_code, initial_code, operations_code, made_code, place_operand, place_offset, place_code, pointer_of, pointer_slot};
 ghost use Rattle.cyc_lower.specs.Lowering.{assignment_code, assigned_operand, discarded_code};
 ghost use Rattle.cyc_lower.specs.Slots.{with_counter};
-ghost use Rattle.cyc_lower.specs.Emission.{Appends, Gives, HasRoom, HasRoomFor, most_locals, value_code, source_code, slot_code, print_code, converted_slot, converted_slot_code, left_code, operation_code, view_starts, pointer_operation_code};
+ghost use Rattle.cyc_lower.specs.Emission.{Appends, Gives, most_locals, value_code, source_code, slot_code, print_code, converted_slot, converted_slot_code, left_code, operation_code, view_starts, pointer_operation_code};
 
 use crate::checks::{DIVISION_BY_ZERO, NULL_EXCEPTION};
 use crate::emitter::Emitter;
@@ -325,7 +325,7 @@ impl Emitter {
         }
     }
 
-    /// A fat pointer for its index: it stays in its local where the index has no code, or comes to slots.
+    /// A fat pointer for its index: it stays in its local where the index is simple, or comes to slots.
     #[cycle(expression)]
     fn lower_pointer(
         &mut self,
@@ -639,7 +639,7 @@ impl Emitter {
         }
     }
 
-    /// The left operand of a chain, which may be without code where the right one is.
+    /// The left operand of a chain, which may be without code where the right one is simple.
     #[cycle(expression)]
     pub(crate) fn lower_left(
         &mut self,
@@ -670,13 +670,13 @@ impl Emitter {
         slot: usize,
         free: usize,
     ) -> Result<(), AllocError>
-        requires low { free ≤ most_locals + length self.old.code.items }
-        requires room { HasRoomFor (view_starts starts.now) operation.now free (length self.old.code.items) }
+        requires { free ≤ most_locals + length self.old.code.items }
         ensures { Appends result self.old self.new (operation_code (view_starts starts.now) operation.now (length self.old.code.items) left slot free) }
     {
         match operation {
             Operation::Compute { operator, operand } => {
-                let right = self.lower_operand(starts, operand, free + 1)?;
+                let behind = slot_behind(free, Kind::Int)?;
+                let right = self.lower_operand(starts, operand, behind)?;
                 self.lower_operator(starts, *operator, left, right, slot)
             }
             Operation::Test { operator, operand } => {
@@ -783,8 +783,7 @@ impl Emitter {
         slot: usize,
         free: usize,
     ) -> Result<(), AllocError>
-        requires low { free ≤ most_locals + length self.old.code.items }
-        requires room { HasRoom (view_starts starts.now) (operations_of operations.now) free (length self.old.code.items) }
+        requires { free ≤ most_locals + length self.old.code.items }
         ensures { Appends result self.old self.new (operations_code (view_starts starts.now) (operations_of operations.now) (length self.old.code.items) first slot free) }
     {
         let mut left = first;

@@ -7,8 +7,8 @@ ghost use Rattle.cyc_types.specs.TypeView.{view_ty, view_value_type};
 ghost use Rattle.cyc_meaning.specs.Parts.{target_of, target_of_value};
 ghost use Rattle.cyc_meaning.specs.Values.{is_thin, kind_of, words_of_kind, bytes_of_kind};
 ghost use Rattle.cyc_lower.specs.ValueCode.{null_of, kind_behind, reached_operand, span_in, span_of, is_in, index_of, masks, keeps_words, converts_there, variable_bytes};
-ghost use Rattle.cyc_lower.specs.ExpressionCode.{operand_of, pointer_of, value_slot};
-ghost use Rattle.cyc_lower.specs.Emission.{most_locals, takes_operand, view_starts};
+ghost use Rattle.cyc_lower.specs.ExpressionCode.{are_simple, is_simple, operand_of, pointer_of, value_slot};
+ghost use Rattle.cyc_lower.specs.Emission.{is_simple_chain, most_locals, takes_operand, view_starts};
 
 use crate::locals::slot_of;
 use crate::starts::Starts;
@@ -88,14 +88,53 @@ pub(crate) fn value_slot(starts: &Starts, value: &Expr, free: usize) -> usize
     }
 }
 
-/// Where a fat pointer stands while its index is computed: in its local where the index has no code, so that nothing between assigns it.
+/// Whether operators are all on operands that have no code.
+fn are_simple(starts: &Starts, operations: &[Operation]) -> bool
+    ensures { result ≡ are_simple (view_starts starts.now) (operations_of operations.now) }
+{
+    for operation in operations {
+        let simple = match operation {
+            Operation::Compute { operand, .. } => operand_of(starts, operand).is_some(),
+            _ => false,
+        };
+        if !simple {
+            return false;
+        }
+    }
+    true
+}
+
+/// Whether a chain of these operators is simple behind an operand that is.
+fn is_simple_chain(starts: &Starts, rest: &[Operation]) -> bool
+    ensures { result ≡ is_simple_chain (view_starts starts.now) (operations_of rest.now) }
+{
+    match rest.first() {
+        Some(Operation::Compute { .. }) => are_simple(starts, rest),
+        _ => false,
+    }
+}
+
+/// Whether an expression changes nothing while it is evaluated: it has no code, or operators on operands that have none. The first operand
+/// of a chain may be such an expression in turn.
+pub(crate) fn is_simple(starts: &Starts, value: &Expr) -> bool
+    ensures { result ≡ is_simple (view_starts starts.now) (view_expression value.now) }
+{
+    match value {
+        Expr::Unary { operand, .. } => operand_of(starts, operand).is_some(),
+        Expr::Binary { first, rest, .. } => is_simple(starts, first)
+            && is_simple_chain(starts, rest),
+        _ => operand_of(starts, value).is_some(),
+    }
+}
+
+/// Where a fat pointer stands while its index is computed: in its local where the index is simple, so that nothing between assigns it.
 pub(crate) fn pointer_of(starts: &Starts, pointer: &Expr, index: &Expr) -> Option<Operand>
     ensures { result ≡ pointer_of (view_starts starts.now) (view_expression pointer.now) (view_expression index.now) }
 {
-    match operand_of(starts, index) {
-        Some(_) => operand_of(starts, pointer),
-        None => None,
+    if is_simple(starts, index) {
+        return operand_of(starts, pointer);
     }
+    None
 }
 
 /// Where the address of the cell stands that an access by a fat pointer has reached: that of a struct is its first word.
@@ -108,12 +147,12 @@ pub(crate) fn reached_operand(span: Option<usize>, first: usize, slot: usize) ->
     }
 }
 
-/// Whether the first of these operators has an operand without code on its right.
+/// Whether the first of these operators has a simple operand on its right.
 pub(crate) fn takes_operand(starts: &Starts, operations: &[Operation]) -> bool
     ensures { result ≡ takes_operand (view_starts starts.now) (operations_of operations.now) }
 {
     match operations.first() {
-        Some(Operation::Compute { operand, .. }) => operand_of(starts, operand).is_some(),
+        Some(Operation::Compute { operand, .. }) => is_simple(starts, operand),
         _ => false,
     }
 }

@@ -1,5 +1,5 @@
 -- Code of conditions that is made piece by piece.
-use Rattle.std.proofs.Common.{◌≡◌, ℕ, suc, ◌+◌, ◌≤◌, List, [], ◌∷◌, ◌++◌, length, Option, Some, None, slice_get, refl, sym, ap, subst, ◌∙◌, arith, append-nil}
+use Rattle.std.proofs.Common.{◌≡◌, ℕ, suc, ◌+◌, List, [], ◌∷◌, ◌++◌, length, Option, Some, slice_get, refl, sym, ap, subst, ◌∙◌, arith, append-nil}
 use Rattle.std.proofs.lemmas.Option.{same_Some}
 use Rattle.cyc_types.specs.declared.typed.Operator.{Operator}
 use Rattle.cyc_types.specs.declared.typed.Expr.{Expr}
@@ -16,10 +16,10 @@ use Rattle.cyc_lower.specs.declared.operands.Condition.{Condition}
 use Rattle.cyc_lower.specs.Slots.{Starts}
 use Rattle.cyc_lower.specs.ValueCode.{operand_or, failing_comparison}
 use Rattle.cyc_lower.specs.ControlCode.{Compared, with_zero, compared_or, compared_of}
-use Rattle.cyc_lower.specs.ExpressionCode.{operand_of, left_of, left_slot, value_operand}
+use Rattle.cyc_lower.specs.ExpressionCode.{left_of, left_slot, value_operand}
 use Rattle.cyc_lower.specs.Lowering.{first_operand, first_code, second_code, pair_code, condition_code, condition_of}
-use Rattle.cyc_lower.specs.Emission.{most_locals, value_code, left_code, zero_condition}
-use Rattle.cyc_lower.proofs.emission.Emitting.{joined, room_behind}
+use Rattle.cyc_lower.specs.Emission.{value_code, left_code, zero_condition}
+use Rattle.cyc_lower.proofs.emission.Emitting.{joined}
 
 -- ---- chains that are tested whole
 
@@ -52,15 +52,6 @@ module _ (starts : Starts) where
         ∙ sym (ap (λ (x : Compared). old ++ pair_code starts x.left x.right (length old) t) is),
   )
 
-  -- behind the left operand there is room for the right one
-  pub room_for_first : (a : Expression) (xs : List Operation) (x : Operation) (o : Operator) (e : Expr) (old new : List Instruction) (t : ℕ) → Some x ≡ slice_get xs 0 → x ≡ operation.Compute o e
-      → t ≤ most_locals + length old → new ≡ old ++ left_code starts a (operations_of xs) (length old) t t → operand_of starts (view_expression e) ≡ None → t + 1 ≤ most_locals + length new
-  room_for_first a [] x o e old new t at is low made none = absurd (let f : Some x ≡ None = at in cc)
-  room_for_first a (y ∷ xs) x o e old new t at is low made none =
-      let same : y ≡ operation.Compute o e = sym (same_Some x y at) ∙ is in
-      let room = room_behind starts a (operations_of (operation.Compute o e ∷ xs)) old new t t low (made ∙ ap (λ (z : Operation). old ++ left_code starts a (operations_of (z ∷ xs)) (length old) t t) same) in
-      omega (arith, room.1 none)
-
   -- a chain of one operator that compares: its operands, one behind the other
   compared_pair : (first : Expression) (o : Operator) (e : Expr) (ty : Ty) (failing : Comparison) (l r : Operand) (old m1 m2 : List Instruction) (t : ℕ) → failing_comparison o ≡ Some failing
       → l ≡ first_operand starts first (view_expression e) t → m1 ≡ old ++ first_code starts first (view_expression e) (length old) t
@@ -78,16 +69,16 @@ module _ (starts : Starts) where
             ∙ sym (ap (λ (x : Compared). old ++ pair_code starts x.left x.right (length old) t) compared),
       )
 
-  pub made_compared : (whole first : Expression) (xs : List Operation) (x : Operation) (o : Operator) (e : Expr) (ty : Ty) (failing : Comparison) (l r : Operand) (old m1 m2 : List Instruction) (t : ℕ)
-      → whole ≡ Binary first (operations_of xs) ty → length xs ≡ 1 → Some x ≡ slice_get xs 0 → x ≡ operation.Compute o e → failing_comparison o ≡ Some failing
+  pub made_compared : (whole first : Expression) (xs : List Operation) (x : Operation) (o : Operator) (e : Expr) (ty : Ty) (failing : Comparison) (l r : Operand) (old m1 m2 : List Instruction) (t behind : ℕ)
+      → whole ≡ Binary first (operations_of xs) ty → length xs ≡ 1 → Some x ≡ slice_get xs 0 → x ≡ operation.Compute o e → failing_comparison o ≡ Some failing → behind ≡ t + 1
       → l ≡ operand_or (left_of starts first (operations_of xs)) (left_slot starts first (operations_of xs) t t) → m1 ≡ old ++ left_code starts first (operations_of xs) (length old) t t
-      → r ≡ value_operand starts (view_expression e) (t + 1) → m2 ≡ m1 ++ value_code starts (view_expression e) (length m1) (t + 1)
+      → r ≡ value_operand starts (view_expression e) behind → m2 ≡ m1 ++ value_code starts (view_expression e) (length m1) behind
       → IsMade whole (record { failing = failing; left = l; right = r }) old m2 t
-  made_compared whole first [] x o e ty failing l r old m1 m2 t chain single at is fails left made_left right made_right = absurd (omega (arith, single))
-  made_compared whole first (y ∷ z ∷ xs) x o e ty failing l r old m1 m2 t chain single at is fails left made_left right made_right = absurd (omega (arith, single))
-  made_compared whole first (y ∷ []) x o e ty failing l r old m1 m2 t chain single at is fails left made_left right made_right =
+  made_compared whole first [] x o e ty failing l r old m1 m2 t behind chain single at is fails behind_is left made_left right made_right = absurd (omega (arith, single))
+  made_compared whole first (y ∷ z ∷ xs) x o e ty failing l r old m1 m2 t behind chain single at is fails behind_is left made_left right made_right = absurd (omega (arith, single))
+  made_compared whole first (y ∷ []) x o e ty failing l r old m1 m2 t behind chain single at is fails behind_is left made_left right made_right =
       let same : y ≡ operation.Compute o e = sym (same_Some x y at) ∙ is in
-      let next : t + 1 ≡ suc t = omega arith in
+      let next : behind ≡ suc t = omega (arith, behind_is) in
       subst (λ (w : Expression). IsMade w (record { failing = failing; left = l; right = r }) old m2 t) (sym (chain ∙ ap (λ (z : Operation). Binary first (operations_of (z ∷ [])) ty) same))
       (compared_pair first o e ty failing l r old m1 m2 t fails
       (left ∙ ap (λ (z : Operation). operand_or (left_of starts first (operations_of (z ∷ []))) (left_slot starts first (operations_of (z ∷ [])) t t)) same)

@@ -1,6 +1,6 @@
 -- Code that is made piece by piece: lists of nodes, nodes with lists, and jumps whose targets are written back.
-use Rattle.std.proofs.Common.{◌≡◌, ℕ, zero, suc, ◌+◌, ◌-◌, ◌*◌, ◌%◌, ◌<◌, ◌≤◌, max, Bool, true, false, List, [], ◌∷◌, ◌++◌, length, get_or, drop, set, Option, Some, None, refl, sym, ap, ◌∙◌, arith, append_assoc, append-nil}
-use Rattle.std.specs.Prelude.{◌==◌, is_some, if◌then◌else◌}
+use Rattle.std.proofs.Common.{◌≡◌, ℕ, zero, suc, ◌+◌, ◌-◌, ◌<◌, ◌≤◌, Bool, true, false, List, [], ◌∷◌, ◌++◌, length, get_or, drop, set, Option, None, refl, sym, ap, ◌∙◌, arith, append_assoc, append-nil}
+use Rattle.std.specs.Prelude.{◌==◌, if◌then◌else◌}
 use Rattle.std.proofs.lemmas.Bool.{eqb-true, eq-eqb}
 use Rattle.std.proofs.lemmas.List.{drop_all, drop_more, length-append, length-drop}
 use Rattle.std.proofs.Math.Seq.{set-append_seam}
@@ -39,7 +39,6 @@ use Rattle.cyc_plain.specs.declared.instruction.BinaryOperator.TheVariants as pl
 use Rattle.cyc_plain.specs.declared.instruction.Comparison.TheVariants as comparisons
 use Rattle.cyc_plain.specs.declared.instruction.Operand.{Operand}
 use Rattle.cyc_plain.specs.declared.instruction.Operand.TheVariants as operands
-use Rattle.cyc_plain.specs.declared.instruction.Request.TheVariants as requests
 use Rattle.cyc_plain.specs.declared.instruction.Instruction.{Instruction}
 use Rattle.cyc_plain.specs.declared.instruction.Instruction.TheVariants as instructions
 use Rattle.cyc_lower.specs.Slots.{with_counter, slot_of, Starts, global_of}
@@ -47,9 +46,9 @@ use Rattle.cyc_lower.specs.declared.operands.Condition.{Condition}
 use Rattle.cyc_lower.specs.ValueCode.{passed_words, kind_passed, all_passed, kinds_passed, load_of, converts_there, converted_by, moved_by, move_of, operand_or, code_unless, left_with, low_byte, next_slot, operator_code, compute_code, test_jump, truth_code, test_code, copy_code, binary_operator, behind_left, pointer_instructions, address_code, addressed_by, jump_if_zero, reached_code, count_code, span_of, followed_code, span_in, code_unless_slot, global_code, word_by_word, masked_by, masks}
 use Rattle.cyc_lower.specs.ObjectCode.{measured_code, asked_code, begun_code, written_code, filled_code, restarted_code, ended_code, elements_code, last_element, object_code, saved_code}
 use Rattle.cyc_lower.specs.ControlCode.{failing_jump}
-use Rattle.cyc_lower.specs.ExpressionCode.{source_of, source_slot, operand_of, left_of, slot_with, left_slot, value_operand, converted_operand, printed_operand, load_code, expression_code, value_slot, arguments_code, converted_code, converted_operand_code, printed_code, initial_code, operations_code, made_code, place_operand, place_offset, place_code, pointer_of, brought_code}
+use Rattle.cyc_lower.specs.ExpressionCode.{source_of, source_slot, operand_of, left_of, slot_with, left_slot, value_operand, converted_operand, printed_operand, load_code, expression_code, value_slot, arguments_code, converted_code, converted_operand_code, printed_code, initial_code, operations_code, made_code, place_operand, place_offset, place_code, pointer_of, brought_code, is_simple}
 use Rattle.cyc_lower.specs.Lowering.{assignment_code, assigned_operand, discarded_code, store_address_code, store_code}
-use Rattle.cyc_lower.specs.Emission.{most_locals, value_code, print_code, left_code, takes_operand, HasRoom, operation_code}
+use Rattle.cyc_lower.specs.Emission.{most_locals, value_code, print_code, left_code, takes_operand, operation_code}
 use Rattle.cyc_lower.proofs.slots.Widths.{kind_positive}
 use Rattle.cyc_lower.proofs.slots.Slots.{words_positive}
 
@@ -72,10 +71,6 @@ operates : (starts : Starts) (o : Operator) (l r : Operand) (d : ℕ) → 0 < le
 operates starts operators.Divide l r d = behind _ (instructions.Binary (binary_operator operators.Divide) d l r ∷ []) (omega arith)
 operates starts operators.Remainder l r d = behind _ (instructions.Binary (binary_operator operators.Remainder) d l r ∷ []) (omega arith)
 operates starts o l r d = omega arith
-
--- what was added makes the code longer
-pub grown : (old more new : List Instruction) → new ≡ old ++ more → 0 < length more → length old < length new
-grown old more new is some = let e : length new ≡ length (old ++ more) = ap length is in omega (arith, e, length-append old more)
 
 -- ---- lists
 
@@ -541,19 +536,8 @@ module _ (starts : Starts) where
       ∙ ap (λ (x : Expression). old ++ expression_code starts x (length old) d t) (sym (binary_viewed value b v ty is first at items same))
 
   -- behind a left operand there is room for the chain
-  pub room_behind : (a : Expression) (os : Operations) (old new : List Instruction) (d t : ℕ) → t ≤ most_locals + length old → new ≡ old ++ left_code starts a os (length old) d t
-      → (t ≤ most_locals + length new) × HasRoom starts os t (length new)
-  room_behind a NoOperations old new d t low is = let more = no_shorter_than old _ new is in (omega (arith, low, more), omega (arith, low, more))
-  room_behind a (ThenCompute o b os) old new d t low is =
-      let more = no_shorter_than old _ new is in (
-        omega (arith, low, more),
-        λ none.
-            let code : left_code starts a (ThenCompute o b os) (length old) d t ≡ expression_code starts a (length old) t t =
-            ap (λ (k : Option Operand). code_unless (left_with k (operand_of starts a)) (expression_code starts a (length old) (slot_with starts k a t) t)) none in
-            let longer = grown old (expression_code starts a (length old) t t) new (is ∙ ap (λ (l : List Instruction). old ++ l) code) (expression_some a (length old) t t) in
-            omega (arith, low, longer),
-      )
-  room_behind a os old new d t low is = let more = no_shorter_than old _ new is in (omega (arith, low, more), omega (arith, low, more))
+  pub room_behind : (a : Expression) (os : Operations) (old new : List Instruction) (d t : ℕ) → t ≤ most_locals + length old → new ≡ old ++ left_code starts a os (length old) d t → t ≤ most_locals + length new
+  room_behind a os old new d t low is = omega (arith, low, no_shorter_than old _ new is)
 
   -- a left operand that is not one without code
   left_plain : (a : Expression) (os : List Operation) (d t to : ℕ) → takes_operand starts (operations_of os) ≡ false → (length os ≡ 0 → to ≡ d) → (0 < length os → to ≡ t)
@@ -562,11 +546,11 @@ module _ (starts : Starts) where
   left_plain a (operation.Test o e ∷ os) d t to plain none some = (refl, some (omega arith))
   left_plain a (operation.Pointer o e ∷ os) d t to plain none some = (refl, some (omega arith))
   left_plain a (operation.PointerPeek n o e ∷ os) d t to plain none some = (refl, some (omega arith))
-  left_plain a (operation.Compute o e ∷ os) d t to plain none some = by (operand_of starts (view_expression e)) plain
+  left_plain a (operation.Compute o e ∷ os) d t to plain none some = by (is_simple starts (view_expression e)) plain
     where
-      by : (k : Option Operand) → is_some k ≡ false → (left_with k (operand_of starts a) ≡ None) × (to ≡ slot_with starts k a t)
-      by (Some k) plain = absurd (let f : true ≡ false = plain in cc)
-      by None plain = (refl, some (omega arith))
+      by : (simple : Bool) → simple ≡ false → (left_with simple (operand_of starts a) ≡ None) × (to ≡ slot_with starts simple a t)
+      by true plain = absurd (let f : true ≡ false = plain in cc)
+      by false plain = (refl, some (omega arith))
 
   made_left : (a : Expression) (os : List Operation) (old new : List Instruction) (d t to : ℕ) → takes_operand starts (operations_of os) ≡ false → (length os ≡ 0 → to ≡ d) → (0 < length os → to ≡ t)
       → new ≡ old ++ expression_code starts a (length old) to t
@@ -581,13 +565,13 @@ module _ (starts : Starts) where
   -- a left operand that is taken without code
   pub made_left_operand : (a : Expression) (os : Operations) (old : List Instruction) (d t : ℕ) → takes_operand starts os ≡ true
       → (value_operand starts a t ≡ operand_or (left_of starts a os) (left_slot starts a os d t)) × (value_code starts a (length old) t ≡ left_code starts a os (length old) d t)
-  made_left_operand a (ThenCompute o b os) old d t takes = by (operand_of starts b) takes
+  made_left_operand a (ThenCompute o b os) old d t takes = by (is_simple starts b) takes
     where
-      by : (k : Option Operand) → is_some k ≡ true
-          → (value_operand starts a t ≡ operand_or (left_with k (operand_of starts a)) (slot_with starts k a t))
-          × (value_code starts a (length old) t ≡ code_unless (left_with k (operand_of starts a)) (expression_code starts a (length old) (slot_with starts k a t) t))
-      by (Some k) takes = (refl, refl)
-      by None takes = absurd (let f : false ≡ true = takes in cc)
+      by : (simple : Bool) → simple ≡ true
+          → (value_operand starts a t ≡ operand_or (left_with simple (operand_of starts a)) (slot_with starts simple a t))
+          × (value_code starts a (length old) t ≡ code_unless (left_with simple (operand_of starts a)) (expression_code starts a (length old) (slot_with starts simple a t) t))
+      by true takes = (refl, refl)
+      by false takes = absurd (let f : false ≡ true = takes in cc)
   made_left_operand a os old d t takes = absurd (let f : false ≡ true = takes in cc)
 
   pub made_left_alone : (a : Expression) (os : List Operation) (old new : List Instruction) (d t to : ℕ) → takes_operand starts (operations_of os) ≡ false → (length os == 0) ≡ true → to ≡ d
@@ -602,46 +586,20 @@ module _ (starts : Starts) where
   made_left_first a os old new d t to plain more there is =
       made_left a os old new d t to plain (λ none. absurd (let f : false ≡ true = sym more ∙ eq-eqb (length os) 0 none in cc)) (λ some. there) is
 
-  pub made_compute : (value : Operation) (o : Operator) (e : Expr) (old m1 m2 : List Instruction) (l r : Operand) (d t : ℕ) → value ≡ operation.Compute o e
-      → r ≡ value_operand starts (view_expression e) (t + 1) → m1 ≡ old ++ value_code starts (view_expression e) (length old) (t + 1) → m2 ≡ m1 ++ operator_code starts o l r d
+  pub made_compute : (value : Operation) (o : Operator) (e : Expr) (old m1 m2 : List Instruction) (l r : Operand) (d t behind : ℕ) → value ≡ operation.Compute o e → behind ≡ t + 1
+      → r ≡ value_operand starts (view_expression e) behind → m1 ≡ old ++ value_code starts (view_expression e) (length old) behind → m2 ≡ m1 ++ operator_code starts o l r d
       → m2 ≡ old ++ operation_code starts value (length old) l d t
-  made_compute value o e old m1 m2 l r d t is r_is e1 e2 =
+  made_compute value o e old m1 m2 l r d t behind is behind_is r_is e1 e2 =
       let a = view_expression e in
-      let next : t + 1 ≡ suc t = omega arith in
+      let next : behind ≡ suc t = omega (arith, behind_is) in
       let right = value_operand starts a (suc t) in
       joined old (value_code starts a (length old) (suc t)) (λ p. operator_code starts o l right d) m1 m2 (e1 ∙ ap (λ (n : ℕ). old ++ value_code starts a (length old) n) next)
       (e2 ∙ ap (λ (x : Operand). m1 ++ operator_code starts o l x d) (r_is ∙ ap (value_operand starts a) next))
       ∙ ap (λ (x : Operation). old ++ operation_code starts x (length old) l d t) (sym is)
 
-  pointed : (o : PointerOperator) (l r : Operand) (d : ℕ) → 0 < length (pointer_instructions o l r d)
-  pointed pointers.AddFat l r d = omega arith
-  pointed pointers.SubtractFat l r d = omega arith
-  pointed pointers.ThinIsNull l r d = omega arith
-  pointed pointers.ThinIsNotNull l r d = omega arith
-  pointed pointers.FatIsNull l r d = omega arith
-  pointed pointers.FatIsNotNull l r d = omega arith
-  pointed pointers.NullIs l r d = omega arith
-  pointed pointers.NullIsNot l r d = omega arith
-  pointed pointers.EqualThin l r d = omega arith
-  pointed pointers.NotEqualThin l r d = omega arith
-
-  -- where one operator is made, more may follow
-  operates_longer : (x : Operation) (p : ℕ) (l : Operand) (d t : ℕ) → 0 < length (operation_code starts x p l d t)
-  operates_longer (operation.Compute o e) p l d t = behind (value_code starts (view_expression e) p (suc t)) _ (operates starts o l (value_operand starts (view_expression e) (suc t)) d)
-  operates_longer (operation.Test o e) p l d t = omega arith
-  operates_longer (operation.Pointer o e) p l d t = behind (value_code starts (view_expression e) p (behind_left o t)) _ (pointed o l (value_operand starts (view_expression e) (behind_left o t)) d)
-  operates_longer (operation.PointerPeek n o e) p l d t = behind (value_code starts (view_expression e) p (behind_left o t)) _ (pointed o l (value_operand starts (view_expression e) (behind_left o t)) d)
-
-  room_everywhere : (os : Operations) (t many : ℕ) → t < most_locals + many → HasRoom starts os t many
-  room_everywhere NoOperations t many low = omega (arith, low)
-  room_everywhere (ThenCompute o b os) t many low = λ none. low
-  room_everywhere os t many low = omega (arith, low)
-
-  pub room_after : (x : Operation) (os : Operations) (old new : List Instruction) (l : Operand) (d t : ℕ) → t ≤ most_locals + length old → new ≡ old ++ operation_code starts x (length old) l d t
-      → (t ≤ most_locals + length new) × HasRoom starts os t (length new)
-  room_after x os old new l d t low is =
-      let longer = grown old (operation_code starts x (length old) l d t) new is (operates_longer x (length old) l d t) in
-      (omega (arith, low, longer), room_everywhere os t (length new) (omega (arith, low, longer)))
+  -- behind one operator there is room for more
+  pub room_after : (x : Operation) (old new : List Instruction) (l : Operand) (d t : ℕ) → t ≤ most_locals + length old → new ≡ old ++ operation_code starts x (length old) l d t → t ≤ most_locals + length new
+  room_after x old new l d t low is = omega (arith, low, no_shorter_than old _ new is)
 
   -- the byte that `putchar` prints
   pub made_print : (items : List ConvertedCode) (old code new : List Instruction) (i : ℕ) (byte : Operand) (t : ℕ) → length items ≤ i

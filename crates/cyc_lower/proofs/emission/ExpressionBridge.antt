@@ -4,7 +4,7 @@ use Rattle.std.specs.Prelude.{unwrap_or, ◌==◌}
 use Rattle.cyc_meaning.specs.Operators.{null_exception}
 use Rattle.cyc_types.specs.declared.typed.Callee.TheVariants as callees
 use Rattle.cyc_types.specs.Types.{Ty, words_of}
-use Rattle.cyc_types.specs.TypedTrees.{Array, Counter, Load, New, OnHeap, AsUnique, ByHandle, Initial, Plain, Fields, Dereference, Target, Local, Global, Expression, Number, NullPointer, Copy, Call, Unary, Binary, Assign, Converted, Convert, Arguments, NoArguments, MoreArguments, Operations, NoOperations, ThenCompute, ThenTest, ThenPointer, Signature, Function, Move, Peek, ThenPointerPeek, type_of, AddressOfCell, Store, Member, type_of_place, FreeUnique, NumberOfElements, Element, FreeKey, HeapRegion, AddressOf}
+use Rattle.cyc_types.specs.TypedTrees.{Array, Counter, Load, New, OnHeap, AsUnique, ByHandle, Initial, Plain, Fields, Dereference, Target, Local, Global, Expression, Number, NullPointer, Copy, Call, Unary, Binary, Assign, Converted, Convert, Arguments, NoArguments, MoreArguments, Operations, NoOperations, ThenCompute, ThenTest, ThenPointer, Signature, Move, Peek, ThenPointerPeek, type_of, AddressOfCell, Store, Member, type_of_place, FreeUnique, NumberOfElements, Element, FreeKey, HeapRegion, AddressOf}
 use Rattle.cyc_types.specs.Numbered.{Numbering, argument_count}
 use Rattle.cyc_plain.specs.declared.instruction.BinaryOperator.TheVariants as plain_binary
 use Rattle.cyc_plain.specs.declared.instruction.BinaryOperator.TheVariants as plain_binary
@@ -21,8 +21,8 @@ use Rattle.cyc_objects.proofs.NumberLemmas.{slice_get-there}
 use Rattle.cyc_lower.specs.Slots.{counted, Types, starts_of, slot_of, global_of}
 use Rattle.cyc_lower.specs.ValueCode.{converts_there, passed_words, operand_or, code_unless, code_unless_slot, next_slot, check_code, conversion_code, operator_code, truth_code, low_byte, test_code, is_in, copy_code, behind_left, pointer_code, pointer_instructions, address_code, count_code, span_of, loaded_code, kinds_passed, reached_code, followed_code, span_in, global_code, kind_behind, kind_passed, address_of_global, masks}
 use Rattle.cyc_lower.specs.ObjectCode.{begun_code, filled_code, ended_code, elements_code, object_code, free_code, saved_code}
-use Rattle.cyc_lower.specs.ExpressionCode.{source_of, source_slot, operand_of, left_of, value_slot, left_slot, value_operand, converted_operand, printed_operand, expression_code, arguments_code, converted_code, converted_operand_code, printed_code, initial_code, operations_code, made_code, place_operand, place_offset, place_code, pointer_of, pointer_slot, brought_code}
-use Rattle.cyc_lower.proofs.relation.Stands.{ExpressionAt, InitialAt, ConvertedAt, ConvertedOperandAt, PrintedAt, ArgumentsAt, OperationsAt, MadeAt, PlaceAt, LastByteAt, BroughtAt}
+use Rattle.cyc_lower.specs.ExpressionCode.{source_of, source_slot, operand_of, left_of, value_slot, left_slot, value_operand, converted_operand, printed_operand, expression_code, arguments_code, converted_code, converted_operand_code, printed_code, initial_code, operations_code, made_code, place_operand, place_offset, place_code, pointer_of, pointer_slot, brought_code, is_simple}
+use Rattle.cyc_lower.proofs.relation.Stands.{ExpressionAt, InitialAt, ConvertedAt, ConvertedOperandAt, PrintedAt, ArgumentsAt, OperationsAt, MadeAt, PlaceAt, LastByteAt, BroughtAt, LeftBy}
 use Rattle.cyc_lower.proofs.slots.Widths.{kind_few, type_words}
 use Rattle.cyc_lower.proofs.slots.CellBytes.{passed_slots, passed_many}
 use Rattle.cyc_lower.proofs.relation.Fitting.{FitsCell, FitsObject, Fits, FitsConverted, FitArguments, FitOperations}
@@ -338,7 +338,7 @@ module _ (code : List Instruction) (b : Numbering) where
           r,
           m,
           s,
-          right_by code b types raised (operand_of (starts_of types) a) (l ≡ operands.Slot t) _ inner (value_slot (starts_of types) a (suc t)) p m left refl (has_front code p operand operator front_has) (λ e h. expression_stands types raised a (value_slot (starts_of types) a (suc t)) (suc t) p m numbered e h),
+          right_by code b types raised (operand_of (starts_of types) a) (LeftBy code b types (is_simple (starts_of types) a) (l ≡ operands.Slot t)) _ inner (value_slot (starts_of types) a (suc t)) p m left refl (has_front code p operand operator front_has) (λ e h. expression_stands types raised a (value_slot (starts_of types) a (suc t)) (suc t) p m numbered e h),
           operator_stands code b types raised o l r next m s (cut p s operand operator refl) (has_back code p operand operator front_has),
           operations_stand types raised os (operands.Slot next) d t s q (words_of ty) ty rest (next_left code b types raised os d t) (cut p q (operand ++ operator) back end) (has_back code p (operand ++ operator) back has),
         )

@@ -2,7 +2,7 @@
 -- is made for the length that it had with them elsewhere, has its blocks where its checks lead to.
 use Rattle.cyc_types.specs.typing.Expressions.{type_of_side}
 use Rattle.std.proofs.Common.{◌≡◌, ℕ, zero, suc, ◌+◌, Bool, true, false, List, [], ◌∷◌, ◌++◌, length, Option, None, Some, refl, sym, ap, ◌∙◌, arith, length-append}
-use Rattle.std.specs.Prelude.{if◌then◌else◌}
+use Rattle.std.specs.Prelude.{if◌then◌else◌, is_some, ◌&&◌}
 use Rattle.cyc_types.specs.declared.typed.Kind.{Kind}
 use Rattle.cyc_types.specs.declared.typed.Kind.TheVariants as kinds
 use Rattle.cyc_types.specs.declared.typed.Callee.TheVariants as callees
@@ -22,7 +22,7 @@ use Rattle.cyc_lower.specs.Slots.{with_counter, Starts, slot_of, global_of}
 use Rattle.cyc_lower.specs.ValueCode.{first_temporary, keeps_words, kind_behind, last_byte_code, kind_passed, converts_there, passed_words, operand_or, code_unless, code_unless_slot, left_with, next_slot, converted_by, conversion_code, divisor_code, operator_code, pointer_instructions, first_two, copy_code, address_code, behind_left, checked_code, null_of, span_of, span_in, followed_operand, followed_code, conversion_by, widened_code, count_code, loaded_code, slot_or, kinds_passed, thinned_code, bounded_code, past_bounded, reached_operand, reached_code, word_by_word, load_word, global_code, masks}
 use Rattle.cyc_lower.specs.ObjectCode.{begun_code, filled_code, elements_code, ended_code, object_code, right_slot, saved_code, stores_code}
 use Rattle.cyc_lower.specs.ControlCode.{outside_loops, if_code, while_code, failing_jump, holding_jump, compared_of, inside_loop, leave_code, try_code, clause_code, break_target, continue_target, kept_code, restored_code, behind_record, inside_try, inside_region, opened_code, closed_code}
-use Rattle.cyc_lower.specs.ExpressionCode.{operand_of, left_of, value_slot, slot_with, left_slot, value_operand, source_of, source_slot, converted_operand, load_code, place_operand, place_offset, expression_code, place_code, made_code, arguments_code, converted_code, converted_operand_code, printed_code, initial_code, operations_code, pointer_of, brought_code}
+use Rattle.cyc_lower.specs.ExpressionCode.{operand_of, left_of, value_slot, slot_with, left_slot, value_operand, source_of, source_slot, converted_operand, load_code, place_operand, place_offset, expression_code, place_code, made_code, arguments_code, converted_code, converted_operand_code, printed_code, initial_code, operations_code, pointer_of, brought_code, is_simple, are_simple}
 use Rattle.cyc_lower.specs.Lowering.{raises_of, body_code, assignment_code, discarded_code, pair_code, condition_code, return_code, declaration_code, statement_code, items_code, condition_of, side_code, swap_code, thrown_code, caught_code, clauses_code, starts_with, read_side, write_side, exchange_code}
 use Rattle.cyc_plain.specs.declared.instruction.Instruction.TheVariants as instructions
 use Rattle.cyc_meaning.specs.Values.{is_thin, kind_of, words_of_kind}
@@ -104,17 +104,26 @@ module _ (starts : Starts) (raises : ℕ) where
   same_value : (a : Expression) (t : ℕ) → value_operand starts a t ≡ value_operand other a t
   same_value a t = λ i. operand_or (same_operand a i) (same_slot a t i)
 
+  are_same : (os : Operations) → are_simple starts os ≡ are_simple other os
+  are_same (ThenCompute o b os) = λ i. is_some (same_operand b i) && are_same os i
+  are_same os = refl
+
+  same_simple : (a : Expression) → is_simple starts a ≡ is_simple other a
+  same_simple (Unary o a) = λ i. is_some (same_operand a i)
+  same_simple (Binary a (ThenCompute o b os) ty) = λ i. same_simple a i && are_same (ThenCompute o b os) i
+  same_simple a = λ i. is_some (same_operand a i)
+
   same_left : (a : Expression) (os : Operations) → left_of starts a os ≡ left_of other a os
-  same_left a (ThenCompute o b os) = λ i. left_with (same_operand b i) (same_operand a i)
+  same_left a (ThenCompute o b os) = λ i. left_with (same_simple b i) (same_operand a i)
   same_left a os = refl
 
-  same_with : (known same : Option Operand) (a : Expression) (t : ℕ) → known ≡ same → slot_with starts known a t ≡ slot_with other same a t
-  same_with (Some o) same a t is = same_slot a t ∙ ap (λ z. slot_with other z a t) is
-  same_with None same a t is = ap (λ z. slot_with other z a t) is
+  same_with : (simple same : Bool) (a : Expression) (t : ℕ) → simple ≡ same → slot_with starts simple a t ≡ slot_with other same a t
+  same_with true same a t is = same_slot a t ∙ ap (λ z. slot_with other z a t) is
+  same_with false same a t is = ap (λ z. slot_with other z a t) is
 
   same_left_slot : (a : Expression) (os : Operations) (d e t : ℕ) → d ≡ e → left_slot starts a os d t ≡ left_slot other a os e t
   same_left_slot a NoOperations d e t same = same
-  same_left_slot a (ThenCompute o b os) d e t same = same_with (operand_of starts b) (operand_of other b) a t (same_operand b)
+  same_left_slot a (ThenCompute o b os) d e t same = same_with (is_simple starts b) (is_simple other b) a t (same_simple b)
   same_left_slot a os d e t same = refl
 
   same_source : (c : Converted) → source_of starts c ≡ source_of other c
@@ -127,7 +136,7 @@ module _ (starts : Starts) (raises : ℕ) where
   same_converted c t = λ i. operand_or (same_source c i) (same_source_slot c t i)
 
   same_pointer : (a x : Expression) → pointer_of starts a x ≡ pointer_of other a x
-  same_pointer a x = λ i. left_with (same_operand x i) (same_operand a i)
+  same_pointer a x = λ i. left_with (same_simple x i) (same_operand a i)
 
   same_place : (x : Dereference) (t : ℕ) → place_operand starts x t ≡ place_operand other x t
   same_place (Target k a ty) t = λ i. followed_operand (is_thin k) (span_in ty) (same_value a t i) t
@@ -318,7 +327,7 @@ module _ (starts : Starts) (raises : ℕ) where
   condition_long : (a b : Expression) (p q t : ℕ) → length (pair_code starts a b p t) ≡ length (pair_code (other starts raises) a b q t)
   condition_long a b p q t =
       joined _ _ _ _
-      (unless_long _ _ _ _ (λ i. left_with (same_operand starts raises b i) (same_operand starts raises a i)) (expression_long raises starts a p q _ _ t (same_with starts raises (operand_of starts b) (operand_of (other starts raises) b) a t (same_operand starts raises b))))
+      (unless_long _ _ _ _ (λ i. left_with (same_simple starts raises b i) (same_operand starts raises a i)) (expression_long raises starts a p q _ _ t (same_with starts raises (is_simple starts b) (is_simple (other starts raises) b) a t (same_simple starts raises b))))
       (operand_by starts raises b _ _ (suc t) (expression_long raises starts b _ _ _ _ (suc t) (same_slot starts raises b (suc t))))
 
   return_long : (v : Option Converted) (p q head : ℕ) (exits : Exits) (t : ℕ) → length (return_code starts v p exits t) ≡ length (return_code (other starts raises) v q (record exits { head = head }) t)

@@ -8,7 +8,7 @@ use Rattle.cyc_types.specs.declared.typed.Operator.{Operator}
 use Rattle.cyc_types.specs.declared.typed.Operator.TheVariants as operators
 use Rattle.cyc_types.specs.declared.typed.PointerOperator.{PointerOperator}
 use Rattle.cyc_types.specs.declared.typed.PointerOperator.TheVariants as pointers
-use Rattle.cyc_types.specs.TypedTrees.{Counter, Load, Lvalue, Local, Global, Expression, Number, NullPointer, Copy, Binary, Convert, Arguments, NoArguments, MoreArguments, Operations, NoOperations, ThenCompute, Move, Peek, HeapRegion, Unary}
+use Rattle.cyc_types.specs.TypedTrees.{Counter, Lvalue, Local, Global, Expression, Number, NullPointer, Copy, Convert, Operations, NoOperations, ThenCompute, Move, Peek, HeapRegion, Unary}
 use Rattle.cyc_types.specs.Numbered.{Numbering}
 use Rattle.cyc_plain.specs.declared.instruction.BinaryOperator.TheVariants as plain_binary
 use Rattle.cyc_plain.specs.declared.instruction.Comparison.{Comparison}
@@ -26,8 +26,8 @@ use Rattle.cyc_lower.specs.Slots.{Types, starts_of, slot_of, global_of}
 use Rattle.cyc_lower.specs.ValueCode.{converts_there, moved_by, move_of, operand_or, code_unless, slot_or, code_unless_slot, left_with, next_slot, check_code, conversion_code, divisor_code, checked_code, operator_code, is_in, pointer_operator, index_code, pointer_instructions, address_code, raising, blocks, guard_code, jump_if_zero, count_code, span_of, null_of, tested_code, widened_code, conversion_by, bounds_code, stepped_code, scaled_code, summed_code, bounded_code, past_bounded, thinned_code, reached_code, followed_code, word_by_word, load_word, store_word, global_code, keeps_words, last_byte_code, blank_code, load_of, masked_by, low_byte}
 use Rattle.cyc_lower.specs.ObjectCode.{most_elements, begun_code, filled_code, stores_code, cells_code, slots_of_kinds, object_code, free_code, saved_code, sized_code}
 use Rattle.cyc_lower.specs.ControlCode.{counter_operand}
-use Rattle.cyc_lower.specs.ExpressionCode.{source_of, source_slot, operand_of, left_of, value_slot, slot_with, left_slot, value_operand, converted_operand, load_code, expression_code, brought_code}
-use Rattle.cyc_lower.proofs.relation.Stands.{BegunAt, FilledAt, OperandBy, CheckAt, ConversionBy, ConversionAt, DivisorAt, CheckedAt, OperatorAt, LoadAt, CopyBy, ExpressionAt, InitialBy, ReturnedAt, FirstTwoAt, IndexAt, PointerAt, StoresAt, CellsAt, ObjectAt, AddressAt, GuardAt, FreedAt, CountAt, TestedAt, WidenedAt, LoadedBy, SavedAt, BoundsAt, SteppedAt, ScaledAt, SummedAt, ThinnedAt, ReachedAt, FollowedAt, EachAt, GlobalAt, SizedAt, LastByteAt, BlankAt, BroughtAt, BroughtBy}
+use Rattle.cyc_lower.specs.ExpressionCode.{source_of, source_slot, operand_of, left_of, value_slot, slot_with, left_slot, value_operand, converted_operand, load_code, expression_code, brought_code, is_simple}
+use Rattle.cyc_lower.proofs.relation.Stands.{BegunAt, FilledAt, OperandBy, CheckAt, ConversionBy, ConversionAt, DivisorAt, CheckedAt, OperatorAt, LoadAt, CopyBy, ExpressionAt, InitialBy, ReturnedAt, FirstTwoAt, IndexAt, PointerAt, StoresAt, CellsAt, ObjectAt, AddressAt, GuardAt, FreedAt, CountAt, TestedAt, WidenedAt, LoadedBy, SavedAt, BoundsAt, SteppedAt, ScaledAt, SummedAt, ThinnedAt, ReachedAt, FollowedAt, EachAt, GlobalAt, SizedAt, LastByteAt, BlankAt, BroughtAt, BroughtBy, LeftBy}
 use Rattle.cyc_lower.proofs.emission.Lengths.{past_long}
 use Rattle.cyc_lower.specs.Lowerable.{is_converted, is_pointer}
 use Rattle.cyc_lower.proofs.slots.Widths.{given, changes}
@@ -72,37 +72,33 @@ module _ (code : List Instruction) (b : Numbering) (types : Types) (raised : Blo
   returned_by (Some (operands.Word n)) computed x slot p q end has stands = (refl, stands end has)
   returned_by None computed x slot p q end has stands = (refl, stands end has)
 
-  -- a left operand is slot t where its right one has code
-  abbrev LeftBy : Option Operand → Type 0 → Type 0
-  LeftBy (Some o) in_slot = Unit {0}
-  LeftBy None in_slot = in_slot
-
-  pub right_by : (known : Option Operand) (in_slot computed : Type 0) (x : List Instruction) (slot p q : ℕ) → LeftBy known in_slot → p + length (code_unless known x) ≡ q → HasAt code p (code_unless known x)
-      → (p + length x ≡ q → HasAt code p x → computed) → OperandBy code b types known (in_slot × computed) slot (operand_or known slot) p q
-  right_by (Some o) in_slot computed x slot p q left end has stands = (refl, omega (arith, end))
-  right_by None in_slot computed x slot p q left end has stands = (refl, (left, stands end has))
+  -- the same beside a left operand
+  pub right_by : (known : Option Operand) (left computed : Type 0) (x : List Instruction) (slot p q : ℕ) → left → p + length (code_unless known x) ≡ q → HasAt code p (code_unless known x)
+      → (p + length x ≡ q → HasAt code p x → computed) → OperandBy code b types known (left × computed) slot (operand_or known slot) p q
+  right_by (Some o) left computed x slot p q there end has stands = (refl, omega (arith, end))
+  right_by None left computed x slot p q there end has stands = (refl, (there, stands end has))
 
   abbrev pub IsLeft : Operations → Operand → (d t : ℕ) → Type 0
   IsLeft NoOperations l d t = l ≡ operands.Slot d
-  IsLeft (ThenCompute o a os) l d t = LeftBy (operand_of (starts_of types) a) (l ≡ operands.Slot t)
+  IsLeft (ThenCompute o a os) l d t = LeftBy code b types (is_simple (starts_of types) a) (l ≡ operands.Slot t)
   IsLeft os l d t = l ≡ operands.Slot t
 
-  left_here : (known : Option Operand) (l : Operand) (t : ℕ) → l ≡ operands.Slot t → LeftBy known (l ≡ operands.Slot t)
-  left_here (Some o) l t is = tt
-  left_here None l t is = is
+  left_here : (simple : Bool) (l : Operand) (t : ℕ) → l ≡ operands.Slot t → LeftBy code b types simple (l ≡ operands.Slot t)
+  left_here true l t is = tt
+  left_here false l t is = is
 
-  pub left_first : (known : Option Operand) (a : Expression) (t : ℕ) → LeftBy known (operand_or (left_with known (operand_of (starts_of types) a)) (slot_with (starts_of types) known a t) ≡ operands.Slot t)
-  left_first (Some o) a t = tt
-  left_first None a t = refl
+  pub left_first : (simple : Bool) (a : Expression) (t : ℕ) → LeftBy code b types simple (operand_or (left_with simple (operand_of (starts_of types) a)) (slot_with (starts_of types) simple a t) ≡ operands.Slot t)
+  left_first true a t = tt
+  left_first false a t = refl
 
   pub next_left : (os : Operations) (d t : ℕ) → IsLeft os (operands.Slot (next_slot os d t)) d t
   next_left NoOperations d t = refl
-  next_left (ThenCompute o a os) d t = left_here (operand_of (starts_of types) a) (operands.Slot t) t refl
+  next_left (ThenCompute o a os) d t = left_here (is_simple (starts_of types) a) (operands.Slot t) t refl
   next_left os d t = refl
 
   pub first_left : (a : Expression) (os : Operations) (d t : ℕ) → IsLeft os (operand_or (left_of (starts_of types) a os) (left_slot (starts_of types) a os d t)) d t
   first_left a NoOperations d t = refl
-  first_left a (ThenCompute o c os) d t = left_first (operand_of (starts_of types) c) a t
+  first_left a (ThenCompute o c os) d t = left_first (is_simple (starts_of types) c) a t
   first_left a os d t = refl
 
   -- ---- expressions

@@ -4,7 +4,7 @@ use Rattle.cyc_types.specs.declared.typed.Kind.{Kind}
 use Rattle.cyc_types.specs.declared.typed.Kind.TheVariants as kinds
 use Rattle.cyc_types.specs.declared.typed.Callee.TheVariants as callees
 use Rattle.cyc_types.specs.declared.typed.UnaryOperator.TheVariants as unary
-use Rattle.cyc_types.specs.Types.{Ty, words_of}
+use Rattle.cyc_types.specs.Types.{Ty}
 use Rattle.cyc_types.specs.TypedTrees.{Lvalue, Local, Global, Expression, Call, Unary, Binary, Assign, Converted, Convert, NoOperations, ThenCompute, Statement, Block, Empty, Evaluate, If, While, Return, Break, Continue, Items, NoItems, MoreItems, Execute, Declare, Signature, Store, Side, VariableSide, CellSide, Swap, Throw, Try, Clauses, NoClauses, Default, Case, DeclareRegion, OpenRegion, DeclareAlias, DeclareKey}
 use Rattle.cyc_types.specs.Numbered.{Numbering, argument_count}
 use Rattle.cyc_plain.specs.declared.limits.TheConstants.{RECORD_WORDS}
@@ -19,13 +19,13 @@ use Rattle.cyc_lower.specs.Slots.{Types, starts_of, slot_of, global_of}
 use Rattle.cyc_lower.specs.ValueCode.{passed_words, move_of, operand_or, slot_or, code_unless_slot, left_with, conversion_code, failing_comparison, address_code, span_of, global_code, kind_passed}
 use Rattle.cyc_lower.specs.ObjectCode.{right_slot, saved_code, load_at}
 use Rattle.cyc_lower.specs.ControlCode.{compared_or, compared_of, failing_jump, holding_jump, break_target, continue_target, body_target, inside_loop, leave_code, other_jump, clause_code, kept_code, kept_code_in, restored_code, restored_code_in, behind_record, inside_try, closed_code, handlers_code, marks_code, try_code, opened_code, inside_region, dynamic_code}
-use Rattle.cyc_lower.specs.ExpressionCode.{source_of, operand_of, value_slot, slot_with, value_operand, converted_operand, printed_operand, expression_code, converted_operand_code, printed_code, place_operand, place_offset, place_code, brought_code}
+use Rattle.cyc_lower.specs.ExpressionCode.{source_of, operand_of, value_slot, slot_with, value_operand, converted_operand, printed_operand, expression_code, converted_operand_code, printed_code, place_operand, place_offset, place_code, brought_code, is_simple}
 use Rattle.cyc_lower.specs.Lowering.{assignment_code, assigned_operand, discarded_code, first_operand, first_code, second_code, pair_code, condition_code, condition_of, return_code, declaration_code, statement_code, items_code, results_of, side_code, read_side, write_side, exchange_code, swap_code, thrown_code, thrown_operand, caught_code, clauses_code}
 use Rattle.cyc_lower.specs.declared.statements.Exits.{Exits}
 use Rattle.cyc_lower.specs.declared.statements.Opened.{Opened}
-use Rattle.cyc_lower.proofs.relation.Stands.{PairAt, ConditionAt, AssignmentAt, DiscardedAt, ReturnAt, DeclarationAt, StatementAt, ItemsAt, HasSide, SideAt, ReadAt, WriteAt, SwapAt, LeaveAt, ThrownAt, CaughtAt, ClausesAt, ExchangeAt, ClosedAt, HandlersAt, MarksAt, KeptAt, RestoredAt, OpenedAt}
+use Rattle.cyc_lower.proofs.relation.Stands.{PairAt, ConditionAt, AssignmentAt, DiscardedAt, ReturnAt, DeclarationAt, StatementAt, ItemsAt, HasSide, SideAt, ReadAt, WriteAt, SwapAt, LeaveAt, ThrownAt, CaughtAt, ClausesAt, ExchangeAt, ClosedAt, HandlersAt, MarksAt, KeptAt, RestoredAt, OpenedAt, LeftBy}
 use Rattle.cyc_types.specs.typing.Expressions.{type_of_side}
-use Rattle.cyc_lower.proofs.slots.Widths.{kind_of_result, passed_kind, type_words, HasRoom, HasLocal}
+use Rattle.cyc_lower.proofs.slots.Widths.{kind_of_result, passed_kind, type_words, HasLocal}
 use Rattle.cyc_lower.proofs.relation.Fitting.{FitsPlace, Fits, FitsConverted, FitsReturn, FitsInitial, FitsStatement, FitItems, FitsSide, FitsThrown, FitsCaught, FitClauses}
 use Rattle.cyc_lower.proofs.place_steps.Sources.{stored_apart}
 use Rattle.cyc_lower.proofs.emission.OperandBridge.{cut, BlocksStand, operand_by, returned_by, right_by, left_first, returned_brought, conversion_stands, each_stands, global_stands, load_stands, stores_stand, saved_stands, address_stands, blank_stands}
@@ -81,13 +81,13 @@ module _ (code : List Instruction) (b : Numbering) (types : Types) (raised : Blo
   pair_stands : (a c : Expression) (t p q : ℕ) → Fits b types a → Fits b types c → p + length (pair_code (starts_of types) a c p t) ≡ q → HasAt code p (pair_code (starts_of types) a c p t)
       → PairAt code b types a c (first_operand (starts_of types) a c t) (value_operand (starts_of types) c (suc t)) t p q
   pair_stands a c t p q numbered_a numbered_c end has =
-      let slot = slot_with (starts_of types) (operand_of (starts_of types) c) a t in
+      let slot = slot_with (starts_of types) (is_simple (starts_of types) c) a t in
       let front = first_code (starts_of types) a c p t in
       let m = p + length front in
       let back = second_code (starts_of types) c m t in (
         m,
-        operand_by code b types raised (left_with (operand_of (starts_of types) c) (operand_of (starts_of types) a)) _ (expression_code (starts_of types) a p slot t) slot p m refl (has_front code p front back has) (λ e h. expression_stands code b types raised a slot t p m numbered_a e h),
-        right_by code b types raised (operand_of (starts_of types) c) (first_operand (starts_of types) a c t ≡ operands.Slot t) _ (expression_code (starts_of types) c m (value_slot (starts_of types) c (suc t)) (suc t)) (value_slot (starts_of types) c (suc t)) m q (left_first code b types raised (operand_of (starts_of types) c) a t)
+        operand_by code b types raised (left_with (is_simple (starts_of types) c) (operand_of (starts_of types) a)) _ (expression_code (starts_of types) a p slot t) slot p m refl (has_front code p front back has) (λ e h. expression_stands code b types raised a slot t p m numbered_a e h),
+        right_by code b types raised (operand_of (starts_of types) c) (LeftBy code b types (is_simple (starts_of types) c) (first_operand (starts_of types) a c t ≡ operands.Slot t)) _ (expression_code (starts_of types) c m (value_slot (starts_of types) c (suc t)) (suc t)) (value_slot (starts_of types) c (suc t)) m q (left_first code b types raised (is_simple (starts_of types) c) a t)
             (cut p q front back end) (has_back code p front back has) (λ e h. expression_stands code b types raised c (value_slot (starts_of types) c (suc t)) (suc t) m q numbered_c e h),
       )
 

@@ -40,7 +40,7 @@ use Rattle.cyc_lower.proofs.slots.CellBytes.{wide_cell}
 use Rattle.cyc_lower.proofs.relation.Moves.{put_elsewhere}
 use Rattle.cyc_lower.proofs.relation.Stands.{BoundsAt, SteppedAt, ReachedBy, ReachedAt, FollowedAt, ValueAt}
 use Rattle.cyc_lower.proofs.relation.HeldValues.{IsIn, IsLow, Holds, held, IsParts}
-use Rattle.cyc_lower.proofs.relation.Relation.{types_at, types_on, floor, as_operand, DataIn, SharedAt, ValueStack, PlaceStack, Matches, code_of, bounds_at, top, ReadyAt, with_left, as_right}
+use Rattle.cyc_lower.proofs.relation.Relation.{types_at, types_on, floor, as_operand, DataIn, SharedAt, ValueStack, PlaceStack, Matches, code_of, bounds_at, top, ReadyAt, as_right, in_parts}
 use Rattle.cyc_lower.proofs.relation.Data.{Is-same, height-least, Holds-same, data_written, in_words}
 use Rattle.cyc_lower.proofs.relation.Accesses.{IsWell, is_fitting}
 use Rattle.cyc_lower.proofs.place_steps.PlaceWords.{narrow_element, byte_element, wide_element, stays}
@@ -479,11 +479,22 @@ module _ (source : Program) (pages calls : ℕ) where
             (subst (IsIn shared.tables base c.active.slots) there is, holds) (q, sum, reached, place),
       )
       (omega arith)
-  indexes_pointer peek target i base o k e w c well shared facts is holds (inr (n, x, q, there, low, known, sum, reached, place)) =
+  indexes_pointer peek target i base o k e w c well shared facts is holds (inr (n, x, m, q, there, low, simple, at_i, sum, reached, place)) =
+      let g = c.active.function in
       let goes = Running (Evaluating i) (Needs (Advance peek target base) ∷ k) e w in
       let fits = is_fitting (is_kind base.kind kinds.Fat) goes w well in
-      silently source pages calls (Running (Given base) (Needs (Index peek target i) ∷ k) e w) goes (plain.Running c) (ap (λ (b : Bool). if b then goes else wrong w) fits)
-      (shared, facts, as_right (n, x, q, known, subst (IsIn shared.tables base c.active.slots) there is, low, holds, (sum, reached, place)))
+      let fat : base.kind ≡ kinds.Fat = same_kind base.kind kinds.Fat fits in
+      silently source pages calls (Running (Given base) (Needs (Index peek target i) ∷ k) e w) goes (plain.Running c) (ap (λ (b : Bool). if b then goes else wrong w) fits) (
+        shared,
+        facts,
+        as_right (
+          x,
+          m,
+          simple,
+          subst (λ j. ValueAt (code_of source g) (bounds_at source g) (types_on source g k) i (top source g k + j) x c.active.next m) (sym (ap words_of_kind fat)) at_i,
+          (n, q, subst (IsIn shared.tables base c.active.slots) there is, low, holds, (sum, reached, place)),
+        ),
+      )
       (omega arith)
 
   -- the pointer moves by the index, and then the access is made: only the third of its words is another, in a temporary
@@ -491,7 +502,7 @@ module _ (source : Program) (pages calls : ℕ) where
       → IsWell (step source (Running (Given (record { kind = j; value = x })) (Needs (Advance peek target base) ∷ k) e w)) → (shared : SharedAt source pages calls k e w c) → DataIn source shared.tables c.active.slots k e w c
       → ReadyAt source shared.tables (record { kind = j; value = x }) e.locals c.active.function c.active.next c.active.slots c.frames (Needs (Advance peek target base) ∷ k)
       → IsMatched source pages calls (Running (Given (record { kind = j; value = x })) (Needs (Advance peek target base) ∷ k) e w) (plain.Running c)
-  advances_pointer peek target base j (Int i) k e w c well shared facts (n, o, q, is, is_base, low, holds, (sum, reached, place)) =
+  advances_pointer peek target base j (Int i) k e w c well shared facts (o, is, (n, q, is_base, low, holds, (sum, reached, place))) =
       let g = c.active.function in
       let slots = c.active.slots in
       let t = top source g k in
@@ -509,7 +520,7 @@ module _ (source : Program) (pages calls : ℕ) where
       by_one source pages calls (ap (λ (r : Result). computed kinds.Fat r waiting e w) result.gives) shared sum
       (λ choice. subst (λ (y : ℕ). Matches source pages calls (Running (Given v) waiting e w) (plain.Running (advanced (with_slots c (put slots (t + 2) (add_of (slots (n + 2)) y)))))) (sym word) (
         shared,
-        with_left
+        in_parts
             (data_written source shared.tables g c.active.base w.objects e.locals k slots after c.active.handlers c.globals c.frames t 3 (height-least (floor source g k) (held k)) elsewhere_same facts) (
               n,
               t + 2,

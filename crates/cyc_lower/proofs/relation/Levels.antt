@@ -41,9 +41,9 @@ module _ (source : Program) where
         by_lands source lands (λ stack. value_arrays g locals (unary_kind u) (operands.Slot d) (p + 1) frames k stack) (λ stack. ahead_arrays g locals (unary_kind u) d (p + 1) frames k stack)
     value_arrays g locals kind o p frames (Needs (Operate u) ∷ k) (to_jump (is, stack)) = condition_arrays g comparisons.NotEqual o (operands.Word 0) p frames k stack
     value_arrays g locals kind o p frames (Needs (Chain NoOperations) ∷ k) stack = value_arrays g locals kind o p frames k stack
-    value_arrays g locals kind o p frames (Needs (Chain os) ∷ k) (to_slot (d, q, at, lands)) =
+    value_arrays g locals kind o p frames (Needs (Chain os) ∷ k) (low, to_slot (d, q, at, lands)) =
         by_lands source lands (λ stack. value_arrays g locals (chain_kind kind os) (operands.Slot d) q frames k stack) (λ stack. ahead_arrays g locals (chain_kind kind os) d q frames k stack)
-    value_arrays g locals kind o p frames (Needs (Chain os) ∷ k) (to_jump (failing, r, q, at, stack)) = condition_arrays g failing o r q frames k stack
+    value_arrays g locals kind o p frames (Needs (Chain os) ∷ k) (low, to_jump (failing, r, q, at, stack)) = condition_arrays g failing o r q frames k stack
     value_arrays g locals kind o p frames (Needs (Apply u left) ∷ k) (to_slot (d, q, at, lands)) =
         by_lands source lands (λ stack. value_arrays g locals kinds.Int (operands.Slot d) q frames k stack) (λ stack. ahead_arrays g locals kinds.Int d q frames k stack)
     value_arrays g locals kind o p frames (Needs (Apply u left) ∷ k) (to_jump (failing, is, stack)) = condition_arrays g failing (operands.Slot (top source g k)) o p frames k stack
@@ -84,7 +84,7 @@ module _ (source : Program) where
     value_arrays g locals kind o p frames (Needs (Follow pointer target) ∷ k) (q, low, at, place) = place_arrays g locals (followed_operand (is_thin pointer) (option_map bytes_of_kind target) o (top source g k)) 0 q frames k place
     value_arrays g locals kind o p frames (Needs (Index peek target i) ∷ k) (inl (x, m, q, there, at, sum, reached, place)) =
         place_arrays g locals (reached_operand (option_map bytes_of_kind target) (top source g k) (top source g k)) 0 q frames k place
-    value_arrays g locals kind o p frames (Needs (Index peek target i) ∷ k) (inr (n, x, q, there, low, known, sum, reached, place)) =
+    value_arrays g locals kind o p frames (Needs (Index peek target i) ∷ k) (inr (n, x, m, q, there, low, simple, at, sum, reached, place)) =
         place_arrays g locals (reached_operand (option_map bytes_of_kind target) n (top source g k)) 0 q frames k place
     value_arrays g locals kind o p frames (Needs (Advance peek target pointer) ∷ k) (q, sum, reached, place) =
         place_arrays g locals (reached_operand (option_map bytes_of_kind target) (top source g k) (top source g k)) 0 q frames k place

@@ -125,10 +125,10 @@ module _ (source : Program) where
     value_moves g locals kind o p frames others like (Needs (Operate u) ∷ k) (to_jump (is, stack)) =
         to_jump (is, condition_moves g comparisons.NotEqual o (operands.Word 0) p frames others like k stack)
     value_moves g locals kind o p frames others like (Needs (Chain NoOperations) ∷ k) stack = value_moves g locals kind o p frames others like k stack
-    value_moves g locals kind o p frames others like (Needs (Chain os) ∷ k) (to_slot (d, q, at, lands)) =
-        to_slot (d, q, at, lands_move (λ stack. value_moves g locals (chain_kind kind os) (operands.Slot d) q frames others like k stack) (λ stack. ahead_moves g locals (chain_kind kind os) d q frames others like k stack) lands)
-    value_moves g locals kind o p frames others like (Needs (Chain os) ∷ k) (to_jump (failing, r, q, at, stack)) =
-        to_jump (failing, r, q, at, condition_moves g failing o r q frames others like k stack)
+    value_moves g locals kind o p frames others like (Needs (Chain os) ∷ k) (low, to_slot (d, q, at, lands)) =
+        (low, to_slot (d, q, at, lands_move (λ stack. value_moves g locals (chain_kind kind os) (operands.Slot d) q frames others like k stack) (λ stack. ahead_moves g locals (chain_kind kind os) d q frames others like k stack) lands))
+    value_moves g locals kind o p frames others like (Needs (Chain os) ∷ k) (low, to_jump (failing, r, q, at, stack)) =
+        (low, to_jump (failing, r, q, at, condition_moves g failing o r q frames others like k stack))
     value_moves g locals kind o p frames others like (Needs (Apply u left) ∷ k) (to_slot (d, q, at, lands)) =
         to_slot (d, q, at, lands_move (λ stack. value_moves g locals kinds.Int (operands.Slot d) q frames others like k stack) (λ stack. ahead_moves g locals kinds.Int d q frames others like k stack) lands)
     value_moves g locals kind o p frames others like (Needs (Apply u left) ∷ k) (to_jump (failing, is, stack)) =
@@ -172,8 +172,8 @@ module _ (source : Program) where
         (q, low, at, place_moves g locals (followed_operand (is_thin pointer) (option_map bytes_of_kind target) o (top source g k)) 0 q frames others like k place)
     value_moves g locals kind o p frames others like (Needs (Index peek target i) ∷ k) (inl (x, m, q, there, at, sum, reached, place)) =
         inl (x, m, q, there, at, sum, reached, place_moves g locals (reached_operand (option_map bytes_of_kind target) (top source g k) (top source g k)) 0 q frames others like k place)
-    value_moves g locals kind o p frames others like (Needs (Index peek target i) ∷ k) (inr (n, x, q, there, low, known, sum, reached, place)) =
-        inr (n, x, q, there, low, known, sum, reached, place_moves g locals (reached_operand (option_map bytes_of_kind target) n (top source g k)) 0 q frames others like k place)
+    value_moves g locals kind o p frames others like (Needs (Index peek target i) ∷ k) (inr (n, x, m, q, there, low, simple, at, sum, reached, place)) =
+        inr (n, x, m, q, there, low, simple, at, sum, reached, place_moves g locals (reached_operand (option_map bytes_of_kind target) n (top source g k)) 0 q frames others like k place)
     value_moves g locals kind o p frames others like (Needs (Advance peek target pointer) ∷ k) (q, sum, reached, place) =
         (q, sum, reached, place_moves g locals (reached_operand (option_map bytes_of_kind target) (top source g k) (top source g k)) 0 q frames others like k place)
     value_moves g locals kind o p frames others like (Needs (FollowMember pointer fields field) ∷ k) (c, q, thin, check, inside, is, place) =

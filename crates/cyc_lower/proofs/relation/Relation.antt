@@ -33,7 +33,7 @@ use Rattle.cyc_plain.specs.State.{Words, Activation, Frame, Configuration}
 use Rattle.cyc_plain.specs.Step.{operand_word, throws}
 use Rattle.cyc_plain.specs.State as plain
 use Rattle.cyc_plain.specs.Straight.{At}
-use Rattle.cyc_meaning.specs.Values.{Fat, Value, Thin, Handle, Operand as Kinded, kinds_of, words_of_kind, bytes_of_kind, is_thin, Int, words_for}
+use Rattle.cyc_meaning.specs.Values.{Fat, Value, Thin, Operand as Kinded, kinds_of, words_of_kind, bytes_of_kind, is_thin, words_for}
 use Rattle.cyc_meaning.specs.Allocation.{writes_from, blanks_of}
 use Rattle.cyc_meaning.specs.State.{Object, World, globals_number, Environment, ConvertTo, Operate, Chain, Apply, ApplyPointer, Follow, LoadFrom, Decide, Store, Pass, PlaceBy, BesideHandle, MakePlain, MakeFields, MakeArray, FillElement, Initialise, Choose, Test, Return, Entry, Needs, NeedsPlace, Discard, Rest, Join, Loop, CloseRegion, CloseLexical, EndLoan, Handler, Caller, Main, calls_in, Focus, Evaluating, Locating, Given, Executing, Proceeding, Calling, Entering, Binding, Writing, Beginning, Repeating, Breaking, Continuing, Returning, Throwing, State, Running, Ended, GivenPlace, FollowMember, TakeAddress, StoreTo, StoreCell, FreeObject, CloseByKey, SwapLeft, SwapRight, Write, Swapping, ThrowWith, Naming, Catching, CountElements, Index, Advance, OpenBy, AliasOf}
 use Rattle.cyc_meaning.specs.Step.{object_of}
@@ -46,11 +46,11 @@ use Rattle.cyc_lower.specs.Slots.{Types, Starts, starts_of, slot_of, global_of, 
 use Rattle.cyc_lower.specs.ValueCode.{failing_comparison, move_of, low_byte, masks, converts_there, all_passed, kinds_passed, slot_types, followed_operand, reached_operand, unary_instruction}
 use Rattle.cyc_lower.specs.ObjectCode.{right_slot}
 use Rattle.cyc_lower.specs.ControlCode.{opposite, compared_of, break_target, continue_target, body_target, outside_loops, tag_operand, nothing_opened, with_handler, with_mark, inside_try, inside_region}
-use Rattle.cyc_lower.specs.ExpressionCode.{operand_of}
+use Rattle.cyc_lower.specs.ExpressionCode.{are_simple, is_simple}
 use Rattle.cyc_lower.specs.Lowering.{results_of, lower_program, raises_of, globals_of, scopes_of}
 use Rattle.cyc_lower.proofs.slots.Widths.{kind_of_result, given, called_kind, HasRoom, Outside, chain_kind, HasGlobal, made_kind, HasLocal, kind_in}
 use Rattle.cyc_lower.proofs.relation.Stands.{BegunAt, ElementsAt, CheckAt, ConversionAt, PlaceAt, OperatorAt, TruthAt, CopyAt, ExpressionAt, ArgumentsAt, OperationsAt, ValueAt, ConditionAt, HoldingAt, ComparesAt, DiscardedAt, StatementAt, ItemsAt, PointerAt, CellsAt, ObjectAt, AddressAt, ConvertedOperandAt, FreedAt, HasSide, SideAt, ReadAt, WriteAt, ExchangeAt, LeaveAt, ClausesAt, CountAt, SavedAt, LoadedAt, FollowedAt, ReachedAt, GlobalAt, ClosedAt, MarksAt, RestoredAt, MadeAt, NamedAt}
-use Rattle.cyc_lower.proofs.relation.HeldValues.{IsIn, IsLow, IsParts, words_held, height, Holds, HoldsFrom, held, kept, counters_of, AreCounted, IsHandleOf, IsObject, contents, CallSlots, LocalsHold, GlobalsHold, behind_records, scopes_in, MayBeOpen, Waiting, callers, Newest, IsIntact, IsKept, left_by, handling, homes}
+use Rattle.cyc_lower.proofs.relation.HeldValues.{IsIn, IsLow, IsParts, words_held, height, Holds, HoldsFrom, held, kept, counters_of, AreCounted, IsHandleOf, IsObject, CallSlots, LocalsHold, GlobalsHold, behind_records, scopes_in, MayBeOpen, Waiting, callers, Newest, IsIntact, IsKept, left_by, handling, homes}
 
 -- ---- what is shared
 
@@ -322,7 +322,8 @@ module _ (source : Program) where
         ((operator ≡ unary.Not) × ConditionStack g comparisons.NotEqual o (operands.Word 0) p frames k)
     ValueStack g locals kind o p frames (Needs (Chain NoOperations) ∷ k) = ValueStack g locals kind o p frames k
     ValueStack g locals kind o p frames (Needs (Chain operations) ∷ k) =
-        Yields ((d : ℕ) × (q : ℕ) × OperationsAt (code_of g) (bounds_at g) (types_on g k) operations o d (top g k) p q
+        IsLow o (top g k)
+        × Yields ((d : ℕ) × (q : ℕ) × OperationsAt (code_of g) (bounds_at g) (types_on g k) operations o d (top g k) p q
         × Lands (base_of g) (top g k) d (words_of_kind (chain_kind kind operations)) (ValueStack g locals (chain_kind kind operations) (operands.Slot d) q frames k) (AheadStack g locals (chain_kind kind operations) d q frames k))
         ((failing : Comparison) × (r : Operand) × (q : ℕ) × ComparesAt (code_of g) (bounds_at g) (types_on g k) operations failing o r (top g k) p q × ConditionStack g failing o r q frames k)
     ValueStack g locals kind o p frames (Needs (Apply operator left) ∷ k) =
@@ -408,9 +409,10 @@ module _ (source : Program) where
         × At (code_of g) m (instructions.Binary plain_binary.Add (top g k + 2) (operands.Slot (top g k + 2)) x)
         × ReachedAt (code_of g) (bounds_at g) (types_on g k) (option_map bytes_of_kind target) (top g k) (top g k + 2) (top g k) (m + 1) q
         × PlaceStack g locals (reached_operand (option_map bytes_of_kind target) (top g k) (top g k)) 0 q frames k)
-        ⊎ ((n : ℕ) × (x : Operand) × (q : ℕ) × (o ≡ operands.Slot n) × (n ≤ top g k) × (operand_of (starts_on g k) index ≡ Some x)
-        × At (code_of g) p (instructions.Binary plain_binary.Add (top g k + 2) (operands.Slot (n + 2)) x)
-        × ReachedAt (code_of g) (bounds_at g) (types_on g k) (option_map bytes_of_kind target) n (top g k + 2) (top g k) (p + 1) q
+        ⊎ ((n : ℕ) × (x : Operand) × (m : ℕ) × (q : ℕ) × (o ≡ operands.Slot n) × (n ≤ top g k) × (is_simple (starts_on g k) index ≡ true)
+        × ValueAt (code_of g) (bounds_at g) (types_on g k) index (top g k + 3) x p m
+        × At (code_of g) m (instructions.Binary plain_binary.Add (top g k + 2) (operands.Slot (n + 2)) x)
+        × ReachedAt (code_of g) (bounds_at g) (types_on g k) (option_map bytes_of_kind target) n (top g k + 2) (top g k) (m + 1) q
         × PlaceStack g locals (reached_operand (option_map bytes_of_kind target) n (top g k)) 0 q frames k)
     ValueStack g locals kind o p frames (Needs (Advance peek target base) ∷ k) =
         (q : ℕ) × At (code_of g) p (instructions.Binary plain_binary.Add (top g k + 2) (operands.Slot (top g k + 2)) o)
@@ -532,31 +534,39 @@ module _ (source : Program) where
 
   -- ---- the focus
 
-  -- A right operand without code: the left one may be without code too, and both are read at once.
-  abbrev pub RightAt : Tables → Expression → (ℕ → Option ℕ) → (g p : ℕ) → Words → List Frame → List Entry → Type 0
-  RightAt t a locals g p slots frames (Needs (Apply operator left) ∷ k) =
-      (l : Operand) × (r : Operand) × (operand_of (starts_on g k) a ≡ Some r) × IsIn t left slots l × Holds t slots (floor g k) (held k)
-      × AppliedStack g locals operator l r p frames k
-  RightAt t a locals g p slots frames (Needs (Advance peek target base) ∷ k) =
-      (n : ℕ) × (x : Operand) × (q : ℕ) × (operand_of (starts_on g k) a ≡ Some x) × Is t base.kind base.value slots n × (n ≤ top g k) × Holds t slots (floor g k) (held k)
-      × AdvancesAt g locals (option_map bytes_of_kind target) n x p q frames k
-  RightAt t a locals g p slots frames (Needs (Operate unary.Widen) ∷ k) = RightAt t a locals g p slots frames k
-  RightAt t a locals g p slots frames k = ⊥
+  -- A right operand stands in an operand, and the left one where it was, which nothing between has changed. From here on stands what is
+  -- done with both, and with all that waits: a right operand may itself be the left one of the next operator, or the value of a chain.
+  abbrev pub BesideAt : Tables → (ℕ → Option ℕ) → (g : ℕ) → Operand → (p : ℕ) → Words → List Frame → List Entry → Type 0
+  BesideAt t locals g o p slots frames (Needs (Apply operator left) ∷ k) =
+      (l : Operand) × IsIn t left slots l × IsLow l (top g k)
+      × ((Holds t slots (floor g k) (held k) × AppliedStack g locals operator l o p frames k)
+      ⊎ ((q : ℕ) × OperatorAt (code_of g) (bounds_at g) (types_on g k) operator (top g k) l o p q × BesideAt t locals g (operands.Slot (top g k)) q slots frames k))
+  BesideAt t locals g o p slots frames (Needs (Advance peek target base) ∷ k) =
+      (n : ℕ) × (q : ℕ) × Is t base.kind base.value slots n × (n ≤ top g k) × Holds t slots (floor g k) (held k) × AdvancesAt g locals (option_map bytes_of_kind target) n o p q frames k
+  BesideAt t locals g o p slots frames (Needs (Chain operations) ∷ k) =
+      (q : ℕ) × IsLow o (top g k) × (are_simple (starts_on g k) operations ≡ true)
+      × OperationsAt (code_of g) (bounds_at g) (types_on g k) operations o (top g k) (top g k) p q × BesideAt t locals g (operands.Slot (top g k)) q slots frames k
+  BesideAt t locals g o p slots frames (Needs (Operate unary.Widen) ∷ k) = BesideAt t locals g o p slots frames k
+  BesideAt t locals g o p slots frames (Needs (Operate operator) ∷ k) =
+      At (code_of g) p (unary_instruction operator (top g k) o) × BesideAt t locals g (operands.Slot (top g k)) (p + 1) slots frames k
+  BesideAt t locals g o p slots frames k = ⊥
 
-  -- both operands are there
+  -- a right operand that is simple: its code stands here
+  abbrev pub RightAt : Tables → Expression → (ℕ → Option ℕ) → (g p : ℕ) → Words → List Frame → List Entry → Type 0
+  RightAt t a locals g p slots frames k =
+      (r : Operand) × (q : ℕ) × (is_simple (starts_on g k) a ≡ true) × ValueAt (code_of g) (bounds_at g) (types_on g k) a (top g k) r p q × BesideAt t locals g r q slots frames k
+
+  -- it is computed
   abbrev pub ReadyAt : Tables → Kinded → (ℕ → Option ℕ) → (g p : ℕ) → Words → List Frame → List Entry → Type 0
-  ReadyAt t v locals g p slots frames (Needs (Apply operator left) ∷ k) =
-      (l : Operand) × (r : Operand) × IsIn t left slots l × IsIn t v slots r × Holds t slots (floor g k) (held k)
-      × AppliedStack g locals operator l r p frames k
-  ReadyAt t v locals g p slots frames (Needs (Advance peek target base) ∷ k) =
-      (n : ℕ) × (x : Operand) × (q : ℕ) × IsIn t v slots x × Is t base.kind base.value slots n × (n ≤ top g k) × Holds t slots (floor g k) (held k)
-      × AdvancesAt g locals (option_map bytes_of_kind target) n x p q frames k
-  ReadyAt t v locals g p slots frames (Needs (Follow pointer target) ∷ k) =
+  ReadyAt t v locals g p slots frames k = (r : Operand) × IsIn t v slots r × BesideAt t locals g r p slots frames k
+
+  -- a fat pointer whose index is apart from its other words is followed
+  abbrev pub PartsAt : Tables → Kinded → (ℕ → Option ℕ) → (g p : ℕ) → Words → List Frame → List Entry → Type 0
+  PartsAt t v locals g p slots frames (Needs (Follow pointer target) ∷ k) =
       (n : ℕ) × (m : ℕ) × (q : ℕ) × (pointer ≡ kinds.Fat) × IsParts t v.value slots n m × ((n ≤ top g k) × (m < top g k + 3)) × Holds t slots (floor g k) (held k)
       × ReachedAt (code_of g) (bounds_at g) (types_on g k) (option_map bytes_of_kind target) n m (top g k) p q
       × PlaceStack g locals (reached_operand (option_map bytes_of_kind target) n (top g k)) 0 q frames k
-  ReadyAt t v locals g p slots frames (Needs (Operate unary.Widen) ∷ k) = (a : ℕ) → v.value ≡ Int a → ReadyAt t (record { kind = kinds.Int; value = Int a }) locals g p slots frames k
-  ReadyAt t v locals g p slots frames k = ⊥
+  PartsAt t v locals g p slots frames k = ⊥
 
   -- the code of an expression, by where its value is to be
   pub data EvaluatingAt (t : Tables) (a : Expression) (locals : ℕ → Option ℕ) (g p : ℕ) (slots : Words) (frames : List Frame) (k : List Entry) : Type 0 where
@@ -706,6 +716,7 @@ module _ (source : Program) where
         → is_zero v.value ≡ Some (compares failing (operand_word c.active.slots l) (operand_word c.active.slots r))
         → ConditionStack c.active.function failing l r c.active.next c.frames k → GivenAt t v k e w c
     with_left : DataIn t c.active.slots k e w c → ReadyAt t v e.locals c.active.function c.active.next c.active.slots c.frames k → GivenAt t v k e w c
+    in_parts : DataIn t c.active.slots k e w c → PartsAt t v e.locals c.active.function c.active.next c.active.slots c.frames k → GivenAt t v k e w c
 
   -- What goes on without a value: a statement, or what was called without one. Where a value is wanted, the source goes wrong next.
   pub data ProceedingAt (t : Tables) (k : List Entry) (e : Environment) (w : World) (c : Configuration) : Type 0 where

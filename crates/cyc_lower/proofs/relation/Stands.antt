@@ -34,7 +34,7 @@ use Rattle.cyc_lower.specs.Slots.{counted, Types, starts_of, slot_of, field_of, 
 use Rattle.cyc_lower.specs.ValueCode.{binary_operator, failing_comparison, left_with, next_slot, is_in, move_of, test_jump, converts_there, passed_words, all_passed, kinds_passed, low_byte, behind_left, pointer_operator, raising, jump_if_zero, span_of, span_in, followed_operand, scale_of, reached_operand, load_word, store_word, address_of_global, unary_instruction, keeps_words, masks, kind_passed, load_of, store_of}
 use Rattle.cyc_lower.specs.ObjectCode.{most_elements, slots_of_kinds, right_slot, load_at}
 use Rattle.cyc_lower.specs.ControlCode.{opposite, compared_of, break_target, continue_target, body_target, inside_loop, inside_try, behind_record_in, tag_operand, other_jump, goes_on, inside_region}
-use Rattle.cyc_lower.specs.ExpressionCode.{operand_of, source_of, source_slot, left_of, value_slot, slot_with, left_slot, pointer_of}
+use Rattle.cyc_lower.specs.ExpressionCode.{operand_of, source_of, source_slot, left_of, value_slot, slot_with, left_slot, pointer_of, is_simple}
 use Rattle.cyc_lower.specs.Lowering.{results_of}
 use Rattle.cyc_lower.proofs.slots.Widths.{kind_of_result, given, passed_kind, HasRoom, HasField, HasGlobal, words_in, HasLocal}
 use Rattle.cyc_types.specs.declared.typed.UnaryOperator.TheVariants as unary
@@ -104,6 +104,11 @@ module _ (code : List Instruction) (bounds : Numbering) (types : Types) where
   abbrev pub BroughtBy : (masking : Bool) → Option Operand → (computed : (r : ℕ) → Type 0) → (slot : ℕ) → (at_once : Type 0) → (d p q : ℕ) → Type 0
   BroughtBy masking known computed slot at_once d p q =
       EitherBy masking ((o : Operand) × (r : ℕ) × OperandBy known (computed r) slot o p r × At code r (low_byte o d) × (r + 1 ≡ q)) at_once
+
+  -- a left operand is in a slot where its right one is not simple
+  abbrev pub LeftBy : (simple : Bool) → (in_slot : Type 0) → Type 0
+  LeftBy true in_slot = Unit {0}
+  LeftBy false in_slot = in_slot
 
   -- a value that is only wanted in slots stands in those of a local, or comes to some
   abbrev pub ReturnedAt : Option Operand → (computed : Type 0) → (slot s : ℕ) → (p q : ℕ) → Type 0
@@ -402,7 +407,7 @@ module _ (code : List Instruction) (bounds : Numbering) where
     OperationsAt types NoOperations l d t p q = (l ≡ operands.Slot d) × (p ≡ q)
     OperationsAt types (ThenCompute o a os) l d t p q =
         (r : Operand) × (m : ℕ) × (s : ℕ)
-        × OperandBy code bounds types (operand_of (starts_of types) a) ((l ≡ operands.Slot t) × ExpressionAt types a (value_slot (starts_of types) a (suc t)) (suc t) p m) (value_slot (starts_of types) a (suc t)) r p m
+        × OperandBy code bounds types (operand_of (starts_of types) a) (LeftBy code bounds types (is_simple (starts_of types) a) (l ≡ operands.Slot t) × ExpressionAt types a (value_slot (starts_of types) a (suc t)) (suc t) p m) (value_slot (starts_of types) a (suc t)) r p m
         × OperatorAt code bounds types o (next_slot os d t) l r m s × OperationsAt types os (operands.Slot (next_slot os d t)) d t s q
     OperationsAt types (ThenTest o a os) l d t p q =
         (m : ℕ) × (r : ℕ) × (l ≡ operands.Slot t) × At code p (test_jump o t m) × ExpressionAt types a t t (p + 1) m × TruthAt code bounds types t (next_slot os d t) m r
@@ -440,11 +445,12 @@ module _ (code : List Instruction) (bounds : Numbering) (types : Types) where
 
   -- the second of two operands that are compared, where the first one is l
   abbrev pub SecondAt : Expression → (l r : Operand) → (t p q : ℕ) → Type 0
-  SecondAt a l r t p q = OperandBy code bounds types (operand_of (starts_of types) a) ((l ≡ operands.Slot t) × ExpressionAt code bounds types a (value_slot (starts_of types) a (suc t)) (suc t) p q) (value_slot (starts_of types) a (suc t)) r p q
+  SecondAt a l r t p q =
+      OperandBy code bounds types (operand_of (starts_of types) a) (LeftBy code bounds types (is_simple (starts_of types) a) (l ≡ operands.Slot t) × ExpressionAt code bounds types a (value_slot (starts_of types) a (suc t)) (suc t) p q) (value_slot (starts_of types) a (suc t)) r p q
 
   abbrev pub PairAt : (a b : Expression) → (l r : Operand) → (t p q : ℕ) → Type 0
   PairAt a b l r t p q =
-      (m : ℕ) × OperandBy code bounds types (left_with (operand_of (starts_of types) b) (operand_of (starts_of types) a)) (ExpressionAt code bounds types a (slot_with (starts_of types) (operand_of (starts_of types) b) a t) t p m) (slot_with (starts_of types) (operand_of (starts_of types) b) a t) l p m
+      (m : ℕ) × OperandBy code bounds types (left_with (is_simple (starts_of types) b) (operand_of (starts_of types) a)) (ExpressionAt code bounds types a (slot_with (starts_of types) (is_simple (starts_of types) b) a t) t p m) (slot_with (starts_of types) (is_simple (starts_of types) b) a t) l p m
       × SecondAt b l r t m q
 
   abbrev pub ConditionAt : Expression → (l r : Operand) → (t p q : ℕ) → Type 0

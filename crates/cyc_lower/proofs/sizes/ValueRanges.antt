@@ -1,5 +1,5 @@
 -- The code of values, pointers, places and objects names what is there.
-use Rattle.std.proofs.Common.{◌≡◌, ℕ, zero, suc, ◌+◌, ◌-◌, ◌≤◌, ◌<◌, Bool, true, false, List, [], ◌∷◌, ◌++◌, length, Option, None, Some, slice_get, refl, sym, ap, subst, ◌∙◌, arith, length-append, inl, inr}
+use Rattle.std.proofs.Common.{◌≡◌, ℕ, zero, suc, ◌+◌, ◌≤◌, ◌<◌, Bool, true, false, List, [], ◌∷◌, ◌++◌, length, Option, None, Some, slice_get, refl, sym, ap, subst, ◌∙◌, arith, length-append, inl, inr}
 use Rattle.std.specs.List.{AllByRecursion}
 use Rattle.cyc_types.specs.declared.typed.Kind.{Kind}
 use Rattle.cyc_types.specs.declared.typed.Kind.TheVariants as kinds
@@ -13,7 +13,7 @@ use Rattle.cyc_types.specs.declared.typed.UnaryOperator.TheVariants as unary
 use Rattle.cyc_types.specs.declared.typed.LogicalOperator.{LogicalOperator}
 use Rattle.cyc_types.specs.declared.typed.LogicalOperator.TheVariants as logical
 use Rattle.cyc_types.specs.Types.{Ty, words_of, ValueType}
-use Rattle.cyc_types.specs.TypedTrees.{Counter, Load, New, OnHeap, AsUnique, ByHandle, Plain, Fields, Array, Dereference, Target, Lvalue, Local, Global, Expression, Number, NullPointer, Copy, Call, Unary, Binary, Assign, Converted, Convert, Arguments, NoArguments, MoreArguments, Operations, NoOperations, ThenCompute, ThenTest, ThenPointer, type_of, Signature, Function, Move, Peek, ThenPointerPeek, AddressOfCell, Store, Member, FreeUnique, NumberOfElements, Element, HeapRegion, FreeKey, AddressOf}
+use Rattle.cyc_types.specs.TypedTrees.{Counter, Load, New, OnHeap, AsUnique, ByHandle, Plain, Fields, Array, Dereference, Target, Lvalue, Local, Global, Expression, Number, NullPointer, Copy, Call, Unary, Binary, Assign, Converted, Convert, Arguments, NoArguments, MoreArguments, Operations, NoOperations, ThenCompute, ThenTest, ThenPointer, type_of, Signature, Move, Peek, ThenPointerPeek, AddressOfCell, Store, Member, FreeUnique, NumberOfElements, Element, HeapRegion, FreeKey, AddressOf}
 use Rattle.cyc_types.specs.Numbered.{Numbering}
 use Rattle.cyc_plain.specs.declared.instruction.Comparison.{Comparison}
 use Rattle.cyc_plain.specs.declared.instruction.Comparison.TheVariants as comparisons
@@ -26,7 +26,6 @@ use Rattle.cyc_plain.specs.declared.instruction.Instruction.TheVariants as instr
 use Rattle.cyc_plain.specs.Program.{Routine, Program as PlainProgram}
 use Rattle.cyc_plain.specs.WellFormed.{IsOperand}
 use Rattle.std.specs.Prelude.{◌==◌, max, if◌then◌else◌, ◌⊎◌}
-use Rattle.std.proofs.lemmas.Bool.{eqb-true}
 use Rattle.cyc_words.proofs.Lists.{all_append}
 use Rattle.cyc_meaning.specs.Operators.{null_exception, division_by_zero, array_bounds, array_size}
 use Rattle.cyc_meaning.specs.Values.{kind_of, words_of_kind, begins, behind as cell_end, is_thin, is_kind, bytes_of_kind}
@@ -36,7 +35,7 @@ use Rattle.cyc_lower.specs.Slots.{starts_of, slot_of, Types, global_of}
 use Rattle.cyc_lower.specs.ValueCode.{converts_there, passed_words, moved_by, move_of, binary_operator, operand_or, code_unless, slot_or, code_unless_slot, left_with, next_slot, check_code, conversion_code, divisor_code, checked_code, operator_code, truth_code, test_code, copy_code, pointer_operator, left_kind, behind_left, pointer_code, index_code, pointer_instructions, address_code, addressed_by, guard_code, count_code, span_of, null_of, tested_code, widened_code, conversion_by, bounds_code, stepped_code, scaled_code, summed_code, bounded_code, thinned_code, reached_code, followed_code, followed_operand, span_in, reached_operand, word_by_word, load_word, store_word, global_code, keeps_words, scale_of, load_of, store_of, kind_passed, unary_instruction, last_byte_code, blank_code, masked_by, low_byte}
 use Rattle.cyc_lower.specs.ObjectCode.{stores_code, cells_code, slots_of_kinds, object_code, free_code, saved_code, measured_code, sized_code, asked_code, begun_code, filled_code, most_elements}
 use Rattle.cyc_lower.specs.ControlCode.{counter_operand}
-use Rattle.cyc_lower.specs.ExpressionCode.{source_of, source_slot, operand_of, left_of, value_slot, slot_with, left_slot, value_operand, converted_operand, printed_operand, load_code, expression_code, brought_code, converted_operand_code, place_operand, place_offset, place_code, pointer_slot}
+use Rattle.cyc_lower.specs.ExpressionCode.{source_of, source_slot, operand_of, left_of, value_slot, slot_with, left_slot, value_operand, converted_operand, printed_operand, load_code, expression_code, brought_code, converted_operand_code, place_operand, place_offset, place_code, pointer_slot, is_simple}
 use Rattle.cyc_lower.specs.Lowering.{results_of, store_address_code, store_code}
 use Rattle.cyc_lower.proofs.slots.Widths.{kind_positive, kind_few, type_words, result_kind, given, passed_kind, words_in, chain_kind, wide_kind, same_kind, more_words, HasGlobal, keeps_wide, changes_words}
 use Rattle.cyc_lower.proofs.relation.Fitting.{FitsPlace, FitsCell, Fits, FitsConverted, FitArguments, FitOperations}
@@ -254,13 +253,13 @@ module _ (program : PlainProgram) (r : Routine) (b : Numbering) (types : Types) 
   has_room (ThenPointer o a os) ty t left numbered some few = omega (arith, few, some)
   has_room (ThenPointerPeek n o a os) ty t left numbered some few = omega (arith, few, some)
 
-  pub slot_with_in : (known : Option Operand) (a : Expression) (t : ℕ) → Fits b types a → t + words_of_kind (kind_at a) ≤ r.slots → slot_with (starts_of types) known a t + words_of_kind (kind_at a) ≤ r.slots
-  slot_with_in (Some o) a t numbered few = slot_fits a t numbered few
-  slot_with_in None a t numbered few = few
+  pub slot_with_in : (simple : Bool) (a : Expression) (t : ℕ) → Fits b types a → t + words_of_kind (kind_at a) ≤ r.slots → slot_with (starts_of types) simple a t + words_of_kind (kind_at a) ≤ r.slots
+  slot_with_in true a t numbered few = slot_fits a t numbered few
+  slot_with_in false a t numbered few = few
 
-  pub left_with_in : (known : Option Operand) (a : Expression) (t : ℕ) → Fits b types a → t + words_of_kind (kind_at a) ≤ r.slots → IsOperand r (operand_or (left_with known (operand_of (starts_of types) a)) (slot_with (starts_of types) known a t))
-  left_with_in (Some o) a t numbered few = value_in a t numbered few
-  left_with_in None a t numbered few = omega (arith, few, kind_positive (kind_at a))
+  pub left_with_in : (simple : Bool) (a : Expression) (t : ℕ) → Fits b types a → t + words_of_kind (kind_at a) ≤ r.slots → IsOperand r (operand_or (left_with simple (operand_of (starts_of types) a)) (slot_with (starts_of types) simple a t))
+  left_with_in true a t numbered few = value_in a t numbered few
+  left_with_in false a t numbered few = omega (arith, few, kind_positive (kind_at a))
 
   -- and for what they begin with
   abbrev LeftRoom : Operations → Expression → ℕ → Type 0
@@ -274,13 +273,13 @@ module _ (program : PlainProgram) (r : Routine) (b : Numbering) (types : Types) 
   pub left_slot_in : (a : Expression) (os : Operations) (ty : Ty) (d t : ℕ) → Fits b types a → d + words_of_kind (kind_at (Binary a os ty)) ≤ r.slots → LeftRoom os a t
       → left_slot (starts_of types) a os d t + words_of_kind (kind_at a) ≤ r.slots
   left_slot_in a NoOperations ty d t numbered few room = few
-  left_slot_in a (ThenCompute o c os) ty d t numbered few room = slot_with_in (operand_of (starts_of types) c) a t numbered room
+  left_slot_in a (ThenCompute o c os) ty d t numbered few room = slot_with_in (is_simple (starts_of types) c) a t numbered room
   left_slot_in a os ty d t numbered few room = room
 
   pub left_in : (a : Expression) (os : Operations) (ty : Ty) (d t : ℕ) → Fits b types a → d + words_of_kind (kind_at (Binary a os ty)) ≤ r.slots → LeftRoom os a t
       → IsOperand r (operand_or (left_of (starts_of types) a os) (left_slot (starts_of types) a os d t))
   left_in a NoOperations ty d t numbered few room = omega (arith, few, kind_positive (kind_at a))
-  left_in a (ThenCompute o c os) ty d t numbered few room = left_with_in (operand_of (starts_of types) c) a t numbered room
+  left_in a (ThenCompute o c os) ty d t numbered few room = left_with_in (is_simple (starts_of types) c) a t numbered room
   left_in a os ty d t numbered few room = omega (arith, room, kind_positive (kind_at a))
 
   guard_in : (tag : ℕ) (failing : Comparison) (o m : Operand) → tag ≤ 4 → IsOperand r o → IsOperand r m → AreIn (guard_code (starts_of types) tag failing o m)
@@ -574,7 +573,7 @@ module _ (program : PlainProgram) (r : Routine) (b : Numbering) (types : Types) 
 
   -- a fat pointer whose index is computed has room where it stands
   pub pointer_room : (a i : Expression) (t : ℕ) → kind_at a ≡ kinds.Fat → Fits b types a → t + 3 ≤ r.slots → pointer_slot (starts_of types) a i t + 3 ≤ r.slots
-  pointer_room a i t fat numbered room = by (operand_of (starts_of types) i)
+  pointer_room a i t fat numbered room = by (is_simple (starts_of types) i)
     where
       inside : (known : Option Operand) → operand_of (starts_of types) a ≡ known → slot_or known t + 3 ≤ r.slots
       inside (Some (operands.Slot n)) is =
@@ -583,9 +582,9 @@ module _ (program : PlainProgram) (r : Routine) (b : Numbering) (types : Types) 
       inside (Some (operands.Word w)) is = room
       inside None is = room
 
-      by : (index : Option Operand) → slot_or (left_with index (operand_of (starts_of types) a)) t + 3 ≤ r.slots
-      by (Some o) = inside (operand_of (starts_of types) a) refl
-      by None = room
+      by : (simple : Bool) → slot_or (left_with simple (operand_of (starts_of types) a)) t + 3 ≤ r.slots
+      by true = inside (operand_of (starts_of types) a) refl
+      by false = room
 
   reached_operand_in : (span : Option ℕ) (n t : ℕ) → n < r.slots → t < r.slots → IsOperand r (reached_operand span n t)
   reached_operand_in None n t inside room = inside

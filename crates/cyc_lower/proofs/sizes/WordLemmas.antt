@@ -1,7 +1,7 @@
 -- A lowered program has words wherever its source has.
 use Rattle.cyc_types.specs.typing.Expressions.{type_of_side}
 use Rattle.std.proofs.Common.{◌≡◌, ℕ, zero, suc, ◌+◌, ◌*◌, ◌≤◌, max, Bool, true, false, List, [], ◌∷◌, ◌++◌, length, map, Option, None, Some, All, refl, arith, slice_get, ◌-◌}
-use Rattle.cyc_meaning.specs.Operators.{null_exception, division_by_zero, array_bounds, array_size}
+use Rattle.cyc_meaning.specs.Operators.{null_exception, division_by_zero, array_bounds}
 use Rattle.std.specs.List.{AllByRecursion}
 use Rattle.cyc_words.proofs.WordLemmas.{IsWord-add_of}
 use Rattle.cyc_words.specs.Word.{IsWord, add_of, mul_of}
@@ -38,9 +38,9 @@ use Rattle.cyc_meaning.specs.Values.{words_of_kind, bytes_of_kind, begins, behin
 use Rattle.cyc_lower.specs.ValueCode.{converts_there, passed_words, kinds_passed, converted_by, moved_by, move_of, operand_or, code_unless, slot_or, code_unless_slot, left_with, next_slot, check_code, conversion_code, divisor_code, checked_code, operator_code, truth_code, test_code, is_in, copy_code, failing_comparison, first_temporary, behind_left, pointer_code, index_of, first_two, pointer_instructions, address_code, addressed_by, guard_code, blocks, element_by, count_code, span_of, null_of, tested_code, widened_code, conversion_by, tested_by, bounds_code, stepped_code, scaled_code, summed_code, bounded_code, thinned_code, reached_code, followed_code, followed_operand, followed_by, span_in, reached_operand, word_by_word, load_word, store_word, global_code, keeps_words, scale_of, load_of, store_of, unary_instruction, last_byte_code, blank_code, kind_behind, kind_passed, variable_bytes, masks, masked_by, low_byte}
 use Rattle.cyc_lower.specs.ObjectCode.{begun_code, filled_code, ended_code, elements_code, stores_code, cells_code, slots_of_kinds, object_code, right_slot, saved_code, asked_code, load_at, measured_code, sized_code, most_elements}
 use Rattle.cyc_lower.specs.ControlCode.{counter_operand, compared_or, compared_of, outside_loops, inside_loop, leave_code, clause_code, opened_code, closed_code, named_code, dynamic_code, handlers_code, marks_code, kept_code, kept_code_in, restored_code, restored_code_in, behind_record, inside_try, inside_region}
-use Rattle.cyc_lower.specs.ExpressionCode.{source_of, source_slot, operand_of, left_of, value_slot, left_slot, value_operand, converted_operand, printed_operand, load_code, expression_code, arguments_code, converted_code, converted_operand_code, printed_code, initial_code, operations_code, slot_with, made_code, place_operand, place_offset, place_code, pointer_of, pointer_slot, brought_code}
+use Rattle.cyc_lower.specs.ExpressionCode.{source_of, source_slot, operand_of, left_of, value_slot, left_slot, value_operand, converted_operand, printed_operand, load_code, expression_code, arguments_code, converted_code, converted_operand_code, printed_code, initial_code, operations_code, slot_with, made_code, place_operand, place_offset, place_code, pointer_of, pointer_slot, brought_code, is_simple}
 use Rattle.cyc_lower.specs.Lowering.{assignment_code, discarded_code, first_code, second_code, pair_code, condition_code, condition_of, return_code, declaration_code, statement_code, items_code, initial_word, lower_function, lower_program, store_address_code, store_code, caught_code, clauses_code, function_code, side_code, read_side, write_side, exchange_code, swap_code, globals_of, lower_globals, starts_with, raises_of, scopes_of}
-use Rattle.cyc_lower.proofs.slots.Widths.{kind_few, type_words}
+use Rattle.cyc_lower.proofs.slots.Widths.{kind_few}
 use Rattle.cyc_lower.proofs.slots.CellBytes.{begins_within, behind_within, bytes_within, passed_slots}
 use Rattle.cyc_lower.specs.declared.statements.Opened.{Opened}
 use Rattle.cyc_lower.proofs.acceptance.LowerableLemmas.{all_few}
@@ -391,13 +391,13 @@ module _ (starts : Starts) where
   printed_word NoArguments o t words word = word
   printed_word (MoreArguments c cs) o t (first, rest) word = printed_word cs (converted_operand starts c t) t rest (converted_word c t first)
 
-  left_with_word : (known : Option Operand) (a : Expression) (slot : ℕ) → IsOfWords a → IsOfWord (operand_or (left_with known (operand_of starts a)) slot)
-  left_with_word (Some o) a slot words = known_word a slot words
-  left_with_word None a slot words = tt
+  left_with_word : (simple : Bool) (a : Expression) (slot : ℕ) → IsOfWords a → IsOfWord (operand_or (left_with simple (operand_of starts a)) slot)
+  left_with_word true a slot words = known_word a slot words
+  left_with_word false a slot words = tt
 
   left_word : (a : Expression) (os : Operations) (slot : ℕ) → IsOfWords a → IsOfWord (operand_or (left_of starts a os) slot)
   left_word a NoOperations slot words = tt
-  left_word a (ThenCompute o b os) slot words = left_with_word (operand_of starts b) a slot words
+  left_word a (ThenCompute o b os) slot words = left_with_word (is_simple starts b) a slot words
   left_word a os slot words = tt
 
   place_word : (x : Dereference) (t : ℕ) → IsOfWordsCell x → IsOfWord (place_operand starts x t)
@@ -643,10 +643,10 @@ module _ (starts : Starts) where
   -- two operands that are compared
   pair_words : (a b : Expression) (p t : ℕ) → IsOfWords a → IsOfWords b → HaveWords (pair_code starts a b p t)
   pair_words a b p t first second =
-      let slot = slot_with starts (operand_of starts b) a t in
+      let slot = slot_with starts (is_simple starts b) a t in
       let front = first_code starts a b p t in
       let q = p + length front in
-      append front (second_code starts b q t) (unless_words (left_with (operand_of starts b) (operand_of starts a)) (expression_code starts a p slot t) (expression_words starts a p slot t first))
+      append front (second_code starts b q t) (unless_words (left_with (is_simple starts b) (operand_of starts a)) (expression_code starts a p slot t) (expression_words starts a p slot t first))
       (unless_words (operand_of starts b) (expression_code starts b q (value_slot starts b (suc t)) (suc t)) (expression_words starts b q (value_slot starts b (suc t)) (suc t) second))
 
   condition_words : (a : Expression) (p t : ℕ) → IsOfWords a → HaveWords (condition_code starts a p t)
@@ -659,7 +659,7 @@ module _ (starts : Starts) where
       let (first, second) = compared_words a words in
       let left = (compared_of a).left in
       let right = (compared_of a).right in
-      (left_with_word starts (operand_of starts right) left (slot_with starts (operand_of starts right) left t) first, known_word starts right (value_slot starts right (suc t)) second)
+      (left_with_word starts (is_simple starts right) left (slot_with starts (is_simple starts right) left t) first, known_word starts right (value_slot starts right (suc t)) second)
 
   -- ---- regions
 

@@ -1,6 +1,6 @@
 -- The steps that begin an expression.
 use Rattle.std.proofs.Common.{◌≡◌, ℕ, ◌+◌, ◌≤◌, ◌<◌, Bool, true, false, List, [], ◌∷◌, ◌++◌, map, Option, None, Some, slice_get, refl, sym, ap, subst, ◌∙◌, arith, inl, inr, zero, suc, ◌-◌, ◌*◌, add-zero}
-use Rattle.std.specs.Prelude.{if◌then◌else◌, option_map}
+use Rattle.std.specs.Prelude.{if◌then◌else◌, option_map, is_some}
 use Rattle.std.proofs.lemmas.Bool.{eq-eqb}
 use Rattle.std.proofs.lemmas.List.{length-map}
 use Rattle.std.proofs.lemmas.Option.{same_Some, none-some}
@@ -25,14 +25,14 @@ use Rattle.cyc_plain.specs.State.{Words, put, Frame, Configuration}
 use Rattle.cyc_plain.specs.Straight.{At as CodeAt}
 use Rattle.cyc_plain.specs.Step.{Choice, with_slots, advanced, performed, at}
 use Rattle.cyc_plain.proofs.SlotLaws.{put-same}
-use Rattle.cyc_meaning.specs.Values.{Int, Null, Thin, Handle, Operand as Kinded, kind_of, words_of_kind, bytes_of_kind, is_thin, Value}
+use Rattle.cyc_meaning.specs.Values.{Int, Null, Thin, Handle, Operand as Kinded, kind_of, words_of_kind, bytes_of_kind, is_thin}
 use Rattle.cyc_store.specs.declared.range.TheConstants.{HEAP, UNIQUE}
 use Rattle.cyc_meaning.specs.SourceMachine.{status_in}
 use Rattle.cyc_meaning.specs.State.{status_of, InRegion, World, heap_number, Environment, ConvertTo, Operate, Chain, Apply, Store, Pass, PlaceBy, MakePlain, MakeFields, MakeArray, Choose, Test, Follow, LoadFrom, Entry, Needs, NeedsPlace, Discard, Focus, Evaluating, Locating, Given, Running, FollowMember, TakeAddress, StoreTo, Owner, Unique, FreeObject, CloseByKey, CountElements, Index, Advance}
 use Rattle.cyc_lower.proofs.relation.Counters.{CountersHold, counters_hold, counters_low}
 use Rattle.cyc_meaning.specs.Step.{counts, target_of, target_by, object_of, assigned, passes, step, loaded_from, addressed}
 use Rattle.cyc_meaning.specs.Allocation.{makes}
-use Rattle.cyc_lower.specs.Slots.{slot_of, field_in, global_of, Types, starts_of, global_types}
+use Rattle.cyc_lower.specs.Slots.{slot_of, field_in, global_of, Types, starts_of, global_types, Starts}
 use Rattle.cyc_meaning.specs.Places.{locates_member}
 use Rattle.cyc_lower.proofs.place_steps.PlaceWords.{field_bytes, add_is}
 use Rattle.cyc_lower.proofs.slots.Slots.{slot-room, slot-low, words-there, words_positive, kind-there}
@@ -40,14 +40,14 @@ use Rattle.cyc_lower.proofs.slots.Widths.{keeps_whole, kind_positive, type_words
 use Rattle.cyc_lower.proofs.relation.Moves.{moved_slots, moves, put_elsewhere, moved_elsewhere, moved_is}
 use Rattle.cyc_lower.specs.ValueCode.{failing_comparison, converts_there, masks, span_of, all_passed, kinds_passed, move_of, left_with, null_of, followed_operand, span_in, operand_or, reached_operand, load_word, address_of_global, keeps_words, variable_bytes}
 use Rattle.cyc_lower.specs.ControlCode.{counter_operand, compared_or, compared_of}
-use Rattle.cyc_lower.specs.ExpressionCode.{operand_of, value_slot, source_of, source_slot, slot_with, pointer_of}
+use Rattle.cyc_lower.specs.ExpressionCode.{operand_of, value_slot, source_of, source_slot, slot_with, pointer_of, is_simple, are_simple}
 use Rattle.cyc_lower.specs.Lowering.{lower_program}
 use Rattle.cyc_lower.proofs.relation.Weights.{weight, stack_weight, expression_weight, arguments_weight, object_weight}
-use Rattle.cyc_lower.proofs.relation.Stands.{CopyBy, CopyAt, OperandBy, InitialBy, BroughtAt, ConversionAt, ExpressionAt, ArgumentsAt, ObjectAt, MadeAt, ValueAt, PairAt, ConditionAt, AssignmentAt, PrintedAt, DiscardedAt, StoredAt, LoadedAt, ReturnedAt, ReachedAt, EachAt, LastByteAt}
+use Rattle.cyc_lower.proofs.relation.Stands.{CopyBy, CopyAt, OperandBy, InitialBy, BroughtAt, ConversionAt, ExpressionAt, ArgumentsAt, ObjectAt, MadeAt, ValueAt, PairAt, ConditionAt, AssignmentAt, PrintedAt, DiscardedAt, StoredAt, ReturnedAt, ReachedAt, EachAt, LastByteAt}
 use Rattle.cyc_objects.specs.Tables.{Tables}
 use Rattle.cyc_objects.specs.Words.{Is, Points}
 use Rattle.cyc_lower.proofs.relation.HeldValues.{counters_of, IsIn, words_held, height, Holds, held, kept, contents, IsHandleOf, IsLow, callers, AreCounted}
-use Rattle.cyc_lower.proofs.relation.Relation.{types_on, starts_on, types_at, starts_at, given_at, called_at, in_temporary, in_local, drops, leaves, copies, prints_only, gives_byte, DataIn, SharedAt, CallAt, to_slot, to_jump, ValueStack, PlaceStack, ConditionStack, DroppedStack, AheadStack, LandsStack, LandsMade, HandsOnStack, PrintsStack, RightAt, EvaluatingAt, as_operand, into_slot, for_effect, as_right, as_condition, in_operand, ahead, with_left, Related, Matches, code_of, bounds_at, top, floor, ReadyAt, base_of}
+use Rattle.cyc_lower.proofs.relation.Relation.{types_on, starts_on, types_at, starts_at, given_at, called_at, in_temporary, in_local, drops, leaves, copies, prints_only, gives_byte, DataIn, SharedAt, CallAt, to_slot, to_jump, ValueStack, PlaceStack, ConditionStack, DroppedStack, AheadStack, LandsStack, LandsMade, HandsOnStack, PrintsStack, RightAt, EvaluatingAt, as_operand, into_slot, for_effect, as_right, as_condition, in_operand, ahead, with_left, Related, Matches, code_of, bounds_at, top, floor, base_of, BesideAt}
 use Rattle.cyc_lower.proofs.object_steps.Handles.{kept_holds, kept_low}
 use Rattle.cyc_lower.proofs.relation.Data.{height-least, Holds-same, Holds-above, floor-least, data_written}
 use Rattle.cyc_types.specs.Numbered.{Numbering}
@@ -63,9 +63,9 @@ use Rattle.cyc_lower.proofs.relation.Rows.{local-points}
 use Rattle.cyc_plain.proofs.MemoryLaws.{pinned-at, pinned-inside, below-low, below-end}
 use Rattle.cyc_words.specs.Word.{add_of}
 use Rattle.cyc_meaning.specs.Operators.{unary_kind}
-use Rattle.cyc_lower.proofs.value_steps.ValueWords.{of_kind, int_of, int_in}
 use Rattle.cyc_objects.proofs.Pointers.{pointer-word}
 use Rattle.cyc_types.specs.declared.typed.UnaryOperator.{UnaryOperator}
+use Rattle.cyc_words.proofs.Booleans.{and_left, and_right}
 
 -- an object is found in the same way, wherever new variables live
 pub object_of_same : (l : Lvalue) (e : Environment) → object_of (record { locals = e.locals; home = 0; counters = λ level. None }) l ≡ object_of e l
@@ -440,20 +440,59 @@ module _ (source : Program) (pages calls : ℕ) where
       (passes_related f [] cs k e w c d m q (all_passed cs) shared facts at call (omega arith) holds lands)
       (omega (arith, passes_weight f [] cs k e w))
 
-  -- the first operand of a chain: it may be without code where the second is
-  chain_begins : (right : Option Operand) (a : Expression) (os : Operations) (t : Ty) (k : List Entry) (e : Environment) (w : World) (c : Configuration) (l : Operand) (m : ℕ) → At_step (Binary a os t) k e w c
-      → OperandBy (code_of source c.active.function) (bounds_at source c.active.function) (types_on source c.active.function k) (left_with right (operand_of (starts_on source c.active.function k) a))
-      (ExpressionAt (code_of source c.active.function) (bounds_at source c.active.function) (types_on source c.active.function k) a (slot_with (starts_on source c.active.function k) right a (top source c.active.function k)) (top source c.active.function k) c.active.next m)
-      (slot_with (starts_on source c.active.function k) right a (top source c.active.function k)) l c.active.next m
-      → ValueStack source c.active.function e.locals (given_at source c.active.function a) l m c.frames (Needs (Chain os) ∷ k) → IsBegun (Binary a os t) k e w c
-  chain_begins (Some r) a os t k e w c l m (well, shared, facts, holds, names) at stack =
-      silently source pages calls (Running (Evaluating (Binary a os t)) k e w) (Running (Evaluating a) (Needs (Chain os) ∷ k) e w) (plain.Running c) refl
-      (shared, facts, as_operand l m at holds stack)
-      (omega arith)
-  chain_begins None a os t k e w c l m (well, shared, facts, holds, names) (is, at) stack =
+  -- the operand of an expression is that of a local, or the next temporary
+  operand_is : (code : List Instruction) (b : Numbering) (types : Types) (a : Expression) (t p q : ℕ) (o : Operand) → ValueAt code b types a t o p q → o ≡ operand_or (operand_of (starts_of types) a) (value_slot (starts_of types) a t)
+  operand_is code b types a t p q o at = by (operand_of (starts_of types) a) at
+    where
+      by : (known : Option Operand) → OperandBy code b types known (ExpressionAt code b types a (value_slot (starts_of types) a t) t p q) (value_slot (starts_of types) a t) o p q → o ≡ operand_or known (value_slot (starts_of types) a t)
+      by (Some x) (is, end) = is
+      by None (is, computed) = is
+
+  operand_low : (types : Types) (a : Expression) (t : ℕ) (o : Operand) → words_of_all types.locals ≤ t → ((l slot : ℕ) → slice_get types.counters l ≡ Some slot → slot ≤ t) → o ≡ operand_or (operand_of (starts_of types) a) (value_slot (starts_of types) a t) → IsLow o t
+  operand_low types a t o few counters is = subst (λ x. IsLow x t) (sym is) (by a)
+    where
+      local_low : (n : ℕ) → slot_of (starts_of types) n ≤ t
+      local_low n = omega (arith, few, slot-low types n)
+
+      counter_low : (found : Option ℕ) → ((slot : ℕ) → found ≡ Some slot → slot ≤ t) → IsLow (operand_or (counter_operand found) t) t
+      counter_low None below = omega arith
+      counter_low (Some slot) below = below slot refl
+
+      by : (x : Expression) → IsLow (operand_or (operand_of (starts_of types) x) (value_slot (starts_of types) x t)) t
+      by (Number n) = tt
+      by typed.NullPointer = tt
+      by typed.HeapRegion = tt
+      by (Copy (Local p n) ty) = local_low n
+      by (typed.Move p n ty) = local_low n
+      by (typed.Peek p n ty) = local_low n
+      by (typed.Counter l) = counter_low (slice_get types.counters l) (counters l)
+      by (Assign (Local p n) c ty) = local_low n
+      by (Unary unary.Widen x) = by x
+      by x = omega arith
+
+  -- it is no higher than that temporary
+  low_here : (a : Expression) (k : List Entry) (c : Configuration) (o : Operand) (q : ℕ)
+      → ValueAt (code_of source c.active.function) (bounds_at source c.active.function) (types_on source c.active.function k) a (top source c.active.function k) o c.active.next q → IsLow o (top source c.active.function k)
+  low_here a k c o q at =
       let g = c.active.function in
+      operand_low (types_on source g k) a (top source g k) o (omega (arith, height-least (floor source g k) (held k), floor-least source g k)) (counters_low (floor source g k) k)
+      (operand_is (code_of source g) (bounds_at source g) (types_on source g k) a (top source g k) c.active.next q o at)
+
+  -- the first operand of a chain: it may be without code where the second is simple
+  chain_begins : (simple : Bool) (a : Expression) (os : Operations) (t : Ty) (k : List Entry) (e : Environment) (w : World) (c : Configuration) (l : Operand) (m : ℕ) → At_step (Binary a os t) k e w c
+      → OperandBy (code_of source c.active.function) (bounds_at source c.active.function) (types_on source c.active.function k) (left_with simple (operand_of (starts_on source c.active.function k) a))
+      (ExpressionAt (code_of source c.active.function) (bounds_at source c.active.function) (types_on source c.active.function k) a (slot_with (starts_on source c.active.function k) simple a (top source c.active.function k)) (top source c.active.function k) c.active.next m)
+      (slot_with (starts_on source c.active.function k) simple a (top source c.active.function k)) l c.active.next m
+      → (IsLow l (top source c.active.function k) → ValueStack source c.active.function e.locals (given_at source c.active.function a) l m c.frames (Needs (Chain os) ∷ k)) → IsBegun (Binary a os t) k e w c
+  chain_begins true a os t k e w c l m (well, shared, facts, holds, names) at stack =
       silently source pages calls (Running (Evaluating (Binary a os t)) k e w) (Running (Evaluating a) (Needs (Chain os) ∷ k) e w) (plain.Running c) refl
-      (shared, facts, into_slot (top source g k) m at holds (in_temporary (omega arith) (subst (λ x. ValueStack source g e.locals (given_at source g a) x m c.frames (Needs (Chain os) ∷ k)) is stack)))
+      (shared, facts, as_operand l m at holds (stack (low_here a k c l m at)))
+      (omega arith)
+  chain_begins false a os t k e w c l m (well, shared, facts, holds, names) (is, at) stack =
+      let g = c.active.function in
+      let low : IsLow l (top source g k) = subst (λ x. IsLow x (top source g k)) (sym is) (omega arith) in
+      silently source pages calls (Running (Evaluating (Binary a os t)) k e w) (Running (Evaluating a) (Needs (Chain os) ∷ k) e w) (plain.Running c) refl
+      (shared, facts, into_slot (top source g k) m at holds (in_temporary (omega arith) (subst (λ x. ValueStack source g e.locals (given_at source g a) x m c.frames (Needs (Chain os) ∷ k)) is (stack low))))
       (omega arith)
 
   -- the value of a local is moved
@@ -612,12 +651,12 @@ module _ (source : Program) (pages calls : ℕ) where
       (shared, facts, into_slot d m at_a holds (lands_at c.active.function e.locals (given_at source c.active.function a) d m q c.frames k end lands))
       (omega arith)
   comes (Binary a (ThenCompute o b os) t) k e w c d q known (l, m, at_a, at) lands =
-      chain_begins (operand_of (starts_on source c.active.function k) b) a (ThenCompute o b os) t k e w c l m known at_a (to_slot (d, q, at, lands))
+      chain_begins (is_simple (starts_on source c.active.function k) b) a (ThenCompute o b os) t k e w c l m known at_a (λ low. (low, to_slot (d, q, at, lands)))
   comes (Binary a (ThenTest o b os) t) k e w c d q known (l, m, at_a, at) lands =
-      chain_begins None a (ThenTest o b os) t k e w c l m known at_a (to_slot (d, q, at, lands))
-  comes (Binary a (ThenPointer o b os) t) k e w c d q known (l, m, at_a, at) lands = chain_begins None a (ThenPointer o b os) t k e w c l m known at_a (to_slot (d, q, at, lands))
+      chain_begins false a (ThenTest o b os) t k e w c l m known at_a (λ low. (low, to_slot (d, q, at, lands)))
+  comes (Binary a (ThenPointer o b os) t) k e w c d q known (l, m, at_a, at) lands = chain_begins false a (ThenPointer o b os) t k e w c l m known at_a (λ low. (low, to_slot (d, q, at, lands)))
   comes (Binary a (ThenPointerPeek n o b os) t) k e w c d q known (l, m, at_a, at) lands =
-      chain_begins None a (ThenPointerPeek n o b os) t k e w c l m known at_a (to_slot (d, q, at, lands))
+      chain_begins false a (ThenPointerPeek n o b os) t k e w c l m known at_a (λ low. (low, to_slot (d, q, at, lands)))
   comes (Assign (Local p n) (Convert from to a) t) k e w c d q known (o, m, at, copy) lands = assigns (Local p n) from to a t k e w c (object_of e (Local p n)) o m refl known at (copies d q copy lands)
   comes (Assign (Global n) (Convert from to a) t) k e w c d q known (o, m, at, copy) lands = assigns (Global n) from to a t k e w c (object_of e (Global n)) o m refl known at (copies d q copy lands)
   comes (typed.Load x) k e w c d q (well, shared, facts, holds, names) (o, offset, r, at, load) lands =
@@ -784,38 +823,112 @@ module _ (source : Program) (pages calls : ℕ) where
   for_its_effect (typed.Store x (Convert from to a) t) k e w c q known (o, at) stack = cell_begins x from to a t k e w c o q known at (drops stack)
   for_its_effect (typed.New x i t) k e w c q known (o, at) stack = in_top (typed.New x i t) k e w c o q known at (dropped_value c.active.function e.locals (given_at source c.active.function (typed.New x i t)) o q c.frames k stack)
 
-  -- a right operand that is a char, which serves as an int
-  widened_right : (t : Tables) (a : Expression) (locals : ℕ → Option ℕ) (g p : ℕ) (slots : Words) (frames : List Frame) (k : List Entry) → RightAt source t (Unary unary.Widen a) locals g p slots frames k
-      → RightAt source t a locals g p slots frames k
-  widened_right t a locals g p slots frames (Needs (Apply u left) ∷ k) right = right
-  widened_right t a locals g p slots frames (Needs (Advance peek target base) ∷ k) right = right
-  widened_right t a locals g p slots frames (Needs (Operate unary.Widen) ∷ k) right = widened_right t a locals g p slots frames k right
-  widened_right t a locals g p slots frames k right = absurd right
+  -- what has no code is simple
+  pub known_simple : (starts : Starts) (a : Expression) → is_some (operand_of starts a) ≡ true → is_simple starts a ≡ true
+  known_simple starts (Binary a os t) some = absurd (let f : false ≡ true = some in cc)
+  known_simple starts (Unary unary.Widen a) some = some
+  known_simple starts (Unary u a) some = absurd (let f : false ≡ true = some in cc)
+  known_simple starts a some = some
 
-  -- where its value is in the operand, both are there
-  ready_by : (t : Tables) (a : Expression) (k : List Entry) (e : Environment) (g p : ℕ) (slots : Words) (frames : List Frame) → AreCounted e.counters k → RightAt source t a e.locals g p slots frames k
-      → (r : Operand) × (operand_of (starts_on source g k) a ≡ Some r) × CountersHold e.counters slots (floor source g k) k × ((v : Kinded) → IsIn t v slots r → ReadyAt source t v e.locals g p slots frames k)
-  ready_by t a (Needs (Apply u left) ∷ k) e g p slots frames counted (l, r, known, is_left, holds, applied) =
-      (r, known, counters_hold t e.counters slots (floor source g k) k counted holds, λ v is. (l, r, is_left, is, holds, applied))
-  ready_by t a (Needs (Advance peek target base) ∷ k) e g p slots frames counted (n, x, q, known, is_base, low, holds, advances) =
-      (x, known, counters_hold t e.counters slots (floor source g k) k counted holds, λ v is. (n, x, q, is, is_base, low, holds, advances))
-  ready_by t a (Needs (Operate unary.Widen) ∷ k) e g p slots frames counted right =
-      let (r, known, counters, ready) = ready_by t a k e g p slots frames counted right in
-      (r, known, counters, λ v is b int. ready (int_of b) (int_in t v.kind b slots r (subst (λ (u : Value). IsIn t (of_kind v.kind u) slots r) int is)))
-  ready_by t a k e g p slots frames counted right = absurd right
+  -- an operand that has none
+  pub known_operand_is : (code : List Instruction) (b : Numbering) (types : Types) (known : Option Operand) (computed : Type 0) (slot : ℕ) (o : Operand) (p q : ℕ) → is_some known ≡ true
+      → OperandBy code b types known computed slot o p q → (known ≡ Some o) × (p ≡ q)
+  known_operand_is code b types (Some x) computed slot o p q some (is, end) = (ap Some (sym is), end)
+  known_operand_is code b types None computed slot o p q some at = absurd (let f : false ≡ true = some in cc)
 
-  -- a right operand without code, with the left one beside it
+  -- the counters of arrays stand in slots while a left operand waits where it was
+  counters_beside : (t : Tables) (e : Environment) (g : ℕ) (o : Operand) (p : ℕ) (slots : Words) (frames : List Frame) (k : List Entry) → AreCounted e.counters k → BesideAt source t e.locals g o p slots frames k
+      → CountersHold e.counters slots (floor source g k) k
+  counters_beside t e g o p slots frames (Needs (Apply u left) ∷ k) counted (l, is, low, inl (holds, applied)) = counters_hold t e.counters slots (floor source g k) k counted holds
+  counters_beside t e g o p slots frames (Needs (Apply u left) ∷ k) counted (l, is, low, inr (q, at, beside)) = counters_beside t e g (operands.Slot (top source g k)) q slots frames k counted beside
+  counters_beside t e g o p slots frames (Needs (Advance peek target base) ∷ k) counted (n, q, is, low, holds, advances) = counters_hold t e.counters slots (floor source g k) k counted holds
+  counters_beside t e g o p slots frames (Needs (Chain os) ∷ k) counted (q, low, simple, at, beside) = counters_beside t e g (operands.Slot (top source g k)) q slots frames k counted beside
+  counters_beside t e g o p slots frames (Needs (Operate unary.Widen) ∷ k) counted beside = counters_beside t e g o p slots frames k counted beside
+  counters_beside t e g o p slots frames (Needs (Operate u) ∷ k) counted (at, beside) = counters_beside t e g (operands.Slot (top source g k)) (p + 1) slots frames k counted beside
+  counters_beside t e g o p slots frames k counted beside = absurd beside
+
+  -- the first operand of a right one that is a chain is simple too
+  simple_begins : (u : Operator) (a b : Expression) (os : Operations) (ty : Ty) (k : List Entry) (e : Environment) (w : World) (c : Configuration) (r : Operand) (q : ℕ) (shared : SharedAt source pages calls k e w c) → DataIn source shared.tables c.active.slots k e w c
+      → is_simple (starts_on source c.active.function k) (Binary a (ThenCompute u b os) ty) ≡ true
+      → ValueAt (code_of source c.active.function) (bounds_at source c.active.function) (types_on source c.active.function k) (Binary a (ThenCompute u b os) ty) (top source c.active.function k) r c.active.next q
+      → BesideAt source shared.tables e.locals c.active.function r q c.active.slots c.frames k → IsBegun (Binary a (ThenCompute u b os) ty) k e w c
+  simple_begins u a b os ty k e w c r q shared facts simple (r_is, (l, m, at_a, at)) beside =
+      let g = c.active.function in
+      let starts = starts_on source g k in
+      let t = top source g k in
+      let first = and_left (is_simple starts a) (are_simple starts (ThenCompute u b os)) simple in
+      let rest = and_right (is_simple starts a) (are_simple starts (ThenCompute u b os)) simple in
+      let second = known_simple starts b (and_left (is_some (operand_of starts b)) (are_simple starts os) rest) in
+      let at_left : ValueAt (code_of source g) (bounds_at source g) (types_on source g k) a t l c.active.next m =
+      subst (λ (s : Bool). OperandBy (code_of source g) (bounds_at source g) (types_on source g k) (left_with s (operand_of starts a)) (ExpressionAt (code_of source g) (bounds_at source g) (types_on source g k) a (slot_with starts s a t) t c.active.next m) (slot_with starts s a t) l c.active.next m)
+      second at_a in
+      silently source pages calls (Running (Evaluating (Binary a (ThenCompute u b os) ty)) k e w) (Running (Evaluating a) (Needs (Chain (ThenCompute u b os)) ∷ k) e w) (plain.Running c) refl (
+        shared,
+        facts,
+        as_right (
+          l,
+          m,
+          first,
+          at_left,
+          (q, low_here a k c l m at_left, rest, at, subst (λ (x : Operand). BesideAt source shared.tables e.locals g x q c.active.slots c.frames k) r_is beside),
+        ),
+      )
+      (omega arith)
+
+  -- an operator of one operand, which has no code
+  simple_computes : (u : UnaryOperator) (a : Expression) (k : List Entry) (e : Environment) (w : World) (c : Configuration) (o : Operand) (m : ℕ) (shared : SharedAt source pages calls k e w c) → DataIn source shared.tables c.active.slots k e w c
+      → is_some (operand_of (starts_on source c.active.function k) a) ≡ true
+      → ValueAt (code_of source c.active.function) (bounds_at source c.active.function) (types_on source c.active.function k) a (top source c.active.function k) o c.active.next m
+      → BesideAt source shared.tables e.locals c.active.function o m c.active.slots c.frames (Needs (Operate u) ∷ k) → IsBegun (Unary u a) k e w c
+  simple_computes u a k e w c o m shared facts some at_a beside =
+      silently source pages calls (Running (Evaluating (Unary u a)) k e w) (Running (Evaluating a) (Needs (Operate u) ∷ k) e w) (plain.Running c) refl
+      (shared, facts, as_right (o, m, known_simple (starts_on source c.active.function k) a some, at_a, beside))
+      (omega arith)
+
+  -- what such an operator gives
+  unary_beside : (t : Tables) (locals : ℕ → Option ℕ) (g : ℕ) (r : Operand) (m q : ℕ) (slots : Words) (frames : List Frame) (k : List Entry) → r ≡ operands.Slot (top source g k) → m + 1 ≡ q → BesideAt source t locals g r q slots frames k
+      → BesideAt source t locals g (operands.Slot (top source g k)) (m + 1) slots frames k
+  unary_beside t locals g r m q slots frames k is end beside =
+      subst (λ p. BesideAt source t locals g (operands.Slot (top source g k)) p slots frames k) (sym end) (subst (λ x. BesideAt source t locals g x q slots frames k) is beside)
+
+  -- a right operand that is simple, with the left one where it was
   beside_left : (a : Expression) (k : List Entry) (e : Environment) (w : World) (c : Configuration) → IsWell (step source (Running (Evaluating a) k e w)) → (shared : SharedAt source pages calls k e w c) → DataIn source shared.tables c.active.slots k e w c
       → RightAt source shared.tables a e.locals c.active.function c.active.next c.active.slots c.frames k → IsBegun a k e w c
-  beside_left (Unary unary.Widen a) k e w c well shared facts right =
-      silently source pages calls (Running (Evaluating (Unary unary.Widen a)) k e w) (Running (Evaluating a) (Needs (Operate unary.Widen) ∷ k) e w) (plain.Running c) refl
-      (shared, facts, as_right (widened_right shared.tables a e.locals c.active.function c.active.next c.active.slots c.frames k right))
+  beside_left (Unary unary.Widen a) k e w c well shared facts (r, q, simple, there, beside) =
+      let g = c.active.function in
+      silently source pages calls (Running (Evaluating (Unary unary.Widen a)) k e w) (Running (Evaluating a) (Needs (Operate unary.Widen) ∷ k) e w) (plain.Running c) refl (
+        shared,
+        facts,
+        as_right (
+          r,
+          q,
+          known_simple (starts_on source g k) a simple,
+          unwidened (code_of source g) (bounds_at source g) (types_on source g k) (operand_of (starts_on source g k) a) _ _ _ r c.active.next q there,
+          beside,
+        ),
+      )
       (omega arith)
-  beside_left a k e w c well shared facts right =
-      let (r, known, counters, ready) = ready_by shared.tables a k e c.active.function c.active.next c.active.slots c.frames shared.counters.0 right in
+  beside_left (Unary unary.Negate a) k e w c well shared facts (r, q, simple, (is, (o, m, at_a, at, end)), beside) =
+      simple_computes unary.Negate a k e w c o m shared facts simple at_a (at, unary_beside shared.tables e.locals c.active.function r m q c.active.slots c.frames k is end beside)
+  beside_left (Unary unary.Not a) k e w c well shared facts (r, q, simple, (is, (o, m, at_a, at, end)), beside) =
+      simple_computes unary.Not a k e w c o m shared facts simple at_a (at, unary_beside shared.tables e.locals c.active.function r m q c.active.slots c.frames k is end beside)
+  beside_left (Unary unary.Complement a) k e w c well shared facts (r, q, simple, (is, (o, m, at_a, at, end)), beside) =
+      simple_computes unary.Complement a k e w c o m shared facts simple at_a (at, unary_beside shared.tables e.locals c.active.function r m q c.active.slots c.frames k is end beside)
+  beside_left (Unary unary.LowByte a) k e w c well shared facts (r, q, simple, (is, (o, m, at_a, at, end)), beside) =
+      simple_computes unary.LowByte a k e w c o m shared facts simple at_a (at, unary_beside shared.tables e.locals c.active.function r m q c.active.slots c.frames k is end beside)
+  beside_left (Binary a (ThenCompute u b os) ty) k e w c well shared facts (r, q, simple, there, beside) = simple_begins u a b os ty k e w c r q shared facts simple there beside
+  beside_left (Binary a os ty) k e w c well shared facts (r, q, simple, there, beside) = absurd (let f : false ≡ true = simple in cc)
+  beside_left a k e w c well shared facts (r, q, simple, there, beside) =
+      let g = c.active.function in
+      let starts = starts_on source g k in
+      let t = top source g k in
+      let slot = value_slot starts a t in
+      let (known, end) =
+      known_operand_is (code_of source g) (bounds_at source g) (types_on source g k) (operand_of starts a) (ExpressionAt (code_of source g) (bounds_at source g) (types_on source g k) a slot t c.active.next q) slot r c.active.next q simple there in
+      let counters = counters_beside shared.tables e g r q c.active.slots c.frames k shared.counters.0 beside in
       let found = reads shared.tables a r k e w c known tt well counters facts shared.related.heap in
       silently source pages calls (Running (Evaluating a) k e w) (Running (Given found.value) k e w) (plain.Running c) found.gives
-      (shared, with_left facts (ready found.value found.is))
+      (shared, with_left facts (r, found.is, subst (λ p. BesideAt source shared.tables e.locals g r p c.active.slots c.frames k) (sym end) beside))
       (omega (arith, found.some))
 
   -- a value that is tested
@@ -843,7 +956,7 @@ module _ (source : Program) (pages calls : ℕ) where
       (compared_or f a b (Binary a (ThenCompute o b NoOperations) t)).right l r (top source c.active.function k) c.active.next q
       → ConditionStack source c.active.function (compared_or f a b (Binary a (ThenCompute o b NoOperations) t)).failing l r q c.frames k → IsBegun (Binary a (ThenCompute o b NoOperations) t) k e w c
   compares (Some failing) o a b t k e w c l r q is known (m, at_a, at_b) stack =
-      chain_begins (operand_of (starts_on source c.active.function k) b) a (ThenCompute o b NoOperations) t k e w c l m known at_a (to_jump (failing, r, q, (is, at_b), stack))
+      chain_begins (is_simple (starts_on source c.active.function k) b) a (ThenCompute o b NoOperations) t k e w c l m known at_a (λ low. (low, to_jump (failing, r, q, (is, at_b), stack)))
   compares None o a b t k e w c l r q is known at stack = not_zero (Binary a (ThenCompute o b NoOperations) t) k e w c l r q known at stack
 
   condition : (a : Expression) (k : List Entry) (e : Environment) (w : World) (c : Configuration) (l r : Operand) (q : ℕ) → At_step a k e w c
@@ -855,36 +968,6 @@ module _ (source : Program) (pages calls : ℕ) where
       (omega arith)
   condition (Binary a (ThenCompute o b NoOperations) t) k e w c l r q known at stack = compares (failing_comparison o) o a b t k e w c l r q refl known at stack
   condition a k e w c l r q known at stack = not_zero a k e w c l r q known at stack
-
-  -- the operand of an expression is that of a local, or the next temporary
-  operand_is : (code : List Instruction) (b : Numbering) (types : Types) (a : Expression) (t p q : ℕ) (o : Operand) → ValueAt code b types a t o p q → o ≡ operand_or (operand_of (starts_of types) a) (value_slot (starts_of types) a t)
-  operand_is code b types a t p q o at = by (operand_of (starts_of types) a) at
-    where
-      by : (known : Option Operand) → OperandBy code b types known (ExpressionAt code b types a (value_slot (starts_of types) a t) t p q) (value_slot (starts_of types) a t) o p q → o ≡ operand_or known (value_slot (starts_of types) a t)
-      by (Some x) (is, end) = is
-      by None (is, computed) = is
-
-  operand_low : (types : Types) (a : Expression) (t : ℕ) (o : Operand) → words_of_all types.locals ≤ t → ((l slot : ℕ) → slice_get types.counters l ≡ Some slot → slot ≤ t) → o ≡ operand_or (operand_of (starts_of types) a) (value_slot (starts_of types) a t) → IsLow o t
-  operand_low types a t o few counters is = subst (λ x. IsLow x t) (sym is) (by a)
-    where
-      local_low : (n : ℕ) → slot_of (starts_of types) n ≤ t
-      local_low n = omega (arith, few, slot-low types n)
-
-      counter_low : (found : Option ℕ) → ((slot : ℕ) → found ≡ Some slot → slot ≤ t) → IsLow (operand_or (counter_operand found) t) t
-      counter_low None below = omega arith
-      counter_low (Some slot) below = below slot refl
-
-      by : (x : Expression) → IsLow (operand_or (operand_of (starts_of types) x) (value_slot (starts_of types) x t)) t
-      by (Number n) = tt
-      by typed.NullPointer = tt
-      by typed.HeapRegion = tt
-      by (Copy (Local p n) ty) = local_low n
-      by (typed.Move p n ty) = local_low n
-      by (typed.Peek p n ty) = local_low n
-      by (typed.Counter l) = counter_low (slice_get types.counters l) (counters l)
-      by (Assign (Local p n) c ty) = local_low n
-      by (Unary unary.Widen x) = by x
-      by x = omega arith
 
   -- a fat pointer whose index is evaluated behind it: it comes to temporaries, or stays in its local
   pointer_begins : (t : Tables) (peek : Option ℕ) (target : Option Kind) (a i : Expression) (n : ℕ) (x : Operand) (m r q : ℕ) (k : List Entry) (e : Environment) (w : World) (c : Configuration)
@@ -898,7 +981,7 @@ module _ (source : Program) (pages calls : ℕ) where
       → PlaceStack source c.active.function e.locals (reached_operand (option_map bytes_of_kind target) n (top source c.active.function k)) 0 q c.frames k
       → EvaluatingAt source t a e.locals c.active.function c.active.next c.active.slots c.frames (Needs (Index peek target i) ∷ k)
   pointer_begins t peek target a i n x m r q k e w c holds at_a at_i sum reached place =
-      by (operand_of (starts_on source g k) i) (operand_of (starts_on source g k) a) refl refl at_a
+      by (is_simple (starts_on source g k) i) (operand_of (starts_on source g k) a) refl refl at_a
     where
       g : ℕ
       g = c.active.function
@@ -923,30 +1006,16 @@ module _ (source : Program) (pages calls : ℕ) where
             subst (λ s. PlaceStack source g e.locals (reached_operand (option_map bytes_of_kind target) s (top source g k)) 0 q c.frames k) there place,
           )))
 
-      by : (index pointer : Option Operand) → operand_of (starts_on source g k) i ≡ index → operand_of (starts_on source g k) a ≡ pointer
-          → ReturnedAt (code_of source g) (bounds_at source g) (types_on source g k) (left_with index pointer) Computed (top source g k) n c.active.next m → Begun
-      by None pointer i_is a_is (there, computed) = brought_there there computed
-      by (Some y) None i_is a_is (there, computed) = brought_there there computed
-      by (Some y) (Some (operands.Word z)) i_is a_is (there, computed) = brought_there there computed
-      by (Some y) (Some (operands.Slot s)) i_is a_is (there, begins) =
+      by : (simple : Bool) (pointer : Option Operand) → is_simple (starts_on source g k) i ≡ simple → operand_of (starts_on source g k) a ≡ pointer
+          → ReturnedAt (code_of source g) (bounds_at source g) (types_on source g k) (left_with simple pointer) Computed (top source g k) n c.active.next m → Begun
+      by false pointer i_is a_is (there, computed) = brought_there there computed
+      by true None i_is a_is (there, computed) = brought_there there computed
+      by true (Some (operands.Word z)) i_is a_is (there, computed) = brought_there there computed
+      by true (Some (operands.Slot s)) i_is a_is (there, begins) =
           let at_pointer : ValueAt (code_of source g) (bounds_at source g) (types_on source g k) a (top source g k) (operands.Slot n) c.active.next m =
           subst (λ (known : Option Operand). OperandBy (code_of source g) (bounds_at source g) (types_on source g k) known (ExpressionAt (code_of source g) (bounds_at source g) (types_on source g k) a (value_slot (starts_on source g k) a (top source g k)) (top source g k) c.active.next m) (value_slot (starts_on source g k) a (top source g k)) (operands.Slot n) c.active.next m)
           (sym a_is) (ap operands.Slot there, begins) in
-          let (y_is, ends) =
-          subst (λ (known : Option Operand). OperandBy (code_of source g) (bounds_at source g) (types_on source g k) known (ExpressionAt (code_of source g) (bounds_at source g) (types_on source g k) i (value_slot (starts_on source g k) i (top source g k + 3)) (top source g k + 3) m r) (value_slot (starts_on source g k) i (top source g k + 3)) x m r)
-          i_is at_i in
-          as_operand (operands.Slot n) m at_pointer holds (inr (
-            n,
-            x,
-            q,
-            refl,
-            operand_low (types_on source g k) a (top source g k) (operands.Slot n) (omega (arith, height-least (floor source g k) (held k), floor-least source g k)) (counters_low (floor source g k) k)
-                (operand_is (code_of source g) (bounds_at source g) (types_on source g k) a (top source g k) c.active.next m (operands.Slot n) at_pointer),
-            i_is ∙ ap Some (sym y_is),
-            subst (λ p. CodeAt (code_of source g) p (instructions.Binary plain_binary.Add (top source g k + 2) (operands.Slot (n + 2)) x)) (sym ends) sum,
-            subst (λ p. ReachedAt (code_of source g) (bounds_at source g) (types_on source g k) (option_map bytes_of_kind target) n (top source g k + 2) (top source g k) (p + 1) q) (sym ends) reached,
-            place,
-          ))
+          as_operand (operands.Slot n) m at_pointer holds (inr (n, x, r, q, refl, low_here a k c (operands.Slot n) m at_pointer, i_is, at_i, sum, reached, place))
 
   -- a place that a pointer leads to: the pointer is evaluated
   pub locating : (x : Dereference) (k : List Entry) (e : Environment) (w : World) (c : Configuration) → IsStep (Locating x) k e w c
@@ -954,7 +1023,7 @@ module _ (source : Program) (pages calls : ℕ) where
       let g = c.active.function in
       let there = subst (λ b. PlaceStack source g e.locals (followed_operand (is_thin pointer) (span_in t) x (top source g k)) b q c.frames k) none (subst (λ y. PlaceStack source g e.locals y offset q c.frames k) is place) in
       silently source pages calls (Running (Locating (Target pointer a t)) k e w) (Running (Evaluating a) (Needs (Follow pointer (target_of t)) ∷ k) e w) (plain.Running c) refl
-      (shared, facts, as_operand x m at_a holds (q, operand_low (types_on source g k) a (top source g k) x (omega (arith, height-least (floor source g k) (held k), floor-least source g k)) (counters_low (floor source g k) k) (operand_is (code_of source g) (bounds_at source g) (types_on source g k) a (top source g k) c.active.next m x at_a), access, there))
+      (shared, facts, as_operand x m at_a holds (q, low_here a k c x m at_a, access, there))
       (omega arith)
   locating (Member pointer a s field t) k e w c well (shared, facts, (o, offset, q, (m, at_a, thin, check, (st, there, inside), is), holds, place)) =
       let fields = map kind_of st.fields in

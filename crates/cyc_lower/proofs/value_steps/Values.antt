@@ -1,11 +1,11 @@
 -- The steps that hand a value on.
 use Rattle.std.proofs.Common.{◌≡◌, ◌≢◌, ℕ, zero, suc, ◌+◌, ◌<◌, Bool, true, false, not, List, [], ◌∷◌, Option, None, Some, slice_get, refl, sym, ap, subst, ◌∙◌, arith, inl, inr, length, ◌*◌, ◌++◌, ◌≤◌, bit_and}
-use Rattle.std.specs.Prelude.{◌==◌, ◌&&◌, if◌then◌else◌, ◌%◌, ◌^◌, option_map}
+use Rattle.std.specs.Prelude.{◌==◌, ◌&&◌, if◌then◌else◌, ◌%◌, ◌^◌, option_map, is_some}
 use Rattle.std.proofs.lemmas.Bool.{eqb-true, false_from_ne_true, eqb-false, and_parts}
 use Rattle.std.proofs.lemmas.Option.{same_Some, none-some}
 use Rattle.cyc_words.specs.Word.{add_of}
 use Rattle.cyc_words.specs.Word.{IsWord as IsMachineWord}
-use Rattle.cyc_words.proofs.Booleans.{and_left}
+use Rattle.cyc_words.proofs.Booleans.{and_left, and_right}
 use Rattle.cyc_types.specs.declared.typed.Kind.{Kind}
 use Rattle.cyc_types.specs.declared.typed.Kind.TheVariants as kinds
 use Rattle.cyc_types.specs.declared.typed.Callee.{Callee}
@@ -48,23 +48,23 @@ use Rattle.cyc_meaning.specs.Allocation.{makes_by}
 use Rattle.cyc_meaning.specs.State.{status_of}
 use Rattle.cyc_meaning.specs.SourceMachine.{status_in}
 use Rattle.cyc_lower.specs.declared.statements.Exits.{Exits}
-use Rattle.cyc_lower.specs.Slots.{slot_of, Types, global_of, global_types}
+use Rattle.cyc_lower.specs.Slots.{slot_of, Types, global_of, global_types, Starts}
 use Rattle.cyc_lower.proofs.slots.Slots.{slot-room, room-inside, global-inside}
 use Rattle.cyc_lower.proofs.slots.Widths.{kind_positive, same_kind, HasRoom, Outside, chain_kind, wide_kind, made_kind, keeps_wide, keeps_whole, changes_wide, kind_in}
 use Rattle.cyc_lower.proofs.relation.Moves.{moved_slots, moves, put_elsewhere, moved_elsewhere, moved_is}
 use Rattle.cyc_lower.specs.ValueCode.{binary_operator, failing_comparison, next_slot, is_in, jump_if_zero, jump_if_nonzero, move_of, converts_there, followed_operand, unary_instruction, keeps_words, masks, store_of, low_byte}
 use Rattle.cyc_lower.specs.ControlCode.{body_target, tag_operand}
-use Rattle.cyc_lower.specs.ExpressionCode.{operand_of, value_slot}
+use Rattle.cyc_lower.specs.ExpressionCode.{operand_of, value_slot, is_simple, are_simple}
 use Rattle.cyc_lower.specs.Lowering.{lower_program}
-use Rattle.cyc_lower.proofs.relation.Stands.{OperandBy, CopyBy, CopyAt, CheckAt, CheckedAt, OperatorAt, TruthAt, ExpressionAt, OperationsAt, GuardAt, TestedAt, ConversionBy, StoresAt, FollowedAt, MadeAt}
+use Rattle.cyc_lower.proofs.relation.Stands.{OperandBy, CopyBy, CopyAt, CheckAt, CheckedAt, OperatorAt, TruthAt, ExpressionAt, OperationsAt, GuardAt, TestedAt, ConversionBy, StoresAt, FollowedAt, MadeAt, LeftBy, ValueAt}
 use Rattle.cyc_objects.specs.Tables.{Tables}
 use Rattle.cyc_objects.specs.Words.{Points, Is}
 use Rattle.cyc_objects.proofs.Pointers.{pointer-word}
 use Rattle.cyc_objects.specs.Tables.{with_row}
 use Rattle.cyc_objects.proofs.Values.{Grows-row, Is-grows}
 use Rattle.cyc_lower.proofs.relation.Sharing.{shared_declared, row_declared, shared_written, shared_beside}
-use Rattle.cyc_lower.proofs.relation.HeldValues.{IsWord, IsIn, with_kind, Holds, held, kept, contents, callers, row_of, IsCharAt}
-use Rattle.cyc_lower.proofs.relation.Relation.{types_on, starts_on, types_at, starts_at, in_place, by_jump, in_temporary, in_local, drops, leaves, copies, DataIn, SharedAt, StoreAt, to_slot, to_jump, ValueStack, ConditionStack, DroppedStack, AheadStack, LandsStack, HandsOnStack, AppliedStack, ReadyAt, as_operand, into_slot, as_right, in_operand, nowhere, ahead, compared, with_left, behind_statement, Related, Matches, code_of, bounds_at, top, floor, PlaceStack, call_slots, base_of}
+use Rattle.cyc_lower.proofs.relation.HeldValues.{IsWord, IsIn, with_kind, Holds, held, kept, contents, callers, row_of, IsCharAt, IsLow}
+use Rattle.cyc_lower.proofs.relation.Relation.{types_on, starts_on, types_at, starts_at, in_place, by_jump, in_temporary, in_local, drops, leaves, copies, DataIn, SharedAt, StoreAt, to_slot, to_jump, ValueStack, ConditionStack, DroppedStack, AheadStack, LandsStack, HandsOnStack, AppliedStack, ReadyAt, as_operand, into_slot, as_right, in_operand, nowhere, ahead, compared, with_left, behind_statement, Related, Matches, code_of, bounds_at, top, floor, PlaceStack, call_slots, base_of, BesideAt, PartsAt, in_parts, EvaluatingAt}
 use Rattle.cyc_lower.proofs.object_steps.Handles.{kept_holds}
 use Rattle.cyc_lower.proofs.relation.Data.{in_words, IsWord-is, one_word, height-least, Holds-same, Holds-above, data_assigned, data_assigned_global, data_declared, data_grows, null_is, points_in, floor-least, handlers_beside, data_written, Is-same}
 use Rattle.cyc_lower.proofs.relation.Accesses.{IsWell, is_fitting, is_stored, written_here, written_elsewhere, written_length, is_declared, home_there, is_member}
@@ -84,7 +84,7 @@ use Rattle.cyc_lower.proofs.relation.Paths.{Link, IsPath, end_of, by_path}
 use Rattle.cyc_lower.proofs.place_steps.WideCells.{store_links, stored, store_path, all_path, store_last, shared_stored, data_stored, IsStanding, above_stored, frames_stored, value_stays}
 use Rattle.cyc_lower.proofs.object_steps.Allocations.{plain_made, fields_made}
 use Rattle.cyc_lower.proofs.object_steps.Arrays.{array_sized, array_filled}
-use Rattle.cyc_lower.proofs.value_steps.Evaluations.{IsStep, landed_word, landed_moved, lands_at, passes_related, passes_weight, object_of_same, made_of, lands_made, landed_char}
+use Rattle.cyc_lower.proofs.value_steps.Evaluations.{known_simple, IsStep, landed, landed_word, landed_moved, lands_at, passes_related, passes_weight, object_of_same, made_of, lands_made, landed_char, known_operand_is}
 use Rattle.cyc_lower.proofs.relation.Paths.{Link, IsPath, end_of, by_path}
 use Rattle.cyc_lower.proofs.value_steps.GlobalSteps.{stored_globals, stored_elsewhere, stored_is, global_links, is_stored_by, by_links}
 use Rattle.cyc_lower.proofs.region_steps.RegionSteps.{opened_given, aliased_given}
@@ -95,6 +95,7 @@ use Rattle.cyc_lower.proofs.relation.Moving.{hands_moves}
 use Rattle.cyc_lower.proofs.value_steps.ValueWords.{of_kind, int_of, as_wide, goes_wrong, untrue, fails_by, opposed, other_place, zero_is, int_is, not_zero, not_widened, not_narrowed, not_fat, kept_at, kept_in, char_low, low_byte_of, int_at, int_in}
 use Rattle.cyc_plain.specs.declared.instruction.UnaryOperator.{UnaryOperator as PlainUnary}
 use Rattle.cyc_lower.proofs.place_steps.KindWords.{saved_at, saves_by}
+use Rattle.cyc_types.specs.Numbered.{Numbering}
 
 module _ (source : Program) (pages calls : ℕ) where
   -- a branch that is taken, and one that is not
@@ -291,40 +292,49 @@ module _ (source : Program) (pages calls : ℕ) where
 
   -- ---- operators
 
-  -- the operator stands here, and what it gives comes to a slot
-  abbrev OperatesAt : UnaryOperator → Operand → List Entry → Environment → Configuration → Type 0
-  OperatesAt u o k e c = (d : ℕ) × At (code_of source c.active.function) c.active.next (unary_instruction u d o)
-      × LandsStack source c.active.function e.locals (unary_kind u) d (c.active.next + 1) c.frames k
+  -- a word has come to a slot, where it is a value of a kind
+  abbrev IsLanded : Tables → Kind → (d : ℕ) → List Entry → Environment → World → Configuration → Type 0
+  IsLanded t kind d k e w c =
+      (v : Value) (x : ℕ) → Is t kind v (put c.active.slots d x) d → Related source pages calls (Given (of_kind kind v)) k e w (advanced (with_slots c (put c.active.slots d x)))
 
   operates_word : (u : UnaryOperator) (operator : PlainUnary) (i : Kind) (a : ℕ) (o : Operand) (d : ℕ) (k : List Entry) (e : Environment) (w : World) (c : Configuration)
-      → unary_kind u ≡ kinds.Int → unary_result u (Int a) ≡ Gives (Int (plain_operators.unary_result operator a)) → Stands (of_kind i (Int a)) o k e w c
-      → At (code_of source c.active.function) c.active.next (instructions.Unary operator d o) → LandsStack source c.active.function e.locals kinds.Int d (c.active.next + 1) c.frames k
+      → unary_kind u ≡ kinds.Int → unary_result u (Int a) ≡ Gives (Int (plain_operators.unary_result operator a)) → (shared : SharedAt source pages calls k e w c) → IsIn shared.tables (of_kind i (Int a)) c.active.slots o
+      → At (code_of source c.active.function) c.active.next (instructions.Unary operator d o) → IsLanded shared.tables kinds.Int d k e w c
       → GoesBehind (of_kind i (Int a)) (Needs (Operate u) ∷ k) e w c
-  operates_word u operator i a o d k e w c int result (shared, facts, is, holds) here lands =
-      let x = operand_word c.active.slots o in
+  operates_word u operator i a o d k e w c int result shared is here goes =
+      let x = plain_operators.unary_result operator (operand_word c.active.slots o) in
       by_one source pages calls (ap (λ r. computed (unary_kind u) r k e w) result ∙ ap (λ j. Running (Given (of_kind j (Int (plain_operators.unary_result operator a)))) k e w) int) shared here
-      (λ choice. landed_word source pages calls (plain_operators.unary_result operator a) (plain_operators.unary_result operator x) d k e w c (c.active.next + 1)
-      (ap (plain_operators.unary_result operator) (int_is shared.tables i a c.active.slots o is)) shared facts holds refl lands)
+      (λ choice. goes (Int (plain_operators.unary_result operator a)) x (put-same c.active.slots d x ∙ ap (plain_operators.unary_result operator) (int_is shared.tables i a c.active.slots o is)))
 
-  operates_value : (u : UnaryOperator) (i : Kind) (v : Value) (o : Operand) (k : List Entry) (e : Environment) (w : World) (c : Configuration)
-      → IsWell (step source (Running (Given (of_kind i v)) (Needs (Operate u) ∷ k) e w)) → Stands (of_kind i v) o k e w c
-      → OperatesAt u o k e c → GoesBehind (of_kind i v) (Needs (Operate u) ∷ k) e w c
-  operates_value unary.Not i v o k e w c well (shared, facts, is, holds) (d, here, lands) =
-      let x = operand_word c.active.slots o in
+  operates_value : (u : UnaryOperator) (i : Kind) (v : Value) (o : Operand) (d : ℕ) (k : List Entry) (e : Environment) (w : World) (c : Configuration)
+      → IsWell (step source (Running (Given (of_kind i v)) (Needs (Operate u) ∷ k) e w)) → (shared : SharedAt source pages calls k e w c) → IsIn shared.tables (of_kind i v) c.active.slots o
+      → At (code_of source c.active.function) c.active.next (unary_instruction u d o) → IsLanded shared.tables (unary_kind u) d k e w c → GoesBehind (of_kind i v) (Needs (Operate u) ∷ k) e w c
+  operates_value unary.Not i v o d k e w c well shared is here goes =
+      let x = truth (operand_word c.active.slots o == 0) in
       by_one source pages calls
       (ap (λ z. computed kinds.Int (truth_result z) k e w) (zero_is shared.tables (of_kind i v) c.active.slots o (λ none. well (ap (λ z. status_in (status_of (computed kinds.Int (truth_result z) k e w))) none)) is)) shared here
-      (λ choice. landed_word source pages calls (truth (x == 0)) (truth (x == 0)) d k e w c (c.active.next + 1) refl shared facts holds refl lands)
-  operates_value unary.Negate i (Int a) o k e w c well stands (d, here, lands) = operates_word unary.Negate plain_unary.Negate i a o d k e w c refl refl stands here lands
-  operates_value unary.Complement i (Int a) o k e w c well stands (d, here, lands) = operates_word unary.Complement plain_unary.Complement i a o d k e w c refl refl stands here lands
-  operates_value unary.Widen i (Int a) o k e w c well (shared, facts, is, holds) (d, here, lands) =
-      by_one source pages calls refl shared here
-      (λ choice. landed_word source pages calls a (operand_word c.active.slots o) d k e w c (c.active.next + 1) (int_is shared.tables i a c.active.slots o is) shared facts holds refl lands)
-  operates_value unary.LowByte i (Int a) o k e w c well (shared, facts, is, holds) (d, here, lands) =
-      let word = bit_and (operand_word c.active.slots o) 255 in
-      let same : word ≡ a % 256 = low_byte_of (operand_word c.active.slots o) ∙ ap (λ x. x % 256) (int_is shared.tables i a c.active.slots o is) in
-      by_one source pages calls refl shared here
-      (λ choice. landed_char source pages calls (a % 256) word d k e w c (c.active.next + 1) same (omega arith) shared facts holds refl lands)
-  operates_value u i v o k e w c well stands stack = absurd (well refl)
+      (λ choice. goes (Int x) x (put-same c.active.slots d x))
+  operates_value unary.Negate i (Int a) o d k e w c well shared is here goes = operates_word unary.Negate plain_unary.Negate i a o d k e w c refl refl shared is here goes
+  operates_value unary.Complement i (Int a) o d k e w c well shared is here goes = operates_word unary.Complement plain_unary.Complement i a o d k e w c refl refl shared is here goes
+  operates_value unary.Widen i (Int a) o d k e w c well shared is here goes =
+      let x = operand_word c.active.slots o in
+      by_one source pages calls refl shared here (λ choice. goes (Int a) x (put-same c.active.slots d x ∙ int_is shared.tables i a c.active.slots o is))
+  operates_value unary.LowByte i (Int a) o d k e w c well shared is here goes =
+      let x = bit_and (operand_word c.active.slots o) 255 in
+      let same : x ≡ a % 256 = low_byte_of (operand_word c.active.slots o) ∙ ap (λ y. y % 256) (int_is shared.tables i a c.active.slots o is) in
+      by_one source pages calls refl shared here (λ choice. goes (Int (a % 256)) x (put-same c.active.slots d x ∙ same, omega arith))
+  operates_value u i v o d k e w c well shared is here goes = absurd (well refl)
+
+  one_operated : (u : UnaryOperator) → words_of_kind (unary_kind u) ≡ 1
+  one_operated unary.LowByte = refl
+  one_operated u = refl
+
+  -- a value of one word lands where the code brings it
+  lands_word : (kind : Kind) (d : ℕ) (k : List Entry) (e : Environment) (w : World) (c : Configuration) → words_of_kind kind ≡ 1 → (shared : SharedAt source pages calls k e w c) → DataIn source shared.tables c.active.slots k e w c
+      → Holds shared.tables c.active.slots (floor source c.active.function k) (held k) → LandsStack source c.active.function e.locals kind d (c.active.next + 1) c.frames k → IsLanded shared.tables kind d k e w c
+  lands_word kind d k e w c one shared facts holds lands v x is =
+      landed source pages calls (of_kind kind v) (put c.active.slots d x) d k e w c (c.active.next + 1) shared is
+      (λ m out. put_elsewhere c.active.slots d x 1 m (omega arith) (subst (λ many. Outside d many m) one out)) facts holds refl lands
 
   -- a char that serves as an int stays where it is
   widened : (i : Kind) (v : Value) (o : Operand) (k : List Entry) (e : Environment) (w : World) (c : Configuration) → IsWell (step source (Running (Given (of_kind i v)) (Needs (Operate unary.Widen) ∷ k) e w))
@@ -349,81 +359,125 @@ module _ (source : Program) (pages calls : ℕ) where
       → IsWell (step source (Running (Given v) (Needs (Operate u) ∷ k) e w)) → Stands v o k e w c
       → ValueStack source c.active.function e.locals v.kind o c.active.next c.frames (Needs (Operate u) ∷ k) → GoesBehind v (Needs (Operate u) ∷ k) e w c
   operates unary.Widen v o k e w c well stands stack = widened v.kind v.value o k e w c well stands stack
-  operates u v o k e w c well stands (to_slot here) = operates_value u v.kind v.value o k e w c well stands here
+  operates u v o k e w c well (shared, facts, is, holds) (to_slot (d, here, lands)) =
+      operates_value u v.kind v.value o d k e w c well shared is here (lands_word (unary_kind u) d k e w c (one_operated u) shared facts holds lands)
   operates u v o k e w c well stands (to_jump (is, stack)) = subst (λ x. GoesBehind v (Needs (Operate x) ∷ k) e w c) (sym is) (negates v o k e w c (subst (λ x. IsWell (step source (Running (Given v) (Needs (Operate x) ∷ k) e w))) is well) stands stack)
 
   -- ---- divisions
 
+  -- what an operator gives stands in its slot, and the code goes on there
+  abbrev IsComputed : Operator → (a b d q : ℕ) → List Entry → Environment → World → Configuration → Type 0
+  IsComputed u a b d q k e w c =
+      (m x : ℕ) → m + 1 ≡ q → x ≡ binary_word u a b → Related source pages calls (Given (int_of (binary_word u a b))) k e w (advanced (with_slots (at c m) (put c.active.slots d x)))
+
   -- the division itself, of operands that are these words
   quotient : (u : Operator) (a b : ℕ) (l r : Operand) (d : ℕ) (k : List Entry) (e : Environment) (w : World) (c : Configuration) (q : ℕ)
       → ((x : ℕ) → plain_operators.has_no_result (binary_operator u) x ≡ (x == 0)) → ((x y : ℕ) → plain_operators.binary_result (binary_operator u) x y ≡ binary_word u x y)
-      → (b == 0) ≡ false → (shared : SharedAt source pages calls k e w c) → DataIn source shared.tables c.active.slots k e w c
-      → operand_word c.active.slots l ≡ a → operand_word c.active.slots r ≡ b → Holds shared.tables c.active.slots (floor source c.active.function k) (held k)
-      → c.active.next + 1 ≡ q → LandsStack source c.active.function e.locals kinds.Int d q c.frames k
+      → (b == 0) ≡ false → operand_word c.active.slots l ≡ a → operand_word c.active.slots r ≡ b → c.active.next + 1 ≡ q → IsComputed u a b d q k e w c
       → (choice : Choice) → Matches source pages calls (Running (Given (int_of (binary_word u a b))) k e w) (performed (lower_program source) choice c (instructions.Binary (binary_operator u) d l r))
-  quotient u a b l r d k e w c q plain_test same nonzero shared facts is_left is holds end lands choice =
+  quotient u a b l r d k e w c q plain_test same nonzero is_left is end goes choice =
       let x = operand_word c.active.slots l in
       let y = operand_word c.active.slots r in
       let result = plain_operators.binary_result (binary_operator u) x y in
       subst (λ (z : Bool). Matches source pages calls (Running (Given (int_of (binary_word u a b))) k e w) (if z then plain.Stuck c.output c.input else gives c d result)) (sym (plain_test y ∙ ap (λ z. z == 0) is ∙ nonzero))
-      (landed_word source pages calls (binary_word u a b) result d k e w c q
-      (same x y ∙ ap (λ z. binary_word u z y) is_left ∙ ap (binary_word u a) is)
-      shared facts holds end lands)
+      (goes c.active.next result end (same x y ∙ ap (λ z. binary_word u z y) is_left ∙ ap (binary_word u a) is))
 
   -- behind its test
   tested_divides : (u : Operator) (i j : Kind) (a b : ℕ) (f : Bool) (l r : Operand) (d : ℕ) (k : List Entry) (e : Environment) (w : World) (c : Configuration) (m q : ℕ)
       → ((x : ℕ) → plain_operators.has_no_result (binary_operator u) x ≡ (x == 0)) → ((x : ℕ) → has_no_result u x ≡ (x == 0))
       → ((x y : ℕ) → plain_operators.binary_result (binary_operator u) x y ≡ binary_word u x y) → (b == 0) ≡ f
       → (shared : SharedAt source pages calls k e w c) → DataIn source shared.tables c.active.slots k e w c
-      → operand_word c.active.slots l ≡ a → operand_word c.active.slots r ≡ b → Holds shared.tables c.active.slots (floor source c.active.function k) (held k)
+      → operand_word c.active.slots l ≡ a → operand_word c.active.slots r ≡ b
       → CheckAt (code_of source c.active.function) (bounds_at source c.active.function) (types_on source c.active.function k) division_by_zero r c.active.next m
       → At (code_of source c.active.function) m (instructions.Binary (binary_operator u) d l r) → m + 1 ≡ q
-      → LandsStack source c.active.function e.locals kinds.Int d q c.frames k → GoesBehind (of_kind j (Int b)) (Needs (Apply u (of_kind i (Int a))) ∷ k) e w c
-  tested_divides u i j a b true l r d k e w c m q plain_test test same zero_b shared facts is_left is holds check here end lands =
+      → IsComputed u a b d q k e w c → GoesBehind (of_kind j (Int b)) (Needs (Apply u (of_kind i (Int a))) ∷ k) e w c
+  tested_divides u i j a b true l r d k e w c m q plain_test test same zero_b shared facts is_left is check here end goes =
       guard_fails division_by_zero comparisons.Equal r (operands.Word 0) k e w c m
       (ap (λ x. computed kinds.Int (if x then Raises 4 else Gives (Int (binary_word u a b))) k e w) (test b ∙ zero_b)) shared shared
       (omega arith) facts check (ap (λ x. x == 0) is ∙ zero_b)
-  tested_divides u i j a b false l r d k e w c m q plain_test test same zero_b shared facts is_left is holds (s, jump, raised, behind) here end lands =
+  tested_divides u i j a b false l r d k e w c m q plain_test test same zero_b shared facts is_left is (s, jump, raised, behind) here end goes =
       let nonzero : (operand_word c.active.slots r == 0) ≡ false = ap (λ x. x == 0) is ∙ zero_b in
       by_two source pages calls (at c m)
       (ap (λ x. computed kinds.Int (if x then Raises 4 else Gives (Int (binary_word u a b))) k e w) (test b ∙ zero_b)) shared shared
       jump (λ choice. ap (λ x. plain_step.branches c x s) nonzero ∙ ap (λ n. plain.Running (at c n)) behind)
       here (λ equal. omega (arith, equal, behind))
-      (quotient u a b l r d k e w (at c m) q plain_test same zero_b shared facts is_left is holds end lands)
+      (quotient u a b l r d k e w (at c m) q plain_test same zero_b is_left is end goes)
 
   -- a divisor that is a number other than 0 has no test
   divides : (u : Operator) (i j : Kind) (a b : ℕ) (l r : Operand) (d : ℕ) (k : List Entry) (e : Environment) (w : World) (c : Configuration) (q : ℕ)
       → ((x : ℕ) → plain_operators.has_no_result (binary_operator u) x ≡ (x == 0)) → ((x : ℕ) → has_no_result u x ≡ (x == 0))
       → ((x y : ℕ) → plain_operators.binary_result (binary_operator u) x y ≡ binary_word u x y)
       → (shared : SharedAt source pages calls k e w c) → DataIn source shared.tables c.active.slots k e w c
-      → operand_word c.active.slots l ≡ a → operand_word c.active.slots r ≡ b → Holds shared.tables c.active.slots (floor source c.active.function k) (held k)
+      → operand_word c.active.slots l ≡ a → operand_word c.active.slots r ≡ b
       → CheckedAt (code_of source c.active.function) (bounds_at source c.active.function) (types_on source c.active.function k) u d l r c.active.next q
-      → LandsStack source c.active.function e.locals kinds.Int d q c.frames k → GoesBehind (of_kind j (Int b)) (Needs (Apply u (of_kind i (Int a))) ∷ k) e w c
-  divides u i j a b l (operands.Word (suc n)) d k e w c q plain_test test same shared facts is_left is holds (m, begin, here, end) lands =
+      → IsComputed u a b d q k e w c → GoesBehind (of_kind j (Int b)) (Needs (Apply u (of_kind i (Int a))) ∷ k) e w c
+  divides u i j a b l (operands.Word (suc n)) d k e w c q plain_test test same shared facts is_left is (m, begin, here, end) goes =
       let nonzero : (b == 0) ≡ false = ap (λ x. x == 0) (sym is) ∙ false_from_ne_true (suc n == 0) (λ h. absurd (let z : suc n ≡ 0 = eqb-true (suc n) 0 h in omega (arith, z))) in
       by_one source pages calls (ap (λ x. computed kinds.Int (if x then Raises 4 else Gives (Int (binary_word u a b))) k e w) (test b ∙ nonzero)) shared
       (subst (λ x. At (code_of source c.active.function) x (instructions.Binary (binary_operator u) d l (operands.Word (suc n)))) (sym begin) here)
-      (quotient u a b l (operands.Word (suc n)) d k e w c q plain_test same nonzero shared facts is_left is holds (ap (λ x. x + 1) begin ∙ end) lands)
-  divides u i j a b l (operands.Word zero) d k e w c q plain_test test same shared facts is_left is holds (m, check, here, end) lands =
-      tested_divides u i j a b (b == 0) l (operands.Word zero) d k e w c m q plain_test test same refl shared facts is_left is holds check here end lands
-  divides u i j a b l (operands.Slot n) d k e w c q plain_test test same shared facts is_left is holds (m, check, here, end) lands =
-      tested_divides u i j a b (b == 0) l (operands.Slot n) d k e w c m q plain_test test same refl shared facts is_left is holds check here end lands
+      (quotient u a b l (operands.Word (suc n)) d k e w c q plain_test same nonzero is_left is (ap (λ x. x + 1) begin ∙ end) goes)
+  divides u i j a b l (operands.Word zero) d k e w c q plain_test test same shared facts is_left is (m, check, here, end) goes =
+      tested_divides u i j a b (b == 0) l (operands.Word zero) d k e w c m q plain_test test same refl shared facts is_left is check here end goes
+  divides u i j a b l (operands.Slot n) d k e w c q plain_test test same shared facts is_left is (m, check, here, end) goes =
+      tested_divides u i j a b (b == 0) l (operands.Slot n) d k e w c m q plain_test test same refl shared facts is_left is check here end goes
 
   computes : (u : Operator) (i j : Kind) (a b : ℕ) (l r : Operand) (d : ℕ) (k : List Entry) (e : Environment) (w : World) (c : Configuration) (q : ℕ)
       → (shared : SharedAt source pages calls k e w c) → DataIn source shared.tables c.active.slots k e w c
-      → operand_word c.active.slots l ≡ a → operand_word c.active.slots r ≡ b → Holds shared.tables c.active.slots (floor source c.active.function k) (held k)
+      → operand_word c.active.slots l ≡ a → operand_word c.active.slots r ≡ b
       → OperatorAt (code_of source c.active.function) (bounds_at source c.active.function) (types_on source c.active.function k) u d l r c.active.next q
-      → LandsStack source c.active.function e.locals kinds.Int d q c.frames k → GoesBehind (of_kind j (Int b)) (Needs (Apply u (of_kind i (Int a))) ∷ k) e w c
-  computes operators.Divide i j a b l r d k e w c q shared facts is_left is holds here lands =
-      divides operators.Divide i j a b l r d k e w c q (λ x. refl) (λ x. refl) (λ x y. refl) shared facts is_left is holds here lands
-  computes operators.Remainder i j a b l r d k e w c q shared facts is_left is holds here lands =
-      divides operators.Remainder i j a b l r d k e w c q (λ x. refl) (λ x. refl) (λ x y. refl) shared facts is_left is holds here lands
-  computes u i j a b l r d k e w c q shared facts is_left is holds (here, end) lands =
+      → IsComputed u a b d q k e w c → GoesBehind (of_kind j (Int b)) (Needs (Apply u (of_kind i (Int a))) ∷ k) e w c
+  computes operators.Divide i j a b l r d k e w c q shared facts is_left is here goes =
+      divides operators.Divide i j a b l r d k e w c q (λ x. refl) (λ x. refl) (λ x y. refl) shared facts is_left is here goes
+  computes operators.Remainder i j a b l r d k e w c q shared facts is_left is here goes =
+      divides operators.Remainder i j a b l r d k e w c q (λ x. refl) (λ x. refl) (λ x y. refl) shared facts is_left is here goes
+  computes u i j a b l r d k e w c q shared facts is_left is (here, end) goes =
       let x = operand_word c.active.slots l in
       let y = operand_word c.active.slots r in
-      by_one source pages calls refl shared here
-      (λ choice. landed_word source pages calls (binary_word u a b) (binary_word u x y) d k e w c q
-      (ap (λ z. binary_word u z y) is_left ∙ ap (binary_word u a) is) shared facts holds end lands)
+      by_one source pages calls refl shared here (λ choice. goes c.active.next (binary_word u x y) end (ap (λ z. binary_word u z y) is_left ∙ ap (binary_word u a) is))
+
+  -- what stands in no slot above the next temporary is not changed above
+  low_same : (t : Tables) (v : Kinded) (o : Operand) (free : ℕ) (slots other : Words) → IsLow o free → ((m : ℕ) → m < free + words_of_kind v.kind → other m ≡ slots m) → IsIn t v slots o → IsIn t v other o
+  low_same t v (operands.Slot n) free slots other low same is = Is-same t v.kind v.value slots other n n (λ i below. same (n + i) (omega (arith, below, low))) is
+  low_same t v (operands.Word n) free slots other low same is = is
+
+  beside_same : (t : Tables) (locals : ℕ → Option ℕ) (g : ℕ) (o : Operand) (p : ℕ) (slots other : Words) (frames : List Frame) (k : List Entry) → ((m : ℕ) → m < top source g k → other m ≡ slots m)
+      → BesideAt source t locals g o p slots frames k → BesideAt source t locals g o p other frames k
+  beside_same t locals g o p slots other frames (Needs (Apply u left) ∷ k) same (l, is, low, inl (holds, applied)) =
+      (l, low_same t left l (top source g k) slots other low same is, low, inl (Holds-same t slots other (floor source g k) (held k) (λ m below. same m (omega (arith, below))) holds, applied))
+  beside_same t locals g o p slots other frames (Needs (Apply u left) ∷ k) same (l, is, low, inr (q, at, beside)) =
+      (l, low_same t left l (top source g k) slots other low same is, low, inr (q, at, beside_same t locals g (operands.Slot (top source g k)) q slots other frames k (λ m below. same m (omega (arith, below))) beside))
+  beside_same t locals g o p slots other frames (Needs (Advance peek target base) ∷ k) same (n, q, is, low, holds, advances) = (
+    n,
+    q,
+    low_same t base (operands.Slot n) (top source g k) slots other low same is,
+    low,
+    Holds-same t slots other (floor source g k) (held k) (λ m below. same m (omega (arith, below))) holds,
+    advances,
+  )
+  beside_same t locals g o p slots other frames (Needs (Chain os) ∷ k) same (q, low, simple, at, beside) =
+      (q, low, simple, at, beside_same t locals g (operands.Slot (top source g k)) q slots other frames k same beside)
+  beside_same t locals g o p slots other frames (Needs (Operate unary.Widen) ∷ k) same beside = beside_same t locals g o p slots other frames k same beside
+  beside_same t locals g o p slots other frames (Needs (Operate u) ∷ k) same (at, beside) = (at, beside_same t locals g (operands.Slot (top source g k)) (p + 1) slots other frames k same beside)
+  beside_same t locals g o p slots other frames k same beside = absurd beside
+
+  -- what an operator gives is a left operand in turn, or the value of a chain, while the left operand of that stays where it was
+  stays_beside : (v : Kinded) (x : ℕ) (k : List Entry) (e : Environment) (w : World) (c : Configuration) (q p : ℕ) (shared : SharedAt source pages calls k e w c) → DataIn source shared.tables c.active.slots k e w c → p ≡ q
+      → Is shared.tables v.kind v.value (put c.active.slots (top source c.active.function k) x) (top source c.active.function k)
+      → BesideAt source shared.tables e.locals c.active.function (operands.Slot (top source c.active.function k)) q c.active.slots c.frames k
+      → Related source pages calls (Given v) k e w (at (with_slots c (put c.active.slots (top source c.active.function k) x)) p)
+  stays_beside v x k e w c q p shared facts end is beside =
+      let g = c.active.function in
+      let free = top source g k in
+      let slots = put c.active.slots free x in
+      let elsewhere : (n : ℕ) → Outside free 1 n → slots n ≡ c.active.slots n = λ n out. put_elsewhere c.active.slots free x 1 n (omega arith) out in (
+        shared,
+        with_left (data_written source shared.tables g c.active.base w.objects e.locals k c.active.slots slots c.active.handlers c.globals c.frames free 1 (height-least (floor source g k) (held k)) elsewhere facts) (
+          operands.Slot free,
+          is,
+          subst (λ n. BesideAt source shared.tables e.locals g (operands.Slot free) n slots c.frames k) (sym end)
+              (beside_same shared.tables e.locals g (operands.Slot free) q c.active.slots slots c.frames k (λ n below. elsewhere n (inl (omega (arith, below)))) beside),
+        ),
+      )
 
   -- a condition that is a comparison is not computed
   compares_words : (u : Operator) (i j : Kind) (failing : Comparison) (a b : ℕ) (l r : Operand) (k : List Entry) (e : Environment) (w : World) (c : Configuration) → failing_comparison u ≡ Some failing
@@ -449,8 +503,15 @@ module _ (source : Program) (pages calls : ℕ) where
       → IsWell (step source (Running (Given (of_kind j v)) (Needs (Apply u (of_kind i left)) ∷ k) e w)) → (shared : SharedAt source pages calls k e w c) → DataIn source shared.tables c.active.slots k e w c
       → ReadyAt source shared.tables (of_kind j v) e.locals c.active.function c.active.next c.active.slots c.frames (Needs (Apply u (of_kind i left)) ∷ k)
       → GoesBehind (of_kind j v) (Needs (Apply u (of_kind i left)) ∷ k) e w c
-  applies_values u i j (Int a) (Int b) k e w c well shared facts (l, r, is_left, is, holds, to_slot (d, q, here, lands)) = computes u i j a b l r d k e w c q shared facts (int_is shared.tables i a c.active.slots l is_left) (int_is shared.tables j b c.active.slots r is) holds here lands
-  applies_values u i j (Int a) (Int b) k e w c well shared facts (l, r, is_left, is, holds, to_jump (failing, fails, stack)) = compares_both u i j failing a b l r k e w c fails shared facts (int_is shared.tables i a c.active.slots l is_left) (int_is shared.tables j b c.active.slots r is) stack
+  applies_values u i j (Int a) (Int b) k e w c well shared facts (r, is, (l, is_left, low, inl (holds, to_slot (d, q, here, lands)))) =
+      computes u i j a b l r d k e w c q shared facts (int_is shared.tables i a c.active.slots l is_left) (int_is shared.tables j b c.active.slots r is) here
+      (λ m x end x_is. landed_word source pages calls (binary_word u a b) x d k e w (at c m) q x_is shared facts holds end lands)
+  applies_values u i j (Int a) (Int b) k e w c well shared facts (r, is, (l, is_left, low, inl (holds, to_jump (failing, fails, stack)))) =
+      compares_both u i j failing a b l r k e w c fails shared facts (int_is shared.tables i a c.active.slots l is_left) (int_is shared.tables j b c.active.slots r is) stack
+  applies_values u i j (Int a) (Int b) k e w c well shared facts (r, is, (l, is_left, low, inr (q, here, beside))) =
+      let free = top source c.active.function k in
+      computes u i j a b l r free k e w c q shared facts (int_is shared.tables i a c.active.slots l is_left) (int_is shared.tables j b c.active.slots r is) here
+      (λ m x end x_is. stays_beside (int_of (binary_word u a b)) x k e w (at c m) q (m + 1) shared facts end (put-same c.active.slots free x ∙ x_is) beside)
   applies_values u i j left v k e w c well shared facts ready = absurd (well refl)
 
   applies : (u : Operator) (left v : Kinded) (k : List Entry) (e : Environment) (w : World) (c : Configuration)
@@ -499,10 +560,10 @@ module _ (source : Program) (pages calls : ℕ) where
       → OperationsAt (code_of source g) (bounds_at source g) (types_on source g k) os (operands.Slot (next_slot os d (top source g k))) d (top source g k) p q
       → LandsStack source g locals (chain_kind kind os) d q frames k → LandsStack source g locals kind (next_slot os d (top source g k)) p frames (Needs (Chain os) ∷ k)
   chain_lands NoOperations kind g locals d p q frames k (is, end) lands = lands_at source pages calls g locals kind d p q frames k end lands
-  chain_lands (ThenCompute u b os) kind g locals d p q frames k ops lands = in_temporary (omega arith) (to_slot (d, q, ops, lands))
-  chain_lands (ThenTest u b os) kind g locals d p q frames k ops lands = in_temporary (omega arith) (to_slot (d, q, ops, lands))
-  chain_lands (ThenPointer u b os) kind g locals d p q frames k ops lands = in_temporary (omega arith) (to_slot (d, q, ops, lands))
-  chain_lands (ThenPointerPeek n u b os) kind g locals d p q frames k ops lands = in_temporary (omega arith) (to_slot (d, q, ops, lands))
+  chain_lands (ThenCompute u b os) kind g locals d p q frames k ops lands = in_temporary (omega arith) (omega arith, to_slot (d, q, ops, lands))
+  chain_lands (ThenTest u b os) kind g locals d p q frames k ops lands = in_temporary (omega arith) (omega arith, to_slot (d, q, ops, lands))
+  chain_lands (ThenPointer u b os) kind g locals d p q frames k ops lands = in_temporary (omega arith) (omega arith, to_slot (d, q, ops, lands))
+  chain_lands (ThenPointerPeek n u b os) kind g locals d p q frames k ops lands = in_temporary (omega arith) (omega arith, to_slot (d, q, ops, lands))
 
   -- where the left operand decides, the right one is jumped over
   decided_at_once : (u : LogicalOperator) (b : Expression) (os : Operations) (v : Kinded) (f : Bool) (k : List Entry) (e : Environment) (w : World) (c : Configuration) (i : Instruction) (d m r : ℕ)
@@ -570,40 +631,64 @@ module _ (source : Program) (pages calls : ℕ) where
   awaited_fits true waiting b os k e w well = refl
   awaited_fits false waiting b os k e w well = absurd (well refl)
 
-  -- an operator: its right operand has no code, or comes behind the left one
-  chain_goes_on : (known : Option Operand) (u : Operator) (b : Expression) (os : Operations) (v : Kinded) (l : Operand) (k : List Entry) (e : Environment) (w : World) (c : Configuration) (r : Operand) (m : ℕ)
-      → IsWell (step source (Running (Given v) (Needs (Chain (ThenCompute u b os)) ∷ k) e w)) → operand_of (starts_on source c.active.function k) b ≡ known → Stands v l k e w c
-      → OperandBy (code_of source c.active.function) (bounds_at source c.active.function) (types_on source c.active.function k) known
-      ((l ≡ operands.Slot (top source c.active.function k))
+  -- what is not simple has code
+  unknown : (starts : Starts) (b : Expression) → is_simple starts b ≡ false → operand_of starts b ≡ None
+  unknown starts b other = by (operand_of starts b) refl
+    where
+      by : (known : Option Operand) → operand_of starts b ≡ known → operand_of starts b ≡ None
+      by None none = none
+      by (Some x) some = absurd (let f : true ≡ false = sym (known_simple source pages calls starts b (ap is_some some)) ∙ other in cc)
+
+  -- the same of a right operand, whatever is said of the left one
+  right_alone : (code : List Instruction) (b : Numbering) (types : Types) (known : Option Operand) (left computed : Type 0) (slot : ℕ) (o : Operand) (p q : ℕ) → OperandBy code b types known (left × computed) slot o p q
+      → OperandBy code b types known computed slot o p q
+  right_alone code b types (Some x) left computed slot o p q at = at
+  right_alone code b types None left computed slot o p q (is, (there, at)) = (is, at)
+
+  left_there : (code : List Instruction) (b : Numbering) (types : Types) (known : Option Operand) (left computed : Type 0) (slot : ℕ) (o : Operand) (p q : ℕ) → known ≡ None → OperandBy code b types known (left × computed) slot o p q → left
+  left_there code b types (Some x) left computed slot o p q none at = absurd (none-some x (sym none))
+  left_there code b types None left computed slot o p q none (is, (there, at)) = there
+
+  -- an operator: the left operand stays where the right one is simple, and the right one comes behind it
+  chain_goes_on : (simple : Bool) (u : Operator) (b : Expression) (os : Operations) (v : Kinded) (l : Operand) (k : List Entry) (e : Environment) (w : World) (c : Configuration) (r : Operand) (m : ℕ)
+      → IsWell (step source (Running (Given v) (Needs (Chain (ThenCompute u b os)) ∷ k) e w)) → is_simple (starts_on source c.active.function k) b ≡ simple → IsLow l (top source c.active.function k) → Stands v l k e w c
+      → OperandBy (code_of source c.active.function) (bounds_at source c.active.function) (types_on source c.active.function k) (operand_of (starts_on source c.active.function k) b)
+      (LeftBy (code_of source c.active.function) (bounds_at source c.active.function) (types_on source c.active.function k) simple (l ≡ operands.Slot (top source c.active.function k))
       × ExpressionAt (code_of source c.active.function) (bounds_at source c.active.function) (types_on source c.active.function k) b (value_slot (starts_on source c.active.function k) b (suc (top source c.active.function k))) (suc (top source c.active.function k)) c.active.next m)
       (value_slot (starts_on source c.active.function k) b (suc (top source c.active.function k))) r c.active.next m
       → AppliedStack source c.active.function e.locals u l r m c.frames (Needs (Chain os) ∷ k)
       → GoesBehind v (Needs (Chain (ThenCompute u b os)) ∷ k) e w c
-  chain_goes_on (Some known) u b os v l k e w c r m well is_known (shared, facts, is, holds) (r_is, begin) applied =
-      let g = c.active.function in
+  chain_goes_on simple u b os v l k e w c r m well is_it low (shared, facts, is, holds) at applied =
       silently source pages calls (Running (Given v) (Needs (Chain (ThenCompute u b os)) ∷ k) e w) (Running (Evaluating b) (Needs (Apply u v) ∷ Needs (Chain os) ∷ k) e w) (plain.Running c) (awaited (is_kind v.kind kinds.Int) (Apply u v) b os k e w well)
-      (shared, facts, as_right (l, r, is_known ∙ ap Some (sym r_is), is, holds, subst (λ x. AppliedStack source g e.locals u l r x c.frames (Needs (Chain os) ∷ k)) (sym begin) applied))
+      (shared, facts, by simple is_it at)
       (omega arith)
-  chain_goes_on None u b os v l k e w c r m well is_known (shared, facts, is, holds) (r_is, (there, at_b)) applied =
-      let g = c.active.function in
-      let t = top source g k in
-      let starts = starts_on source g k in
-      let int = same_kind v.kind kinds.Int (awaited_fits (is_kind v.kind kinds.Int) (Apply u v) b os k e w well) in
-      let next : suc t ≡ top source g (Needs (Apply u v) ∷ Needs (Chain os) ∷ k) = omega (arith, ap words_of_kind int) in
-      let at_right : OperandBy (code_of source g) (bounds_at source g) (types_on source g k) (operand_of starts b)
-      (ExpressionAt (code_of source g) (bounds_at source g) (types_on source g k) b (value_slot starts b (suc t)) (suc t) c.active.next m) (value_slot starts b (suc t)) r c.active.next m =
-      subst (λ x. OperandBy (code_of source g) (bounds_at source g) (types_on source g k) x (ExpressionAt (code_of source g) (bounds_at source g) (types_on source g k) b (value_slot starts b (suc t)) (suc t) c.active.next m) (value_slot starts b (suc t)) r c.active.next m)
-      (sym is_known) (r_is, at_b) in
-      silently source pages calls (Running (Given v) (Needs (Chain (ThenCompute u b os)) ∷ k) e w) (Running (Evaluating b) (Needs (Apply u v) ∷ Needs (Chain os) ∷ k) e w) (plain.Running c) (awaited (is_kind v.kind kinds.Int) (Apply u v) b os k e w well) (
-        shared,
-        facts,
-        as_operand r m
-            (subst (λ n. OperandBy (code_of source g) (bounds_at source g) (types_on source g k) (operand_of starts b) (ExpressionAt (code_of source g) (bounds_at source g) (types_on source g k) b (value_slot starts b n) n c.active.next m) (value_slot starts b n) r c.active.next m)
-            next at_right)
-            (subst (IsIn shared.tables v c.active.slots) there is, holds)
-            (subst (λ x. AppliedStack source g e.locals u x r m c.frames (Needs (Chain os) ∷ k)) there applied),
-      )
-      (omega arith)
+    where
+      g : ℕ
+      g = c.active.function
+
+      t : ℕ
+      t = top source g k
+
+      starts : Starts
+      starts = starts_on source g k
+
+      next : suc t ≡ top source g (Needs (Apply u v) ∷ Needs (Chain os) ∷ k)
+      next = let int = same_kind v.kind kinds.Int (awaited_fits (is_kind v.kind kinds.Int) (Apply u v) b os k e w well) in omega (arith, ap words_of_kind int)
+
+      Right : (n : ℕ) → Type 0
+      Right n = OperandBy (code_of source g) (bounds_at source g) (types_on source g k) (operand_of starts b) (ExpressionAt (code_of source g) (bounds_at source g) (types_on source g k) b (value_slot starts b n) n c.active.next m) (value_slot starts b n) r c.active.next m
+
+      by : (simple : Bool) → is_simple starts b ≡ simple
+          → OperandBy (code_of source g) (bounds_at source g) (types_on source g k) (operand_of starts b)
+          (LeftBy (code_of source g) (bounds_at source g) (types_on source g k) simple (l ≡ operands.Slot t) × ExpressionAt (code_of source g) (bounds_at source g) (types_on source g k) b (value_slot starts b (suc t)) (suc t) c.active.next m) (value_slot starts b (suc t)) r c.active.next m
+          → EvaluatingAt source shared.tables b e.locals g c.active.next c.active.slots c.frames (Needs (Apply u v) ∷ Needs (Chain os) ∷ k)
+      by true is_simple_right at =
+          as_right (r, m, is_simple_right, subst Right next (right_alone (code_of source g) (bounds_at source g) (types_on source g k) (operand_of starts b) _ _ _ r c.active.next m at), (l, is, low, inl (holds, applied)))
+      by false other at =
+          let there = left_there (code_of source g) (bounds_at source g) (types_on source g k) (operand_of starts b) _ _ _ r c.active.next m (unknown starts b other) at in
+          as_operand r m (subst Right next (right_alone (code_of source g) (bounds_at source g) (types_on source g k) (operand_of starts b) _ _ _ r c.active.next m at))
+          (subst (IsIn shared.tables v c.active.slots) there is, holds)
+          (subst (λ x. AppliedStack source g e.locals u x r m c.frames (Needs (Chain os) ∷ k)) there applied)
 
   chains : (os : Operations) (v : Kinded) (o : Operand) (k : List Entry) (e : Environment) (w : World) (c : Configuration)
       → IsWell (step source (Running (Given v) (Needs (Chain os) ∷ k) e w)) → Stands v o k e w c
@@ -612,15 +697,15 @@ module _ (source : Program) (pages calls : ℕ) where
       silently source pages calls (Running (Given v) (Needs (Chain NoOperations) ∷ k) e w) (Running (Given v) k e w) (plain.Running c) refl
       (shared, in_operand o facts is (kept_holds _ _ _ k holds) stack)
       (omega arith)
-  chains (ThenCompute u b os) v o k e w c well stands (to_slot (d, q, (r, m, s, at_b, at, ops), lands)) =
-      chain_goes_on (operand_of (starts_on source c.active.function k) b) u b os v o k e w c r m well refl stands at_b
+  chains (ThenCompute u b os) v o k e w c well stands (low, to_slot (d, q, (r, m, s, at_b, at, ops), lands)) =
+      chain_goes_on (is_simple (starts_on source c.active.function k) b) u b os v o k e w c r m well refl low stands at_b
       (to_slot (next_slot os d (top source c.active.function k), s, at, chain_lands os kinds.Int c.active.function e.locals d s q c.frames k ops lands))
-  chains (ThenCompute u b NoOperations) v o k e w c well stands (to_jump (failing, r, q, (is, at_b), stack)) =
-      chain_goes_on (operand_of (starts_on source c.active.function k) b) u b NoOperations v o k e w c r q well refl stands at_b (to_jump (failing, is, stack))
-  chains (ThenTest u b os) v o k e w c well (shared, facts, is, holds) (to_slot (d, q, (m, r, there, jump, at_b, truths, ops), lands)) =
+  chains (ThenCompute u b NoOperations) v o k e w c well stands (low, to_jump (failing, r, q, (is, at_b), stack)) =
+      chain_goes_on (is_simple (starts_on source c.active.function k) b) u b NoOperations v o k e w c r q well refl low stands at_b (to_jump (failing, is, stack))
+  chains (ThenTest u b os) v o k e w c well (shared, facts, is, holds) (low, to_slot (d, q, (m, r, there, jump, at_b, truths, ops), lands)) =
       tests u b os v (c.active.slots (top source c.active.function k) == 0) k e w c d q well refl
       (shared, facts, subst (IsIn shared.tables v c.active.slots) there is, holds) (m, r, refl, jump, at_b, truths, ops) lands
-  chains (ThenPointer u b os) v o k e w c well (shared, facts, is, holds) (to_slot (d, q, (r, m, s, there, at_b, here, ops), lands)) =
+  chains (ThenPointer u b os) v o k e w c well (shared, facts, is, holds) (low, to_slot (d, q, (r, m, s, there, at_b, here, ops), lands)) =
       let g = c.active.function in
       silently source pages calls (Running (Given v) (Needs (Chain (ThenPointer u b os)) ∷ k) e w) (Running (Evaluating b) (Needs (ApplyPointer None u v) ∷ Needs (Chain os) ∷ k) e w) (plain.Running c)
       (awaited (takes_kind u v.kind) (ApplyPointer None u v) b os k e w well) (
@@ -630,7 +715,7 @@ module _ (source : Program) (pages calls : ℕ) where
             (subst (IsIn shared.tables v c.active.slots) there is) holds at_b here (chain_lands os (operator_kind u) g e.locals d s q c.frames k ops lands),
       )
       (omega arith)
-  chains (ThenPointerPeek n u b os) v o k e w c well (shared, facts, is, holds) (to_slot (d, q, (r, m, s, there, at_b, here, ops), lands)) =
+  chains (ThenPointerPeek n u b os) v o k e w c well (shared, facts, is, holds) (low, to_slot (d, q, (r, m, s, there, at_b, here, ops), lands)) =
       let g = c.active.function in
       silently source pages calls (Running (Given v) (Needs (Chain (ThenPointerPeek n u b os)) ∷ k) e w) (Running (Evaluating b) (Needs (ApplyPointer (Some n) u v) ∷ Needs (Chain os) ∷ k) e w) (plain.Running c)
       (awaited (takes_kind u v.kind) (ApplyPointer (Some n) u v) b os k e w well) (
@@ -640,7 +725,7 @@ module _ (source : Program) (pages calls : ℕ) where
             (subst (IsIn shared.tables v c.active.slots) there is) holds at_b here (chain_lands os (operator_kind u) g e.locals d s q c.frames k ops lands),
       )
       (omega arith)
-  chains os v o k e w c well stands (to_jump (failing, r, q, at, stack)) = absurd at
+  chains os v o k e w c well stands (low, to_jump (failing, r, q, at, stack)) = absurd at
 
   -- ---- assignments
 
@@ -1184,7 +1269,7 @@ module _ (source : Program) (pages calls : ℕ) where
   stands_given v o (Needs (Operate u) ∷ k) e w c of_words words names well stands stack = operates u v o k e w c well stands stack
   stands_given v o (Needs (Chain os) ∷ k) e w c of_words words names well stands stack = chains os v o k e w c well stands stack
   stands_given v o (Needs (Apply u left) ∷ k) e w c of_words words names well (shared, facts, is, (is_left, holds)) applied =
-      applies u left v k e w c well shared facts (operands.Slot (top source c.active.function k), o, is_left, is, holds, applied)
+      applies u left v k e w c well shared facts (o, is, (operands.Slot (top source c.active.function k), is_left, omega arith, inl (holds, applied)))
   stands_given v o (Needs (ApplyPointer peek u left) ∷ k) e w c of_words words names well (shared, facts, is, (is_left, holds)) (d, q, here, lands) =
       applies_pointers source pages calls u peek left v o d q k e w c names well shared facts is is_left holds here lands
   stands_given v o (Needs CountElements ∷ k) e w c of_words words names well (shared, facts, is, holds) (d, q, here, lands) = counts source pages calls v o d q k e w c words well shared facts is holds here lands
@@ -1215,7 +1300,7 @@ module _ (source : Program) (pages calls : ℕ) where
   stands_given v o (Needs (Follow pointer target) ∷ k) e w c of_words words names well stands stack = follows pointer target v o k e w c well stands stack
   stands_given v o (Needs (Index peek target i) ∷ k) e w c of_words words names well (shared, facts, is, holds) stack = indexes_pointer source pages calls peek target i v o k e w c well shared facts is holds stack
   stands_given v o (Needs (Advance peek target base) ∷ k) e w c of_words words names well (shared, facts, is, (is_base, holds)) (q, sum, reached, place) =
-      advances_pointer source pages calls peek target base v.kind v.value k e w c well shared facts (top source c.active.function k, o, q, is, is_base, omega arith, holds, (sum, reached, place))
+      advances_pointer source pages calls peek target base v.kind v.value k e w c well shared facts (o, is, (top source c.active.function k, q, is_base, omega arith, holds, (sum, reached, place)))
   stands_given v o (Needs (FollowMember pointer fields field) ∷ k) e w c of_words words names well stands stack = follows_member pointer fields field v.kind v.value o k e w c well stands stack
   stands_given v o (Needs (OpenBy number lent js) ∷ k) e w c of_words words names well (shared, facts, is, holds) stack = opened_given source pages calls v.kind v.value o number lent js k e w c well shared facts is stack
   stands_given v o (Needs (AliasOf number lent js) ∷ k) e w c of_words words names well (shared, facts, is, holds) stack = aliased_given source pages calls v o number lent js k e w c shared facts is stack
@@ -1282,23 +1367,87 @@ module _ (source : Program) (pages calls : ℕ) where
   compared_given v failing l r (Needs (Test a s) ∷ k) e w c shared facts fails stack = loops a s v _ failing l r k e w c fails refl shared facts stack
   compared_given v failing l r k e w c shared facts fails stack = absurd stack
 
+  -- the next operator of a chain that is a right operand, with its own right operand, which has no code
+  simple_goes_on : (u : Operator) (b : Expression) (os : Operations) (v : Kinded) (o : Operand) (q : ℕ) (k : List Entry) (e : Environment) (w : World) (c : Configuration) → IsWell (step source (Running (Given v) (Needs (Chain (ThenCompute u b os)) ∷ k) e w))
+      → (shared : SharedAt source pages calls k e w c) → DataIn source shared.tables c.active.slots k e w c → IsIn shared.tables v c.active.slots o → IsLow o (top source c.active.function k)
+      → are_simple (starts_on source c.active.function k) (ThenCompute u b os) ≡ true
+      → OperationsAt (code_of source c.active.function) (bounds_at source c.active.function) (types_on source c.active.function k) (ThenCompute u b os) o (top source c.active.function k) (top source c.active.function k) c.active.next q
+      → BesideAt source shared.tables e.locals c.active.function (operands.Slot (top source c.active.function k)) q c.active.slots c.frames k → GoesBehind v (Needs (Chain (ThenCompute u b os)) ∷ k) e w c
+  simple_goes_on u b os v o q k e w c well shared facts is low simple (r, m, s, at_b, at, ops) beside =
+      let g = c.active.function in
+      let t = top source g k in
+      let starts = starts_on source g k in
+      let some = and_left (is_some (operand_of starts b)) (are_simple starts os) simple in
+      let rest = and_right (is_some (operand_of starts b)) (are_simple starts os) simple in
+      let (known, end) = known_operand_is source pages calls (code_of source g) (bounds_at source g) (types_on source g k) (operand_of starts b) _ _ r c.active.next m some at_b in
+      let free = top source g (Needs (Apply u v) ∷ Needs (Chain os) ∷ k) in
+      let at_right : ValueAt (code_of source g) (bounds_at source g) (types_on source g k) b free r c.active.next m =
+      subst (λ (x : Option Operand). OperandBy (code_of source g) (bounds_at source g) (types_on source g k) x (ExpressionAt (code_of source g) (bounds_at source g) (types_on source g k) b (value_slot starts b free) free c.active.next m) (value_slot starts b free) r c.active.next m)
+      (sym known) (refl, end) in
+      let there : next_slot os t t ≡ t = next_same os t in
+      silently source pages calls (Running (Given v) (Needs (Chain (ThenCompute u b os)) ∷ k) e w) (Running (Evaluating b) (Needs (Apply u v) ∷ Needs (Chain os) ∷ k) e w) (plain.Running c) (awaited (is_kind v.kind kinds.Int) (Apply u v) b os k e w well) (
+        shared,
+        facts,
+        as_right (
+          r,
+          m,
+          known_simple source pages calls starts b some,
+          at_right,
+          (
+            o,
+            is,
+            low,
+            inr (
+              s,
+              subst (λ n. OperatorAt (code_of source g) (bounds_at source g) (types_on source g k) u n o r m s) there at,
+              (q, omega arith, rest, subst (λ n. OperationsAt (code_of source g) (bounds_at source g) (types_on source g k) os (operands.Slot n) t t s q) there ops, beside),
+            ),
+          ),
+        ),
+      )
+      (omega arith)
+    where
+      next_same : (os : Operations) (t : ℕ) → next_slot os t t ≡ t
+      next_same NoOperations t = refl
+      next_same os t = refl
+
   left_given : (v : Kinded) (k : List Entry) (e : Environment) (w : World) (c : Configuration) → IsWell (step source (Running (Given v) k e w)) → (shared : SharedAt source pages calls k e w c) → DataIn source shared.tables c.active.slots k e w c
       → ReadyAt source shared.tables v e.locals c.active.function c.active.next c.active.slots c.frames k → GoesBehind v k e w c
   left_given v (Needs (Apply u left) ∷ k) e w c well shared facts ready = applies u left v k e w c well shared facts ready
   left_given v (Needs (Advance peek target base) ∷ k) e w c well shared facts ready = advances_pointer source pages calls peek target base v.kind v.value k e w c well shared facts ready
-  left_given v (Needs (Follow pointer target) ∷ k) e w c well shared facts (n, m, q, fat, is, low, holds, here, place) =
+  left_given v (Needs (Chain NoOperations) ∷ k) e w c well shared facts (o, is, (q, low, simple, (there, end), beside)) =
+      let g = c.active.function in
+      silently source pages calls (Running (Given v) (Needs (Chain NoOperations) ∷ k) e w) (Running (Given v) k e w) (plain.Running c) refl (
+        shared,
+        with_left facts (
+          operands.Slot (top source g k),
+          subst (IsIn shared.tables v c.active.slots) there is,
+          subst (λ p. BesideAt source shared.tables e.locals g (operands.Slot (top source g k)) p c.active.slots c.frames k) (sym end) beside,
+        ),
+      )
+      (omega arith)
+  left_given v (Needs (Chain (ThenCompute u b os)) ∷ k) e w c well shared facts (o, is, (q, low, simple, at, beside)) = simple_goes_on u b os v o q k e w c well shared facts is low simple at beside
+  left_given v (Needs (Chain os) ∷ k) e w c well shared facts (o, is, (q, low, simple, at, beside)) = absurd (let f : false ≡ true = simple in cc)
+  left_given v (Needs (Operate unary.Widen) ∷ k) e w c well shared facts (o, is, beside) = by v.kind v.value well is
+    where
+      by : (i : Kind) (u : Value) → IsWell (step source (Running (Given (of_kind i u)) (Needs (Operate unary.Widen) ∷ k) e w)) → IsIn shared.tables (of_kind i u) c.active.slots o → GoesBehind (of_kind i u) (Needs (Operate unary.Widen) ∷ k) e w c
+      by i (Int a) well is =
+          silently source pages calls (Running (Given (of_kind i (Int a))) (Needs (Operate unary.Widen) ∷ k) e w) (Running (Given (int_of a)) k e w) (plain.Running c) refl
+          (shared, with_left facts (o, int_in shared.tables i a c.active.slots o is, beside))
+          (omega arith)
+      by i u well is = absurd (well refl)
+  left_given v (Needs (Operate u) ∷ k) e w c well shared facts (o, is, (at, beside)) =
+      operates_value u v.kind v.value o (top source c.active.function k) k e w c well shared is at
+      (λ value x x_is. stays_beside (of_kind (unary_kind u) value) x k e w c (c.active.next + 1) (c.active.next + 1) shared facts refl x_is beside)
+  left_given v k e w c well shared facts (o, is, beside) = absurd beside
+
+  -- a fat pointer that has moved
+  parts_given : (v : Kinded) (k : List Entry) (e : Environment) (w : World) (c : Configuration) → IsWell (step source (Running (Given v) k e w)) → (shared : SharedAt source pages calls k e w c) → DataIn source shared.tables c.active.slots k e w c
+      → PartsAt source shared.tables v e.locals c.active.function c.active.next c.active.slots c.frames k → GoesBehind v k e w c
+  parts_given v (Needs (Follow pointer target) ∷ k) e w c well shared facts (n, m, q, fat, is, low, holds, here, place) =
       subst (λ (j : Kind). IsWell (step source (Running (Given v) (Needs (Follow j target) ∷ k) e w)) → GoesBehind v (Needs (Follow j target) ∷ k) e w c) (sym fat)
       (λ wells. follows_parts source pages calls v.kind target n m q k e w c v.value wells shared facts is holds low here place) well
-  left_given v (Needs (Operate unary.Widen) ∷ k) e w c well shared facts ready = by v.kind v.value well ready
-    where
-      by : (i : Kind) (u : Value) → IsWell (step source (Running (Given (of_kind i u)) (Needs (Operate unary.Widen) ∷ k) e w))
-          → ((a : ℕ) → u ≡ Int a → ReadyAt source shared.tables (int_of a) e.locals c.active.function c.active.next c.active.slots c.frames k) → GoesBehind (of_kind i u) (Needs (Operate unary.Widen) ∷ k) e w c
-      by i (Int a) well ready =
-          silently source pages calls (Running (Given (of_kind i (Int a))) (Needs (Operate unary.Widen) ∷ k) e w) (Running (Given (int_of a)) k e w) (plain.Running c) refl
-          (shared, with_left facts (ready a refl))
-          (omega arith)
-      by i u well ready = absurd (well refl)
-  left_given v k e w c well shared facts ready = absurd ready
+  parts_given v k e w c well shared facts parts = absurd parts
 
   pub given : (v : Kinded) (k : List Entry) (e : Environment) (w : World) (c : Configuration) → HasWords (lower_program source) → plain.HoldsWords (plain.Running c) → AreNamed source e.locals (callers k) w c.active.function c.active.base c.frames c.store → IsStep source pages calls (Given v) k e w c
   given v k e w c of_words words names well (shared, in_operand o facts is holds stack) = stands_given v o k e w c of_words words names well (shared, facts, is, holds) stack
@@ -1306,3 +1455,4 @@ module _ (source : Program) (pages calls : ℕ) where
   given v k e w c of_words words names well (shared, ahead n (old, same, facts) is holds stack) = ahead_given v n old k e w c well shared same facts is holds stack
   given v k e w c of_words words names well (shared, compared failing l r facts fails stack) = compared_given v failing l r k e w c shared facts fails stack
   given v k e w c of_words words names well (shared, with_left facts ready) = left_given v k e w c well shared facts ready
+  given v k e w c of_words words names well (shared, in_parts facts parts) = parts_given v k e w c well shared facts parts

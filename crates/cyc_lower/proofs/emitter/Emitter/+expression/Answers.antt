@@ -3,7 +3,6 @@ use Rattle.std.proofs.lemmas.Result.{on_ok_weaker}
 use borrow.Author.Rules.{rules, get_or_read}
 use Rattle.cyc_types.specs.declared.ty.Ty.TheFolds as types
 use Rattle.cyc_types.specs.declared.typed.Dereference.TheFolds as expressions
-use Rattle.cyc_types.specs.declared.typed.Operation.{Operation}
 use Rattle.cyc_types.specs.declared.typed.Converted.{Converted as ConvertedCode}
 use Rattle.cyc_meaning.specs.Values.{words_of_kind}
 use Rattle.cyc_types.specs.TypedTreeView.{view_dereference, view_expression, operations_of, arguments_of, view_converted}
@@ -13,7 +12,7 @@ use Rattle.cyc_plain.specs.declared.instruction.Instruction.TheVariants as instr
 use Rattle.cyc_plain.specs.declared.instruction.Instruction.{Instruction}
 use Rattle.cyc_lower.specs.ValueCode.{copy_code, conversion_code, test_jump, next_slot, span_of, all_passed, kinds_passed}
 use Rattle.cyc_lower.specs.ExpressionCode.{value_operand, expression_code, brought_code}
-use Rattle.cyc_lower.specs.Emission.{Gives, left_code, HasRoom, operation_code, view_starts}
+use Rattle.cyc_lower.specs.Emission.{Gives, left_code, operation_code, view_starts}
 use Rattle.cyc_lower.proofs.emission.Emitting.{Remains, all_arguments, one_argument, next_argument, arguments_lower, all_operations, one_operation, next_operation, operations_lower, goes_on, joined, passed_on, made_putchar, made_call, made_called, made_fields, made_binary, room_behind, made_left_alone, made_left_first, made_compute, made_test, room_after, slot_by_count, made_print, made_assigned, room_for_right, made_stored, made_elements, made_left_operand}
 use Rattle.cyc_lower.proofs.emitter.Emitter.+expression.Goals.{lower_left-then-is_empty, lower_left-else-is_empty, lower_operations-then-behind-eq0, lower_operations-else-behind-eq0}
 use Rattle.cyc_lower.proofs.slots.CellBytes.{passed_slots}
@@ -53,11 +52,8 @@ call-returns-in_ok-count-in-Function t c =
 
 pub lower_expression-lower_operations-requires : goal.lower_expression-lower_operations-requires
 lower_expression-lower_operations-requires t c =
-    let same = c.deref-in-Binary-2.ensures.value ∙ sym c.deref-in-Binary-3.ensures.value in
-    let room = room_behind (view_starts c.args.starts.now) (view_expression c.deref-in-Binary.result.now) (operations_of c.deref-in-Binary-2.result.now) c.args.self.now.code.items c.lower_left.new.self.code.items c.args.slot c.args.free c.requires c.in_ok-left-in-Binary.ensures.1 in (
-      search (rules, types.the_lemmas, expressions.the_lemmas, get_or_read),
-      (room.0, subst (λ (os : List Operation). HasRoom (view_starts c.args.starts.now) (operations_of os) c.args.free (length c.lower_left.new.self.code.items)) same room.1),
-    )
+    let room = room_behind (view_starts c.args.starts.now) (view_expression c.deref-in-Binary.result.now) (operations_of c.deref-in-Binary-2.result.now) c.args.self.now.code.items c.lower_left.new.self.code.items c.args.slot c.args.free c.requires c.in_ok-left-in-Binary.ensures.1 in
+    (search (rules, types.the_lemmas, expressions.the_lemmas, get_or_read), room)
 
 pub lower_expression-returns-in-Call : goal.lower_expression-returns-in-Call
 lower_expression-returns-in-Call t c =
@@ -88,7 +84,7 @@ lower_left-returns t c =
 pub lower_operation-returns-in_ok-right-in-Compute : goal.lower_operation-returns-in_ok-right-in-Compute
 lower_operation-returns-in_ok-right-in-Compute t c =
     on_ok_weaker c.lower_operator.result
-    (made_compute (view_starts c.args.starts.now) c.args.operation.now c.in-Compute.operator c.in-Compute.operand c.args.self.now.code.items c.lower_operand.new.self.code.items c.lower_operator.new.self.code.items c.args.left c.in_ok-right-in-Compute.right c.args.slot c.args.free c.in-Compute.is c.in_ok-right-in-Compute.ensures.0 c.in_ok-right-in-Compute.ensures.1)
+    (made_compute (view_starts c.args.starts.now) c.args.operation.now c.in-Compute.operator c.in-Compute.operand c.args.self.now.code.items c.lower_operand.new.self.code.items c.lower_operator.new.self.code.items c.args.left c.in_ok-right-in-Compute.right c.args.slot c.args.free c.in_ok-behind-in-Compute.behind c.in-Compute.is c.in_ok-behind-in-Compute.ensures.0 c.in_ok-right-in-Compute.ensures.0 c.in_ok-right-in-Compute.ensures.1)
     c.lower_operator.ensures
 
 pub lower_operation-returns-in_ok-lower_expression-in-Test : goal.lower_operation-returns-in_ok-lower_expression-in-Test
@@ -121,12 +117,11 @@ lower_operations-loop-operation-preserved t c =
       | lower_operations-else-behind-eq0 w ↦ slot (λ none. absurd (omega (arith, none, w.if-behind-eq0.false))) (λ some. w.to-is)
     ] in
     let added = c.in_ok-lower_operation.ensures ∙ ap (λ (n : ℕ). code ++ operation_code (view_starts c.args.starts.now) x (length code) left n free) there in
-    let room = room_after (view_starts c.args.starts.now) x (operations_of (drop (i + 1) xs)) code new left to free c.loop-operation.invariant.2 c.in_ok-lower_operation.ensures in (
+    let room = room_after (view_starts c.args.starts.now) x code new left to free c.loop-operation.invariant.2 c.in_ok-lower_operation.ensures in (
       subst (λ (n : ℕ). Remains (all_operations (view_starts c.args.starts.now) d free) old xs c.args.first (i + 1) new (operands.Slot n)) (sym there)
           (goes_on (all_operations (view_starts c.args.starts.now) d free) (one_operation (view_starts c.args.starts.now) d free) (next_operation (view_starts c.args.starts.now) d free) (operations_lower (view_starts c.args.starts.now) d free) old xs c.args.first i code new left x c.loop-operation-test.true c.operation-item.is added c.loop-operation.invariant.0),
       counted,
-      room.0,
-      room.1,
+      room,
     )
 
 pub print-returns : goal.print-returns

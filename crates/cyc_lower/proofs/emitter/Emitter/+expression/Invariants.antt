@@ -1,8 +1,8 @@
 use Rattle.std.specs.Prelude.{◌≡◌, ◌+◌, ◌≤◌, length, drop}
-use Rattle.cyc_types.specs.TypedTreeView.{arguments_of, operations_of}
+use Rattle.cyc_types.specs.TypedTreeView.{arguments_of}
 use Rattle.cyc_plain.specs.declared.instruction.Operand.TheVariants as operands
 use Rattle.cyc_lower.specs.ValueCode.{all_passed}
-use Rattle.cyc_lower.specs.Emission.{most_locals, HasRoom, view_starts}
+use Rattle.cyc_lower.specs.Emission.{most_locals, view_starts}
 use Rattle.cyc_lower.proofs.emission.Emitting.{Remains, all_arguments, all_printed, all_operations, PrintedLeft}
 use Rattle.cyc_lower.proofs.emitter.Emitter.+expression.Given as goal
 
@@ -23,4 +23,3 @@ invariant-lower_operations-loop-operation l =
     Remains (all_operations (view_starts l.starts) l.slot l.free) l.fn.self.code.items l.operations l.fn.first l.operation-index l.self.code.items l.left
     × (l.behind + l.operation-index ≡ length l.operations)
     × (l.free ≤ most_locals + length l.self.code.items)
-    × HasRoom (view_starts l.starts) (operations_of (drop l.operation-index l.operations)) l.free (length l.self.code.items)

@@ -5,7 +5,7 @@ use Rattle.cyc_types.specs.TypedTreeView.{view_expression}
 use Rattle.cyc_plain.specs.declared.instruction.Comparison.TheVariants as comparisons
 use Rattle.cyc_lower.specs.ControlCode.{with_zero, compared_of}
 use Rattle.cyc_lower.specs.Emission.{view_starts}
-use Rattle.cyc_lower.proofs.emission.Conditions.{not_single, made_alone, room_for_first, made_compared}
+use Rattle.cyc_lower.proofs.emission.Conditions.{not_single, made_alone, made_compared}
 use Rattle.cyc_lower.proofs.emitter.Emitter.compare_chain.Goals as goal
 
 pub returns-then-rest-ne1 : goal.returns-then-rest-ne1
@@ -18,15 +18,10 @@ returns-then-rest-ne1 c =
     (λ answer made. made_alone (view_starts c.args.starts.now) whole whole comparisons.Equal answer c.args.self.now.code.items c.compare_with_zero.new.self.code.items c.args.free is made)
     c.compare_with_zero.ensures
 
-pub lower_operand-requires : goal.lower_operand-requires
-lower_operand-requires c =
-    room_for_first (view_starts c.args.starts.now) (view_expression c.args.first.now) c.args.rest.now c.in-Some-Compute.field-0.now c.in-Some-Compute.operator c.in-Some-Compute.operand c.args.self.now.code.items c.lower_left.new.self.code.items c.args.free
-    c.in-Some-Compute.ensures.value c.in-Some-Compute.field-0-is c.requires.low c.in_ok-left.ensures.1
-
 pub returns-in-Some : goal.returns-in-Some
 returns-in-Some c =
     let (ty, chain) = c.requires.chain in
     made_compared (view_starts c.args.starts.now) (view_expression c.args.value.now) (view_expression c.args.first.now) c.args.rest.now c.in-Some-Compute.field-0.now c.in-Some-Compute.operator c.in-Some-Compute.operand ty c.in-Some.failing c.in_ok-left.left c.in_ok-right.right
-    c.args.self.now.code.items c.lower_left.new.self.code.items c.lower_operand.new.self.code.items c.args.free
-    chain (omega (arith, c.if-rest-ne1.false)) c.in-Some-Compute.ensures.value c.in-Some-Compute.field-0-is (sym c.failing_comparison.ensures ∙ c.in-Some.is)
+    c.args.self.now.code.items c.lower_left.new.self.code.items c.lower_operand.new.self.code.items c.args.free c.in_ok-behind.behind
+    chain (omega (arith, c.if-rest-ne1.false)) c.in-Some-Compute.ensures.value c.in-Some-Compute.field-0-is (sym c.failing_comparison.ensures ∙ c.in-Some.is) c.in_ok-behind.ensures.0
     c.in_ok-left.ensures.0 c.in_ok-left.ensures.1 c.in_ok-right.ensures.0 c.in_ok-right.ensures.1

@@ -1,0 +1,9 @@
+use Rattle.std.proofs.Common.{◌≡◌, drop}
+use Rattle.cyc_types.specs.TypedTreeView.{operations_of}
+use Rattle.cyc_lower.specs.ExpressionCode.{are_simple}
+use Rattle.cyc_lower.specs.Emission.{view_starts}
+use Rattle.cyc_lower.proofs.operands.are_simple.Given as goal
+
+-- the operators so far are on operands without code
+abbrev pub invariant-loop-operation : goal.invariant-loop-operation
+invariant-loop-operation l = are_simple (view_starts l.starts) (operations_of (drop l.operation-index l.operations)) ≡ are_simple (view_starts l.starts) (operations_of l.operations)
