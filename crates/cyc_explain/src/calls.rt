@@ -1,12 +1,11 @@
 //! What a call asks, in the words of the caller and of the function that is called.
 use crate::conversions::{explain_conversion, say_closed, say_shorter};
-use crate::homes::Homes;
+use crate::messages::Message;
 use crate::names::{Sort, explain_unknown};
-use crate::teller::{Part, Teller};
-use crate::wanted::given;
-use crate::written::say_count;
+use crate::teller::{Teller, value_of};
 use cyc_check::value_type;
 use cyc_forms::span_of;
+use cyc_forms::types::region_of;
 use cyc_heads::members;
 use cyc_scope::{Meaning, Scope};
 use cyc_syntax::{Declaration, Expr, Ident};
@@ -19,9 +18,8 @@ use std::alloc::Global;
 
 /// Notes the regions of the function of this name, as its own head names them.
 fn note_theirs(teller: &mut Teller<'_>, names: &RegionNames, function: Ident) {
-    let tree = teller.tree;
-    let mut theirs = Homes::new(teller.alloc);
-    for declaration in &tree.declarations {
+    teller.notes.theirs.clear();
+    for declaration in &teller.notes.tree.declarations {
         if let Declaration::Function {
             name,
             parameters,
@@ -29,11 +27,11 @@ fn note_theirs(teller: &mut Teller<'_>, names: &RegionNames, function: Ident) {
         } = declaration
         {
             if name.name == function.name {
+                let theirs = &mut teller.notes.theirs;
                 theirs.add_parameters(names, *name, members(parameters));
             }
         }
     }
-    teller.theirs = theirs;
 }
 
 /// The region at the first place of a region variable.
@@ -47,29 +45,23 @@ fn region_among(variables: &[Region], given: &[Region], variable: Region) -> Opt
     found
 }
 
+fn is_handle_or_key(of_type: &Ty) -> bool {
+    matches!(of_type, Ty::Handle { .. } | Ty::Key { .. })
+}
+
 /// The same, where the variables stand in a parameter's type.
 fn region_in(parameter: &Ty, given: &Ty, variable: Region) -> Option<Region> {
     match (parameter, given) {
         (
-            Ty::Pointer { target, region, .. },
+            Ty::Pointer { target, .. },
             Ty::Pointer {
                 target: given_target,
-                region: given_region,
                 ..
             },
         ) => match region_in(target, given_target, variable) {
             Some(found) => Some(found),
-            None => region_among(&[*region], &[*given_region], variable),
+            None => region_outside(parameter, given, variable),
         },
-        (
-            Ty::Handle { region } | Ty::Key { region },
-            Ty::Handle {
-                region: given_region,
-            }
-            | Ty::Key {
-                region: given_region,
-            },
-        ) => region_among(&[*region], &[*given_region], variable),
         (
             Ty::Struct { regions, .. },
             Ty::Struct {
@@ -77,7 +69,19 @@ fn region_in(parameter: &Ty, given: &Ty, variable: Region) -> Option<Region> {
                 ..
             },
         ) => region_among(regions, given_regions, variable),
+        _ if is_handle_or_key(parameter) && is_handle_or_key(given) => {
+            region_outside(parameter, given, variable)
+        }
         _ => None,
+    }
+}
+
+/// The same, where the variable is the region of a pointer, a handle or a key itself.
+fn region_outside(parameter: &Ty, given: &Ty, variable: Region) -> Option<Region> {
+    if region_of(parameter) == variable {
+        Some(region_of(given))
+    } else {
+        None
     }
 }
 
@@ -105,7 +109,7 @@ fn instance_of(alloc: Global, signature: &Signature, values: &[ValueType]) -> Ve
 // ---- what is asked
 
 /// Whether the fault is at this place or at that of an expression.
-pub(crate) fn is_among(teller: &Teller<'_>, name: Ident, expressions: &[Expr]) -> bool {
+fn is_among(teller: &Teller<'_>, name: Ident, expressions: &[Expr]) -> bool {
     let mut is_here = teller.is_at(name.span);
     for expression in expressions {
         is_here = is_here || teller.is_at(span_of(expression));
@@ -128,26 +132,31 @@ fn values_of(scope: &mut Scope<'_>, expressions: &[Expr]) -> Vec<ValueType> {
     values
 }
 
+/// The type of a value once more.
+fn again(value: &ValueType) -> Option<ValueType> {
+    match value {
+        ValueType::Void => Some(ValueType::Void),
+        ValueType::Null => Some(ValueType::Null),
+        ValueType::Value { of_type } => value_of(of_type.share().ok()),
+    }
+}
+
+/// Whether a region of the function that is called has the name there that another one has here.
+fn is_namesake(teller: &Teller<'_>, own: Region, here: Region) -> bool {
+    match teller.notes.theirs.name(own) {
+        Some(name) => teller.notes.homes.name(here) == Some(name),
+        None => false,
+    }
+}
+
 /// What a region of the function that is called is at the call.
-fn say_here(teller: &mut Teller<'_>, function: Ident, own: Region, here: Region) {
-    let theirs = teller.theirs.name(own);
-    let ours = teller.homes.name(here);
-    match teller.function {
-        Some(caller) if theirs.is_some() && theirs == ours => {
-            let parts = [
-                Part::Theirs(own),
-                Part::Name(function),
-                Part::Region(here),
-                Part::Name(caller),
-            ];
-            teller.say(", and % of % is % of % here", &parts);
-        }
-        _ => {
-            if let Region::Variable(_) = own {
-                let parts = [Part::Theirs(own), Part::Region(here)];
-                teller.say(", and % is % here", &parts);
-            }
-        }
+fn say_here(teller: &mut Teller<'_>, own: Region, here: Region) {
+    teller.notes.their_regions.0 = own;
+    teller.notes.regions.0 = here;
+    if is_namesake(teller, own, here) {
+        teller.say(", and %a of %n is %r of %f here");
+    } else if let Region::Variable(_) = own {
+        teller.say(", and %a is %r here");
     }
 }
 
@@ -160,16 +169,24 @@ fn explain_constraint(
     here: (Region, Region),
 ) {
     if teller.is_fault(Code::NotOutlived, function.span) && !scope.outlives(here.0, here.1) {
-        let parts = [
-            Part::Name(function),
-            Part::Theirs(own.0),
-            Part::Theirs(own.1),
-        ];
-        teller.say("% has the constraint % > %", &parts);
-        say_here(teller, function, own.0, here.0);
-        say_here(teller, function, own.1, here.1);
+        teller.notes.their_regions = own;
+        teller.say("%n has the constraint %a > %b");
+        say_here(teller, own.0, here.0);
+        say_here(teller, own.1, here.1);
         say_shorter(teller, here.0, here.1);
     }
+}
+
+/// Says the effect of a function.
+fn say_effect(teller: &mut Teller<'_>, effect: &[Region]) {
+    teller.say("the effect of %n is {");
+    let mut is_first = true;
+    for region in effect {
+        teller.notes.their_regions.0 = *region;
+        teller.say(if is_first { "%a" } else { ", %a" });
+        is_first = false;
+    }
+    teller.say("}");
 }
 
 /// The words for a region of an effect that is not live, where it is this one.
@@ -182,39 +199,65 @@ fn explain_effect(
     here: Region,
 ) {
     if teller.is_fault(Code::EffectNotCovered, function.span) && !scope.is_live(here) {
-        teller.say("the effect of % is {", &[Part::Name(function)]);
-        for i in 0..effect.len() {
-            let text = if i == 0 { "%" } else { ", %" };
-            teller.say(text, &[Part::Theirs(effect[i])]);
-        }
-        teller.say("}", &[]);
-        say_here(teller, function, own, here);
-        teller.say("\n", &[]);
+        say_effect(teller, effect);
+        say_here(teller, own, here);
+        teller.say("\n");
         say_closed(teller, here);
     }
 }
 
-/// The words for an argument that is not converted to the type of its parameter, or that is a unique pointer where that is none.
+/// The words for a value that is not converted to the type of its parameter, or that is a unique pointer where that is none.
 fn explain_argument(
     teller: &mut Teller<'_>,
     scope: &Scope<'_>,
-    function: Ident,
     argument: &Expr,
     value: &ValueType,
     parameter: &Ty,
     instance: &[Region],
 ) {
     let span = span_of(argument);
-    if teller.is_at(span) {
-        if let Ok(wanted) = parameter.substituted(teller.alloc, instance) {
-            explain_conversion(teller, scope, given(value), &wanted, span);
+    if teller.is_at(span) && teller.find_value(again(value)) {
+        if teller.want_type(parameter.substituted(teller.alloc, instance).ok()) {
+            explain_conversion(teller, scope, span);
         }
         if let Ty::Pointer { region, .. } = parameter {
-            let parts = [Part::Theirs(*region), Part::Name(function)];
-            let text =
-                "% of % would be `U\nhint: lend the pointer by let alias, or write `U in the parameter's type";
-            teller.say_of(Code::RegionOrKeyMisused, span, text, &parts);
+            teller.notes.their_regions.0 = *region;
+            teller.tell(Message::SharedNotUnique, span);
         }
+    }
+}
+
+/// The words for arguments of a function with these parameters.
+fn explain_arguments(
+    teller: &mut Teller<'_>,
+    scope: &Scope<'_>,
+    arguments: &[Expr],
+    values: &[ValueType],
+    parameters: &[Ty],
+    instance: &[Region],
+) {
+    for i in 0..arguments.len() {
+        if let (Some(value), Some(parameter)) = (values.get(i), parameters.get(i)) {
+            explain_argument(teller, scope, &arguments[i], value, parameter, instance);
+        }
+    }
+}
+
+/// The words for what a function asks of regions, where its region variables are these.
+fn explain_asked(
+    teller: &mut Teller<'_>,
+    scope: &Scope<'_>,
+    function: Ident,
+    signature: &Signature,
+    instance: &[Region],
+) {
+    for own in &signature.constraints {
+        let here = (own.0.substituted(instance), own.1.substituted(instance));
+        explain_constraint(teller, scope, function, *own, here);
+    }
+    for own in &signature.effect {
+        let here = own.substituted(instance);
+        explain_effect(teller, scope, function, &signature.effect, *own, here);
     }
 }
 
@@ -229,29 +272,28 @@ fn explain_called(
 ) {
     let instance = instance_of(teller.alloc, signature, values);
     let parameters = &signature.parameters;
+    teller.notes.name = Some(function);
     if arguments.len() != parameters.len() && teller.is_fault(Code::TypeMismatch, function.span) {
-        say_count(teller, parameters.len(), arguments.len(), "argument");
+        teller.say_count(Message::ArgumentCount, parameters.len(), arguments.len());
     }
-    for i in 0..arguments.len() {
-        if let (Some(value), Some(parameter)) = (values.get(i), parameters.get(i)) {
-            explain_argument(
-                teller,
-                scope,
-                function,
-                &arguments[i],
-                value,
-                parameter,
-                &instance,
-            );
+    explain_arguments(teller, scope, arguments, values, parameters, &instance);
+    explain_asked(teller, scope, function, signature, &instance);
+}
+
+/// The words for a call of what a name means, with these values.
+fn explain_callee(
+    teller: &mut Teller<'_>,
+    scope: &Scope<'_>,
+    function: Ident,
+    arguments: &[Expr],
+    values: &[ValueType],
+) {
+    match scope.meaning(function) {
+        Meaning::Unknown => explain_unknown(teller, scope, Sort::Value, function),
+        Meaning::Routine { signature, .. } => {
+            explain_called(teller, scope, function, arguments, values, signature);
         }
-    }
-    for own in &signature.constraints {
-        let here = (own.0.substituted(&instance), own.1.substituted(&instance));
-        explain_constraint(teller, scope, function, *own, here);
-    }
-    for own in &signature.effect {
-        let here = own.substituted(&instance);
-        explain_effect(teller, scope, function, &signature.effect, *own, here);
+        _ => teller.tell_name(Message::VariableCalled, function),
     }
 }
 
@@ -265,17 +307,6 @@ pub(crate) fn explain_call(
     if is_among(teller, function, arguments) {
         let values = values_of(scope, arguments);
         note_theirs(teller, scope.names(), function);
-        match scope.meaning(function) {
-            Meaning::Unknown => explain_unknown(teller, scope, Sort::Value, function),
-            Meaning::Routine { signature, .. } => {
-                explain_called(teller, scope, function, arguments, &values, signature);
-            }
-            _ => {
-                let text =
-                    "% is a variable, and no function\nhint: only a function is called, by its name";
-                let parts = [Part::Name(function)];
-                teller.say_of(Code::TypeMismatch, function.span, text, &parts);
-            }
-        }
+        explain_callee(teller, scope, function, arguments, &values);
     }
 }

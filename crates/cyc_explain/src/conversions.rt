@@ -1,9 +1,11 @@
 //! Words for values that are converted to a type, and for regions: that are not live, or do not outlive each other.
 use crate::homes::{Home, Origin};
-use crate::teller::{Part, Teller};
-use cyc_forms::types::is_pointer;
+use crate::teller::Teller;
+use crate::words::given;
+use cyc_forms::types::{is_pointer, region_of};
 use cyc_forms::{Given, convert};
 use cyc_scope::{Scope, Settled};
+use cyc_types::typed::ValueType;
 use cyc_types::{Region, Ty};
 use cyc_words::{Code, Span};
 
@@ -22,49 +24,34 @@ fn last_end(teller: &Teller<'_>, name: usize) -> Option<Span> {
 
 /// Says why a region is not live.
 pub(crate) fn say_closed(teller: &mut Teller<'_>, region: Region) {
-    let own = Part::Region(region);
-    match teller.homes.find(region) {
-        Some(
-            Home {
-                origin: Origin::Caller,
-                ..
-            },
-        ) => {
-            if let Some(function) = teller.function {
-                teller.say("% is not in the effect of %", &[own, Part::Name(function)]);
-            }
-        }
-        Some(
-            Home {
-                origin: Origin::Dynamic,
-                name: Some(name),
-                span,
-                ..
-            },
-        ) => {
-            let parts = [own, Part::Place(span)];
-            teller.say(
-                "%, the dynamic region declared at %, is not open here",
-                &parts,
-            );
-            if let Some(end) = last_end(teller, name) {
-                teller.say(": the block that opened it ended at %", &[Part::Place(end)]);
-            }
-        }
-        _ => teller.say("% is not live here", &[own]),
+    teller.notes.regions.0 = region;
+    match teller.notes.homes.find(region) {
+        Some(home) => say_home_closed(teller, home),
+        None => teller.say("%r is not live here"),
     }
 }
 
-/// The words for a pointer or a handle at this place whose region is not live.
-pub(crate) fn explain_closed(
-    teller: &mut Teller<'_>,
-    scope: &Scope<'_>,
-    given: Given<'_>,
-    span: Span,
-) {
-    let region = given.region();
+/// The same of a region of the function at hand, which has this home.
+fn say_home_closed(teller: &mut Teller<'_>, home: Home) {
+    match (home.origin, home.name) {
+        (Origin::Caller, _) => teller.say("%r is not in the effect of %f"),
+        (Origin::Dynamic, Some(name)) => {
+            teller.notes.place = home.span;
+            teller.say("%r, the dynamic region declared at %p, is not open here");
+            if let Some(end) = last_end(teller, name) {
+                teller.notes.place = end;
+                teller.say(": the block that opened it ended at %p");
+            }
+        }
+        _ => teller.say("%r is not live here"),
+    }
+}
+
+/// The words for a pointer or a handle that is found at this place, whose region is not live.
+pub(crate) fn explain_closed(teller: &mut Teller<'_>, scope: &Scope<'_>, span: Span) {
+    let region = given(&teller.notes.found).region();
     if teller.is_fault(Code::RegionNotLive, span) && !scope.is_live(region) {
-        teller.say("found %\n", &[Part::Given(given)]);
+        teller.say("found %t\n");
         say_closed(teller, region);
     }
 }
@@ -76,13 +63,13 @@ fn beginning_of(region: Region, home: Option<Home>) -> &'static str {
     match home {
         Some(home) => match home.origin {
             _ if home.name.is_none() => "",
-            Origin::Caller => "% comes from the caller",
-            Origin::Block | Origin::Item => "% begins at %",
-            Origin::Dynamic => "% is a dynamic region, declared at %",
+            Origin::Caller => "%r comes from the caller",
+            Origin::Block | Origin::Item => "%r begins at %p",
+            Origin::Dynamic => "%r is a dynamic region, declared at %p",
         },
         None => match region {
-            Region::Heap => "% lives for the whole run",
-            Region::Unique => "% stands apart from all regions",
+            Region::Heap => "%r lives for the whole run",
+            Region::Unique => "%r stands apart from all regions",
             Region::Variable(_) => "",
         },
     }
@@ -90,31 +77,31 @@ fn beginning_of(region: Region, home: Option<Home>) -> &'static str {
 
 /// Says where a region begins behind a mark, if there is anything to say.
 fn say_beginning(teller: &mut Teller<'_>, mark: &str, region: Region) -> bool {
-    let home = teller.homes.find(region);
+    let home = teller.notes.homes.find(region);
     let text = beginning_of(region, home);
-    if text.is_empty() {
-        return false;
+    if let Some(home) = home {
+        teller.notes.place = home.span;
     }
-    let span = match home {
-        Some(home) => home.span,
-        None => Span { line: 0, column: 0 },
-    };
-    teller.say(mark, &[]);
-    teller.say(text, &[Part::Region(region), Part::Place(span)]);
-    true
+    if !text.is_empty() {
+        teller.notes.regions.0 = region;
+        teller.say(mark);
+        teller.say(text);
+    }
+    !text.is_empty()
 }
 
 /// Says in a line of its own which region does not outlive which, and where each begins, and then what to do.
 pub(crate) fn say_shorter(teller: &mut Teller<'_>, region: Region, other: Region) {
-    let parts = [Part::Region(region), Part::Region(other)];
-    teller.say("\n% does not outlive %", &parts);
+    teller.notes.regions = (region, other);
+    teller.say("\n%r does not outlive %s");
     let is_begun = say_beginning(teller, ": ", region);
     if region != other {
         say_beginning(teller, if is_begun { ", " } else { ": " }, other);
     }
-    if let Some(home) = teller.homes.find(region) {
-        let other_home = teller.homes.find(other);
-        teller.hint(advice_on_regions(home, other, other_home), &parts);
+    teller.notes.regions = (region, other);
+    if let Some(home) = teller.notes.homes.find(region) {
+        let other_home = teller.notes.homes.find(other);
+        teller.hint(advice_on_regions(home, other, other_home));
     }
 }
 
@@ -128,7 +115,7 @@ fn advice_on_regions(home: Home, other: Region, other_home: Option<Home>) -> &'s
             }
             Origin::Block => "a variable is gone when its block ends: make the object by new",
             Origin::Item | Origin::Dynamic => {
-                "what is in % is gone when its region ends: make the object by new, or write the region into the type"
+                "what is in %r is gone when its region ends: make the object by new, or write the region into the type"
             }
         },
         Region::Variable(_) => match other_home {
@@ -145,7 +132,7 @@ fn advice_between(home: Home, other: Home) -> &'static str {
     }
     match home.origin {
         Origin::Caller if home.name.is_some() && other.name.is_some() => {
-            "if it does at each call, declare so behind the parameters: % > %"
+            "if it does at each call, declare so behind the parameters: %r > %s"
         }
         Origin::Caller => {
             "name the regions of both types, as one, or as two with a constraint: `a > `b"
@@ -154,12 +141,20 @@ fn advice_between(home: Home, other: Home) -> &'static str {
             "a variable is gone when its block ends: make an object by new, or by rnew in the other region"
         }
         Origin::Item | Origin::Dynamic => {
-            "what is in % is gone when its block ends: make the object in %"
+            "what is in %r is gone when its block ends: make the object in %s"
         }
     }
 }
 
 // ---- conversions
+
+/// A conversion that breaks the demand of this code: what more there is to say of the types, and their regions.
+#[derive(Clone, Copy)]
+struct Unconverted {
+    code: Code,
+    more: &'static str,
+    regions: (Region, Region),
+}
 
 /// Whether two types are the same but for regions.
 fn has_shape(of_type: &Ty, wanted: &Ty) -> bool {
@@ -195,50 +190,80 @@ fn leads_further(given: Given<'_>) -> bool {
     }
 }
 
-/// What to do about a value of another type than this, if there is anything to say.
+/// What to do about a value of another type than this, in a line of its own, if there is anything to say.
 fn advice(given: Given<'_>, wanted: &Ty) -> &'static str {
     if given.is_void() {
-        "a function that returns no value is called by itself"
+        "\nhint: a function that returns no value is called by itself"
     } else if given.is_pointer() && matches!(wanted, Ty::Int | Ty::Char) {
-        "write *p for what p leads to"
+        "\nhint: write *p for what p leads to"
     } else if !is_pointer(wanted) {
         ""
     } else if given.is_int() || given.is_char() {
-        "write NULL for a null pointer"
+        "\nhint: write NULL for a null pointer"
     } else if leads_further(given) {
-        "what a pointer leads to is not converted: put a value of that very type there"
+        "\nhint: what a pointer leads to is not converted: put a value of that very type there"
     } else {
         ""
     }
 }
 
-/// The words for a value at this place that is not converted to a type.
-pub(crate) fn explain_conversion(
-    teller: &mut Teller<'_>,
-    scope: &Scope<'_>,
-    given: Given<'_>,
-    wanted: &Ty,
-    span: Span,
-) {
+/// Whether a value has a type that is this one but for regions inside.
+fn is_alike(given: Given<'_>, wanted: &Ty) -> bool {
+    match given {
+        Given::Value(of_type) => is_pointer(wanted) && has_shape(of_type, wanted),
+        _ => false,
+    }
+}
+
+/// What more there is to say of a value that has another type than this, behind both types.
+fn more_on(given: Given<'_>, wanted: &Ty) -> &'static str {
+    if is_alike(given, wanted) {
+        ", with other regions inside"
+    } else {
+        advice(given, wanted)
+    }
+}
+
+/// The demand that a value breaks, if it is to be converted to this type.
+fn broken(scope: &Scope<'_>, given: Given<'_>, wanted: &Ty, span: Span) -> Option<Code> {
     let mut settled = Settled::new();
     convert(&mut settled, scope, given, wanted, span);
-    let Some(broken) = settled.known else {
-        return;
-    };
-    if !teller.is_fault(broken.code, span) {
-        return;
+    match settled.known {
+        Some(fault) => Some(fault.code),
+        None => None,
     }
-    let parts = [Part::Given(Given::Value(wanted)), Part::Given(given)];
-    teller.say("expected %, found %", &parts);
-    match (broken.code, given, wanted) {
-        (Code::TypeMismatch, Given::Value(of_type), Ty::Pointer { .. })
-            if has_shape(of_type, wanted) => {
-            teller.say(", with other regions inside", &[]);
-        }
-        (Code::TypeMismatch, _, _) => teller.hint(advice(given, wanted), &[]),
-        (Code::NotOutlived, _, Ty::Pointer { region, .. }) => {
-            say_shorter(teller, given.region(), *region);
-        }
+}
+
+/// What is said of a value that is not converted to this type, if that is the fault.
+fn why_unconverted(teller: &Teller<'_>, scope: &Scope<'_>, wanted: &Ty, span: Span) -> Option<Unconverted> {
+    let found = given(&teller.notes.found);
+    match broken(scope, found, wanted, span) {
+        Some(code) if teller.is_fault(code, span) => Some(Unconverted {
+            code,
+            more: more_on(found, wanted),
+            regions: (found.region(), region_of(wanted)),
+        }),
+        _ => None,
+    }
+}
+
+/// The words for a value at this place whose type, which is found, is not converted to the one that is wanted.
+pub(crate) fn explain_conversion(teller: &mut Teller<'_>, scope: &Scope<'_>, span: Span) {
+    let known = match &teller.notes.wanted {
+        Some(ValueType::Value { of_type }) => why_unconverted(teller, scope, of_type, span),
+        _ => None,
+    };
+    if let Some(known) = known {
+        say_unconverted(teller, known);
+    }
+}
+
+/// Says that a value is not converted.
+fn say_unconverted(teller: &mut Teller<'_>, known: Unconverted) {
+    teller.say("expected %w, found %t");
+    match known.code {
+        Code::TypeMismatch => teller.say(known.more),
+        Code::NotOutlived => say_shorter(teller, known.regions.0, known.regions.1),
         _ => {}
     }
 }

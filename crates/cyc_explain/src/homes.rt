@@ -41,6 +41,11 @@ impl Homes {
         }
     }
 
+    /// Forgets all regions.
+    pub(crate) fn clear(&mut self) {
+        self.all.clear();
+    }
+
     /// Where a region begins.
     pub(crate) fn find(&self, region: Region) -> Option<Home> {
         match region {

@@ -1,23 +1,14 @@
 //! What is asked of one value, and how that is said.
 use crate::conversions::explain_closed;
-use crate::teller::{Part, Teller};
-use cyc_check::value_type;
-use cyc_forms::types::{is_key, is_struct, is_unique};
+use crate::messages::Message;
+use crate::teller::Teller;
+use crate::words::given;
+use cyc_forms::types::is_struct;
 use cyc_forms::{Given, span_of};
 use cyc_scope::Scope;
 use cyc_syntax::{BinaryOperator, Expr, PointerKind, PrefixOperator};
 use cyc_types::Ty;
-use cyc_types::typed::ValueType;
 use cyc_words::{Code, Span};
-
-/// What the rules ask of a type.
-pub(crate) fn given(value: &ValueType) -> Given<'_> {
-    match value {
-        ValueType::Void => Given::Void,
-        ValueType::Null => Given::Null,
-        ValueType::Value { of_type } => Given::Value(of_type),
-    }
-}
 
 #[derive(Clone, Copy)]
 pub(crate) enum Wanted {
@@ -172,32 +163,33 @@ pub(crate) fn wanted_by(operator: BinaryOperator) -> (Wanted, Wanted) {
     }
 }
 
-/// The words where a value at this place is not what is wanted, or its region is not live.
-pub(crate) fn explain_given(
+/// The words where the type that is found at this place is not what is wanted, or its region is not live.
+pub(crate) fn explain_found(
     teller: &mut Teller<'_>,
     scope: &Scope<'_>,
     wanted: Wanted,
-    value: Given<'_>,
     span: Span,
 ) {
-    if teller.is_fault(Code::TypeMismatch, span) && !wanted.allows(value) {
-        teller.say(
-            "expected %, found %",
-            &[Part::Text(wanted.text()), Part::Given(value)],
-        );
-        teller.hint(wanted.advice(value), &[]);
+    let found = given(&teller.notes.found);
+    if !wanted.allows(found) {
+        let advice = wanted.advice(found);
+        explain_unwanted(teller, wanted, advice, span);
     }
-    let parts = [Part::Given(value)];
-    let text = match wanted {
-        Wanted::Freed => {
-            "ufree takes a unique pointer (`U), found %\nhint: make the object by rnew(unique_region) if it is to be given back"
-        }
-        _ => {
-            "no object holds a key, found %\nhint: keep the key in a variable, a parameter or a result"
-        }
+    let misused = match wanted {
+        Wanted::Freed => Message::FreedNotUnique,
+        _ => Message::KeyInObject,
     };
-    teller.say_of(Code::RegionOrKeyMisused, span, text, &parts);
-    explain_closed(teller, scope, value, span);
+    teller.tell(misused, span);
+    explain_closed(teller, scope, span);
+}
+
+/// The words for a type that is not what is wanted, and what to do.
+fn explain_unwanted(teller: &mut Teller<'_>, wanted: Wanted, advice: &str, span: Span) {
+    if teller.is_fault(Code::TypeMismatch, span) {
+        teller.notes.text = wanted.text();
+        teller.tell(Message::NotWanted, span);
+        teller.hint(advice);
+    }
 }
 
 /// The words where an operand is not what is wanted.
@@ -209,26 +201,27 @@ pub(crate) fn explain_value(
 ) {
     let span = span_of(expression);
     if teller.is_at(span) && !matches!(wanted, Wanted::Nothing) {
-        if let Some(value) = value_type(scope, expression, wanted.is_looked_at()) {
-            explain_given(teller, scope, wanted, given(&value), span);
+        if teller.find(scope, expression, wanted.is_looked_at()) {
+            explain_found(teller, scope, wanted, span);
         }
     }
 }
 
-/// The words for a cell of this type that is read at this place, where it is a struct or a unique pointer.
-pub(crate) fn explain_content(teller: &mut Teller<'_>, of_type: &Ty, span: Span) {
-    if is_struct(of_type) {
-        let parts = [Part::Given(Given::Value(of_type))];
-        teller.say_of(
-            Code::TypeMismatch,
-            span,
-            "expected a value, found %\nhint: a struct is no value: read a field by ->",
-            &parts,
-        );
+fn is_struct_read(found: Given<'_>) -> bool {
+    match found {
+        Given::Value(of_type) => is_struct(of_type),
+        _ => false,
     }
-    if is_unique(of_type) || is_key(of_type) {
-        let parts = [Part::Given(Given::Value(of_type))];
-        let text = "found %, which stays where it is: no second pointer leads to a unique object";
-        teller.say_of(Code::UniqueShared, span, text, &parts);
+}
+
+/// The words for a cell of the type that is found, where it is read at this place and is a struct or a unique pointer.
+pub(crate) fn explain_content(teller: &mut Teller<'_>, span: Span) {
+    let found = given(&teller.notes.found);
+    let is_unique = found.is_unique() || found.is_key();
+    if is_struct_read(found) {
+        teller.tell(Message::StructRead, span);
+    }
+    if is_unique {
+        teller.tell(Message::UniqueStays, span);
     }
 }
