@@ -2,22 +2,24 @@
 //! in the order of the text, each behind its parts, where they stand at the fault.
 use crate::calls::explain_call;
 use crate::expressions::{
-    explain_assigned, explain_binary, explain_chain, explain_key, explain_name, explain_prefixed,
+    explain_address, explain_binary, explain_chain, explain_key, explain_name, explain_place,
+    explain_target,
 };
 use crate::forms::{Form, forms_of};
 use crate::homes::Origin;
 use crate::messages::Message;
-use crate::names::{explain_region_twice, explain_twice};
+use crate::names::explain_region_twice;
 use crate::objects::explain_made;
 use crate::statements::{
-    explain_alias, explain_exception, explain_local, explain_opened, explain_return, explain_swap,
+    explain_alias, explain_exception, explain_opened, explain_return, explain_swap,
+    explain_written_here,
 };
 use crate::teller::Teller;
-use crate::wanted::explain_value;
+use crate::values::explain_value;
 use cyc_check::scope_at_fault;
 use cyc_heads::{heads, members};
 use cyc_scope::{Program, Scope};
-use cyc_syntax::{Block, Clause, Declaration, Expr, Ident, Item, Member, Stmt, Tree};
+use cyc_syntax::{Block, Clause, Declaration, Expr, Ident, Item, Member, PrefixOperator, Stmt, Tree};
 use cyc_words::Span;
 
 // ---- functions
@@ -45,8 +47,10 @@ fn explain_function(teller: &mut Teller<'_>, program: &Program, declaration: &De
         let alloc = teller.alloc;
         if let Ok(mut scope) = scope_at_fault(alloc, program, result, *name, parameters, body) {
             let members = members(parameters);
-            teller.begin_function(scope.names(), *name, members);
-            explain_parameters(teller, &body.items, members);
+            teller.notes.function = name.name.number;
+            teller.notes.homes.add_parameters(scope.names(), *name, members);
+            teller.unknown = Message::UnknownInBody;
+            explain_parameters(teller, members, &body.items);
             explain_forms(teller, &mut scope, body);
         }
     }
@@ -55,8 +59,8 @@ fn explain_function(teller: &mut Teller<'_>, program: &Program, declaration: &De
 /// Asks the forms of a body.
 fn explain_forms(teller: &mut Teller<'_>, scope: &mut Scope<'_>, body: &Block) {
     let mut forms = forms_of(teller.alloc, body);
-    for _ in 0..forms.len() {
-        if let Some(form) = forms.next() {
+    for _ in 0..forms.listed.len() {
+        if let Some(form) = forms.listed.pop() {
             explain_form(teller, scope, form);
         }
     }
@@ -65,13 +69,16 @@ fn explain_forms(teller: &mut Teller<'_>, scope: &mut Scope<'_>, body: &Block) {
 
 fn explain_form(teller: &mut Teller<'_>, scope: &mut Scope<'_>, form: Form<'_>) {
     match form {
-        Form::Expression { expression, wanted } => {
+        Form::Expression { expression, role } => {
             explain_expression(teller, scope, expression);
-            explain_value(teller, scope, expression, wanted);
+            explain_value(teller, scope, expression, role);
         }
         Form::Statement { statement, .. } => explain_statement(teller, scope, statement),
         Form::Item { item, end } => explain_item(teller, scope, item, end),
-        Form::Items { items } => explain_declared(teller, items),
+        Form::Items { items } => {
+            teller.declared.clear();
+            explain_declared(teller, items);
+        }
         Form::Clause { clause } => explain_clause(teller, scope, clause),
         Form::Begin {
             label: Some(label),
@@ -94,40 +101,22 @@ fn local_of(item: &Item) -> Option<Ident> {
     }
 }
 
-/// The words where a local of this name is declared, and one of these items before it declares one of its name.
-fn explain_before(teller: &mut Teller<'_>, items: &[Item], name: Ident) {
-    for item in items {
-        if let Some(first) = local_of(item) {
-            explain_twice(teller, name, first);
-        }
-    }
-}
-
-/// The words where the items of a block declare a local twice.
+/// The words where these items declare a local that their block, or what stands around it, has already.
 fn explain_declared(teller: &mut Teller<'_>, items: &[Item]) {
     for item in items {
         if let Some(name) = local_of(item) {
-            if teller.is_at(name.span) {
-                explain_before(teller, items, name);
-            }
+            teller.declare(name);
         }
     }
 }
 
-/// The words where one of these items declares a local of the name of this variable, which is declared with their block.
-fn explain_behind(teller: &mut Teller<'_>, items: &[Item], first: Ident) {
-    for item in items {
-        if let Some(name) = local_of(item) {
-            explain_twice(teller, name, first);
-        }
-    }
-}
-
-/// The words where one of these items declares a local of the name of a parameter.
-fn explain_parameters(teller: &mut Teller<'_>, items: &[Item], members: &[Member]) {
+/// The words where the items of a function declare a local of the name of a parameter.
+fn explain_parameters(teller: &mut Teller<'_>, members: &[Member], items: &[Item]) {
+    teller.declared.clear();
     for member in members {
-        explain_behind(teller, items, member.name);
+        teller.declare(member.name);
     }
+    explain_declared(teller, items);
 }
 
 /// Asks an item of a block that ends there.
@@ -139,7 +128,7 @@ fn explain_item(
 ) {
     match item {
         Item::Statement { .. } => {}
-        Item::Local { of_type, value, .. } => explain_local(teller, scope, of_type, value),
+        Item::Local { of_type, .. } => explain_written_here(teller, scope, of_type),
         Item::Region {
             region,
             key: Some(key),
@@ -185,7 +174,9 @@ fn explain_clause(teller: &mut Teller<'_>, scope: &Scope<'_>, clause: &Clause) {
     explain_exception(teller, scope, exception);
     teller.notes.homes.add(None, exception.span, Origin::Block);
     if let Some(variable) = clause.variable {
-        explain_behind(teller, &clause.items, variable);
+        teller.declared.clear();
+        teller.declare(variable);
+        explain_declared(teller, &clause.items);
     }
 }
 
@@ -200,18 +191,25 @@ fn explain_expression(teller: &mut Teller<'_>, scope: &mut Scope<'_>, expression
         Expr::Call {
             function,
             arguments,
-        } => explain_call(teller, scope, *function, arguments),
+        } if teller.is_at(function.span) => {
+            explain_call(teller, scope, *function, arguments, None);
+        }
         Expr::Chained { base, postfixes } => explain_chain(teller, scope, base, postfixes),
         Expr::Prefixed {
             span,
-            operator,
+            operator: PrefixOperator::Dereference,
             operand,
-        } => explain_prefixed(teller, scope, *operator, *span, operand),
+        } => explain_target(teller, scope, *span, operand),
+        Expr::Prefixed {
+            operator: PrefixOperator::AddressOf,
+            operand,
+            ..
+        } => explain_address(teller, scope, operand),
         Expr::New { value, .. } | Expr::RegionNew { value, .. } => {
             explain_made(teller, scope, value);
         }
         Expr::Binary { first, rest } => explain_binary(teller, scope, first, rest),
-        Expr::Assign { target, value } => explain_assigned(teller, scope, target, value),
+        Expr::Assign { target, .. } => explain_place(teller, scope, target),
         _ => {}
     }
 }

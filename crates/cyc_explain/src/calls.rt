@@ -1,8 +1,9 @@
 //! What a call asks, in the words of the caller and of the function that is called.
 use crate::conversions::{explain_conversion, say_closed, say_shorter};
+use crate::homes::Homes;
 use crate::messages::Message;
 use crate::names::{Sort, explain_unknown};
-use crate::teller::{Teller, value_of};
+use crate::teller::Teller;
 use cyc_check::value_type;
 use cyc_forms::span_of;
 use cyc_forms::types::region_of;
@@ -18,7 +19,7 @@ use std::alloc::Global;
 
 /// Notes the regions of the function of this name, as its own head names them.
 fn note_theirs(teller: &mut Teller<'_>, names: &RegionNames, function: Ident) {
-    teller.notes.theirs.clear();
+    teller.notes.theirs.all.clear();
     for declaration in &teller.notes.tree.declarations {
         if let Declaration::Function {
             name,
@@ -45,10 +46,6 @@ fn region_among(variables: &[Region], given: &[Region], variable: Region) -> Opt
     found
 }
 
-fn is_handle_or_key(of_type: &Ty) -> bool {
-    matches!(of_type, Ty::Handle { .. } | Ty::Key { .. })
-}
-
 /// The same, where the variables stand in a parameter's type.
 fn region_in(parameter: &Ty, given: &Ty, variable: Region) -> Option<Region> {
     match (parameter, given) {
@@ -69,7 +66,7 @@ fn region_in(parameter: &Ty, given: &Ty, variable: Region) -> Option<Region> {
                 ..
             },
         ) => region_among(regions, given_regions, variable),
-        _ if is_handle_or_key(parameter) && is_handle_or_key(given) => {
+        (Ty::Handle { .. } | Ty::Key { .. }, Ty::Handle { .. } | Ty::Key { .. }) => {
             region_outside(parameter, given, variable)
         }
         _ => None,
@@ -108,15 +105,6 @@ fn instance_of(alloc: Global, signature: &Signature, values: &[ValueType]) -> Ve
 
 // ---- what is asked
 
-/// Whether the fault is at this place or at that of an expression.
-fn is_among(teller: &Teller<'_>, name: Ident, expressions: &[Expr]) -> bool {
-    let mut is_here = teller.is_at(name.span);
-    for expression in expressions {
-        is_here = is_here || teller.is_at(span_of(expression));
-    }
-    is_here
-}
-
 /// The types of the values of expressions, up to one that is refused.
 fn values_of(scope: &mut Scope<'_>, expressions: &[Expr]) -> Vec<ValueType> {
     let mut values = Vec::new(scope.alloc());
@@ -132,20 +120,11 @@ fn values_of(scope: &mut Scope<'_>, expressions: &[Expr]) -> Vec<ValueType> {
     values
 }
 
-/// The type of a value once more.
-fn again(value: &ValueType) -> Option<ValueType> {
-    match value {
-        ValueType::Void => Some(ValueType::Void),
-        ValueType::Null => Some(ValueType::Null),
-        ValueType::Value { of_type } => value_of(of_type.share().ok()),
-    }
-}
-
-/// Whether a region of the function that is called has the name there that another one has here.
-fn is_namesake(teller: &Teller<'_>, own: Region, here: Region) -> bool {
-    match teller.notes.theirs.name(own) {
-        Some(name) => teller.notes.homes.name(here) == Some(name),
-        None => false,
+/// The name of a region, if it has one.
+fn name_of(homes: &Homes, region: Region) -> Option<usize> {
+    match homes.find(region) {
+        Some(home) => home.name,
+        None => None,
     }
 }
 
@@ -153,7 +132,9 @@ fn is_namesake(teller: &Teller<'_>, own: Region, here: Region) -> bool {
 fn say_here(teller: &mut Teller<'_>, own: Region, here: Region) {
     teller.notes.their_regions.0 = own;
     teller.notes.regions.0 = here;
-    if is_namesake(teller, own, here) {
+    let theirs = name_of(&teller.notes.theirs, own);
+    let ours = name_of(&teller.notes.homes, here);
+    if theirs.is_some() && theirs == ours {
         teller.say(", and %a of %n is %r of %f here");
     } else if let Region::Variable(_) = own {
         teller.say(", and %a is %r here");
@@ -206,40 +187,22 @@ fn explain_effect(
     }
 }
 
-/// The words for a value that is not converted to the type of its parameter, or that is a unique pointer where that is none.
+/// The words for an argument, which is found at the fault, that is not converted to the type of its parameter, or that is a unique pointer
+/// where that is none.
 fn explain_argument(
     teller: &mut Teller<'_>,
     scope: &Scope<'_>,
     argument: &Expr,
-    value: &ValueType,
     parameter: &Ty,
     instance: &[Region],
 ) {
     let span = span_of(argument);
-    if teller.is_at(span) && teller.find_value(again(value)) {
-        if teller.want_type(parameter.substituted(teller.alloc, instance).ok()) {
-            explain_conversion(teller, scope, span);
-        }
-        if let Ty::Pointer { region, .. } = parameter {
-            teller.notes.their_regions.0 = *region;
-            teller.tell(Message::SharedNotUnique, span);
-        }
+    if teller.want_type(parameter.substituted(teller.alloc, instance).ok()) {
+        explain_conversion(teller, scope, span);
     }
-}
-
-/// The words for arguments of a function with these parameters.
-fn explain_arguments(
-    teller: &mut Teller<'_>,
-    scope: &Scope<'_>,
-    arguments: &[Expr],
-    values: &[ValueType],
-    parameters: &[Ty],
-    instance: &[Region],
-) {
-    for i in 0..arguments.len() {
-        if let (Some(value), Some(parameter)) = (values.get(i), parameters.get(i)) {
-            explain_argument(teller, scope, &arguments[i], value, parameter, instance);
-        }
+    if let Ty::Pointer { region, .. } = parameter {
+        teller.notes.their_regions.0 = *region;
+        teller.tell(Message::SharedNotUnique, span);
     }
 }
 
@@ -261,52 +224,49 @@ fn explain_asked(
     }
 }
 
-/// The words for a call of a function with this signature, with these values.
+/// The words for a call of a function with this signature, with these values, or for the argument of this number.
 fn explain_called(
     teller: &mut Teller<'_>,
     scope: &Scope<'_>,
     function: Ident,
     arguments: &[Expr],
+    number: Option<usize>,
     values: &[ValueType],
     signature: &Signature,
 ) {
     let instance = instance_of(teller.alloc, signature, values);
     let parameters = &signature.parameters;
-    teller.notes.name = Some(function);
-    if arguments.len() != parameters.len() && teller.is_fault(Code::TypeMismatch, function.span) {
-        teller.say_count(Message::ArgumentCount, parameters.len(), arguments.len());
-    }
-    explain_arguments(teller, scope, arguments, values, parameters, &instance);
-    explain_asked(teller, scope, function, signature, &instance);
-}
-
-/// The words for a call of what a name means, with these values.
-fn explain_callee(
-    teller: &mut Teller<'_>,
-    scope: &Scope<'_>,
-    function: Ident,
-    arguments: &[Expr],
-    values: &[ValueType],
-) {
-    match scope.meaning(function) {
-        Meaning::Unknown => explain_unknown(teller, scope, Sort::Value, function),
-        Meaning::Routine { signature, .. } => {
-            explain_called(teller, scope, function, arguments, values, signature);
+    teller.notes.name = function.name.number;
+    match number {
+        Some(number) => {
+            if let (Some(argument), Some(parameter)) = (arguments.get(number), parameters.get(number)) {
+                explain_argument(teller, scope, argument, parameter, &instance);
+            }
         }
-        _ => teller.tell_name(Message::VariableCalled, function),
+        None => {
+            if arguments.len() != parameters.len() && teller.fault.code == Code::TypeMismatch {
+                teller.say_count(Message::ArgumentCount, parameters.len(), arguments.len());
+            }
+            explain_asked(teller, scope, function, signature, &instance);
+        }
     }
 }
 
-/// The words for a call.
+/// The words for a call whose name, or whose argument of this number, stands at the fault.
 pub(crate) fn explain_call(
     teller: &mut Teller<'_>,
     scope: &mut Scope<'_>,
     function: Ident,
     arguments: &[Expr],
+    number: Option<usize>,
 ) {
-    if is_among(teller, function, arguments) {
-        let values = values_of(scope, arguments);
-        note_theirs(teller, scope.names(), function);
-        explain_callee(teller, scope, function, arguments, &values);
+    let values = values_of(scope, arguments);
+    note_theirs(teller, scope.names(), function);
+    match scope.meaning(function) {
+        Meaning::Unknown => explain_unknown(teller, scope, Sort::Value, function),
+        Meaning::Routine { signature, .. } => {
+            explain_called(teller, scope, function, arguments, number, &values, signature);
+        }
+        _ => teller.tell_name(Message::VariableCalled, function),
     }
 }

@@ -1,8 +1,7 @@
 //! Words for values that are converted to a type, and for regions: that are not live, or do not outlive each other.
 use crate::homes::{Home, Origin};
 use crate::teller::Teller;
-use crate::words::given;
-use cyc_forms::types::{is_pointer, region_of};
+use crate::words::{Notes, given};
 use cyc_forms::{Given, convert};
 use cyc_scope::{Scope, Settled};
 use cyc_types::typed::ValueType;
@@ -26,17 +25,20 @@ fn last_end(teller: &Teller<'_>, name: usize) -> Option<Span> {
 pub(crate) fn say_closed(teller: &mut Teller<'_>, region: Region) {
     teller.notes.regions.0 = region;
     match teller.notes.homes.find(region) {
-        Some(home) => say_home_closed(teller, home),
-        None => teller.say("%r is not live here"),
-    }
-}
-
-/// The same of a region of the function at hand, which has this home.
-fn say_home_closed(teller: &mut Teller<'_>, home: Home) {
-    match (home.origin, home.name) {
-        (Origin::Caller, _) => teller.say("%r is not in the effect of %f"),
-        (Origin::Dynamic, Some(name)) => {
-            teller.notes.place = home.span;
+        Some(
+            Home {
+                origin: Origin::Caller,
+                ..
+            },
+        ) => teller.say("%r is not in the effect of %f"),
+        Some(
+            Home {
+                origin: Origin::Dynamic,
+                name: Some(name),
+                span,
+            },
+        ) => {
+            teller.notes.place = span;
             teller.say("%r, the dynamic region declared at %p, is not open here");
             if let Some(end) = last_end(teller, name) {
                 teller.notes.place = end;
@@ -148,14 +150,6 @@ fn advice_between(home: Home, other: Home) -> &'static str {
 
 // ---- conversions
 
-/// A conversion that breaks the demand of this code: what more there is to say of the types, and their regions.
-#[derive(Clone, Copy)]
-struct Unconverted {
-    code: Code,
-    more: &'static str,
-    regions: (Region, Region),
-}
-
 /// Whether two types are the same but for regions.
 fn has_shape(of_type: &Ty, wanted: &Ty) -> bool {
     match (of_type, wanted) {
@@ -182,88 +176,54 @@ fn has_shape(of_type: &Ty, wanted: &Ty) -> bool {
     }
 }
 
-/// Whether a value is a pointer to what is no int and no char.
-fn leads_further(given: Given<'_>) -> bool {
-    match given {
-        Given::Value(Ty::Pointer { target, .. }) => !matches!(**target, Ty::Int | Ty::Char),
-        _ => false,
-    }
-}
-
-/// What to do about a value of another type than this, in a line of its own, if there is anything to say.
-fn advice(given: Given<'_>, wanted: &Ty) -> &'static str {
-    if given.is_void() {
-        "\nhint: a function that returns no value is called by itself"
-    } else if given.is_pointer() && matches!(wanted, Ty::Int | Ty::Char) {
-        "\nhint: write *p for what p leads to"
-    } else if !is_pointer(wanted) {
-        ""
-    } else if given.is_int() || given.is_char() {
-        "\nhint: write NULL for a null pointer"
-    } else if leads_further(given) {
-        "\nhint: what a pointer leads to is not converted: put a value of that very type there"
-    } else {
-        ""
-    }
-}
-
-/// Whether a value has a type that is this one but for regions inside.
-fn is_alike(given: Given<'_>, wanted: &Ty) -> bool {
-    match given {
-        Given::Value(of_type) => is_pointer(wanted) && has_shape(of_type, wanted),
-        _ => false,
-    }
-}
-
-/// What more there is to say of a value that has another type than this, behind both types.
+/// What more there is to say of a value of another type than this.
 fn more_on(given: Given<'_>, wanted: &Ty) -> &'static str {
-    if is_alike(given, wanted) {
-        ", with other regions inside"
-    } else {
-        advice(given, wanted)
+    match (given, wanted) {
+        (Given::Void, _) => "\nhint: a function that returns no value is called by itself",
+        (Given::Value(of_type), Ty::Pointer { .. }) if has_shape(of_type, wanted) => {
+            ", with other regions inside"
+        }
+        (Given::Value(Ty::Pointer { .. }), Ty::Int | Ty::Char) => {
+            "\nhint: write *p for what p leads to"
+        }
+        (Given::Value(Ty::Pointer { target, .. }), Ty::Pointer { .. })
+            if !matches!(**target, Ty::Int | Ty::Char) => {
+            "\nhint: what a pointer leads to is not converted: put a value of that very type there"
+        }
+        (Given::Int | Given::Char | Given::Value(Ty::Int | Ty::Char), Ty::Pointer { .. }) => {
+            "\nhint: write NULL for a null pointer"
+        }
+        _ => "",
     }
 }
 
-/// The demand that a value breaks, if it is to be converted to this type.
-fn broken(scope: &Scope<'_>, given: Given<'_>, wanted: &Ty, span: Span) -> Option<Code> {
-    let mut settled = Settled::new();
-    convert(&mut settled, scope, given, wanted, span);
-    match settled.known {
-        Some(fault) => Some(fault.code),
-        None => None,
+/// The demand that is broken where what is found is converted to what is wanted; and what more there is to say of the types.
+fn broken(notes: &Notes<'_>, scope: &Scope<'_>, span: Span) -> Option<(Code, &'static str)> {
+    if let Some(ValueType::Value { of_type }) = &notes.wanted {
+        let found = given(&notes.found);
+        let mut settled = Settled::new();
+        convert(&mut settled, scope, found, of_type, span);
+        if let Some(fault) = settled.known {
+            return Some((fault.code, more_on(found, of_type)));
+        }
     }
-}
-
-/// What is said of a value that is not converted to this type, if that is the fault.
-fn why_unconverted(teller: &Teller<'_>, scope: &Scope<'_>, wanted: &Ty, span: Span) -> Option<Unconverted> {
-    let found = given(&teller.notes.found);
-    match broken(scope, found, wanted, span) {
-        Some(code) if teller.is_fault(code, span) => Some(Unconverted {
-            code,
-            more: more_on(found, wanted),
-            regions: (found.region(), region_of(wanted)),
-        }),
-        _ => None,
-    }
+    None
 }
 
 /// The words for a value at this place whose type, which is found, is not converted to the one that is wanted.
 pub(crate) fn explain_conversion(teller: &mut Teller<'_>, scope: &Scope<'_>, span: Span) {
-    let known = match &teller.notes.wanted {
-        Some(ValueType::Value { of_type }) => why_unconverted(teller, scope, of_type, span),
-        _ => None,
-    };
-    if let Some(known) = known {
-        say_unconverted(teller, known);
-    }
-}
-
-/// Says that a value is not converted.
-fn say_unconverted(teller: &mut Teller<'_>, known: Unconverted) {
-    teller.say("expected %w, found %t");
-    match known.code {
-        Code::TypeMismatch => teller.say(known.more),
-        Code::NotOutlived => say_shorter(teller, known.regions.0, known.regions.1),
-        _ => {}
+    if let Some((code, more)) = broken(&teller.notes, scope, span) {
+        if teller.is_fault(code, span) {
+            teller.say("expected %w, found %t");
+            match code {
+                Code::TypeMismatch => teller.say(more),
+                Code::NotOutlived => {
+                    let region = given(&teller.notes.found).region();
+                    let other = given(&teller.notes.wanted).region();
+                    say_shorter(teller, region, other);
+                }
+                _ => {}
+            }
+        }
     }
 }

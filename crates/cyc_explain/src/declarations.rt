@@ -1,7 +1,8 @@
 //! Words for the heads of declarations, and for the values of globals.
 use crate::messages::Message;
-use crate::names::{explain_region, explain_twice};
+use crate::names::explain_region;
 use crate::teller::Teller;
+use crate::words::NO_NAME;
 use crate::written::explain_written;
 use cyc_heads::members;
 use cyc_syntax::{
@@ -12,19 +13,38 @@ use cyc_words::{Code, Span};
 /// The words for a fault in the head of a declaration, or for a `main` that is missing.
 pub(crate) fn explain_heads(teller: &mut Teller<'_>, tree: &Tree) {
     teller.tell(Message::MainMissing, Span { line: 1, column: 1 });
+    explain_names(teller, tree, true);
+    explain_names(teller, tree, false);
     for declaration in &tree.declarations {
-        explain_head(teller, tree, declaration);
+        teller.declared.clear();
+        teller.notes.function = NO_NAME;
+        explain_head(teller, declaration);
+    }
+}
+
+/// The words for structs of one name, or for globals and functions of one name.
+fn explain_names(teller: &mut Teller<'_>, tree: &Tree, is_struct: bool) {
+    teller.declared.clear();
+    for declaration in &tree.declarations {
+        match declaration {
+            Declaration::Struct { name, .. } if is_struct => teller.declare(*name),
+            Declaration::Global { name, .. } | Declaration::Function { name, .. } if !is_struct => {
+                teller.declare(*name);
+                teller.tell_name(Message::InEachProgram, *name);
+            }
+            _ => {}
+        }
     }
 }
 
 /// The words for a fault in the head of a declaration.
-fn explain_head(teller: &mut Teller<'_>, tree: &Tree, declaration: &Declaration) {
+fn explain_head(teller: &mut Teller<'_>, declaration: &Declaration) {
     match declaration {
         Declaration::Struct {
-            name,
             regions,
             fields,
-        } => explain_struct(teller, tree, *name, regions, fields),
+            ..
+        } => explain_struct(teller, regions, fields),
         Declaration::Exceptions { constructors } => explain_constructors(teller, constructors),
         Declaration::Global {
             of_type,
@@ -32,7 +52,6 @@ fn explain_head(teller: &mut Teller<'_>, tree: &Tree, declaration: &Declaration)
             value,
         } => {
             explain_global(teller, of_type, *value);
-            explain_named(teller, tree, *name);
             teller.tell(Message::MainVariable, name.span);
         }
         Declaration::Function {
@@ -40,114 +59,55 @@ fn explain_head(teller: &mut Teller<'_>, tree: &Tree, declaration: &Declaration)
             name,
             parameters,
             ..
-        } => {
-            explain_main(teller, *name, result, parameters);
-            explain_named(teller, tree, *name);
-            explain_function(teller, *name, result, parameters);
-        }
-    }
-}
-
-// ---- names
-
-/// The words for a global or a function whose name is there already.
-fn explain_named(teller: &mut Teller<'_>, tree: &Tree, name: Ident) {
-    if teller.is_at(name.span) {
-        for other in &tree.declarations {
-            if let Some(first) = global_name(other) {
-                explain_twice(teller, name, first);
-            }
-        }
-        teller.tell_name(Message::InEachProgram, name);
-    }
-}
-
-/// The name of a global or a function.
-fn global_name(declaration: &Declaration) -> Option<Ident> {
-    match declaration {
-        Declaration::Global { name, .. } | Declaration::Function { name, .. } => Some(*name),
-        Declaration::Struct { .. } | Declaration::Exceptions { .. } => None,
-    }
-}
-
-/// The words for a struct whose name is there already.
-fn explain_struct_name(teller: &mut Teller<'_>, tree: &Tree, name: Ident) {
-    if teller.is_at(name.span) {
-        for other in &tree.declarations {
-            if let Declaration::Struct { name: first, .. } = other {
-                explain_twice(teller, name, *first);
-            }
-        }
-    }
-}
-
-/// The words for names of which one is declared twice.
-fn explain_names(teller: &mut Teller<'_>, names: &[Ident]) {
-    for name in names {
-        for first in names {
-            explain_twice(teller, *name, *first);
-        }
+        } => explain_function(teller, *name, result, parameters),
     }
 }
 
 fn explain_constructors(teller: &mut Teller<'_>, constructors: &[Constructor]) {
     for constructor in constructors {
-        let name = constructor.name;
-        for first in constructors {
-            explain_twice(teller, name, first.name);
-        }
-        teller.tell_name(Message::InEachProgram, name);
+        teller.declare(constructor.name);
+        teller.tell_name(Message::InEachProgram, constructor.name);
     }
+}
+
+/// The words for a struct, its own name apart.
+fn explain_struct(teller: &mut Teller<'_>, regions: &[Ident], fields: &[Member]) {
+    for region in regions {
+        teller.declare(*region);
+    }
+    teller.declared.clear();
+    teller.unknown = Message::UnknownInStruct;
+    for field in fields {
+        if let BaseType::Key { .. } = &field.of_type.base {
+            teller.tell(Message::KeyInField, field.of_type.span);
+        }
+    }
+    explain_members(teller, fields);
 }
 
 /// The words for the types and names of members.
 fn explain_members(teller: &mut Teller<'_>, members: &[Member]) {
     for member in members {
         explain_written(teller, &member.of_type);
-        for first in members {
-            explain_twice(teller, member.name, first.name);
-        }
-    }
-}
-
-/// The words for a struct.
-fn explain_struct(
-    teller: &mut Teller<'_>,
-    tree: &Tree,
-    name: Ident,
-    regions: &[Ident],
-    fields: &[Member],
-) {
-    teller.begin_head(Message::UnknownInStruct);
-    explain_struct_name(teller, tree, name);
-    explain_names(teller, regions);
-    explain_keys(teller, fields);
-    explain_members(teller, fields);
-}
-
-/// The words for fields that are keys.
-fn explain_keys(teller: &mut Teller<'_>, fields: &[Member]) {
-    for field in fields {
-        if let BaseType::Key { .. } = &field.of_type.base {
-            teller.tell(Message::KeyInField, field.of_type.span);
-        }
+        teller.declare(member.name);
     }
 }
 
 // ---- functions
 
-/// The words for what a function's head names, its own name apart.
+/// The words for a function's head.
 fn explain_function(
     teller: &mut Teller<'_>,
     name: Ident,
     returned: &Option<WrittenType>,
     parameters: &Parameters,
 ) {
-    teller.begin_head(Message::UnknownInHead);
+    teller.tell(message_on_main(returned, parameters), name.span);
+    teller.unknown = Message::UnknownInHead;
     if let Some(written) = returned {
         explain_written(teller, written);
     }
-    teller.notes.function = Some(name);
+    teller.notes.function = name.name.number;
     explain_members(teller, members(parameters));
     explain_asked(teller, parameters);
 }
@@ -172,14 +132,9 @@ fn explain_constrained(teller: &mut Teller<'_>, region: Ident) {
     teller.tell_name(Message::NoConstraint, region);
 }
 
-/// The words for a `main` with a head that it may not have.
-fn explain_main(
-    teller: &mut Teller<'_>,
-    name: Ident,
-    returned: &Option<WrittenType>,
-    parameters: &Parameters,
-) {
-    let message = if !members(parameters).is_empty() {
+/// What a `main` with this head has that it may not have.
+fn message_on_main(returned: &Option<WrittenType>, parameters: &Parameters) -> Message {
+    if !members(parameters).is_empty() {
         Message::MainParameters
     } else if parameters.effect.is_some() {
         Message::MainEffect
@@ -187,8 +142,7 @@ fn explain_main(
         Message::MainVoid
     } else {
         Message::MainType
-    };
-    teller.tell(message, name.span);
+    }
 }
 
 // ---- globals
@@ -208,13 +162,14 @@ fn initial(written: &WrittenType, value: Option<GlobalValue>) -> (Span, &'static
 
 /// The words for a global of a type that none has, or that does not begin with a value of its type.
 fn explain_global(teller: &mut Teller<'_>, written: &WrittenType, value: Option<GlobalValue>) {
-    teller.begin_head(Message::UnknownInGlobal);
+    teller.unknown = Message::UnknownInGlobal;
     explain_written(teller, written);
     teller.tell(Message::GlobalType, written.span);
     let (span, found) = initial(written, value);
     if teller.is_fault(Code::TypeMismatch, span) || teller.is_fault(Code::NullForNonNull, span) {
         teller.say("expected ");
-        teller.say_written(written);
+        let names = &teller.notes.tree.names;
+        teller.words.put_written(names, written);
         teller.say(found);
     }
 }

@@ -1,10 +1,10 @@
 //! What the forms of an expression ask of their parts, in words where that is the fault.
-use crate::conversions::explain_conversion;
 use crate::messages::Message;
 use crate::names::{Sort, explain_unknown};
 use crate::teller::Teller;
 use crate::wanted::{Wanted, explain_content, explain_found, wanted_by};
 use crate::words::given;
+use cyc_check::value_type;
 use cyc_forms::{is_looking, span_inside, span_of};
 use cyc_scope::{Meaning, Scope};
 use cyc_syntax::{BinaryOperator, Expr, Ident, Operation, Postfix, PrefixOperator};
@@ -27,21 +27,15 @@ pub(crate) fn explain_name(teller: &mut Teller<'_>, scope: &Scope<'_>, name: Ide
     }
 }
 
-/// The type of a variable, if a name means one.
-fn type_of_name(scope: &Scope<'_>, name: Ident) -> Option<Ty> {
-    match scope.meaning(name) {
-        Meaning::Variable { of_type, .. } | Meaning::Fixed { of_type, .. } => of_type.share().ok(),
-        _ => Some(Ty::Int),
-    }
-}
-
 /// The words for what a name means at a place where a key is wanted.
 pub(crate) fn explain_key(teller: &mut Teller<'_>, scope: &Scope<'_>, name: Ident) {
     explain_name(teller, scope, name);
-    if teller.is_at(name.span) && teller.find_type(type_of_name(scope, name)) {
-        if !given(&teller.notes.found).is_key() {
-            teller.tell_name(Message::NoKey, name);
-        }
+    let of_type = match scope.meaning(name) {
+        Meaning::Variable { of_type, .. } | Meaning::Fixed { of_type, .. } => of_type.share().ok(),
+        _ => Some(Ty::Int),
+    };
+    if teller.find_type(of_type) && !given(&teller.notes.found).is_key() {
+        teller.tell_name(Message::NoKey, name);
     }
 }
 
@@ -49,11 +43,11 @@ pub(crate) fn explain_key(teller: &mut Teller<'_>, scope: &Scope<'_>, name: Iden
 pub(crate) fn explain_place(teller: &mut Teller<'_>, scope: &Scope<'_>, expression: &Expr) {
     let span = span_of(expression);
     if teller.is_fault(Code::NotAPlace, span) {
-        teller.notes.name = root_of(expression);
-        let message = match teller.notes.name {
-            Some(name) => message_on_place(scope.meaning(name)),
-            None => Message::NoAddress,
-        };
+        let mut message = Message::NoAddress;
+        if let Some(name) = root_of(expression) {
+            teller.notes.name = name.name.number;
+            message = message_on_place(scope.meaning(name));
+        }
         teller.tell(message, span);
     }
 }
@@ -64,20 +58,6 @@ fn message_on_place(meaning: Meaning<'_>) -> Message {
         Meaning::Fixed { .. } => Message::HandleAssigned,
         Meaning::Counter { .. } => Message::CounterAssigned,
         _ => Message::FunctionAssigned,
-    }
-}
-
-/// The words for a value that is assigned to no place, or to one of another type.
-pub(crate) fn explain_assigned(
-    teller: &mut Teller<'_>,
-    scope: &mut Scope<'_>,
-    target: &Expr,
-    value: &Expr,
-) {
-    let span = span_of(value);
-    explain_place(teller, scope, target);
-    if teller.is_at(span) && teller.want_place(scope, target) && teller.find(scope, value, false) {
-        explain_conversion(teller, scope, span);
     }
 }
 
@@ -97,49 +77,29 @@ fn root_of(expression: &Expr) -> Option<Ident> {
 }
 
 /// The words for a place whose address is taken.
-fn explain_address(teller: &mut Teller<'_>, scope: &Scope<'_>, operand: &Expr) {
+pub(crate) fn explain_address(teller: &mut Teller<'_>, scope: &Scope<'_>, operand: &Expr) {
     let span = span_inside(operand);
     explain_place(teller, scope, operand);
     teller.tell(Message::KeyAddress, span);
-    if teller.is_fault(Code::UniqueShared, span) {
-        if let Some(name) = root_of(operand) {
-            teller.notes.name = Some(name);
-            teller.tell(Message::AddressKept, span);
-        }
-    }
-}
-
-// ---- one operand
-
-/// What a prefix operator asks of what its operand leads to.
-pub(crate) fn explain_prefixed(
-    teller: &mut Teller<'_>,
-    scope: &mut Scope<'_>,
-    operator: PrefixOperator,
-    span: Span,
-    operand: &Expr,
-) {
-    match operator {
-        PrefixOperator::Negate | PrefixOperator::Complement | PrefixOperator::Not => {}
-        PrefixOperator::Dereference => explain_target(teller, scope, span, operand),
-        PrefixOperator::AddressOf => explain_address(teller, scope, operand),
+    if let Some(name) = root_of(operand) {
+        teller.notes.name = name.name.number;
+        teller.tell(Message::AddressKept, span);
     }
 }
 
 /// The words for what a pointer leads to, where it is read at this place.
-fn explain_target(
+pub(crate) fn explain_target(
     teller: &mut Teller<'_>,
     scope: &mut Scope<'_>,
     span: Span,
     pointer: &Expr,
 ) {
     if teller.is_at(span) && teller.find(scope, pointer, true) {
-        let target = shared(target_of(&teller.notes.found));
-        if teller.find_type(target) {
-            explain_content(teller, span);
-        }
+        explain_behind(teller, scope, span, None);
     }
 }
+
+// ---- what a pointer leads to
 
 /// What a pointer leads to.
 fn target_of(value: &Option<ValueType>) -> Option<&Ty> {
@@ -151,10 +111,36 @@ fn target_of(value: &Option<ValueType>) -> Option<&Ty> {
     }
 }
 
-fn shared(of_type: Option<&Ty>) -> Option<Ty> {
-    match of_type {
-        Some(of_type) => of_type.share().ok(),
-        None => None,
+/// The type of what a pointer leads to, or of the field of this name there.
+fn type_behind(
+    scope: &Scope<'_>,
+    pointer: &Option<ValueType>,
+    field: Option<Ident>,
+) -> Option<Ty> {
+    match (target_of(pointer), field) {
+        (Some(target), None) => target.share().ok(),
+        (Some(Ty::Struct { number, regions }), Some(name)) => {
+            for field in scope.fields(*number) {
+                if field.name == name.name.number {
+                    return field.of_type.substituted(scope.alloc(), regions).ok();
+                }
+            }
+            None
+        }
+        _ => None,
+    }
+}
+
+/// Goes on from the pointer that is found to what it leads to, or to a field there, and says what that is read for at this place.
+fn explain_behind(
+    teller: &mut Teller<'_>,
+    scope: &Scope<'_>,
+    start: Span,
+    field: Option<Ident>,
+) {
+    let behind = type_behind(scope, &teller.notes.found, field);
+    if teller.find_type(behind) {
+        explain_content(teller, start);
     }
 }
 
@@ -168,70 +154,39 @@ pub(crate) fn explain_chain(
     postfixes: &[Postfix],
 ) {
     let start = span_of(base);
-    if is_in_chain(teller, start, postfixes) && teller.find(scope, base, true) {
+    // A field that is unknown is the fault at its own place.
+    if teller.is_at(start) || teller.fault.code == Code::UnknownName {
+        teller.find(scope, base, true);
         for postfix in postfixes {
-            explain_postfix(teller, scope, start, postfix);
+            if teller.notes.found.is_some() {
+                explain_postfix(teller, scope, start, postfix);
+            }
         }
     }
-}
-
-/// Whether the fault is at the place where a chain of postfixes begins, or at a field's name.
-fn is_in_chain(teller: &Teller<'_>, start: Span, postfixes: &[Postfix]) -> bool {
-    let mut is_here = teller.is_at(start);
-    for postfix in postfixes {
-        if let Postfix::Field { name } = postfix {
-            is_here = is_here || teller.is_at(name.span);
-        }
-    }
-    is_here
 }
 
 /// What a postfix asks of the pointer that is found, which begins at this place, and of what it leads to, which then is found.
 fn explain_postfix(teller: &mut Teller<'_>, scope: &Scope<'_>, start: Span, postfix: &Postfix) {
-    if teller.notes.found.is_some() {
-        match postfix {
-            Postfix::Field { name } => {
-                explain_found(teller, scope, Wanted::Members, start);
-                if let Some(number) = struct_of(&teller.notes.found) {
-                    explain_unknown(teller, scope, Sort::Field(number), *name);
-                }
-            }
-            Postfix::Index { .. } => explain_found(teller, scope, Wanted::Fat, start),
+    match postfix {
+        Postfix::Field { name } => {
+            explain_found(teller, scope, Wanted::Members, start);
+            explain_field_name(teller, scope, *name);
+            explain_behind(teller, scope, start, Some(*name));
         }
-        let behind = type_behind(scope, &teller.notes.found, postfix);
-        if teller.find_type(behind) {
-            explain_content(teller, start);
+        Postfix::Index { .. } => {
+            explain_found(teller, scope, Wanted::Fat, start);
+            explain_behind(teller, scope, start, None);
         }
     }
 }
 
-/// The number of the struct that a pointer leads to.
-fn struct_of(value: &Option<ValueType>) -> Option<usize> {
-    match target_of(value) {
-        Some(Ty::Struct { number, .. }) => Some(*number),
-        _ => None,
-    }
-}
-
-/// The type of what a postfix leads to.
-fn type_behind(scope: &Scope<'_>, pointer: &Option<ValueType>, postfix: &Postfix) -> Option<Ty> {
-    match (target_of(pointer), postfix) {
-        (Some(target), Postfix::Index { .. }) => target.share().ok(),
-        (Some(target), Postfix::Field { name }) => field_type(scope, target, *name),
-        _ => None,
-    }
-}
-
-/// The type of the field of this name, in a struct of this type.
-fn field_type(scope: &Scope<'_>, of_struct: &Ty, name: Ident) -> Option<Ty> {
-    if let Ty::Struct { number, regions } = of_struct {
-        for field in scope.fields(*number) {
-            if field.name == name.name.number {
-                return field.of_type.substituted(scope.alloc(), regions).ok();
-            }
-        }
-    }
-    None
+/// The words for a field that the struct does not have to which the pointer that is found leads.
+fn explain_field_name(teller: &mut Teller<'_>, scope: &Scope<'_>, name: Ident) {
+    let number = match target_of(&teller.notes.found) {
+        Some(Ty::Struct { number, .. }) => *number,
+        _ => return,
+    };
+    explain_unknown(teller, scope, Sort::Field(number), name);
 }
 
 // ---- operators of two operands
@@ -261,37 +216,30 @@ fn explain_operation(
 ) {
     let operator = operation.operator;
     explain_found(teller, scope, wanted_by(operator).0, span);
-    match operator {
-        BinaryOperator::Equal | BinaryOperator::NotEqual => {
-            if teller.want(scope, &operation.operand) {
-                explain_compared(teller, span);
-            }
-            teller.find_type(Some(Ty::Int));
-        }
-        BinaryOperator::Add | BinaryOperator::Subtract => {}
-        _ => {
-            teller.find_type(Some(Ty::Int));
-        }
+    if matches!(operator, BinaryOperator::Equal | BinaryOperator::NotEqual) {
+        teller.notes.wanted = value_type(scope, &operation.operand, true);
+        explain_compared(teller, span);
+    }
+    if !matches!(operator, BinaryOperator::Add | BinaryOperator::Subtract) {
+        teller.find_type(Some(Ty::Int));
     }
 }
 
-/// The words for two values that are not compared.
+/// The words for two values that are not compared, if both are known.
 fn explain_compared(teller: &mut Teller<'_>, span: Span) {
-    if teller.is_fault(Code::TypeMismatch, span) {
+    if teller.notes.wanted.is_some() {
         let is_left = given(&teller.notes.found).is_pointer();
         let is_right = given(&teller.notes.wanted).is_pointer();
-        teller.tell(Message::NotCompared, span);
-        teller.hint(advice_on_compared(is_left, is_right));
-    }
-}
-
-/// What to do about two values that are not compared, by which of them are pointers.
-fn advice_on_compared(is_left: bool, is_right: bool) -> &'static str {
-    if is_left && is_right {
-        "? pointers are not compared: put both into * variables of one type first"
-    } else if is_left || is_right {
-        "compare a pointer with NULL"
-    } else {
-        ""
+        let advice = if is_left && is_right {
+            "? pointers are not compared: put both into * variables of one type first"
+        } else if is_left || is_right {
+            "compare a pointer with NULL"
+        } else {
+            ""
+        };
+        if teller.is_fault(Code::TypeMismatch, span) {
+            teller.tell(Message::NotCompared, span);
+            teller.hint(advice);
+        }
     }
 }

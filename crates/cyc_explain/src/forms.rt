@@ -1,10 +1,9 @@
 //! The forms of a body in the order of its text, each behind its parts, as a list: so what asks them knows of no order and calls itself
 //! nowhere.
-use crate::homes::Origin;
 use crate::wanted::{Wanted, wanted_by, wanted_of};
 use cyc_forms::span_of;
 use cyc_syntax::{
-    Block, Clause, Expr, Ident, Initial, Item, Operation, Postfix, Stmt,
+    Block, Clause, Expr, Ident, Initial, Item, Operation, Postfix, Stmt, WrittenType,
 };
 use cyc_words::Span;
 use std::alloc::Global;
@@ -12,13 +11,28 @@ use std::alloc::Global;
 /// More forms than any text has.
 const MOST: usize = 1_000_000;
 
+/// What becomes of the value of an expression.
+#[derive(Clone, Copy)]
+pub(crate) enum Role<'b> {
+    /// It is what this asks for.
+    Operand(Wanted),
+    /// It is assigned to this place.
+    Assigned(&'b Expr),
+    /// It is put into a local of this type.
+    Local(&'b WrittenType),
+    Returned,
+    /// It is put into the field of this number, of a struct of this name with these regions.
+    Field(Ident, &'b [Ident], usize),
+    /// It is the argument of this number, of a call of this name with these.
+    Argument(Ident, &'b [Expr], usize),
+}
+
 /// What may ask something, its parts apart.
 #[derive(Clone, Copy)]
 pub(crate) enum Form<'b> {
-    /// An expression, and what is wanted of it.
     Expression {
         expression: &'b Expr,
-        wanted: Wanted,
+        role: Role<'b>,
     },
     /// A statement, and where the block around it ends; that of a function is not asked for.
     Statement {
@@ -29,7 +43,7 @@ pub(crate) enum Form<'b> {
         item: &'b Item,
         end: Option<Span>,
     },
-    /// What the items of a block declare.
+    /// A block, in front of its items.
     Items { items: &'b [Item] },
     /// A clause, in front of its items.
     Clause { clause: &'b Clause },
@@ -43,7 +57,7 @@ pub(crate) struct Forms<'b> {
     /// What is still to be taken apart, the next one last.
     pending: Vec<Form<'b>>,
     /// What was taken apart: each form before its parts, and these from the last one to the first.
-    listed: Vec<Form<'b>>,
+    pub(crate) listed: Vec<Form<'b>>,
     /// Whether memory did not run out, so that none is left out.
     pub(crate) is_whole: bool,
 }
@@ -66,16 +80,6 @@ pub(crate) fn forms_of<'b>(alloc: Global, body: &'b Block) -> Forms<'b> {
 }
 
 impl<'b> Forms<'b> {
-    /// The next form, in the order of the text, each behind its parts.
-    pub(crate) fn next(&mut self) -> Option<Form<'b>> {
-        self.listed.pop()
-    }
-
-    /// How many there are.
-    pub(crate) fn len(&self) -> usize {
-        self.listed.len()
-    }
-
     /// Lists a form, and adds its parts to what is pending.
     fn take(&mut self, form: Form<'b>) {
         self.is_whole = self.listed.push(form).is_ok() && self.is_whole;
@@ -104,8 +108,12 @@ impl<'b> Forms<'b> {
     fn add_in_item(&mut self, item: &'b Item, end: Option<Span>) {
         match item {
             Item::Statement { statement } => self.add(Form::Statement { statement, end }),
-            Item::Local { value, .. } => self.add_value(value, Wanted::Nothing),
-            Item::Region { .. } | Item::Alias { .. } | Item::DynamicRegion { .. } => {}
+            Item::Local {
+                of_type,
+                value: Some(value),
+                ..
+            } => self.add_expression(value, Role::Local(of_type)),
+            _ => {}
         }
     }
 
@@ -120,7 +128,7 @@ impl<'b> Forms<'b> {
                 otherwise,
                 ..
             } => {
-                self.add_expression(condition, Wanted::Tested);
+                self.add_operand(condition, Wanted::Tested);
                 self.add(Form::Statement {
                     statement: then,
                     end,
@@ -134,7 +142,7 @@ impl<'b> Forms<'b> {
                 body,
                 ..
             } => {
-                self.add_expression(condition, Wanted::Tested);
+                self.add_operand(condition, Wanted::Tested);
                 self.add(Form::Statement {
                     statement: body,
                     end,
@@ -164,13 +172,17 @@ impl<'b> Forms<'b> {
         match statement {
             Stmt::Block { block } => self.add_block(None, block),
             Stmt::Labelled { label, block } => self.add_block(Some(*label), block),
-            Stmt::Expression { value } => self.add_expression(value, Wanted::Nothing),
+            Stmt::Expression { value } => self.add_operand(value, Wanted::Nothing),
             Stmt::Swap { left, right } => {
-                self.add_expression(left, Wanted::Nothing);
-                self.add_expression(right, Wanted::Nothing);
+                self.add_operand(left, Wanted::Nothing);
+                self.add_operand(right, Wanted::Nothing);
             }
-            Stmt::Return { value, .. } => self.add_value(value, Wanted::Nothing),
-            Stmt::Throw { value, .. } => self.add_value(value, Wanted::Int),
+            Stmt::Return {
+                value: Some(value), ..
+            } => self.add_expression(value, Role::Returned),
+            Stmt::Throw {
+                value: Some(value), ..
+            } => self.add_operand(value, Wanted::Int),
             _ => {}
         }
     }
@@ -192,86 +204,99 @@ impl<'b> Forms<'b> {
 
     /// Adds the items of the default clause of a statement at this place.
     fn add_default(&mut self, items: &'b [Item], around: Span, end: Option<Span>) {
-        self.add(Form::Begin {
-            label: None,
-            span: start_of(items, around),
-        });
+        let span = start_of(items, around);
+        self.add(Form::Begin { label: None, span });
         self.add_items(items, end);
     }
 
     // ---- expressions
 
-    fn add_expression(&mut self, expression: &'b Expr, wanted: Wanted) {
-        self.add(Form::Expression { expression, wanted });
+    fn add_expression(&mut self, expression: &'b Expr, role: Role<'b>) {
+        self.add(Form::Expression { expression, role });
     }
 
-    fn add_value(&mut self, value: &'b Option<Expr>, wanted: Wanted) {
-        if let Some(expression) = value {
-            self.add_expression(expression, wanted);
-        }
+    fn add_operand(&mut self, expression: &'b Expr, wanted: Wanted) {
+        self.add_expression(expression, Role::Operand(wanted));
     }
 
     /// Adds the parts of an expression.
     fn add_parts(&mut self, expression: &'b Expr) {
         match expression {
-            Expr::Call { arguments, .. } => self.add_all(arguments),
-            Expr::Bracketed { inner, .. } => self.add_expression(inner, Wanted::Nothing),
-            Expr::NumberOfElements { pointer, .. } => self.add_expression(pointer, Wanted::Fat),
-            Expr::LowByteOf { value, .. } => self.add_expression(value, Wanted::Int),
-            Expr::FreeUnique { pointer, .. } => self.add_expression(pointer, Wanted::Freed),
+            Expr::Call {
+                function,
+                arguments,
+            } => self.add_arguments(*function, arguments),
+            Expr::Bracketed { inner, .. } => self.add_operand(inner, Wanted::Nothing),
+            Expr::NumberOfElements { pointer, .. } => self.add_operand(pointer, Wanted::Fat),
+            Expr::LowByteOf { value, .. } => self.add_operand(value, Wanted::Int),
+            Expr::FreeUnique { pointer, .. } => self.add_operand(pointer, Wanted::Freed),
             Expr::Chained { base, postfixes } => {
-                self.add_expression(base, Wanted::Nothing);
+                self.add_operand(base, Wanted::Nothing);
                 self.add_indices(postfixes);
             }
             Expr::Prefixed {
                 operator, operand, ..
-            } => self.add_expression(operand, wanted_of(*operator)),
+            } => self.add_operand(operand, wanted_of(*operator)),
             Expr::New { value, .. } => self.add_initial(value),
             Expr::RegionNew { region, value, .. } => {
-                self.add_expression(region, Wanted::Handle);
+                self.add_operand(region, Wanted::Handle);
                 self.add_initial(value);
             }
             Expr::Binary { first, rest } => {
-                self.add_expression(first, Wanted::Nothing);
+                self.add_operand(first, Wanted::Nothing);
                 self.add_operands(rest);
             }
             Expr::Assign { target, value } => {
-                self.add_expression(target, Wanted::Nothing);
-                self.add_expression(value, Wanted::Nothing);
+                self.add_operand(target, Wanted::Nothing);
+                self.add_expression(value, Role::Assigned(target));
             }
             _ => {}
         }
     }
 
-    fn add_all(&mut self, expressions: &'b [Expr]) {
-        for expression in expressions {
-            self.add_expression(expression, Wanted::Nothing);
+    fn add_arguments(&mut self, function: Ident, arguments: &'b [Expr]) {
+        let mut number = 0usize;
+        for argument in arguments {
+            self.add_expression(argument, Role::Argument(function, arguments, number));
+            number = number.saturating_add(1);
+        }
+    }
+
+    fn add_fields(&mut self, name: Ident, regions: &'b [Ident], values: &'b [Expr]) {
+        let mut number = 0usize;
+        for value in values {
+            self.add_expression(value, Role::Field(name, regions, number));
+            number = number.saturating_add(1);
         }
     }
 
     fn add_indices(&mut self, postfixes: &'b [Postfix]) {
         for postfix in postfixes {
             if let Postfix::Index { index } = postfix {
-                self.add_expression(index, Wanted::Int);
+                self.add_operand(index, Wanted::Int);
             }
         }
     }
 
     fn add_operands(&mut self, operations: &'b [Operation]) {
         for operation in operations {
-            self.add_expression(&operation.operand, wanted_by(operation.operator).1);
+            self.add_operand(&operation.operand, wanted_by(operation.operator).1);
         }
     }
 
     fn add_initial(&mut self, initial: &'b Initial) {
         match initial {
-            Initial::Plain { value } => self.add_expression(value, Wanted::Content),
-            Initial::Fields { values, .. } => self.add_all(values),
+            Initial::Plain { value } => self.add_operand(value, Wanted::Content),
+            Initial::Fields {
+                name,
+                regions,
+                values,
+            } => self.add_fields(*name, regions, values),
             Initial::Array {
                 length, element, ..
             } => {
-                self.add_expression(length, Wanted::Int);
-                self.add_expression(element, Wanted::Content);
+                self.add_operand(length, Wanted::Int);
+                self.add_operand(element, Wanted::Content);
             }
         }
     }

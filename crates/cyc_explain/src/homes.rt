@@ -28,7 +28,7 @@ pub(crate) struct Home {
 /// The regions of a function up to the fault, each at the place of its number.
 #[derive(Drop)]
 pub(crate) struct Homes {
-    all: Vec<Home>,
+    pub(crate) all: Vec<Home>,
     /// Whether memory did not run out, so that none is left out.
     pub(crate) is_whole: bool,
 }
@@ -41,24 +41,11 @@ impl Homes {
         }
     }
 
-    /// Forgets all regions.
-    pub(crate) fn clear(&mut self) {
-        self.all.clear();
-    }
-
     /// Where a region begins.
     pub(crate) fn find(&self, region: Region) -> Option<Home> {
         match region {
             Region::Variable(number) => self.all.get(number).copied(),
             Region::Heap | Region::Unique => None,
-        }
-    }
-
-    /// The name of a region, if it has one.
-    pub(crate) fn name(&self, region: Region) -> Option<usize> {
-        match self.find(region) {
-            Some(home) => home.name,
-            None => None,
         }
     }
 

@@ -17,6 +17,7 @@ mod names;
 mod objects;
 mod statements;
 mod teller;
+mod values;
 mod wanted;
 mod words;
 mod written;

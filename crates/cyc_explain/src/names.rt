@@ -86,14 +86,6 @@ pub(crate) fn explain_unknown(teller: &mut Teller<'_>, scope: &Scope<'_>, sort: 
     }
 }
 
-/// The words for a name that is declared twice, where it is the name of this one before it.
-pub(crate) fn explain_twice(teller: &mut Teller<'_>, name: Ident, first: Ident) {
-    if first.name == name.name && teller.is_behind(first.span) {
-        teller.notes.place = first.span;
-        teller.tell_name(Message::FirstDeclared, name);
-    }
-}
-
 /// The words for a region that is declared in a function which has one of this name.
 pub(crate) fn explain_region_twice(teller: &mut Teller<'_>, name: Ident) {
     if teller.is_fault(Code::DeclaredTwice, name.span) {
@@ -108,10 +100,8 @@ pub(crate) fn explain_region_twice(teller: &mut Teller<'_>, name: Ident) {
 
 /// The words for a region that is declared with the name of its function.
 fn explain_own_region(teller: &mut Teller<'_>, name: Ident) {
-    if let Some(function) = teller.notes.function {
-        if function.name == name.name {
-            teller.tell_name(Message::RegionOfFunction, name);
-        }
+    if teller.notes.function == name.name.number {
+        teller.tell_name(Message::RegionOfFunction, name);
     }
 }
 

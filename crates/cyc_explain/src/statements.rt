@@ -1,14 +1,13 @@
 //! What items and statements ask of their parts, in words where that is the fault.
-use crate::conversions::explain_conversion;
 use crate::expressions::{explain_key, explain_name, explain_place};
 use crate::messages::Message;
 use crate::names::{Sort, explain_region, explain_unknown};
 use crate::teller::Teller;
 use crate::wanted::explain_content;
-use crate::words::given;
 use crate::written::explain_written;
+use cyc_check::place_type;
+use cyc_forms::span_of;
 use cyc_forms::types::{is_unique, region_of as region_of_type};
-use cyc_forms::{Given, span_of};
 use cyc_scope::{Meaning, Scope};
 use cyc_syntax::{BaseType, Expr, Ident, WrittenType};
 use cyc_types::formation::{region_of, type_written};
@@ -33,42 +32,26 @@ pub(crate) fn explain_exception(teller: &mut Teller<'_>, scope: &Scope<'_>, exce
 }
 
 /// The type that the function at hand returns, if it returns any.
-fn result_type(scope: &Scope<'_>) -> Option<Ty> {
+pub(crate) fn result_type(scope: &Scope<'_>) -> Option<Ty> {
     match scope.result_type() {
         Some(of_type) => of_type.share().ok(),
         None => None,
     }
 }
 
-/// The words for a `return` at this place of another value than the function has, or of none.
+/// The words for a `return` at this place without a value, or with one where the function has none.
 pub(crate) fn explain_return(
     teller: &mut Teller<'_>,
-    scope: &mut Scope<'_>,
+    scope: &Scope<'_>,
     span: Span,
     value: &Option<Expr>,
 ) {
-    match value {
-        None => {
-            if teller.want_type(result_type(scope)) {
-                teller.tell(Message::ValueMissing, span);
-            }
+    if value.is_some() {
+        if scope.result_type().is_none() {
+            teller.tell(Message::ValueTooMany, span);
         }
-        Some(value) => {
-            explain_returned(teller, scope, value);
-            if scope.result_type().is_none() {
-                teller.tell(Message::ValueTooMany, span);
-            }
-        }
-    }
-}
-
-/// The words for a value that is not converted to the function's result.
-fn explain_returned(teller: &mut Teller<'_>, scope: &mut Scope<'_>, value: &Expr) {
-    let span = span_of(value);
-    if teller.is_at(span) && teller.find(scope, value, false) {
-        if teller.want_type(result_type(scope)) {
-            explain_conversion(teller, scope, span);
-        }
+    } else if teller.want_type(result_type(scope)) {
+        teller.tell(Message::ValueMissing, span);
     }
 }
 
@@ -83,7 +66,8 @@ pub(crate) fn explain_swap(
     explain_place(teller, scope, right);
     let span = span_of(left);
     if teller.is_fault(Code::TypeMismatch, span) {
-        if teller.find_place(scope, left) && teller.want_place(scope, right) {
+        let (found, wanted) = (place_type(scope, left), place_type(scope, right));
+        if teller.find_type(found) && teller.want_type(wanted) {
             explain_content(teller, span);
             teller.tell(Message::SwappedTypes, span);
         }
@@ -93,40 +77,21 @@ pub(crate) fn explain_swap(
 // ---- items
 
 /// A written type in which this is left out.
-fn type_here(scope: &Scope<'_>, written: &WrittenType, left_out: Region) -> Option<Ty> {
+pub(crate) fn type_here(
+    scope: &Scope<'_>,
+    written: &WrittenType,
+    left_out: Region,
+) -> Option<Ty> {
     let (structs, names) = (scope.structs(), scope.names());
     type_written(scope.alloc(), structs, names, left_out, written).ok()
 }
 
-/// What is left out of the type of a local with this initial value.
-fn left_out_of(value: Given<'_>) -> Region {
-    match value {
-        Given::Value(Ty::Pointer { region, .. }) => *region,
-        _ => Region::Heap,
-    }
-}
-
-/// The words for a local.
-pub(crate) fn explain_local(
-    teller: &mut Teller<'_>,
-    scope: &mut Scope<'_>,
-    written: &WrittenType,
-    value: &Option<Expr>,
-) {
-    explain_written_here(teller, scope, written);
-    if let Some(value) = value {
-        let span = span_of(value);
-        if teller.is_at(span) && teller.find(scope, value, false) {
-            let left_out = left_out_of(given(&teller.notes.found));
-            if teller.want_type(type_here(scope, written, left_out)) {
-                explain_conversion(teller, scope, span);
-            }
-        }
-    }
-}
-
 /// The words for a type that is written in a body.
-fn explain_written_here(teller: &mut Teller<'_>, scope: &Scope<'_>, written: &WrittenType) {
+pub(crate) fn explain_written_here(
+    teller: &mut Teller<'_>,
+    scope: &Scope<'_>,
+    written: &WrittenType,
+) {
     explain_written(teller, written);
     if let BaseType::Struct { name, .. } = &written.base {
         explain_unknown(teller, scope, Sort::Struct, *name);
@@ -140,7 +105,7 @@ pub(crate) fn explain_opened(
     region: Ident,
     key: Ident,
 ) {
-    teller.notes.other = Some(key);
+    teller.notes.other = key.name.number;
     teller.tell_name(Message::KeyOfAnother, region);
     explain_region(teller, region);
     explain_key(teller, scope, key);
@@ -165,20 +130,13 @@ pub(crate) fn explain_alias(
             if let Lvalue::Global { .. } = target {
                 teller.tell_name(Message::GlobalLent, source);
             }
-            explain_lent(teller, source, of_type);
+            if !is_unique(of_type) && teller.find_type(of_type.share().ok()) {
+                teller.tell_name(Message::LentNotUnique, source);
+            }
         }
         _ => {
             explain_name(teller, scope, source);
             teller.tell_name(Message::LentNoPointer, source);
-        }
-    }
-}
-
-/// The words for a variable of this type that is lent, where it is no unique pointer.
-fn explain_lent(teller: &mut Teller<'_>, source: Ident, of_type: &Ty) {
-    if teller.is_at(source.span) && !is_unique(of_type) {
-        if teller.find_type(of_type.share().ok()) {
-            teller.tell_name(Message::LentNotUnique, source);
         }
     }
 }

@@ -1,14 +1,15 @@
 //! Who says why a program is refused: once, where its fault stands. What the words name is noted before.
 use crate::homes::Homes;
 use crate::messages::{Message, code_of, text_of};
-use crate::words::{Notes, Words};
-use cyc_check::{place_type, value_type};
+use crate::words::{NO_NAME, Notes, Words};
+use cyc_check::value_type;
 use cyc_scope::Scope;
-use cyc_syntax::{Expr, Ident, Member, Tree, WrittenType};
+use cyc_syntax::{Expr, Ident, Tree};
 use cyc_types::typed::ValueType;
-use cyc_types::{Region, RegionNames, Ty};
+use cyc_types::{Region, Ty};
 use cyc_words::{Code, Fault, Span};
 use std::alloc::Global;
+use std::mem::replace;
 
 /// The end of a block that opens the dynamic region of this name.
 #[derive(Clone, Copy)]
@@ -27,7 +28,9 @@ pub(crate) struct Teller<'t> {
     pub(crate) unknown: Message,
     /// Where blocks end that open a dynamic region.
     pub(crate) endings: Vec<Ending>,
-    words: Words,
+    pub(crate) words: Words,
+    /// What was declared in the same scope, where something is declared twice.
+    pub(crate) declared: Vec<Ident>,
     /// Whether memory did not run out.
     pub(crate) is_whole: bool,
 }
@@ -40,11 +43,11 @@ impl<'t> Teller<'t> {
             fault,
             notes: Notes {
                 tree,
-                function: None,
+                function: NO_NAME,
                 homes: Homes::new(alloc),
                 theirs: Homes::new(alloc),
-                name: None,
-                other: None,
+                name: NO_NAME,
+                other: NO_NAME,
                 place: Span { line: 0, column: 0 },
                 found: None,
                 wanted: None,
@@ -55,15 +58,21 @@ impl<'t> Teller<'t> {
             },
             unknown: Message::UnknownInHead,
             endings: Vec::new(alloc),
-            words: Words::new(alloc),
+            declared: Vec::new(alloc),
+            words: Words {
+                bytes: Vec::new(alloc),
+                is_whole: true,
+            },
             is_whole: true,
         }
     }
 
-    /// What was said, if anything was.
-    pub(crate) fn into_words(self) -> Option<Vec<u8>> {
-        if self.is_whole && self.notes.homes.is_whole && self.notes.theirs.is_whole {
-            self.words.into_bytes()
+    /// Takes what was said, if anything was.
+    pub(crate) fn take_words(&mut self) -> Option<Vec<u8>> {
+        let is_known = self.is_whole && self.notes.homes.is_whole && self.notes.theirs.is_whole;
+        if is_known && self.words.is_whole && !self.words.bytes.is_empty() {
+            let empty = Vec::new(self.alloc);
+            Some(replace(&mut self.words.bytes, empty))
         } else {
             None
         }
@@ -73,7 +82,7 @@ impl<'t> Teller<'t> {
 
     /// Whether the fault stands at this place, and nothing was said of it yet.
     pub(crate) fn is_at(&self, span: Span) -> bool {
-        self.fault.line == span.line && self.fault.column == span.column && self.words.is_empty()
+        self.fault.line == span.line && self.fault.column == span.column && self.words.bytes.is_empty()
     }
 
     /// Whether the fault is this one, and nothing was said of it yet.
@@ -87,31 +96,26 @@ impl<'t> Teller<'t> {
         span.line < fault.line || span.line == fault.line && span.column <= fault.column
     }
 
-    /// Whether the fault stands behind this place.
-    pub(crate) fn is_behind(&self, span: Span) -> bool {
-        self.is_from(span) && (self.fault.line != span.line || self.fault.column != span.column)
-    }
-
-    // ---- the function at hand
-
-    /// Goes to a head, in which this is said of the name of a region that is not in scope.
-    pub(crate) fn begin_head(&mut self, unknown: Message) {
-        self.notes.function = None;
-        self.unknown = unknown;
-    }
-
-    /// Goes to the body of a function.
-    pub(crate) fn begin_function(&mut self, names: &RegionNames, name: Ident, members: &[Member]) {
-        self.notes.function = Some(name);
-        self.notes.homes.add_parameters(names, name, members);
-        self.unknown = Message::UnknownInBody;
-    }
+    // ---- what is declared
 
     /// Notes that a block opens the dynamic region of this name, and where it ends.
     pub(crate) fn note_opened(&mut self, name: Ident, end: Option<Span>) {
         if let Some(span) = end {
             let name = name.name.number;
             self.is_whole = self.endings.push(Ending { name, span }).is_ok() && self.is_whole;
+        }
+    }
+
+    /// Declares a name, and says where it is declared already, if that is the fault.
+    pub(crate) fn declare(&mut self, name: Ident) {
+        if self.is_fault(Code::DeclaredTwice, name.span) {
+            if let Some(first) = first_of(&self.declared, name) {
+                self.notes.place = first;
+                self.tell_name(Message::FirstDeclared, name);
+            }
+        }
+        if self.fault.code == Code::DeclaredTwice {
+            self.is_whole = self.declared.push(name).is_ok() && self.is_whole;
         }
     }
 
@@ -127,7 +131,7 @@ impl<'t> Teller<'t> {
     /// The same of a name that stands at the fault.
     pub(crate) fn tell_name(&mut self, message: Message, name: Ident) {
         if self.is_at(name.span) {
-            self.notes.name = Some(name);
+            self.notes.name = name.name.number;
             self.tell(message, name.span);
         }
     }
@@ -151,60 +155,41 @@ impl<'t> Teller<'t> {
         self.say(text_of(message));
     }
 
-    /// Says a type of a global as it is written.
-    pub(crate) fn say_written(&mut self, written: &WrittenType) {
-        self.words.put_written(&self.notes, written);
-    }
-
     // ---- what is found and wanted
 
     /// Notes the type of an expression as what is found, whose value is used or only looked at; whether it is known.
     pub(crate) fn find(&mut self, scope: &mut Scope<'_>, value: &Expr, is_looked_at: bool) -> bool {
-        self.find_value(value_type(scope, value, is_looked_at))
-    }
-
-    /// Notes the type of a value as what is found.
-    pub(crate) fn find_value(&mut self, value: Option<ValueType>) -> bool {
-        self.notes.found = value;
+        self.notes.found = value_type(scope, value, is_looked_at);
         self.notes.found.is_some()
-    }
-
-    /// The same as what is wanted.
-    pub(crate) fn want(&mut self, scope: &mut Scope<'_>, value: &Expr) -> bool {
-        self.want_value(value_type(scope, value, true))
-    }
-
-    /// Notes the type of a value as what is wanted.
-    fn want_value(&mut self, value: Option<ValueType>) -> bool {
-        self.notes.wanted = value;
-        self.notes.wanted.is_some()
     }
 
     /// Notes a type as what is found.
     pub(crate) fn find_type(&mut self, of_type: Option<Ty>) -> bool {
-        self.find_value(value_of(of_type))
+        self.notes.found = value_of(of_type);
+        self.notes.found.is_some()
     }
 
     /// Notes a type as what is wanted.
     pub(crate) fn want_type(&mut self, of_type: Option<Ty>) -> bool {
-        self.want_value(value_of(of_type))
-    }
-
-    /// Notes the type of what is at a place as what is found.
-    pub(crate) fn find_place(&mut self, scope: &mut Scope<'_>, place: &Expr) -> bool {
-        self.find_type(place_type(scope, place))
-    }
-
-    /// Notes the type of what is at a place as what is wanted.
-    pub(crate) fn want_place(&mut self, scope: &mut Scope<'_>, place: &Expr) -> bool {
-        self.want_type(place_type(scope, place))
+        self.notes.wanted = value_of(of_type);
+        self.notes.wanted.is_some()
     }
 }
 
 /// A value of a type that is known.
-pub(crate) fn value_of(of_type: Option<Ty>) -> Option<ValueType> {
+fn value_of(of_type: Option<Ty>) -> Option<ValueType> {
     match of_type {
         Some(of_type) => Some(ValueType::Value { of_type }),
         None => None,
     }
+}
+
+/// Where the first of these names stands that is this one.
+fn first_of(declared: &[Ident], name: Ident) -> Option<Span> {
+    for first in declared {
+        if first.name == name.name {
+            return Some(first.span);
+        }
+    }
+    None
 }

@@ -3,10 +3,10 @@ use crate::conversions::explain_closed;
 use crate::messages::Message;
 use crate::teller::Teller;
 use crate::words::given;
+use cyc_forms::Given;
 use cyc_forms::types::is_struct;
-use cyc_forms::{Given, span_of};
 use cyc_scope::Scope;
-use cyc_syntax::{BinaryOperator, Expr, PointerKind, PrefixOperator};
+use cyc_syntax::{BinaryOperator, PointerKind, PrefixOperator};
 use cyc_types::Ty;
 use cyc_words::{Code, Span};
 
@@ -76,21 +76,11 @@ impl Wanted {
 
     /// What to do about a value of another type, if there is anything to say.
     fn advice(self, given: Given<'_>) -> &'static str {
-        if given.is_void() {
-            "a function that returns no value is called by itself"
-        } else if given.is_pointer() {
-            self.advice_on_pointer(given)
-        } else if matches!(given, Given::Null) {
-            self.advice_on_null()
-        } else {
-            ""
-        }
-    }
-
-    fn advice_on_null(self) -> &'static str {
-        match self {
-            Wanted::Content => "put NULL into a variable of the type first",
-            Wanted::Tested => "compare the pointer with NULL by == or !=",
+        match (self, given) {
+            (_, Given::Void) => "a function that returns no value is called by itself",
+            (Wanted::Content, Given::Null) => "put NULL into a variable of the type first",
+            (Wanted::Tested, Given::Null) => "compare the pointer with NULL by == or !=",
+            _ if given.is_pointer() => self.advice_on_pointer(given),
             _ => "",
         }
     }
@@ -171,9 +161,11 @@ pub(crate) fn explain_found(
     span: Span,
 ) {
     let found = given(&teller.notes.found);
-    if !wanted.allows(found) {
+    if teller.is_fault(Code::TypeMismatch, span) && !wanted.allows(found) {
         let advice = wanted.advice(found);
-        explain_unwanted(teller, wanted, advice, span);
+        teller.notes.text = wanted.text();
+        teller.tell(Message::NotWanted, span);
+        teller.hint(advice);
     }
     let misused = match wanted {
         Wanted::Freed => Message::FreedNotUnique,
@@ -183,42 +175,12 @@ pub(crate) fn explain_found(
     explain_closed(teller, scope, span);
 }
 
-/// The words for a type that is not what is wanted, and what to do.
-fn explain_unwanted(teller: &mut Teller<'_>, wanted: Wanted, advice: &str, span: Span) {
-    if teller.is_fault(Code::TypeMismatch, span) {
-        teller.notes.text = wanted.text();
-        teller.tell(Message::NotWanted, span);
-        teller.hint(advice);
-    }
-}
-
-/// The words where an operand is not what is wanted.
-pub(crate) fn explain_value(
-    teller: &mut Teller<'_>,
-    scope: &mut Scope<'_>,
-    expression: &Expr,
-    wanted: Wanted,
-) {
-    let span = span_of(expression);
-    if teller.is_at(span) && !matches!(wanted, Wanted::Nothing) {
-        if teller.find(scope, expression, wanted.is_looked_at()) {
-            explain_found(teller, scope, wanted, span);
-        }
-    }
-}
-
-fn is_struct_read(found: Given<'_>) -> bool {
-    match found {
-        Given::Value(of_type) => is_struct(of_type),
-        _ => false,
-    }
-}
-
 /// The words for a cell of the type that is found, where it is read at this place and is a struct or a unique pointer.
 pub(crate) fn explain_content(teller: &mut Teller<'_>, span: Span) {
     let found = given(&teller.notes.found);
+    let is_struct = matches!(found, Given::Value(Ty::Struct { .. }));
     let is_unique = found.is_unique() || found.is_key();
-    if is_struct_read(found) {
+    if is_struct {
         teller.tell(Message::StructRead, span);
     }
     if is_unique {

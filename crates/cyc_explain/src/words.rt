@@ -6,22 +6,24 @@ use cyc_syntax::{BaseType, Declaration, Ident, Name, Names, PointerKind, Tree, W
 use cyc_types::typed::ValueType;
 use cyc_types::{Region, Ty};
 use cyc_words::Span;
-use std::alloc::Global;
 
 const DIGITS: &[u8] = b"0123456789";
+
+/// The number of no name.
+pub(crate) const NO_NAME: usize = usize::MAX;
 
 /// What the gaps of a text are filled with, as it was noted last.
 #[derive(Drop)]
 pub(crate) struct Notes<'t> {
     pub(crate) tree: &'t Tree,
-    /// The function at hand, if there is one.
-    pub(crate) function: Option<Ident>,
+    /// The number of the name of the function at hand; no name has that of none.
+    pub(crate) function: usize,
     /// Its regions, and those of a function that is called.
     pub(crate) homes: Homes,
     pub(crate) theirs: Homes,
-    /// A name, and another one.
-    pub(crate) name: Option<Ident>,
-    pub(crate) other: Option<Ident>,
+    /// The number of a name, and of another one.
+    pub(crate) name: usize,
+    pub(crate) other: usize,
     pub(crate) place: Span,
     /// The type that is found, if it is known, and the one that is wanted.
     pub(crate) found: Option<ValueType>,
@@ -37,9 +39,9 @@ pub(crate) struct Notes<'t> {
 /// The lines that are said.
 #[derive(Drop)]
 pub(crate) struct Words {
-    bytes: Vec<u8>,
+    pub(crate) bytes: Vec<u8>,
     /// Whether memory did not run out.
-    is_whole: bool,
+    pub(crate) is_whole: bool,
 }
 
 /// What the rules ask of a type; one that is not known has no value.
@@ -51,49 +53,36 @@ pub(crate) fn given(value: &Option<ValueType>) -> Given<'_> {
     }
 }
 
-fn mark_of(kind: PointerKind) -> &'static str {
+fn mark_of(kind: PointerKind) -> &'static [u8] {
     match kind {
-        PointerKind::Nullable => " *",
-        PointerKind::NonNull => " @",
-        PointerKind::Fat => " ?",
+        PointerKind::Nullable => b" *",
+        PointerKind::NonNull => b" @",
+        PointerKind::Fat => b" ?",
     }
 }
 
-/// The name of the struct of this number.
-fn struct_name(declarations: &[Declaration], number: usize) -> Option<Ident> {
+fn text_on_place(origin: Origin) -> &'static [u8] {
+    match origin {
+        Origin::Block => b"the region that begins at ",
+        Origin::Caller | Origin::Item | Origin::Dynamic => b"a region left out at ",
+    }
+}
+
+/// The number of the name of the struct of this number.
+fn struct_name(declarations: &[Declaration], number: usize) -> usize {
     let mut before = 0usize;
     for declaration in declarations {
         if let Declaration::Struct { name, .. } = declaration {
             if before == number {
-                return Some(*name);
+                return name.name.number;
             }
             before = before.saturating_add(1);
         }
     }
-    None
+    NO_NAME
 }
 
 impl Words {
-    pub(crate) fn new(alloc: Global) -> Words {
-        Words {
-            bytes: Vec::new(alloc),
-            is_whole: true,
-        }
-    }
-
-    pub(crate) fn is_empty(&self) -> bool {
-        self.bytes.is_empty()
-    }
-
-    /// What was said, if anything was.
-    pub(crate) fn into_bytes(self) -> Option<Vec<u8>> {
-        if self.is_whole && !self.bytes.is_empty() {
-            Some(self.bytes)
-        } else {
-            None
-        }
-    }
-
     // ---- texts
 
     /// Says a text, in which each `%` and the letter behind it are a gap.
@@ -116,12 +105,12 @@ impl Words {
             b'o' => self.put_name(&notes.tree.names, notes.other),
             b'f' => self.put_name(&notes.tree.names, notes.function),
             b'p' => self.put_place(notes.place),
-            b't' => self.put_given(notes, given(&notes.found)),
-            b'w' => self.put_given(notes, given(&notes.wanted)),
-            b'r' => self.put_region(notes, &notes.homes, notes.regions.0),
-            b's' => self.put_region(notes, &notes.homes, notes.regions.1),
-            b'a' => self.put_region(notes, &notes.theirs, notes.their_regions.0),
-            b'b' => self.put_region(notes, &notes.theirs, notes.their_regions.1),
+            b't' => self.put_value(notes, &notes.found),
+            b'w' => self.put_value(notes, &notes.wanted),
+            b'r' => self.put_of(notes, &notes.homes, notes.regions.0),
+            b's' => self.put_of(notes, &notes.homes, notes.regions.1),
+            b'a' => self.put_of(notes, &notes.theirs, notes.their_regions.0),
+            b'b' => self.put_of(notes, &notes.theirs, notes.their_regions.1),
             b'c' => self.put_number(notes.counts.0),
             b'd' => self.put_number(notes.counts.1),
             b'e' if notes.counts.0 != 1 => self.put(b"s"),
@@ -143,16 +132,11 @@ impl Words {
         for _ in 0..10 {
             let digit = number.checked_div(unit).unwrap_or(0) % 10;
             is_begun = is_begun || digit > 0 || unit == 1;
-            if is_begun {
-                self.put_digit(digit);
+            match DIGITS.get(digit) {
+                Some(byte) if is_begun => self.put(&[*byte]),
+                _ => {}
             }
             unit /= 10;
-        }
-    }
-
-    fn put_digit(&mut self, digit: usize) {
-        if let Some(byte) = DIGITS.get(digit) {
-            self.put(&[*byte]);
         }
     }
 
@@ -162,14 +146,8 @@ impl Words {
         self.put_number(span.column as usize);
     }
 
-    fn put_name(&mut self, names: &Names, name: Option<Ident>) {
-        if let Some(name) = name {
-            self.put_numbered(names, name.name.number);
-        }
-    }
-
     /// The name of this number.
-    fn put_numbered(&mut self, names: &Names, number: usize) {
+    fn put_name(&mut self, names: &Names, number: usize) {
         if number < names.len() {
             self.put(names.text(Name { number }));
         }
@@ -177,35 +155,26 @@ impl Words {
 
     // ---- regions
 
-    /// A region by its name, or else by its place.
-    fn put_region(&mut self, notes: &Notes<'_>, homes: &Homes, region: Region) {
-        match homes.find(region) {
-            Some(home) if home.name.is_none() => self.put_nameless(home),
-            home => self.put_named(&notes.tree.names, region, home),
-        }
-    }
-
-    /// A region by its place.
-    fn put_nameless(&mut self, home: Home) {
-        match home.origin {
-            Origin::Block => self.put(b"the region that begins at "),
-            _ => self.put(b"a region left out at "),
-        }
-        self.put_place(home.span);
-    }
-
-    /// A region by its name, if it has one.
-    fn put_named(&mut self, names: &Names, region: Region, home: Option<Home>) {
-        match region {
-            Region::Heap => self.put(b"`H"),
-            Region::Unique => self.put(b"`U"),
-            Region::Variable(_) => {
-                if let Some(Home { name: Some(name), .. }) = home {
-                    self.put(b"`");
-                    self.put_numbered(names, name);
-                }
+    /// A region by its name, or else, where that is asked for, by its place.
+    fn put_region(&mut self, names: &Names, region: Region, home: Option<Home>, is_placed: bool) {
+        match (region, home) {
+            (Region::Heap, _) => self.put(b"`H"),
+            (Region::Unique, _) => self.put(b"`U"),
+            (_, Some(Home { name: Some(name), .. })) => {
+                self.put(b"`");
+                self.put_name(names, name);
             }
+            (_, Some(home)) if is_placed => {
+                self.put(text_on_place(home.origin));
+                self.put_place(home.span);
+            }
+            _ => {}
         }
+    }
+
+    /// A region of the function with these regions.
+    fn put_of(&mut self, notes: &Notes<'_>, homes: &Homes, region: Region) {
+        self.put_region(&notes.tree.names, region, homes.find(region), true);
     }
 
     /// The regions of a type, one behind the other.
@@ -216,20 +185,17 @@ impl Words {
                 self.put(b",");
             }
             is_first = false;
-            self.put_named(&notes.tree.names, *region, notes.homes.find(*region));
+            self.put_region(&notes.tree.names, *region, notes.homes.find(*region), false);
         }
     }
 
     // ---- types
 
-    fn put_given(&mut self, notes: &Notes<'_>, given: Given<'_>) {
-        match given {
-            Given::Void => self.put(b"no value"),
-            Given::Null => self.put(b"NULL"),
-            Given::Int => self.put(b"int"),
-            Given::Char => self.put(b"char"),
-            Given::HeapHandle => self.put(b"region_t<`H>"),
-            Given::Value(of_type) => self.put_type(notes, of_type),
+    fn put_value(&mut self, notes: &Notes<'_>, value: &Option<ValueType>) {
+        match value {
+            Some(ValueType::Value { of_type }) => self.put_type(notes, of_type),
+            Some(ValueType::Null) => self.put(b"NULL"),
+            Some(ValueType::Void) | None => self.put(b"no value"),
         }
     }
 
@@ -242,7 +208,7 @@ impl Words {
                 region,
             } => {
                 self.put_type(notes, target);
-                self.put(mark_of(*kind).as_bytes());
+                self.put(mark_of(*kind));
                 self.put_regions(notes, &[*region]);
             }
             _ => self.put_base(notes, of_type),
@@ -258,10 +224,8 @@ impl Words {
             Ty::Key { region } => self.put_listed(notes, b"uregion_key_t<", &[*region]),
             Ty::Struct { number, regions } => {
                 self.put(b"struct ");
-                self.put_name(
-                    &notes.tree.names,
-                    struct_name(&notes.tree.declarations, *number),
-                );
+                let name = struct_name(&notes.tree.declarations, *number);
+                self.put_name(&notes.tree.names, name);
                 if !regions.is_empty() {
                     self.put_listed(notes, b"<", regions);
                 }
@@ -276,28 +240,32 @@ impl Words {
     }
 
     /// A type of a global as it is written, in which what is left out is the heap.
-    pub(crate) fn put_written(&mut self, notes: &Notes<'_>, written: &WrittenType) {
-        let names = &notes.tree.names;
-        match &written.base {
-            BaseType::Int => self.put(b"int"),
-            BaseType::Char => self.put(b"char"),
-            BaseType::Struct { name, .. } => {
-                self.put(b"struct ");
-                self.put_numbered(names, name.name.number);
-            }
+    pub(crate) fn put_written(&mut self, names: &Names, written: &WrittenType) {
+        let (open, name, close) = match &written.base {
+            BaseType::Int => ("int", NO_NAME, ""),
+            BaseType::Char => ("char", NO_NAME, ""),
+            BaseType::Struct { name, .. } => ("struct ", name.name.number, ""),
             BaseType::Handle { region } | BaseType::Key { region } => {
-                self.put(b"region_t<`");
-                self.put_numbered(names, region.name.number);
-                self.put(b">");
+                ("region_t<`", region.name.number, ">")
             }
-        }
+        };
+        self.put(open.as_bytes());
+        self.put_name(names, name);
+        self.put(close.as_bytes());
         for mark in &written.marks {
-            self.put(mark_of(mark.kind).as_bytes());
-            self.put(b"`");
-            match mark.region {
-                Some(region) => self.put_numbered(names, region.name.number),
-                None => self.put(b"H"),
+            self.put(mark_of(mark.kind));
+            self.put_mark_region(names, mark.region);
+        }
+    }
+
+    /// The region behind a mark.
+    fn put_mark_region(&mut self, names: &Names, region: Option<Ident>) {
+        match region {
+            Some(region) => {
+                self.put(b"`");
+                self.put_name(names, region.name.number);
             }
+            None => self.put(b"`H"),
         }
     }
 }

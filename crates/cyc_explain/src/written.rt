@@ -2,7 +2,7 @@
 use crate::messages::Message;
 use crate::names::explain_region;
 use crate::teller::Teller;
-use cyc_syntax::{BaseType, Declaration, Ident, Pointer, PointerKind, WrittenType};
+use cyc_syntax::{BaseType, Declaration, Ident, PointerKind, WrittenType};
 use cyc_words::Code;
 
 /// How many region parameters the struct of this name has.
@@ -31,14 +31,6 @@ fn explain_number(teller: &mut Teller<'_>, name: Ident, found: usize) {
     }
 }
 
-/// Whether the innermost mark leads to a struct in a type.
-fn leads_to_struct(marks: &[Pointer]) -> bool {
-    match marks.first() {
-        Some(mark) => mark.kind != PointerKind::Fat,
-        None => false,
-    }
-}
-
 /// What a type is that nothing has.
 fn explain_shape(teller: &mut Teller<'_>, written: &WrittenType) {
     match &written.base {
@@ -50,8 +42,8 @@ fn explain_shape(teller: &mut Teller<'_>, written: &WrittenType) {
         }
         BaseType::Struct { name, regions } => {
             explain_number(teller, *name, regions.len());
-            if !leads_to_struct(&written.marks) {
-                teller.notes.name = Some(*name);
+            if !matches!(written.marks.first(), Some(mark) if mark.kind != PointerKind::Fat) {
+                teller.notes.name = name.name.number;
                 teller.tell(Message::StructAlone, written.span);
             }
         }
