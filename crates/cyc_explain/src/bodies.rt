@@ -19,7 +19,9 @@ use crate::values::explain_value;
 use cyc_check::scope_at_fault;
 use cyc_heads::{heads, members};
 use cyc_scope::{Program, Scope};
-use cyc_syntax::{Block, Clause, Declaration, Expr, Ident, Item, Member, PrefixOperator, Stmt, Tree};
+use cyc_syntax::{
+    Block, Clause, Declaration, Expr, Ident, Item, Member, PrefixOperator, Stmt, Tree,
+};
 use cyc_words::Span;
 
 // ---- functions
@@ -48,7 +50,10 @@ fn explain_function(teller: &mut Teller<'_>, program: &Program, declaration: &De
         if let Ok(mut scope) = scope_at_fault(alloc, program, result, *name, parameters, body) {
             let members = members(parameters);
             teller.notes.function = name.name.number;
-            teller.notes.homes.add_parameters(scope.names(), *name, members);
+            teller
+                .notes
+                .homes
+                .add_parameters(scope.names(), *name, members);
             teller.unknown = Message::UnknownInBody;
             explain_parameters(teller, members, &body.items);
             explain_forms(teller, &mut scope, body);
@@ -120,12 +125,7 @@ fn explain_parameters(teller: &mut Teller<'_>, members: &[Member], items: &[Item
 }
 
 /// Asks an item of a block that ends there.
-fn explain_item(
-    teller: &mut Teller<'_>,
-    scope: &mut Scope<'_>,
-    item: &Item,
-    end: Option<Span>,
-) {
+fn explain_item(teller: &mut Teller<'_>, scope: &mut Scope<'_>, item: &Item, end: Option<Span>) {
     match item {
         Item::Statement { .. } => {}
         Item::Local { of_type, .. } => explain_written_here(teller, scope, of_type),

@@ -239,7 +239,10 @@ fn explain_called(
     teller.notes.name = function.name.number;
     match number {
         Some(number) => {
-            if let (Some(argument), Some(parameter)) = (arguments.get(number), parameters.get(number)) {
+            if let (Some(argument), Some(parameter)) = (
+                arguments.get(number),
+                parameters.get(number),
+            ) {
                 explain_argument(teller, scope, argument, parameter, &instance);
             }
         }
@@ -265,7 +268,9 @@ pub(crate) fn explain_call(
     match scope.meaning(function) {
         Meaning::Unknown => explain_unknown(teller, scope, Sort::Value, function),
         Meaning::Routine { signature, .. } => {
-            explain_called(teller, scope, function, arguments, number, &values, signature);
+            explain_called(
+                teller, scope, function, arguments, number, &values, signature,
+            );
         }
         _ => teller.tell_name(Message::VariableCalled, function),
     }

@@ -104,19 +104,17 @@ pub(crate) fn explain_target(
 /// What a pointer leads to.
 fn target_of(value: &Option<ValueType>) -> Option<&Ty> {
     match value {
-        Some(ValueType::Value {
-            of_type: Ty::Pointer { target, .. },
-        }) => Some(target),
+        Some(
+            ValueType::Value {
+                of_type: Ty::Pointer { target, .. },
+            },
+        ) => Some(target),
         _ => None,
     }
 }
 
 /// The type of what a pointer leads to, or of the field of this name there.
-fn type_behind(
-    scope: &Scope<'_>,
-    pointer: &Option<ValueType>,
-    field: Option<Ident>,
-) -> Option<Ty> {
+fn type_behind(scope: &Scope<'_>, pointer: &Option<ValueType>, field: Option<Ident>) -> Option<Ty> {
     match (target_of(pointer), field) {
         (Some(target), None) => target.share().ok(),
         (Some(Ty::Struct { number, regions }), Some(name)) => {
@@ -132,12 +130,7 @@ fn type_behind(
 }
 
 /// Goes on from the pointer that is found to what it leads to, or to a field there, and says what that is read for at this place.
-fn explain_behind(
-    teller: &mut Teller<'_>,
-    scope: &Scope<'_>,
-    start: Span,
-    field: Option<Ident>,
-) {
+fn explain_behind(teller: &mut Teller<'_>, scope: &Scope<'_>, start: Span, field: Option<Ident>) {
     let behind = type_behind(scope, &teller.notes.found, field);
     if teller.find_type(behind) {
         explain_content(teller, start);
@@ -154,8 +147,7 @@ pub(crate) fn explain_chain(
     postfixes: &[Postfix],
 ) {
     let start = span_of(base);
-    // A field that is unknown is the fault at its own place.
-    if teller.is_at(start) || teller.fault.code == Code::UnknownName {
+    if is_in_chain(teller, start, postfixes) {
         teller.find(scope, base, true);
         for postfix in postfixes {
             if teller.notes.found.is_some() {
@@ -163,6 +155,17 @@ pub(crate) fn explain_chain(
             }
         }
     }
+}
+
+/// Whether the fault is at the place where a chain of postfixes begins, or at a field's name.
+fn is_in_chain(teller: &Teller<'_>, start: Span, postfixes: &[Postfix]) -> bool {
+    let mut is_here = teller.is_at(start);
+    for postfix in postfixes {
+        if let Postfix::Field { name } = postfix {
+            is_here = is_here || teller.is_at(name.span);
+        }
+    }
+    is_here
 }
 
 /// What a postfix asks of the pointer that is found, which begins at this place, and of what it leads to, which then is found.

@@ -44,11 +44,18 @@ pub(crate) enum Form<'b> {
         end: Option<Span>,
     },
     /// A block, in front of its items.
-    Items { items: &'b [Item] },
+    Items {
+        items: &'b [Item],
+    },
     /// A clause, in front of its items.
-    Clause { clause: &'b Clause },
+    Clause {
+        clause: &'b Clause,
+    },
     /// A block that begins, in front of its items: its name, or else its place.
-    Begin { label: Option<Ident>, span: Span },
+    Begin {
+        label: Option<Ident>,
+        span: Span,
+    },
 }
 
 /// A list of forms that is being made.
@@ -178,10 +185,12 @@ impl<'b> Forms<'b> {
                 self.add_operand(right, Wanted::Nothing);
             }
             Stmt::Return {
-                value: Some(value), ..
+                value: Some(value),
+                ..
             } => self.add_expression(value, Role::Returned),
             Stmt::Throw {
-                value: Some(value), ..
+                value: Some(value),
+                ..
             } => self.add_operand(value, Wanted::Int),
             _ => {}
         }
@@ -235,7 +244,9 @@ impl<'b> Forms<'b> {
                 self.add_indices(postfixes);
             }
             Expr::Prefixed {
-                operator, operand, ..
+                operator,
+                operand,
+                ..
             } => self.add_operand(operand, wanted_of(*operator)),
             Expr::New { value, .. } => self.add_initial(value),
             Expr::RegionNew { region, value, .. } => {
@@ -293,7 +304,9 @@ impl<'b> Forms<'b> {
                 values,
             } => self.add_fields(*name, regions, values),
             Initial::Array {
-                length, element, ..
+                length,
+                element,
+                ..
             } => {
                 self.add_operand(length, Wanted::Int);
                 self.add_operand(element, Wanted::Content);

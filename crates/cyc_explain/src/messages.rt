@@ -96,10 +96,8 @@ pub(crate) fn code_of(message: Message) -> Code {
         | Message::RegionOfFunction
         | Message::InEachProgram
         | Message::ClauseBefore => Code::DeclaredTwice,
-        Message::UniqueStays
-        | Message::GlobalStays
-        | Message::GlobalLent
-        | Message::AddressKept => Code::UniqueShared,
+        Message::UniqueStays | Message::GlobalStays | Message::GlobalLent | Message::AddressKept =>
+            Code::UniqueShared,
         Message::HandleAssigned
         | Message::CounterAssigned
         | Message::FunctionAssigned
@@ -246,9 +244,7 @@ pub(crate) fn text_of(message: Message) -> &'static str {
         Message::NoHandle => {
             "`%n has no handle but the name unique_region\nhint: write rnew(unique_region) where the object is made"
         }
-        Message::AlwaysOpen => {
-            "`%n is always open, and has no key\nhint: name a dynamic region"
-        }
+        Message::AlwaysOpen => { "`%n is always open, and has no key\nhint: name a dynamic region" }
         Message::NoConstraint => {
             "`%n is no region of a constraint\nhint: leave the constraint out"
         }

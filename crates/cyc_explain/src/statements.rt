@@ -77,11 +77,7 @@ pub(crate) fn explain_swap(
 // ---- items
 
 /// A written type in which this is left out.
-pub(crate) fn type_here(
-    scope: &Scope<'_>,
-    written: &WrittenType,
-    left_out: Region,
-) -> Option<Ty> {
+pub(crate) fn type_here(scope: &Scope<'_>, written: &WrittenType, left_out: Region) -> Option<Ty> {
     let (structs, names) = (scope.structs(), scope.names());
     type_written(scope.alloc(), structs, names, left_out, written).ok()
 }

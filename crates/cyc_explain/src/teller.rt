@@ -82,7 +82,9 @@ impl<'t> Teller<'t> {
 
     /// Whether the fault stands at this place, and nothing was said of it yet.
     pub(crate) fn is_at(&self, span: Span) -> bool {
-        self.fault.line == span.line && self.fault.column == span.column && self.words.bytes.is_empty()
+        self.fault.line == span.line
+            && self.fault.column == span.column
+            && self.words.bytes.is_empty()
     }
 
     /// Whether the fault is this one, and nothing was said of it yet.

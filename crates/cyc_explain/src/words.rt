@@ -160,7 +160,15 @@ impl Words {
         match (region, home) {
             (Region::Heap, _) => self.put(b"`H"),
             (Region::Unique, _) => self.put(b"`U"),
-            (_, Some(Home { name: Some(name), .. })) => {
+            (
+                _,
+                Some(
+                    Home {
+                        name: Some(name),
+                        ..
+                    },
+                ),
+            ) => {
                 self.put(b"`");
                 self.put_name(names, name);
             }
