@@ -27,18 +27,23 @@ use cyc_words::Span;
 // ---- functions
 
 /// The words for a fault in the body of a declaration, if it stands there.
-pub(crate) fn explain_body(teller: &mut Teller<'_>, tree: &Tree, declaration: &Declaration) {
+pub(crate) fn explain_body(teller: &mut Teller, tree: &Tree, declaration: &Declaration) {
     if let Declaration::Function { body, .. } = declaration {
         if teller.is_from(body.span) && !teller.is_from(body.end) {
             if let Ok(program) = heads(teller.alloc, tree) {
-                explain_function(teller, &program, declaration);
+                explain_function(teller, &program, tree, declaration);
             }
         }
     }
 }
 
 /// The words for a fault in the body of a function, where this is known of the program.
-fn explain_function(teller: &mut Teller<'_>, program: &Program, declaration: &Declaration) {
+fn explain_function(
+    teller: &mut Teller,
+    program: &Program,
+    tree: &Tree,
+    declaration: &Declaration,
+) {
     if let Declaration::Function {
         result,
         name,
@@ -56,27 +61,27 @@ fn explain_function(teller: &mut Teller<'_>, program: &Program, declaration: &De
                 .add_parameters(scope.names(), *name, members);
             teller.unknown = Message::UnknownInBody;
             explain_parameters(teller, members, &body.items);
-            explain_forms(teller, &mut scope, body);
+            explain_forms(teller, &mut scope, tree, body);
         }
     }
 }
 
 /// Asks the forms of a body.
-fn explain_forms(teller: &mut Teller<'_>, scope: &mut Scope<'_>, body: &Block) {
+fn explain_forms(teller: &mut Teller, scope: &mut Scope<'_>, tree: &Tree, body: &Block) {
     let mut forms = forms_of(teller.alloc, body);
     for _ in 0..forms.listed.len() {
         if let Some(form) = forms.listed.pop() {
-            explain_form(teller, scope, form);
+            explain_form(teller, scope, tree, form);
         }
     }
     teller.is_whole = teller.is_whole && forms.is_whole;
 }
 
-fn explain_form(teller: &mut Teller<'_>, scope: &mut Scope<'_>, form: Form<'_>) {
+fn explain_form(teller: &mut Teller, scope: &mut Scope<'_>, tree: &Tree, form: Form<'_>) {
     match form {
         Form::Expression { expression, role } => {
-            explain_expression(teller, scope, expression);
-            explain_value(teller, scope, expression, role);
+            explain_expression(teller, scope, tree, expression);
+            explain_value(teller, scope, tree, expression, role);
         }
         Form::Statement { statement, .. } => explain_statement(teller, scope, statement),
         Form::Item { item, end } => explain_item(teller, scope, item, end),
@@ -107,7 +112,7 @@ fn local_of(item: &Item) -> Option<Ident> {
 }
 
 /// The words where these items declare a local that their block, or what stands around it, has already.
-fn explain_declared(teller: &mut Teller<'_>, items: &[Item]) {
+fn explain_declared(teller: &mut Teller, items: &[Item]) {
     for item in items {
         if let Some(name) = local_of(item) {
             teller.declare(name);
@@ -116,7 +121,7 @@ fn explain_declared(teller: &mut Teller<'_>, items: &[Item]) {
 }
 
 /// The words where the items of a function declare a local of the name of a parameter.
-fn explain_parameters(teller: &mut Teller<'_>, members: &[Member], items: &[Item]) {
+fn explain_parameters(teller: &mut Teller, members: &[Member], items: &[Item]) {
     teller.declared.clear();
     for member in members {
         teller.declare(member.name);
@@ -125,7 +130,7 @@ fn explain_parameters(teller: &mut Teller<'_>, members: &[Member], items: &[Item
 }
 
 /// Asks an item of a block that ends there.
-fn explain_item(teller: &mut Teller<'_>, scope: &mut Scope<'_>, item: &Item, end: Option<Span>) {
+fn explain_item(teller: &mut Teller, scope: &mut Scope<'_>, item: &Item, end: Option<Span>) {
     match item {
         Item::Statement { .. } => {}
         Item::Local { of_type, .. } => explain_written_here(teller, scope, of_type),
@@ -152,14 +157,14 @@ fn explain_item(teller: &mut Teller<'_>, scope: &mut Scope<'_>, item: &Item, end
 }
 
 /// Adds a region that has a name, which is to be new.
-fn add_region(teller: &mut Teller<'_>, name: Ident, origin: Origin) {
+fn add_region(teller: &mut Teller, name: Ident, origin: Origin) {
     explain_region_twice(teller, name);
     teller.notes.homes.add(Some(name), name.span, origin);
 }
 
 // ---- statements
 
-fn explain_statement(teller: &mut Teller<'_>, scope: &mut Scope<'_>, statement: &Stmt) {
+fn explain_statement(teller: &mut Teller, scope: &mut Scope<'_>, statement: &Stmt) {
     match statement {
         Stmt::Swap { left, right } => explain_swap(teller, scope, left, right),
         Stmt::Return { span, value } => explain_return(teller, scope, *span, value),
@@ -169,7 +174,7 @@ fn explain_statement(teller: &mut Teller<'_>, scope: &mut Scope<'_>, statement: 
 }
 
 /// Asks what stands before the items of a clause, and whether they declare its variable a second time.
-fn explain_clause(teller: &mut Teller<'_>, scope: &Scope<'_>, clause: &Clause) {
+fn explain_clause(teller: &mut Teller, scope: &Scope<'_>, clause: &Clause) {
     let exception = clause.exception;
     explain_exception(teller, scope, exception);
     teller.notes.homes.add(None, exception.span, Origin::Block);
@@ -183,7 +188,12 @@ fn explain_clause(teller: &mut Teller<'_>, scope: &Scope<'_>, clause: &Clause) {
 // ---- expressions
 
 /// Asks an expression, its parts and what is wanted of it apart.
-fn explain_expression(teller: &mut Teller<'_>, scope: &mut Scope<'_>, expression: &Expr) {
+fn explain_expression(
+    teller: &mut Teller,
+    scope: &mut Scope<'_>,
+    tree: &Tree,
+    expression: &Expr,
+) {
     match expression {
         Expr::UniqueRegion { span } => teller.tell(Message::UniqueRegionAlone, *span),
         Expr::Variable { name } => explain_name(teller, scope, *name),
@@ -192,7 +202,7 @@ fn explain_expression(teller: &mut Teller<'_>, scope: &mut Scope<'_>, expression
             function,
             arguments,
         } if teller.is_at(function.span) => {
-            explain_call(teller, scope, *function, arguments, None);
+            explain_call(teller, scope, tree, *function, arguments, None);
         }
         Expr::Chained { base, postfixes } => explain_chain(teller, scope, base, postfixes),
         Expr::Prefixed {

@@ -9,7 +9,7 @@ use cyc_forms::span_of;
 use cyc_forms::types::region_of;
 use cyc_heads::members;
 use cyc_scope::{Meaning, Scope};
-use cyc_syntax::{Declaration, Expr, Ident};
+use cyc_syntax::{Declaration, Expr, Ident, Tree};
 use cyc_types::typed::ValueType;
 use cyc_types::{Region, RegionNames, Signature, Ty};
 use cyc_words::Code;
@@ -18,9 +18,9 @@ use std::alloc::Global;
 // ---- regions at the call
 
 /// Notes the regions of the function of this name, as its own head names them.
-fn note_theirs(teller: &mut Teller<'_>, names: &RegionNames, function: Ident) {
+fn note_theirs(teller: &mut Teller, tree: &Tree, names: &RegionNames, function: Ident) {
     teller.notes.theirs.all.clear();
-    for declaration in &teller.notes.tree.declarations {
+    for declaration in &tree.declarations {
         if let Declaration::Function {
             name,
             parameters,
@@ -129,7 +129,7 @@ fn name_of(homes: &Homes, region: Region) -> Option<usize> {
 }
 
 /// What a region of the function that is called is at the call.
-fn say_here(teller: &mut Teller<'_>, own: Region, here: Region) {
+fn say_here(teller: &mut Teller, own: Region, here: Region) {
     teller.notes.their_regions.0 = own;
     teller.notes.regions.0 = here;
     let theirs = name_of(&teller.notes.theirs, own);
@@ -143,7 +143,7 @@ fn say_here(teller: &mut Teller<'_>, own: Region, here: Region) {
 
 /// The words for a constraint that a call does not keep, where the regions are these.
 fn explain_constraint(
-    teller: &mut Teller<'_>,
+    teller: &mut Teller,
     scope: &Scope<'_>,
     function: Ident,
     own: (Region, Region),
@@ -159,7 +159,7 @@ fn explain_constraint(
 }
 
 /// Says the effect of a function.
-fn say_effect(teller: &mut Teller<'_>, effect: &[Region]) {
+fn say_effect(teller: &mut Teller, effect: &[Region]) {
     teller.say("the effect of %n is {");
     let mut is_first = true;
     for region in effect {
@@ -172,7 +172,7 @@ fn say_effect(teller: &mut Teller<'_>, effect: &[Region]) {
 
 /// The words for a region of an effect that is not live, where it is this one.
 fn explain_effect(
-    teller: &mut Teller<'_>,
+    teller: &mut Teller,
     scope: &Scope<'_>,
     function: Ident,
     effect: &[Region],
@@ -190,7 +190,7 @@ fn explain_effect(
 /// The words for an argument, which is found at the fault, that is not converted to the type of its parameter, or that is a unique pointer
 /// where that is none.
 fn explain_argument(
-    teller: &mut Teller<'_>,
+    teller: &mut Teller,
     scope: &Scope<'_>,
     argument: &Expr,
     parameter: &Ty,
@@ -208,7 +208,7 @@ fn explain_argument(
 
 /// The words for what a function asks of regions, where its region variables are these.
 fn explain_asked(
-    teller: &mut Teller<'_>,
+    teller: &mut Teller,
     scope: &Scope<'_>,
     function: Ident,
     signature: &Signature,
@@ -226,7 +226,7 @@ fn explain_asked(
 
 /// The words for a call of a function with this signature, with these values, or for the argument of this number.
 fn explain_called(
-    teller: &mut Teller<'_>,
+    teller: &mut Teller,
     scope: &Scope<'_>,
     function: Ident,
     arguments: &[Expr],
@@ -257,14 +257,15 @@ fn explain_called(
 
 /// The words for a call whose name, or whose argument of this number, stands at the fault.
 pub(crate) fn explain_call(
-    teller: &mut Teller<'_>,
+    teller: &mut Teller,
     scope: &mut Scope<'_>,
+    tree: &Tree,
     function: Ident,
     arguments: &[Expr],
     number: Option<usize>,
 ) {
     let values = values_of(scope, arguments);
-    note_theirs(teller, scope.names(), function);
+    note_theirs(teller, tree, scope.names(), function);
     match scope.meaning(function) {
         Meaning::Unknown => explain_unknown(teller, scope, Sort::Value, function),
         Meaning::Routine { signature, .. } => {

@@ -11,7 +11,7 @@ use cyc_words::{Code, Span};
 // ---- regions that are not live
 
 /// The last end, before the fault, of a block that opens the dynamic region of this name.
-fn last_end(teller: &Teller<'_>, name: usize) -> Option<Span> {
+fn last_end(teller: &Teller, name: usize) -> Option<Span> {
     let mut last = None;
     for ending in &teller.endings {
         if ending.name == name && teller.is_from(ending.span) {
@@ -22,7 +22,7 @@ fn last_end(teller: &Teller<'_>, name: usize) -> Option<Span> {
 }
 
 /// Says why a region is not live.
-pub(crate) fn say_closed(teller: &mut Teller<'_>, region: Region) {
+pub(crate) fn say_closed(teller: &mut Teller, region: Region) {
     teller.notes.regions.0 = region;
     match teller.notes.homes.find(region) {
         Some(
@@ -50,7 +50,7 @@ pub(crate) fn say_closed(teller: &mut Teller<'_>, region: Region) {
 }
 
 /// The words for a pointer or a handle that is found at this place, whose region is not live.
-pub(crate) fn explain_closed(teller: &mut Teller<'_>, scope: &Scope<'_>, span: Span) {
+pub(crate) fn explain_closed(teller: &mut Teller, scope: &Scope<'_>, span: Span) {
     let region = given(&teller.notes.found).region();
     if teller.is_fault(Code::RegionNotLive, span) && !scope.is_live(region) {
         teller.say("found %t\n");
@@ -78,7 +78,7 @@ fn beginning_of(region: Region, home: Option<Home>) -> &'static str {
 }
 
 /// Says where a region begins behind a mark, if there is anything to say.
-fn say_beginning(teller: &mut Teller<'_>, mark: &str, region: Region) -> bool {
+fn say_beginning(teller: &mut Teller, mark: &str, region: Region) -> bool {
     let home = teller.notes.homes.find(region);
     let text = beginning_of(region, home);
     if let Some(home) = home {
@@ -93,7 +93,7 @@ fn say_beginning(teller: &mut Teller<'_>, mark: &str, region: Region) -> bool {
 }
 
 /// Says in a line of its own which region does not outlive which, and where each begins, and then what to do.
-pub(crate) fn say_shorter(teller: &mut Teller<'_>, region: Region, other: Region) {
+pub(crate) fn say_shorter(teller: &mut Teller, region: Region, other: Region) {
     teller.notes.regions = (region, other);
     teller.say("\n%r does not outlive %s");
     let is_begun = say_beginning(teller, ": ", region);
@@ -198,7 +198,7 @@ fn more_on(given: Given<'_>, wanted: &Ty) -> &'static str {
 }
 
 /// The demand that is broken where what is found is converted to what is wanted; and what more there is to say of the types.
-fn broken(notes: &Notes<'_>, scope: &Scope<'_>, span: Span) -> Option<(Code, &'static str)> {
+fn broken(notes: &Notes, scope: &Scope<'_>, span: Span) -> Option<(Code, &'static str)> {
     if let Some(ValueType::Value { of_type }) = &notes.wanted {
         let found = given(&notes.found);
         let mut settled = Settled::new();
@@ -211,7 +211,7 @@ fn broken(notes: &Notes<'_>, scope: &Scope<'_>, span: Span) -> Option<(Code, &'s
 }
 
 /// The words for a value at this place whose type, which is found, is not converted to the one that is wanted.
-pub(crate) fn explain_conversion(teller: &mut Teller<'_>, scope: &Scope<'_>, span: Span) {
+pub(crate) fn explain_conversion(teller: &mut Teller, scope: &Scope<'_>, span: Span) {
     if let Some((code, more)) = broken(&teller.notes, scope, span) {
         if teller.is_fault(code, span) {
             teller.say("expected %w, found %t");

@@ -1,8 +1,8 @@
 //! Words for the heads of declarations, and for the values of globals.
+use crate::lexicon::NO_NAME;
 use crate::messages::Message;
 use crate::names::explain_region;
 use crate::teller::Teller;
-use crate::words::NO_NAME;
 use crate::written::explain_written;
 use cyc_heads::members;
 use cyc_syntax::{
@@ -11,7 +11,7 @@ use cyc_syntax::{
 use cyc_words::{Code, Span};
 
 /// The words for a fault in the head of a declaration, or for a `main` that is missing.
-pub(crate) fn explain_heads(teller: &mut Teller<'_>, tree: &Tree) {
+pub(crate) fn explain_heads(teller: &mut Teller, tree: &Tree) {
     teller.tell(Message::MainMissing, Span { line: 1, column: 1 });
     explain_names(teller, tree, true);
     explain_names(teller, tree, false);
@@ -23,7 +23,7 @@ pub(crate) fn explain_heads(teller: &mut Teller<'_>, tree: &Tree) {
 }
 
 /// The words for structs of one name, or for globals and functions of one name.
-fn explain_names(teller: &mut Teller<'_>, tree: &Tree, is_struct: bool) {
+fn explain_names(teller: &mut Teller, tree: &Tree, is_struct: bool) {
     teller.declared.clear();
     for declaration in &tree.declarations {
         match declaration {
@@ -38,7 +38,7 @@ fn explain_names(teller: &mut Teller<'_>, tree: &Tree, is_struct: bool) {
 }
 
 /// The words for a fault in the head of a declaration.
-fn explain_head(teller: &mut Teller<'_>, declaration: &Declaration) {
+fn explain_head(teller: &mut Teller, declaration: &Declaration) {
     match declaration {
         Declaration::Struct {
             regions,
@@ -63,7 +63,7 @@ fn explain_head(teller: &mut Teller<'_>, declaration: &Declaration) {
     }
 }
 
-fn explain_constructors(teller: &mut Teller<'_>, constructors: &[Constructor]) {
+fn explain_constructors(teller: &mut Teller, constructors: &[Constructor]) {
     for constructor in constructors {
         teller.declare(constructor.name);
         teller.tell_name(Message::InEachProgram, constructor.name);
@@ -71,7 +71,7 @@ fn explain_constructors(teller: &mut Teller<'_>, constructors: &[Constructor]) {
 }
 
 /// The words for a struct, its own name apart.
-fn explain_struct(teller: &mut Teller<'_>, regions: &[Ident], fields: &[Member]) {
+fn explain_struct(teller: &mut Teller, regions: &[Ident], fields: &[Member]) {
     for region in regions {
         teller.declare(*region);
     }
@@ -86,7 +86,7 @@ fn explain_struct(teller: &mut Teller<'_>, regions: &[Ident], fields: &[Member])
 }
 
 /// The words for the types and names of members.
-fn explain_members(teller: &mut Teller<'_>, members: &[Member]) {
+fn explain_members(teller: &mut Teller, members: &[Member]) {
     for member in members {
         explain_written(teller, &member.of_type);
         teller.declare(member.name);
@@ -97,7 +97,7 @@ fn explain_members(teller: &mut Teller<'_>, members: &[Member]) {
 
 /// The words for a function's head.
 fn explain_function(
-    teller: &mut Teller<'_>,
+    teller: &mut Teller,
     name: Ident,
     returned: &Option<WrittenType>,
     parameters: &Parameters,
@@ -113,7 +113,7 @@ fn explain_function(
 }
 
 /// The words for what a function's effect and its constraints name.
-fn explain_asked(teller: &mut Teller<'_>, parameters: &Parameters) {
+fn explain_asked(teller: &mut Teller, parameters: &Parameters) {
     for constraint in &parameters.constraints {
         explain_constrained(teller, constraint.longer);
         explain_constrained(teller, constraint.shorter);
@@ -127,7 +127,7 @@ fn explain_asked(teller: &mut Teller<'_>, parameters: &Parameters) {
 }
 
 /// The words for a region of a constraint.
-fn explain_constrained(teller: &mut Teller<'_>, region: Ident) {
+fn explain_constrained(teller: &mut Teller, region: Ident) {
     explain_region(teller, region);
     teller.tell_name(Message::NoConstraint, region);
 }
@@ -161,15 +161,14 @@ fn initial(written: &WrittenType, value: Option<GlobalValue>) -> (Span, &'static
 }
 
 /// The words for a global of a type that none has, or that does not begin with a value of its type.
-fn explain_global(teller: &mut Teller<'_>, written: &WrittenType, value: Option<GlobalValue>) {
+fn explain_global(teller: &mut Teller, written: &WrittenType, value: Option<GlobalValue>) {
     teller.unknown = Message::UnknownInGlobal;
     explain_written(teller, written);
     teller.tell(Message::GlobalType, written.span);
     let (span, found) = initial(written, value);
     if teller.is_fault(Code::TypeMismatch, span) || teller.is_fault(Code::NullForNonNull, span) {
         teller.say("expected ");
-        let names = &teller.notes.tree.names;
-        teller.words.put_written(names, written);
+        teller.words.put_written(&teller.notes.lexicon, written);
         teller.say(found);
     }
 }

@@ -15,7 +15,7 @@ use cyc_words::{Code, Span};
 // ---- names and places
 
 /// The words for a name that is no value, or none that is read.
-pub(crate) fn explain_name(teller: &mut Teller<'_>, scope: &Scope<'_>, name: Ident) {
+pub(crate) fn explain_name(teller: &mut Teller, scope: &Scope<'_>, name: Ident) {
     match scope.meaning(name) {
         Meaning::Unknown => explain_unknown(teller, scope, Sort::Value, name),
         Meaning::Routine { .. } => teller.tell_name(Message::FunctionRead, name),
@@ -28,7 +28,7 @@ pub(crate) fn explain_name(teller: &mut Teller<'_>, scope: &Scope<'_>, name: Ide
 }
 
 /// The words for what a name means at a place where a key is wanted.
-pub(crate) fn explain_key(teller: &mut Teller<'_>, scope: &Scope<'_>, name: Ident) {
+pub(crate) fn explain_key(teller: &mut Teller, scope: &Scope<'_>, name: Ident) {
     explain_name(teller, scope, name);
     let of_type = match scope.meaning(name) {
         Meaning::Variable { of_type, .. } | Meaning::Fixed { of_type, .. } => of_type.share().ok(),
@@ -40,7 +40,7 @@ pub(crate) fn explain_key(teller: &mut Teller<'_>, scope: &Scope<'_>, name: Iden
 }
 
 /// The words for an expression that is no place.
-pub(crate) fn explain_place(teller: &mut Teller<'_>, scope: &Scope<'_>, expression: &Expr) {
+pub(crate) fn explain_place(teller: &mut Teller, scope: &Scope<'_>, expression: &Expr) {
     let span = span_of(expression);
     if teller.is_fault(Code::NotAPlace, span) {
         let mut message = Message::NoAddress;
@@ -77,7 +77,7 @@ fn root_of(expression: &Expr) -> Option<Ident> {
 }
 
 /// The words for a place whose address is taken.
-pub(crate) fn explain_address(teller: &mut Teller<'_>, scope: &Scope<'_>, operand: &Expr) {
+pub(crate) fn explain_address(teller: &mut Teller, scope: &Scope<'_>, operand: &Expr) {
     let span = span_inside(operand);
     explain_place(teller, scope, operand);
     teller.tell(Message::KeyAddress, span);
@@ -89,7 +89,7 @@ pub(crate) fn explain_address(teller: &mut Teller<'_>, scope: &Scope<'_>, operan
 
 /// The words for what a pointer leads to, where it is read at this place.
 pub(crate) fn explain_target(
-    teller: &mut Teller<'_>,
+    teller: &mut Teller,
     scope: &mut Scope<'_>,
     span: Span,
     pointer: &Expr,
@@ -130,7 +130,7 @@ fn type_behind(scope: &Scope<'_>, pointer: &Option<ValueType>, field: Option<Ide
 }
 
 /// Goes on from the pointer that is found to what it leads to, or to a field there, and says what that is read for at this place.
-fn explain_behind(teller: &mut Teller<'_>, scope: &Scope<'_>, start: Span, field: Option<Ident>) {
+fn explain_behind(teller: &mut Teller, scope: &Scope<'_>, start: Span, field: Option<Ident>) {
     let behind = type_behind(scope, &teller.notes.found, field);
     if teller.find_type(behind) {
         explain_content(teller, start);
@@ -141,7 +141,7 @@ fn explain_behind(teller: &mut Teller<'_>, scope: &Scope<'_>, start: Span, field
 
 /// What the postfixes behind an operand ask, one after the other.
 pub(crate) fn explain_chain(
-    teller: &mut Teller<'_>,
+    teller: &mut Teller,
     scope: &mut Scope<'_>,
     base: &Expr,
     postfixes: &[Postfix],
@@ -158,7 +158,7 @@ pub(crate) fn explain_chain(
 }
 
 /// Whether the fault is at the place where a chain of postfixes begins, or at a field's name.
-fn is_in_chain(teller: &Teller<'_>, start: Span, postfixes: &[Postfix]) -> bool {
+fn is_in_chain(teller: &Teller, start: Span, postfixes: &[Postfix]) -> bool {
     let mut is_here = teller.is_at(start);
     for postfix in postfixes {
         if let Postfix::Field { name } = postfix {
@@ -169,7 +169,7 @@ fn is_in_chain(teller: &Teller<'_>, start: Span, postfixes: &[Postfix]) -> bool 
 }
 
 /// What a postfix asks of the pointer that is found, which begins at this place, and of what it leads to, which then is found.
-fn explain_postfix(teller: &mut Teller<'_>, scope: &Scope<'_>, start: Span, postfix: &Postfix) {
+fn explain_postfix(teller: &mut Teller, scope: &Scope<'_>, start: Span, postfix: &Postfix) {
     match postfix {
         Postfix::Field { name } => {
             explain_found(teller, scope, Wanted::Members, start);
@@ -184,7 +184,7 @@ fn explain_postfix(teller: &mut Teller<'_>, scope: &Scope<'_>, start: Span, post
 }
 
 /// The words for a field that the struct does not have to which the pointer that is found leads.
-fn explain_field_name(teller: &mut Teller<'_>, scope: &Scope<'_>, name: Ident) {
+fn explain_field_name(teller: &mut Teller, scope: &Scope<'_>, name: Ident) {
     let number = match target_of(&teller.notes.found) {
         Some(Ty::Struct { number, .. }) => *number,
         _ => return,
@@ -196,7 +196,7 @@ fn explain_field_name(teller: &mut Teller<'_>, scope: &Scope<'_>, name: Ident) {
 
 /// What the operators of a chain ask of what stands to the left of each. All but sums of pointers give ints.
 pub(crate) fn explain_binary(
-    teller: &mut Teller<'_>,
+    teller: &mut Teller,
     scope: &mut Scope<'_>,
     first: &Expr,
     operations: &[Operation],
@@ -212,7 +212,7 @@ pub(crate) fn explain_binary(
 
 /// What an operation asks of its left operand, in a chain that begins at this place; then its own type is found.
 fn explain_operation(
-    teller: &mut Teller<'_>,
+    teller: &mut Teller,
     scope: &mut Scope<'_>,
     span: Span,
     operation: &Operation,
@@ -229,7 +229,7 @@ fn explain_operation(
 }
 
 /// The words for two values that are not compared, if both are known.
-fn explain_compared(teller: &mut Teller<'_>, span: Span) {
+fn explain_compared(teller: &mut Teller, span: Span) {
     if teller.notes.wanted.is_some() {
         let is_left = given(&teller.notes.found).is_pointer();
         let is_right = given(&teller.notes.wanted).is_pointer();

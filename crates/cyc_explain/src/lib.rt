@@ -12,6 +12,7 @@ mod explanation;
 mod expressions;
 mod forms;
 mod homes;
+mod lexicon;
 mod messages;
 mod names;
 mod objects;

@@ -10,7 +10,7 @@ use cyc_types::formation::arguments_or;
 use cyc_words::Code;
 
 /// What stands behind `new` asks, the values in it apart.
-pub(crate) fn explain_made(teller: &mut Teller<'_>, scope: &Scope<'_>, initial: &Initial) {
+pub(crate) fn explain_made(teller: &mut Teller, scope: &Scope<'_>, initial: &Initial) {
     if let Initial::Fields {
         name,
         regions,
@@ -27,7 +27,7 @@ pub(crate) fn explain_made(teller: &mut Teller<'_>, scope: &Scope<'_>, initial: 
 
 /// The words for a struct of this name with another number of regions or of values, which are these.
 fn explain_counts(
-    teller: &mut Teller<'_>,
+    teller: &mut Teller,
     scope: &Scope<'_>,
     name: Ident,
     regions: usize,

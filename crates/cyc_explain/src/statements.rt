@@ -18,7 +18,7 @@ use cyc_words::{Code, Span};
 // ---- statements
 
 /// The words for an exception that is not declared, or that is written with an int where it has none, or the other way round.
-pub(crate) fn explain_exception(teller: &mut Teller<'_>, scope: &Scope<'_>, exception: Ident) {
+pub(crate) fn explain_exception(teller: &mut Teller, scope: &Scope<'_>, exception: Ident) {
     explain_unknown(teller, scope, Sort::Exception, exception);
     if let Some(known) = scope.exception(exception.name.number) {
         let message = if known.has_int {
@@ -41,7 +41,7 @@ pub(crate) fn result_type(scope: &Scope<'_>) -> Option<Ty> {
 
 /// The words for a `return` at this place without a value, or with one where the function has none.
 pub(crate) fn explain_return(
-    teller: &mut Teller<'_>,
+    teller: &mut Teller,
     scope: &Scope<'_>,
     span: Span,
     value: &Option<Expr>,
@@ -57,7 +57,7 @@ pub(crate) fn explain_return(
 
 /// The words for a swap of what are no places, or of places of two types.
 pub(crate) fn explain_swap(
-    teller: &mut Teller<'_>,
+    teller: &mut Teller,
     scope: &mut Scope<'_>,
     left: &Expr,
     right: &Expr,
@@ -84,7 +84,7 @@ pub(crate) fn type_here(scope: &Scope<'_>, written: &WrittenType, left_out: Regi
 
 /// The words for a type that is written in a body.
 pub(crate) fn explain_written_here(
-    teller: &mut Teller<'_>,
+    teller: &mut Teller,
     scope: &Scope<'_>,
     written: &WrittenType,
 ) {
@@ -96,7 +96,7 @@ pub(crate) fn explain_written_here(
 
 /// The words for a region that is opened by a key.
 pub(crate) fn explain_opened(
-    teller: &mut Teller<'_>,
+    teller: &mut Teller,
     scope: &Scope<'_>,
     region: Ident,
     key: Ident,
@@ -109,7 +109,7 @@ pub(crate) fn explain_opened(
 
 /// The words for an alias, whose type is that of its source but for the region.
 pub(crate) fn explain_alias(
-    teller: &mut Teller<'_>,
+    teller: &mut Teller,
     scope: &Scope<'_>,
     region: Ident,
     written: &WrittenType,
@@ -151,7 +151,7 @@ fn type_lent(of_type: &Ty, region: Region) -> Option<Ty> {
 
 /// The words for the type of an alias of a unique pointer of this type.
 fn explain_lent_type(
-    teller: &mut Teller<'_>,
+    teller: &mut Teller,
     scope: &Scope<'_>,
     region: Ident,
     written: &WrittenType,

@@ -1,7 +1,8 @@
 //! Who says why a program is refused: once, where its fault stands. What the words name is noted before.
 use crate::homes::Homes;
+use crate::lexicon::{Lexicon, NO_NAME};
 use crate::messages::{Message, code_of, text_of};
-use crate::words::{NO_NAME, Notes, Words};
+use crate::words::{Notes, Words};
 use cyc_check::value_type;
 use cyc_scope::Scope;
 use cyc_syntax::{Expr, Ident, Tree};
@@ -20,10 +21,10 @@ pub(crate) struct Ending {
 
 /// The lines that are said of a fault, and what they name.
 #[derive(Drop)]
-pub(crate) struct Teller<'t> {
+pub(crate) struct Teller {
     pub(crate) alloc: Global,
     pub(crate) fault: Fault,
-    pub(crate) notes: Notes<'t>,
+    pub(crate) notes: Notes,
     /// What is said of the name of a region that is not in scope.
     pub(crate) unknown: Message,
     /// Where blocks end that open a dynamic region.
@@ -35,14 +36,14 @@ pub(crate) struct Teller<'t> {
     pub(crate) is_whole: bool,
 }
 
-impl<'t> Teller<'t> {
-    pub(crate) fn new(alloc: Global, tree: &'t Tree, fault: Fault) -> Teller<'t> {
+impl Teller {
+    pub(crate) fn new(alloc: Global, tree: &Tree, fault: Fault) -> Teller {
         let region = Region::Heap;
         Teller {
             alloc,
             fault,
             notes: Notes {
-                tree,
+                lexicon: Lexicon::of(alloc, tree),
                 function: NO_NAME,
                 homes: Homes::new(alloc),
                 theirs: Homes::new(alloc),
@@ -69,8 +70,9 @@ impl<'t> Teller<'t> {
 
     /// Takes what was said, if anything was.
     pub(crate) fn take_words(&mut self) -> Option<Vec<u8>> {
-        let is_known = self.is_whole && self.notes.homes.is_whole && self.notes.theirs.is_whole;
-        if is_known && self.words.is_whole && !self.words.bytes.is_empty() {
+        let is_known = self.notes.lexicon.is_whole && self.notes.homes.is_whole;
+        let is_said = self.words.is_whole && !self.words.bytes.is_empty();
+        if self.is_whole && is_known && self.notes.theirs.is_whole && is_said {
             let empty = Vec::new(self.alloc);
             Some(replace(&mut self.words.bytes, empty))
         } else {

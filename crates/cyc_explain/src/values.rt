@@ -10,7 +10,7 @@ use crate::words::given;
 use cyc_check::place_type;
 use cyc_forms::{Given, span_of};
 use cyc_scope::Scope;
-use cyc_syntax::Expr;
+use cyc_syntax::{Expr, Tree};
 use cyc_types::{Region, Ty};
 
 /// What is left out of the type of a local with this initial value.
@@ -34,8 +34,9 @@ fn type_wanted(scope: &mut Scope<'_>, role: Role<'_>, found: Given<'_>) -> Optio
 
 /// The words where a value may not become what becomes of it.
 pub(crate) fn explain_value(
-    teller: &mut Teller<'_>,
+    teller: &mut Teller,
     scope: &mut Scope<'_>,
+    tree: &Tree,
     expression: &Expr,
     role: Role<'_>,
 ) {
@@ -50,7 +51,7 @@ pub(crate) fn explain_value(
             }
             Role::Argument(function, arguments, number) => {
                 if teller.find(scope, expression, false) {
-                    explain_call(teller, scope, function, arguments, Some(number));
+                    explain_call(teller, scope, tree, function, arguments, Some(number));
                 }
             }
             _ => {

@@ -155,7 +155,7 @@ pub(crate) fn wanted_by(operator: BinaryOperator) -> (Wanted, Wanted) {
 
 /// The words where the type that is found at this place is not what is wanted, or its region is not live.
 pub(crate) fn explain_found(
-    teller: &mut Teller<'_>,
+    teller: &mut Teller,
     scope: &Scope<'_>,
     wanted: Wanted,
     span: Span,
@@ -176,7 +176,7 @@ pub(crate) fn explain_found(
 }
 
 /// The words for a cell of the type that is found, where it is read at this place and is a struct or a unique pointer.
-pub(crate) fn explain_content(teller: &mut Teller<'_>, span: Span) {
+pub(crate) fn explain_content(teller: &mut Teller, span: Span) {
     let found = given(&teller.notes.found);
     let is_struct = matches!(found, Given::Value(Ty::Struct { .. }));
     let is_unique = found.is_unique() || found.is_key();

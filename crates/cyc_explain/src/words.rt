@@ -1,21 +1,19 @@
 //! Lines of words: a text, in whose gaps names, places, regions and types stand as a program writes them. Where memory runs out nothing is
 //! said. No call here stops, so who says something has no way out.
 use crate::homes::{Home, Homes, Origin};
+use crate::lexicon::{Lexicon, NO_NAME};
 use cyc_forms::Given;
-use cyc_syntax::{BaseType, Declaration, Ident, Name, Names, PointerKind, Tree, WrittenType};
+use cyc_syntax::{BaseType, Ident, PointerKind, WrittenType};
 use cyc_types::typed::ValueType;
 use cyc_types::{Region, Ty};
 use cyc_words::Span;
 
 const DIGITS: &[u8] = b"0123456789";
 
-/// The number of no name.
-pub(crate) const NO_NAME: usize = usize::MAX;
-
 /// What the gaps of a text are filled with, as it was noted last.
 #[derive(Drop)]
-pub(crate) struct Notes<'t> {
-    pub(crate) tree: &'t Tree,
+pub(crate) struct Notes {
+    pub(crate) lexicon: Lexicon,
     /// The number of the name of the function at hand; no name has that of none.
     pub(crate) function: usize,
     /// Its regions, and those of a function that is called.
@@ -68,25 +66,11 @@ fn text_on_place(origin: Origin) -> &'static [u8] {
     }
 }
 
-/// The number of the name of the struct of this number.
-fn struct_name(declarations: &[Declaration], number: usize) -> usize {
-    let mut before = 0usize;
-    for declaration in declarations {
-        if let Declaration::Struct { name, .. } = declaration {
-            if before == number {
-                return name.name.number;
-            }
-            before = before.saturating_add(1);
-        }
-    }
-    NO_NAME
-}
-
 impl Words {
     // ---- texts
 
     /// Says a text, in which each `%` and the letter behind it are a gap.
-    pub(crate) fn say(&mut self, notes: &Notes<'_>, text: &str) {
+    pub(crate) fn say(&mut self, notes: &Notes, text: &str) {
         let mut is_gap = false;
         for byte in text.as_bytes() {
             if is_gap {
@@ -99,11 +83,11 @@ impl Words {
     }
 
     /// Fills the gap of this letter.
-    fn fill(&mut self, notes: &Notes<'_>, letter: u8) {
+    fn fill(&mut self, notes: &Notes, letter: u8) {
         match letter {
-            b'n' => self.put_name(&notes.tree.names, notes.name),
-            b'o' => self.put_name(&notes.tree.names, notes.other),
-            b'f' => self.put_name(&notes.tree.names, notes.function),
+            b'n' => self.put_name(&notes.lexicon, notes.name),
+            b'o' => self.put_name(&notes.lexicon, notes.other),
+            b'f' => self.put_name(&notes.lexicon, notes.function),
             b'p' => self.put_place(notes.place),
             b't' => self.put_value(notes, &notes.found),
             b'w' => self.put_value(notes, &notes.wanted),
@@ -147,16 +131,14 @@ impl Words {
     }
 
     /// The name of this number.
-    fn put_name(&mut self, names: &Names, number: usize) {
-        if number < names.len() {
-            self.put(names.text(Name { number }));
-        }
+    fn put_name(&mut self, lexicon: &Lexicon, number: usize) {
+        self.put(lexicon.text(number));
     }
 
     // ---- regions
 
     /// A region by its name, or else, where that is asked for, by its place.
-    fn put_region(&mut self, names: &Names, region: Region, home: Option<Home>, is_placed: bool) {
+    fn put_region(&mut self, lexicon: &Lexicon, region: Region, home: Option<Home>, is_placed: bool) {
         match (region, home) {
             (Region::Heap, _) => self.put(b"`H"),
             (Region::Unique, _) => self.put(b"`U"),
@@ -170,7 +152,7 @@ impl Words {
                 ),
             ) => {
                 self.put(b"`");
-                self.put_name(names, name);
+                self.put_name(lexicon, name);
             }
             (_, Some(home)) if is_placed => {
                 self.put(text_on_place(home.origin));
@@ -181,25 +163,25 @@ impl Words {
     }
 
     /// A region of the function with these regions.
-    fn put_of(&mut self, notes: &Notes<'_>, homes: &Homes, region: Region) {
-        self.put_region(&notes.tree.names, region, homes.find(region), true);
+    fn put_of(&mut self, notes: &Notes, homes: &Homes, region: Region) {
+        self.put_region(&notes.lexicon, region, homes.find(region), true);
     }
 
     /// The regions of a type, one behind the other.
-    fn put_regions(&mut self, notes: &Notes<'_>, regions: &[Region]) {
+    fn put_regions(&mut self, notes: &Notes, regions: &[Region]) {
         let mut is_first = true;
         for region in regions {
             if !is_first {
                 self.put(b",");
             }
             is_first = false;
-            self.put_region(&notes.tree.names, *region, notes.homes.find(*region), false);
+            self.put_region(&notes.lexicon, *region, notes.homes.find(*region), false);
         }
     }
 
     // ---- types
 
-    fn put_value(&mut self, notes: &Notes<'_>, value: &Option<ValueType>) {
+    fn put_value(&mut self, notes: &Notes, value: &Option<ValueType>) {
         match value {
             Some(ValueType::Value { of_type }) => self.put_type(notes, of_type),
             Some(ValueType::Null) => self.put(b"NULL"),
@@ -208,7 +190,7 @@ impl Words {
     }
 
     /// A type as it is written, where a region without a name is left out.
-    fn put_type(&mut self, notes: &Notes<'_>, of_type: &Ty) {
+    fn put_type(&mut self, notes: &Notes, of_type: &Ty) {
         match of_type {
             Ty::Pointer {
                 kind,
@@ -224,7 +206,7 @@ impl Words {
     }
 
     /// The same of what is no pointer.
-    fn put_base(&mut self, notes: &Notes<'_>, of_type: &Ty) {
+    fn put_base(&mut self, notes: &Notes, of_type: &Ty) {
         match of_type {
             Ty::Int | Ty::Pointer { .. } => self.put(b"int"),
             Ty::Char => self.put(b"char"),
@@ -232,8 +214,7 @@ impl Words {
             Ty::Key { region } => self.put_listed(notes, b"uregion_key_t<", &[*region]),
             Ty::Struct { number, regions } => {
                 self.put(b"struct ");
-                let name = struct_name(&notes.tree.declarations, *number);
-                self.put_name(&notes.tree.names, name);
+                self.put_name(&notes.lexicon, notes.lexicon.struct_name(*number));
                 if !regions.is_empty() {
                     self.put_listed(notes, b"<", regions);
                 }
@@ -241,14 +222,14 @@ impl Words {
         }
     }
 
-    fn put_listed(&mut self, notes: &Notes<'_>, open: &[u8], regions: &[Region]) {
+    fn put_listed(&mut self, notes: &Notes, open: &[u8], regions: &[Region]) {
         self.put(open);
         self.put_regions(notes, regions);
         self.put(b">");
     }
 
     /// A type of a global as it is written, in which what is left out is the heap.
-    pub(crate) fn put_written(&mut self, names: &Names, written: &WrittenType) {
+    pub(crate) fn put_written(&mut self, lexicon: &Lexicon, written: &WrittenType) {
         let (open, name, close) = match &written.base {
             BaseType::Int => ("int", NO_NAME, ""),
             BaseType::Char => ("char", NO_NAME, ""),
@@ -258,20 +239,20 @@ impl Words {
             }
         };
         self.put(open.as_bytes());
-        self.put_name(names, name);
+        self.put_name(lexicon, name);
         self.put(close.as_bytes());
         for mark in &written.marks {
             self.put(mark_of(mark.kind));
-            self.put_mark_region(names, mark.region);
+            self.put_mark_region(lexicon, mark.region);
         }
     }
 
     /// The region behind a mark.
-    fn put_mark_region(&mut self, names: &Names, region: Option<Ident>) {
+    fn put_mark_region(&mut self, lexicon: &Lexicon, region: Option<Ident>) {
         match region {
             Some(region) => {
                 self.put(b"`");
-                self.put_name(names, region.name.number);
+                self.put_name(lexicon, region.name.number);
             }
             None => self.put(b"`H"),
         }

@@ -2,29 +2,12 @@
 use crate::messages::Message;
 use crate::names::explain_region;
 use crate::teller::Teller;
-use cyc_syntax::{BaseType, Declaration, Ident, PointerKind, WrittenType};
+use cyc_syntax::{BaseType, Ident, PointerKind, WrittenType};
 use cyc_words::Code;
 
-/// How many region parameters the struct of this name has.
-fn region_count(declarations: &[Declaration], name: Ident) -> Option<usize> {
-    for declaration in declarations {
-        if let Declaration::Struct {
-            name: own,
-            regions,
-            ..
-        } = declaration
-        {
-            if own.name == name.name {
-                return Some(regions.len());
-            }
-        }
-    }
-    None
-}
-
 /// The words for a struct that is written with another number of regions than it has.
-fn explain_number(teller: &mut Teller<'_>, name: Ident, found: usize) {
-    if let Some(count) = region_count(&teller.notes.tree.declarations, name) {
+fn explain_number(teller: &mut Teller, name: Ident, found: usize) {
+    if let Some(count) = teller.notes.lexicon.region_count(name) {
         if found > 0 && found != count {
             teller.say_count(Message::RegionCount, count, found);
         }
@@ -32,7 +15,7 @@ fn explain_number(teller: &mut Teller<'_>, name: Ident, found: usize) {
 }
 
 /// What a type is that nothing has.
-fn explain_shape(teller: &mut Teller<'_>, written: &WrittenType) {
+fn explain_shape(teller: &mut Teller, written: &WrittenType) {
     match &written.base {
         BaseType::Int | BaseType::Char | BaseType::Handle { .. } => {}
         BaseType::Key { .. } => {
@@ -51,7 +34,7 @@ fn explain_shape(teller: &mut Teller<'_>, written: &WrittenType) {
 }
 
 /// The words for the region arguments of a struct.
-pub(crate) fn explain_arguments(teller: &mut Teller<'_>, regions: &[Ident]) {
+pub(crate) fn explain_arguments(teller: &mut Teller, regions: &[Ident]) {
     for region in regions {
         explain_region(teller, *region);
         teller.tell_name(Message::NoArgument, *region);
@@ -59,7 +42,7 @@ pub(crate) fn explain_arguments(teller: &mut Teller<'_>, regions: &[Ident]) {
 }
 
 /// The words for a region of a type in front of its marks.
-fn explain_base(teller: &mut Teller<'_>, base: &BaseType) {
+fn explain_base(teller: &mut Teller, base: &BaseType) {
     match base {
         BaseType::Int | BaseType::Char => {}
         BaseType::Struct { regions, .. } => explain_arguments(teller, regions),
@@ -75,7 +58,7 @@ fn explain_base(teller: &mut Teller<'_>, base: &BaseType) {
 }
 
 /// The words for a written type that is none.
-pub(crate) fn explain_written(teller: &mut Teller<'_>, written: &WrittenType) {
+pub(crate) fn explain_written(teller: &mut Teller, written: &WrittenType) {
     explain_base(teller, &written.base);
     for mark in &written.marks {
         if let Some(region) = mark.region {
